@@ -1,0 +1,194 @@
+//! Words as text.
+
+ghost use Rattle.std.specs.Prelude.{◌≡◌, [], ◌∷◌, ◌++◌, Some, OnOk, IfOk, string_bytes};
+ghost use Rattle.lc3_table.specs.Meaning.{HasWords};
+ghost use Rattle.lc3_table.specs.Text.{operand_text, branch_text, unnamed_trap_text, trap_text, instruction_text, data_text, word_text, line_text, image_lines};
+
+use crate::decoding::decode;
+use crate::instr::{Instr, Operand};
+use lc3_word::{Hex, Image, Off};
+use std::alloc::{AllocError, Global};
+use std::fmt;
+
+impl fmt::Display for Operand {
+    ghost output = { λ o. Some (operand_text o) };
+
+    fn fmt<W: fmt::Write>(&self, f: &mut fmt::Formatter<W>) -> fmt::Result {
+        match *self {
+            Operand::Register(sr2) => write!(f, "{sr2}"),
+            Operand::Number(imm5) => write!(f, "{imm5}"),
+        }
+    }
+}
+
+/// A word that is shown as data.
+#[derive(Clone, Copy)]
+struct Data(u16);
+
+impl fmt::Display for Data {
+    ghost output = { λ d. Some (data_text d.0) };
+
+    fn fmt<W: fmt::Write>(&self, f: &mut fmt::Formatter<W>) -> fmt::Result {
+        let word = Hex(self.0);
+        write!(f, ".FILL {word}")
+    }
+}
+
+/// A branch, which on no code is data, and `NOP` as the word 0.
+#[derive(Clone, Copy)]
+struct Branch {
+    n: bool,
+    z: bool,
+    p: bool,
+    offset: Off<9>,
+}
+
+impl fmt::Display for Branch {
+    ghost output = { λ b. Some (branch_text b.n b.z b.p b.offset) };
+
+    fn fmt<W: fmt::Write>(&self, f: &mut fmt::Formatter<W>) -> fmt::Result {
+        let offset = self.offset;
+        if self.n || self.z || self.p {
+            let n = if self.n { "n" } else { "" };
+            let z = if self.z { "z" } else { "" };
+            let p = if self.p { "p" } else { "" };
+            write!(f, "BR{n}{z}{p} {offset}")
+        } else if offset.low_bits() == 0 {
+            write!(f, "NOP")
+        } else {
+            let data = Data(offset.low_bits());
+            write!(f, "{data}")
+        }
+    }
+}
+
+/// A trap that goes by its vector.
+#[derive(Clone, Copy)]
+struct Unnamed(u8);
+
+impl fmt::Display for Unnamed {
+    ghost output = { λ v. Some (unnamed_trap_text v.0) };
+
+    #[tactic(auto, using(std::proofs::lemmas::Fmt::hex_byte))]
+    fn fmt<W: fmt::Write>(&self, f: &mut fmt::Formatter<W>) -> fmt::Result {
+        let vector = self.0;
+        write!(f, "TRAP x{vector:02X}")
+    }
+}
+
+/// A trap: the console traps go by name.
+#[derive(Clone, Copy)]
+struct Vector(u8);
+
+impl fmt::Display for Vector {
+    ghost output = { λ v. Some (trap_text v.0) };
+
+    fn fmt<W: fmt::Write>(&self, f: &mut fmt::Formatter<W>) -> fmt::Result {
+        let vector = self.0;
+        match vector {
+            0x20 => write!(f, "GETC"),
+            0x21 => write!(f, "OUT"),
+            0x22 => write!(f, "PUTS"),
+            0x23 => write!(f, "IN"),
+            0x24 => write!(f, "PUTSP"),
+            0x25 => write!(f, "HALT"),
+            _ => {
+                let unnamed = Unnamed(vector);
+                write!(f, "{unnamed}")
+            }
+        }
+    }
+}
+
+impl fmt::Display for Instr {
+    ghost output = { λ i. Some (instruction_text i) };
+
+    fn fmt<W: fmt::Write>(&self, f: &mut fmt::Formatter<W>) -> fmt::Result {
+        match *self {
+            Instr::Add { dr, sr1, operand } => write!(f, "ADD {dr},{sr1},{operand}"),
+            Instr::And { dr, sr1, operand } => write!(f, "AND {dr},{sr1},{operand}"),
+            Instr::Not { dr, sr } => write!(f, "NOT {dr},{sr}"),
+            Instr::Br { n, z, p, offset } => {
+                let branch = Branch { n, z, p, offset };
+                write!(f, "{branch}")
+            }
+            Instr::Jmp { base } => {
+                if base.number() == 7 {
+                    write!(f, "RET")
+                } else {
+                    write!(f, "JMP {base}")
+                }
+            }
+            Instr::Jsr { offset } => write!(f, "JSR {offset}"),
+            Instr::Jsrr { base } => write!(f, "JSRR {base}"),
+            Instr::Ld { dr, offset } => write!(f, "LD {dr},{offset}"),
+            Instr::Ldi { dr, offset } => write!(f, "LDI {dr},{offset}"),
+            Instr::Ldr { dr, base, offset } => write!(f, "LDR {dr},{base},{offset}"),
+            Instr::Lea { dr, offset } => write!(f, "LEA {dr},{offset}"),
+            Instr::St { sr, offset } => write!(f, "ST {sr},{offset}"),
+            Instr::Sti { sr, offset } => write!(f, "STI {sr},{offset}"),
+            Instr::Str { sr, base, offset } => write!(f, "STR {sr},{base},{offset}"),
+            Instr::Rti => write!(f, "RTI"),
+            Instr::Trap { vector } => {
+                let trap = Vector(vector);
+                write!(f, "{trap}")
+            }
+        }
+    }
+}
+
+/// A word of memory: its instruction, or the word as data.
+#[derive(Clone, Copy)]
+struct Shown(u16);
+
+impl fmt::Display for Shown {
+    ghost output = { λ s. Some (word_text s.0) };
+
+    #[tactic(auto, unfolding(crate::specs::Text::word_text))]
+    fn fmt<W: fmt::Write>(&self, f: &mut fmt::Formatter<W>) -> fmt::Result {
+        let word = self.0;
+        match decode(word) {
+            Some(instr) => write!(f, "{instr}"),
+            None => {
+                let data = Data(word);
+                write!(f, "{data}")
+            }
+        }
+    }
+}
+
+/// The text of a word: its instruction as the source language writes it, with PC offsets as numbers; a word that is no
+/// instruction is `.FILL` with four digits. Read as a source line it is that word alone.
+#[tactic(auto, using(crate::proofs::TextLines::read_back))]
+pub fn text(alloc: Global, word: u16) -> Result<String, AllocError>
+    ensures text { IfOk result (λ s. string_bytes s ≡ word_text word) }
+    ensures reads_back { IfOk result (λ s. HasWords (string_bytes s) (word ∷ [])) }
+{
+    Shown(word).to_string(alloc)
+}
+
+/// Adds the line of one word.
+#[tactic(auto, unfolding(crate::specs::Text::line_text))]
+fn push_line(text: &mut String, address: u16, word: u16) -> Result<(), AllocError>
+    ensures { OnOk result (string_bytes text.new ≡ string_bytes text.old ++ line_text address word) }
+{
+    let place = Hex(address);
+    let content = Hex(word);
+    let shown = Shown(word);
+    match write!(text, "{place} {content} {shown}\n") {
+        Ok(()) => Ok(()),
+        Err(e) => Err(e),
+    }
+}
+
+/// A line for each word of an image: its address, the word and its text, as `x3000 xE002 LEA R0,#2`.
+pub fn image_text(alloc: Global, image: &Image) -> Result<String, AllocError>
+    ensures text { IfOk result (λ s. string_bytes s ≡ image_lines image.now) }
+{
+    let mut text = String::new(alloc);
+    let origin = image.origin();
+    for (i, word) in image.words().iter().enumerate() {
+        push_line(&mut text, origin + i as u16, *word)?;
+    }
+    Ok(text)
+}

@@ -1,0 +1,5 @@
+pub mod Fields
+pub mod FourDigits
+pub mod NumberSteps
+pub mod Numerals
+pub mod Signed
