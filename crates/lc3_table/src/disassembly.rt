@@ -137,11 +137,11 @@ impl fmt::Display for Instr {
     }
 }
 
-/// A word of memory: its instruction, or the word as data.
-#[derive(Clone, Copy)]
-struct Shown(u16);
+/// A word of memory, which is shown as its text: the instruction that it is, or the word as data.
+#[derive(Clone, Copy, Debug, PartialEq, Eq)]
+pub struct WordText(pub u16);
 
-impl fmt::Display for Shown {
+impl fmt::Display for WordText {
     ghost output = { λ s. Some (word_text s.0) };
 
     #[tactic(auto, unfolding(crate::specs::Text::word_text))]
@@ -164,7 +164,7 @@ pub fn text(alloc: Global, word: u16) -> Result<String, AllocError>
     ensures text { IfOk result (λ s. string_bytes s ≡ word_text word) }
     ensures reads_back { IfOk result (λ s. HasWords (string_bytes s) (word ∷ [])) }
 {
-    Shown(word).to_string(alloc)
+    WordText(word).to_string(alloc)
 }
 
 /// Adds the line of one word.
@@ -174,7 +174,7 @@ fn push_line(text: &mut String, address: u16, word: u16) -> Result<(), AllocErro
 {
     let place = Hex(address);
     let content = Hex(word);
-    let shown = Shown(word);
+    let shown = WordText(word);
     match write!(text, "{place} {content} {shown}\n") {
         Ok(()) => Ok(()),
         Err(e) => Err(e),
