@@ -1,0 +1,2 @@
+pub mod NoObjects
+pub mod Pieces
