@@ -1,0 +1,113 @@
+//! Names of queues and semaphores.
+ghost use Rattle.std.specs.Prelude.{◌≡◌, IfOk, string_bytes};
+ghost use Rattle.std.specs.Prelude.{◌<◌, All};
+ghost use Rattle.std.specs.List.{list_all};
+ghost use Rattle.ipc_names.specs.Name.{IsName, is_name_character, has_name_form, name_read};
+
+use crate::Errno;
+use std::alloc::{AllocError, Global};
+use std::marker::Model;
+
+/// The character `/`.
+const SLASH: u16 = 0x2f;
+
+/// The greatest number of characters of a name.
+const NAME_MAX: usize = 255;
+
+/// The name of a queue or a semaphore, seen as the list of its characters: `/`, and then one or
+/// more of x21 to x7E without `/`, at most 255 in all.
+#[derive(Drop)]
+pub struct Name {
+    text: String,
+}
+
+impl Model for Name {
+    ghost use Rattle.std.specs.Prelude.{List, ℕ, string_bytes};
+    ghost use Rattle.ipc_names.specs.Name.{IsName};
+
+    ghost Value = { List ℕ };
+
+    ghost view = { λ a. string_bytes a.text };
+
+    ghost invariant = { λ a. IsName (string_bytes a.text) };
+}
+
+fn is_name_character(word: u16) -> bool
+    ensures { result ≡ is_name_character word }
+{
+    (0x21..=0x7e).contains(&word) && word != SLASH
+}
+
+fn all_name_characters(words: &[u16]) -> bool
+    ensures { result ≡ list_all is_name_character words.now }
+{
+    words.iter().all(|word| is_name_character(*word))
+}
+
+fn has_name_form(words: &[u16]) -> bool
+    ensures { result ≡ has_name_form words.now }
+{
+    match words {
+        [] => false,
+        [first, rest @ ..] => *first == SLASH && !rest.is_empty() && all_name_characters(rest),
+    }
+}
+
+/// The text of words that are characters of ASCII.
+fn ascii_text(alloc: Global, words: &[u16]) -> Result<String, AllocError>
+    requires { All (λ word. word < 128) words.now }
+    ensures { IfOk result (λ text. string_bytes text ≡ words.now) }
+{
+    let mut text = String::new(alloc);
+    for word in words {
+        text.push(char::from(*word as u8))?;
+    }
+    Ok(text)
+}
+
+impl Name {
+    /// The name that words spell, one character a word, without the zero word that ends it in
+    /// memory. More than 255 words are ENAMETOOLONG, else words of another form EINVAL.
+    pub fn read(alloc: Global, words: &[u16]) -> Result<Result<Name, Errno>, AllocError>
+        ensures name { IfOk result (λ read. read ≡ name_read words.now) }
+    {
+        if words.len() > NAME_MAX {
+            return Ok(Err(Errno::NameTooLong));
+        }
+        if !has_name_form(words) {
+            return Ok(Err(Errno::Invalid));
+        }
+        let text = ascii_text(alloc, words)?;
+        Ok(Ok(Name { text }))
+    }
+
+    /// The characters.
+    pub fn text(&self) -> &str
+        ensures value { result.now ≡ self.now }
+        ensures form { IsName self.now }
+    {
+        self.text.as_str()
+    }
+
+    /// An equal name.
+    pub fn copy(&self, alloc: Global) -> Result<Name, AllocError>
+        ensures equal { IfOk result (λ copy. copy ≡ self.now) }
+    {
+        let text = String::from_str(alloc, self.text.as_str())?;
+        Ok(Name { text })
+    }
+
+    pub(crate) fn into_text(self) -> String
+        ensures text { string_bytes result ≡ self }
+        ensures form { IsName self }
+    {
+        self.text
+    }
+
+    pub(crate) fn of_text(text: String) -> Name
+        requires { IsName (string_bytes text) }
+        ensures { result ≡ string_bytes text }
+    {
+        Name { text }
+    }
+}

@@ -1,0 +1,68 @@
+//! Tables from names to places.
+ghost use Rattle.std.specs.Prelude.{◌≡◌, None, IfErr, OnOk, OnErr};
+ghost use Rattle.std.specs.FinMap as fin;
+
+use crate::Name;
+use indexmap::IndexMap;
+use std::alloc::Global;
+use std::marker::Model;
+
+/// A finite map from names to the numbers of places.
+#[derive(Drop)]
+pub struct NameTable {
+    places: IndexMap<String, u8>,
+}
+
+impl Model for NameTable {
+    ghost use Rattle.std.specs.FinMap as fin;
+    ghost use Rattle.std.specs.Coded.{coded_ℕ, coded_list};
+    ghost use Rattle.ipc_names.specs.Table.{NameMap, map_of};
+
+    ghost Value = { NameMap };
+
+    ghost coded = { fin.code (coded_list coded_ℕ) coded_ℕ };
+
+    ghost view = { λ a. map_of a.places };
+}
+
+impl NameTable {
+    /// The table without names.
+    pub fn new(alloc: Global) -> NameTable
+        ensures empty { result ≡ fin.empty }
+    {
+        let places = IndexMap::new(alloc);
+        NameTable { places }
+    }
+
+    /// The place of a name, if the name is there.
+    pub fn find(&self, name: &Name) -> Option<u8>
+        ensures place { result ≡ fin.get self.now name.now }
+    {
+        self.places.get(name.text()).copied()
+    }
+
+    /// Adds a name that isn't there. Where memory is refused the name is handed back and nothing
+    /// changes.
+    pub fn put(&mut self, name: Name, place: u8) -> Result<(), Name>
+        requires absent { fin.get self.old name ≡ None }
+        ensures ok { OnOk result (self.new ≡ fin.insert self.old name place) }
+        ensures err { OnErr result (self.new ≡ self.old) }
+        ensures handed_back { IfErr result (λ back. back ≡ name) }
+    {
+        match self.places.insert(name.into_text(), place) {
+            Ok(_) => Ok(()),
+            Err(failed) => {
+                let (text, _) = failed.value;
+                Err(Name::of_text(text))
+            }
+        }
+    }
+
+    /// Removes a name if it is there, and answers its place. Takes no memory.
+    pub fn take(&mut self, name: &Name) -> Option<u8>
+        ensures place { result ≡ fin.get self.old name.now }
+        ensures removed { self.new ≡ fin.remove self.old name.now }
+    {
+        self.places.swap_remove(name.text())
+    }
+}

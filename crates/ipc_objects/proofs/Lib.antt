@@ -1,0 +1,5 @@
+pub mod SentLemmas
+pub mod PlainLemmas
+pub mod ByPriority
+pub mod BitLemmas
+pub mod BucketLemmas

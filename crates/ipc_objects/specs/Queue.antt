@@ -1,0 +1,27 @@
+-- Message queues (POSIX.1-2017, mq_send and mq_receive).
+use Rattle.std.specs.Prelude.{ℕ, ◌<◌, ◌≤◌, nat_le, nat_lt, List, ◌∷◌, ◌++◌, length, filter, All}
+use Rattle.ipc_objects.specs.declared.queue.Message.{Message}
+
+-- what a queue is seen as: its messages are in the order in which they would be received
+pub record QueueState : Type 0 where
+  pub max_messages : ℕ
+  pub message_size : ℕ
+  pub messages : List Message
+
+-- a message goes behind those of its priority or a greater one, and before those of a lesser one
+abbrev pub sent : Message → List Message → List Message
+sent m ms = filter (λ x. nat_le m.priority x.priority) ms ++ m ∷ filter (λ x. nat_lt x.priority m.priority) ms
+
+-- the ranges of a queue's numbers, of its priorities and of its lengths
+pub record IsShape (max size : ℕ) (messages : List Message) : Type 0 where
+  pub max_at_least : 1 ≤ max
+  pub max_at_most : max ≤ 64
+  pub size_at_least : 1 ≤ size
+  pub size_at_most : size ≤ 256
+  pub within : length messages ≤ max
+  pub priorities : All (λ m. m.priority < 32) messages
+  pub sizes : All (λ m. length m.words ≤ size) messages
+
+-- each queue has them
+abbrev pub IsQueue : QueueState → Type 0
+IsQueue q = IsShape q.max_messages q.message_size q.messages

@@ -1,0 +1,17 @@
+//! Message queues and semaphores of POSIX.1-2017, each by itself: no names, no descriptors.
+#![tactic(auto)]
+
+mod bits;
+mod buckets;
+mod plain;
+mod queue;
+mod semaphore;
+mod words;
+
+pub use plain::PlainQueue;
+pub use queue::{Message, Queue};
+pub use semaphore::{Semaphore, VALUE_MAX};
+pub use words::Words;
+
+#[cfg(test)]
+mod tests;
