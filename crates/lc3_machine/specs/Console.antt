@@ -1,0 +1,59 @@
+-- The console traps (appendix A, table A.2). Each is one step, which puts the incremented program counter into R7
+-- and goes on there. A trap leaves the condition code as it was.
+use Rattle.std.specs.Prelude.{ℕ, ◌/◌, ◌%◌, ◌++◌, List, [], ◌∷◌, take, drop, option_map, map, flat_map, position, codes, ◌==◌, if◌then◌else◌, Option, Some, None}
+use Rattle.lc3_machine.specs.declared.want.Want.TheVariants.{End}
+use Rattle.lc3_machine.specs.declared.want.How.TheVariants.{Device, NoInput}
+use Rattle.lc3_machine.specs.Process.{Process, Outcome, GoesOn, Stops, reg, next_pc, with_reg, advanced, with_output}
+
+-- the process after a trap
+abbrev pub returned : Process → Process
+returned p = advanced (with_reg p 7 (next_pc p))
+
+-- the words from an address on, up to the device registers
+unfoldable pub words_from : List ℕ → ℕ → List ℕ
+words_from memory address = drop address (take 0xFE00 memory)
+
+-- the words from an address up to the first x0000, if there is one before the device registers
+unfoldable pub string_at : List ℕ → ℕ → Option (List ℕ)
+string_at memory address =
+    option_map (λ n. take n (words_from memory address)) (position (λ w. w == 0) (words_from memory address))
+
+-- the byte in the lower half of a word
+abbrev pub low_byte : ℕ → ℕ
+low_byte w = w % 256
+
+-- the bytes of a word of a packed string: the low one, then the high one if it is not zero
+abbrev pub packed_bytes : ℕ → List ℕ
+packed_bytes w = if w / 256 == 0 then w % 256 ∷ [] else w % 256 ∷ w / 256 ∷ []
+
+-- GETC: the next byte of the input into R0
+abbrev pub getc : Process → List ℕ → Outcome
+getc p [] = Stops (End NoInput)
+getc p (byte ∷ left) = GoesOn (returned (record (with_reg p 0 byte) { input = left }))
+
+-- OUT: the low byte of R0 to the output
+abbrev pub out : Process → Outcome
+out p = GoesOn (returned (with_output p (low_byte (reg p 0) ∷ [])))
+
+-- what IN writes before it reads
+abbrev pub prompt : List ℕ
+prompt = codes "Input a character> "
+
+-- IN: the prompt to the output, the next byte of the input into R0, that byte and a line feed to the output
+abbrev pub prompted : Process → List ℕ → Outcome
+prompted p [] = Stops (End NoInput)
+prompted p (byte ∷ left) =
+    GoesOn (returned (with_output (record (with_reg p 0 byte) { input = left }) (prompt ++ byte ∷ 10 ∷ [])))
+
+-- what a trap writes of a string; one that reaches the device registers ends the process
+abbrev pub wrote : Process → (List ℕ → List ℕ) → Option (List ℕ) → Outcome
+wrote p bytes None = Stops (End Device)
+wrote p bytes (Some words) = GoesOn (returned (with_output p (bytes words)))
+
+-- PUTS: the low byte of each word of the string whose address is in R0
+abbrev pub puts : Process → Outcome
+puts p = wrote p (map low_byte) (string_at p.memory (reg p 0))
+
+-- PUTSP: the bytes of each word of the packed string whose address is in R0
+abbrev pub putsp : Process → Outcome
+putsp p = wrote p (flat_map packed_bytes) (string_at p.memory (reg p 0))

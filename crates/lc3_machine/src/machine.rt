@@ -1,0 +1,211 @@
+ghost use Rattle.std.specs.Prelude.{◌≡◌, ◌↔◌, ℕ, ◌+◌, ◌<◌, ◌≤◌, IsTrue, OnOk, IfOk, length, slice_index};
+ghost use Rattle.lc3_machine.specs.Process.{start, reg, next_pc, word_sum, advanced};
+ghost use Rattle.lc3_machine.specs.Console.{returned};
+ghost use Rattle.lc3_machine.specs.Memory.{IsWritable, StaysReady};
+ghost use Rattle.lc3_machine.specs.Reply.{CanTake, answered, ended};
+
+mod console;
+mod execute;
+
+use crate::effect::Effect;
+use crate::input::Input;
+use crate::memory::Memory;
+use crate::registers::Registers;
+use crate::want::{How, Want};
+use lc3_word::{Cc, Reg, add};
+use std::alloc::{AllocError, Global};
+use std::marker::Model;
+
+/// The parts of a process, whatever its state.
+#[derive(Drop)]
+pub(crate) struct Machine {
+    regs: Registers,
+    pc: u16,
+    cc: Cc,
+    memory: Memory,
+    input: Input,
+    output: Vec<u8>,
+}
+
+impl Model for Machine {
+    ghost use Rattle.lc3_machine.specs.Process.{Held};
+
+    ghost Value = { Held };
+
+    ghost use Rattle.lc3_machine.specs.Machine.{held};
+
+    ghost view = { held };
+}
+
+/// What a local step did.
+pub(crate) enum Progress {
+    /// The instruction is done.
+    Moved,
+    /// Nothing: the instruction is a trap of the kernel or an end.
+    Stopped(Want),
+    /// Nothing, for want of memory.
+    Short,
+}
+
+impl Machine {
+    /// A process at its start.
+    pub(crate) fn load(
+        alloc: Global,
+        origin: u16,
+        words: &[u16],
+        input: &[u8],
+    ) -> Result<Machine, AllocError>
+        requires below_devices { origin + length words.now ≤ 0xFE00 }
+        ensures start { IfOk result (λ m. m.process ≡ start origin words.now input.now) }
+    {
+        Ok(Machine {
+            regs: Registers::new(),
+            pc: origin,
+            cc: Cc::Z,
+            memory: Memory::load(alloc, origin, words)?,
+            input: Input::new(alloc, input)?,
+            output: Vec::new(alloc),
+        })
+    }
+
+    /// What a register holds.
+    pub(crate) fn reg(&self, r: Reg) -> u16
+        ensures value { result ≡ reg self.now.process r }
+    {
+        self.regs.get(r.number())
+    }
+
+    /// The program counter.
+    pub(crate) fn pc(&self) -> u16
+        ensures value { result ≡ self.now.process.pc }
+    {
+        self.pc
+    }
+
+    /// The condition code that is set.
+    pub(crate) fn cc(&self) -> Cc
+        ensures value { result ≡ self.now.process.cc }
+    {
+        self.cc
+    }
+
+    /// The word at an address.
+    pub(crate) fn word(&self, address: u16) -> u16
+        ensures word { result ≡ slice_index self.now.process.memory address }
+        ensures whole { length self.now.process.memory ≡ 65536 }
+    {
+        self.memory.get(address)
+    }
+
+    /// The bytes of input that are left.
+    pub(crate) fn input_left(&self) -> &[u8]
+        ensures value { result.now ≡ self.now.process.input }
+    {
+        self.input.left()
+    }
+
+    /// The bytes of output so far.
+    pub(crate) fn output(&self) -> &[u8]
+        ensures value { result.now ≡ self.now.process.output }
+    {
+        self.output.as_slice()
+    }
+
+    /// Makes the words of a range writable; where memory is refused some of them may be.
+    pub(crate) fn reserve(&mut self, at: u16, len: u16) -> Result<(), AllocError>
+        requires below_devices { (k : ℕ) → k < len → at + k < 0xFE00 }
+        ensures process { self.new.process ≡ self.old.process }
+        ensures ready { StaysReady self.old.ready self.new.ready }
+        ensures ok { OnOk result (IsWritable self.new.ready at len) }
+    {
+        self.memory.reserve(at, len)
+    }
+
+    /// Whether each word of a range can be written without taking memory.
+    pub(crate) fn is_writable(&self, at: u16, len: u16) -> bool
+        ensures writable { IsTrue result ↔ IsWritable self.now.ready at len }
+    {
+        self.memory.is_writable(at, len)
+    }
+
+    /// Answers the call that the process stands before.
+    pub(crate) fn answer(&mut self, effect: Effect)
+        requires room { CanTake self.old.ready effect }
+        ensures answered { self.new.process ≡ answered self.old.process effect }
+    {
+        let result = match effect {
+            Effect::Plain(result) => result,
+            Effect::Message {
+                at,
+                words,
+                prio_at,
+                prio,
+            } => {
+                let count = words.len() as u16;
+                self.memory.put(at, &words);
+                if let Some(at) = prio_at {
+                    self.memory.put(at, &[prio]);
+                }
+                count
+            }
+            Effect::Four { at, words } => {
+                if let Some(at) = at {
+                    self.memory.put(at, &words);
+                }
+                0
+            }
+            Effect::One { at, word } => {
+                self.memory.put(at, &[word]);
+                0
+            }
+        };
+        self.regs.set(0, result);
+        self.return_from_trap();
+    }
+
+    /// Ends the process.
+    pub(crate) fn end(&mut self, how: How)
+        ensures ended { self.new.process ≡ ended self.old.process how }
+    {
+        if how == How::Halt {
+            self.return_from_trap();
+        }
+    }
+
+    /// The incremented program counter.
+    fn next_pc(&self) -> u16
+        ensures { result ≡ next_pc self.now.process }
+    {
+        add(self.pc, 1)
+    }
+
+    /// The address at an offset from the incremented program counter.
+    fn target(&self, offset: u16) -> u16
+        ensures { result ≡ word_sum (next_pc self.now.process) offset }
+    {
+        add(self.next_pc(), offset)
+    }
+
+    /// The address at an offset from the one in a register.
+    fn at(&self, base: Reg, offset: u16) -> u16
+        ensures { result ≡ word_sum (reg self.now.process base) offset }
+    {
+        add(self.reg(base), offset)
+    }
+
+    /// Goes on at the next instruction.
+    fn advance(&mut self)
+        ensures { self.new.process ≡ advanced self.old.process }
+    {
+        self.pc = self.next_pc();
+    }
+
+    /// Goes on after a trap, whose next address stands in R7.
+    fn return_from_trap(&mut self)
+        ensures { self.new.process ≡ returned self.old.process }
+    {
+        let link = self.next_pc();
+        self.regs.set(7, link);
+        self.pc = link;
+    }
+}

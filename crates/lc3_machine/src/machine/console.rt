@@ -1,0 +1,149 @@
+//! The console traps. Each looks at its input or string, then makes room for what it writes, and only then writes.
+
+ghost use Rattle.std.specs.Prelude.{[], ◌∷◌, ◌≡◌, ◌++◌, ◌+◌, ◌*◌, ◌<◌, ◌≤◌, map, take, flat_map, vec_len, vec_capacity};
+ghost use Rattle.lc3_machine.specs.Console.{prompt, words_from, low_byte, packed_bytes, getc, out, puts, prompted, putsp};
+ghost use Rattle.lc3_machine.specs.Effects.{trapped};
+ghost use Rattle.lc3_machine.specs.Steps.{CarriedOut};
+
+use super::{Machine, Progress};
+use crate::memory::Memory;
+use crate::want::{How, Want};
+
+/// What IN writes before it reads.
+const PROMPT: &[u8] = b"Input a character> ";
+
+impl Machine {
+    /// GETC: the next byte of the input into R0.
+    fn getc(&mut self) -> Progress
+        ensures { CarriedOut (getc self.old.process self.old.process.input) self.old.process result self.new.process }
+    {
+        match self.input.next() {
+            None => Progress::Stopped(Want::End(How::NoInput)),
+            Some(byte) => {
+                self.regs.set(0, byte as u16);
+                self.return_from_trap();
+                Progress::Moved
+            }
+        }
+    }
+
+    /// OUT: the low byte of R0 to the output.
+    fn out(&mut self) -> Progress
+        ensures { CarriedOut (out self.old.process) self.old.process result self.new.process }
+    {
+        let byte = (self.regs.get(0) % 256) as u8;
+        match self.output.push(byte) {
+            Ok(()) => {
+                self.return_from_trap();
+                Progress::Moved
+            }
+            Err(_) => Progress::Short,
+        }
+    }
+
+    /// IN: the next byte of the input into R0, with a prompt before it and its echo.
+    fn ask(&mut self) -> Progress
+        ensures { CarriedOut (prompted self.old.process self.old.process.input) self.old.process result self.new.process }
+    {
+        if self.input.left().is_empty() {
+            return Progress::Stopped(Want::End(How::NoInput));
+        }
+        if self.output.try_reserve(PROMPT.len() + 2).is_err() {
+            return Progress::Short;
+        }
+        match self.input.next() {
+            None => Progress::Stopped(Want::End(How::NoInput)),
+            Some(byte) => {
+                self.regs.set(0, byte as u16);
+                write_echo(&mut self.output, byte);
+                self.return_from_trap();
+                Progress::Moved
+            }
+        }
+    }
+
+    /// PUTS: the low bytes of the string whose address is in R0.
+    fn puts(&mut self) -> Progress
+        ensures { CarriedOut (puts self.old.process) self.old.process result self.new.process }
+    {
+        let address = self.regs.get(0);
+        let Some(count) = self.memory.string_len(address) else {
+            return Progress::Stopped(Want::End(How::Device));
+        };
+        if self.output.try_reserve(count as usize).is_err() {
+            return Progress::Short;
+        }
+        write_low_bytes(&mut self.output, &self.memory, address, count);
+        self.return_from_trap();
+        Progress::Moved
+    }
+
+    /// PUTSP: both bytes of each word of the string whose address is in R0.
+    fn putsp(&mut self) -> Progress
+        ensures { CarriedOut (putsp self.old.process) self.old.process result self.new.process }
+    {
+        let address = self.regs.get(0);
+        let Some(count) = self.memory.string_len(address) else {
+            return Progress::Stopped(Want::End(How::Device));
+        };
+        if self.output.try_reserve(2 * count as usize).is_err() {
+            return Progress::Short;
+        }
+        write_packed_bytes(&mut self.output, &self.memory, address, count);
+        self.return_from_trap();
+        Progress::Moved
+    }
+
+    /// Does a console trap, or stands before a call or an end.
+    #[tactic(auto, unfolding(crate::specs::Effects::trapped))]
+    pub(super) fn trap(&mut self, vector: u8) -> Progress
+        ensures { CarriedOut (trapped vector self.old.process) self.old.process result self.new.process }
+    {
+        match vector {
+            0x20 => self.getc(),
+            0x21 => self.out(),
+            0x22 => self.puts(),
+            0x23 => self.ask(),
+            0x24 => self.putsp(),
+            0x25 => Progress::Stopped(Want::End(How::Halt)),
+            0x40..=0x46 | 0x50..=0x56 => Progress::Stopped(Want::Trap(vector)),
+            _ => Progress::Stopped(Want::End(How::BadTrap)),
+        }
+    }
+}
+
+/// Writes a prompt, a byte and a line feed, for which there is room.
+fn write_echo(output: &mut Vec<u8>, byte: u8)
+    requires room { vec_len output.old + 21 ≤ vec_capacity output.old }
+    ensures { output.new.items ≡ output.old.items ++ (prompt ++ byte ∷ 10 ∷ []) }
+{
+    let _ = output.extend_from_slice(PROMPT);
+    let _ = output.extend_from_slice(&[byte, b'\n']);
+}
+
+/// Writes the low bytes of words of memory, for which there is room.
+fn write_low_bytes(output: &mut Vec<u8>, memory: &Memory, address: u16, count: u16)
+    requires in_memory { address + count < 0xFE00 }
+    requires room { vec_len output.old + count ≤ vec_capacity output.old }
+    ensures { output.new.items ≡ output.old.items ++ map low_byte (take count (words_from memory.now.words address)) }
+{
+    for k in 0..count {
+        let word = memory.get(address + k);
+        let _ = output.push((word % 256) as u8);
+    }
+}
+
+/// Writes both bytes of words of memory, for which there is room.
+fn write_packed_bytes(output: &mut Vec<u8>, memory: &Memory, address: u16, count: u16)
+    requires in_memory { address + count < 0xFE00 }
+    requires room { vec_len output.old + 2 * count ≤ vec_capacity output.old }
+    ensures { output.new.items ≡ output.old.items ++ flat_map packed_bytes (take count (words_from memory.now.words address)) }
+{
+    for k in 0..count {
+        let word = memory.get(address + k);
+        let _ = output.push((word % 256) as u8);
+        if word / 256 != 0 {
+            let _ = output.push((word / 256) as u8);
+        }
+    }
+}

@@ -1,0 +1,160 @@
+//! The effect of each instruction.
+
+ghost use Rattle.std.specs.Prelude.{◌≡◌, ◌<◌, ◌≤◌, ℕ, if◌then◌else◌};
+ghost use Rattle.lc3_machine.specs.Process.{GoesOn, word_sum, next_pc, advanced, jumped, with_reg, with_result, at_word, stored};
+ghost use Rattle.lc3_machine.specs.Effects.{effect, next_step, is_among, operand_value};
+ghost use Rattle.lc3_machine.specs.Steps.{CarriedOut};
+
+use super::{Machine, Progress};
+use crate::memory::DEVICES;
+use crate::want::{How, Want};
+use lc3_table::{Instr, Operand, decode};
+use lc3_word::{Cc, Reg, add, cc_of};
+
+impl Machine {
+    /// Puts a result into a register, sets the code from it, and goes on at the next instruction.
+    #[tactic(auto, unfolding(crate::specs::Process::cc_of))]
+    fn give(&mut self, dr: Reg, value: u16) -> Progress
+        ensures { CarriedOut (GoesOn (advanced (with_result self.old.process dr value))) self.old.process result self.new.process }
+    {
+        self.regs.set(dr.number(), value);
+        self.cc = cc_of(value);
+        self.advance();
+        Progress::Moved
+    }
+
+    /// Goes on elsewhere.
+    fn jump(&mut self, address: u16) -> Progress
+        ensures { CarriedOut (GoesOn (jumped self.old.process address)) self.old.process result self.new.process }
+    {
+        self.pc = address;
+        Progress::Moved
+    }
+
+    /// Goes on elsewhere, with the address of the next instruction in R7.
+    fn call(&mut self, routine: u16) -> Progress
+        ensures { CarriedOut (GoesOn (jumped (with_reg self.old.process 7 (next_pc self.old.process)) routine)) self.old.process result self.new.process }
+    {
+        let link = self.next_pc();
+        self.regs.set(7, link);
+        self.pc = routine;
+        Progress::Moved
+    }
+
+    /// Goes on elsewhere if the code that is set is among these, and else at the next instruction.
+    fn branch(&mut self, n: bool, z: bool, p: bool, address: u16) -> Progress
+        ensures { CarriedOut (GoesOn (if is_among self.old.process.cc n z p then jumped self.old.process address else advanced self.old.process)) self.old.process result self.new.process }
+    {
+        let taken = match self.cc {
+            Cc::N => n,
+            Cc::Z => z,
+            Cc::P => p,
+        };
+        self.pc = if taken { address } else { self.next_pc() };
+        Progress::Moved
+    }
+
+    /// Puts the word at an address into a register.
+    fn load_into(&mut self, dr: Reg, address: u16) -> Progress
+        ensures { CarriedOut (at_word self.old.process address (λ word. GoesOn (advanced (with_result self.old.process dr word)))) self.old.process result self.new.process }
+    {
+        if address >= DEVICES {
+            return Progress::Stopped(Want::End(How::Device));
+        }
+        let word = self.memory.get(address);
+        self.give(dr, word)
+    }
+
+    /// Puts the word at the address that stands at an address into a register.
+    fn load_indirect(&mut self, dr: Reg, address: u16) -> Progress
+        ensures { CarriedOut (at_word self.old.process address (λ pointer. at_word self.old.process pointer (λ word. GoesOn (advanced (with_result self.old.process dr word))))) self.old.process result self.new.process }
+    {
+        if address >= DEVICES {
+            return Progress::Stopped(Want::End(How::Device));
+        }
+        let pointer = self.memory.get(address);
+        self.load_into(dr, pointer)
+    }
+
+    /// Stores a word at an address.
+    fn store(&mut self, address: u16, word: u16) -> Progress
+        ensures { CarriedOut (stored self.old.process address word) self.old.process result self.new.process }
+    {
+        if address >= DEVICES {
+            return Progress::Stopped(Want::End(How::Device));
+        }
+        match self.memory.set(address, word) {
+            Ok(()) => {
+                self.advance();
+                Progress::Moved
+            }
+            Err(_) => Progress::Short,
+        }
+    }
+
+    /// Stores a word at the address that stands at an address.
+    fn store_indirect(&mut self, address: u16, word: u16) -> Progress
+        ensures { CarriedOut (at_word self.old.process address (λ pointer. stored self.old.process pointer word)) self.old.process result self.new.process }
+    {
+        if address >= DEVICES {
+            return Progress::Stopped(Want::End(How::Device));
+        }
+        let pointer = self.memory.get(address);
+        self.store(pointer, word)
+    }
+
+    /// The word of the second operand of ADD and AND.
+    fn operand(&self, operand: Operand) -> u16
+        ensures { result ≡ operand_value self.now.process operand }
+    {
+        match operand {
+            Operand::Register(sr2) => self.reg(sr2),
+            Operand::Number(imm5) => imm5.word(),
+        }
+    }
+
+    /// Does an instruction, or stands before a call or an end.
+    #[tactic(auto, unfolding(crate::specs::Effects::effect))]
+    fn execute(&mut self, instr: Instr) -> Progress
+        ensures { CarriedOut (effect instr self.old.process) self.old.process result self.new.process }
+    {
+        match instr {
+            Instr::Add { dr, sr1, operand } => {
+                self.give(dr, add(self.reg(sr1), self.operand(operand)))
+            }
+            Instr::And { dr, sr1, operand } => self.give(dr, self.reg(sr1) & self.operand(operand)),
+            Instr::Not { dr, sr } => self.give(dr, !self.reg(sr)),
+            Instr::Br { n, z, p, offset } => self.branch(n, z, p, self.target(offset.word())),
+            Instr::Jmp { base } => self.jump(self.reg(base)),
+            Instr::Jsr { offset } => self.call(self.target(offset.word())),
+            Instr::Jsrr { base } => self.call(self.reg(base)),
+            Instr::Ld { dr, offset } => self.load_into(dr, self.target(offset.word())),
+            Instr::Ldi { dr, offset } => self.load_indirect(dr, self.target(offset.word())),
+            Instr::Ldr { dr, base, offset } => self.load_into(dr, self.at(base, offset.word())),
+            Instr::Lea { dr, offset } => self.give(dr, self.target(offset.word())),
+            Instr::St { sr, offset } => self.store(self.target(offset.word()), self.reg(sr)),
+            Instr::Sti { sr, offset } => {
+                self.store_indirect(self.target(offset.word()), self.reg(sr))
+            }
+            Instr::Str { sr, base, offset } => {
+                self.store(self.at(base, offset.word()), self.reg(sr))
+            }
+            Instr::Rti => Progress::Stopped(Want::End(How::Illegal)),
+            Instr::Trap { vector } => self.trap(vector),
+        }
+    }
+
+    /// Does the next step, or stands before a call or an end.
+    #[tactic(auto, unfolding(crate::specs::Effects::next_step))]
+    pub(crate) fn step(&mut self) -> Progress
+        ensures step { CarriedOut (next_step self.old.process) self.old.process result self.new.process }
+    {
+        if self.pc >= DEVICES {
+            return Progress::Stopped(Want::End(How::Device));
+        }
+        let Some(instr) = decode(self.memory.get(self.pc)) else {
+            return Progress::Stopped(Want::End(How::Illegal));
+        };
+        self.execute(instr)
+    }
+}

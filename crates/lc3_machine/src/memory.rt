@@ -1,0 +1,141 @@
+ghost use Rattle.std.specs.Prelude.{◌≡◌, ℕ, ◌+◌, ◌<◌, ◌≤◌, ◌↔◌, MatchOption, IfSome, IfOk, IsOk, IsTrue, List, OnErr, OnOk, Option, length, slice_index, slice_set, take};
+ghost use Rattle.lc3_machine.specs.Process.{memory_of, zeros};
+ghost use Rattle.lc3_machine.specs.Memory.{IsReadyAt, IsWritable, StaysReady, written};
+ghost use Rattle.lc3_machine.specs.Console.{words_from, string_at};
+
+use crate::page::{PAGE, Page};
+use std::alloc::{AllocError, Global};
+use std::marker::Model;
+
+/// The number of pages of memory.
+const PAGES: usize = 256;
+
+/// The address of the first device register.
+pub(crate) const DEVICES: u16 = 0xfe00;
+
+/// The memory of a process: a table of pages, each made at the first write to it.
+#[derive(Drop)]
+pub(crate) struct Memory {
+    pages: Vec<Page>,
+}
+
+impl Model for Memory {
+    ghost use Rattle.std.specs.Prelude.{◌≡◌, vec_len};
+    ghost use Rattle.lc3_machine.specs.Memory.{Store};
+    ghost use Rattle.lc3_machine.specs.Pages.{joined, AreWhole};
+
+    ghost Value = { Store };
+
+    ghost view = { λ m. joined m.pages.items };
+
+    ghost invariant = { λ m. (vec_len m.pages ≡ 256) × AreWhole m.pages.items };
+}
+
+impl Memory {
+    /// Memory that is zero.
+    fn zero(alloc: Global) -> Result<Memory, AllocError>
+        ensures { IfOk result (λ m. m.words ≡ zeros 65536) }
+    {
+        let mut pages = Vec::with_capacity(alloc, PAGES)?;
+        for _ in 0..PAGES {
+            pages.push(Page::absent(alloc))?;
+        }
+        Ok(Memory { pages })
+    }
+
+    /// Memory with these words from the origin on, and zeros around them.
+    pub(crate) fn load(alloc: Global, origin: u16, words: &[u16]) -> Result<Memory, AllocError>
+        requires below_devices { origin + length words.now ≤ 0xFE00 }
+        ensures words { IfOk result (λ m. m.words ≡ memory_of origin words.now) }
+    {
+        let mut memory = Memory::zero(alloc)?;
+        for (k, word) in words.iter().enumerate() {
+            memory.set(origin + k as u16, *word)?;
+        }
+        Ok(memory)
+    }
+
+    /// The word at an address.
+    pub(crate) fn get(&self, address: u16) -> u16
+        ensures word { result ≡ slice_index self.now.words address }
+        ensures whole { length self.now.words ≡ 65536 }
+    {
+        let address = address as usize;
+        self.pages[address / PAGE].get(address % PAGE)
+    }
+
+    /// Writes the word at an address; where memory is refused nothing has changed.
+    pub(crate) fn set(&mut self, address: u16, word: u16) -> Result<(), AllocError>
+        ensures ok { OnOk result (self.new.words ≡ slice_set self.old.words address word) }
+        ensures err { OnErr result (self.new.words ≡ self.old.words) }
+        ensures ready { StaysReady self.old.ready self.new.ready }
+        ensures succeeds { IsReadyAt self.old.ready address → IsOk result }
+    {
+        let address = address as usize;
+        let page = &mut self.pages[address / PAGE];
+        page.set(address % PAGE, word)
+    }
+
+    /// Makes the words of a range writable; where memory is refused some of them may be.
+    pub(crate) fn reserve(&mut self, at: u16, len: u16) -> Result<(), AllocError>
+        requires below_devices { (k : ℕ) → k < len → at + k < 0xFE00 }
+        ensures words { self.new.words ≡ self.old.words }
+        ensures ready { StaysReady self.old.ready self.new.ready }
+        ensures ok { OnOk result (IsWritable self.new.ready at len) }
+    {
+        if len == 0 {
+            return Ok(());
+        }
+        let first = at as usize / PAGE;
+        let last = (at as usize + len as usize - 1) / PAGE;
+        for i in first..last + 1 {
+            let page = &mut self.pages[i];
+            page.make()?;
+        }
+        Ok(())
+    }
+
+    /// Whether each word of a range can be written without taking memory.
+    pub(crate) fn is_writable(&self, at: u16, len: u16) -> bool
+        ensures writable { IsTrue result ↔ IsWritable self.now.ready at len }
+    {
+        for k in 0..len as u32 {
+            let address = at as u32 + k;
+            if address >= DEVICES as u32 {
+                return false;
+            }
+            let page = &self.pages[address as usize / PAGE];
+            if !page.is_made() {
+                return false;
+            }
+        }
+        true
+    }
+
+    /// Writes words from an address on.
+    pub(crate) fn put(&mut self, at: u16, words: &[u16])
+        requires writable { IsWritable self.old.ready at (length words.now) }
+        ensures words { self.new.words ≡ written self.old.words at words.now }
+        ensures ready { StaysReady self.old.ready self.new.ready }
+    {
+        let _ = &self.pages;
+        for (k, word) in words.iter().enumerate() {
+            let _ = self.set(at + k as u16, *word);
+        }
+    }
+
+    /// How many words stand before the first zero word from an address on, if there is one before the device
+    /// registers.
+    pub(crate) fn string_len(&self, address: u16) -> Option<u16>
+        ensures string { MatchOption result (string_at self.now.words address ≡ None)
+            (λ n. string_at self.now.words address ≡ Some (take n (words_from self.now.words address))) }
+        ensures in_memory { IfSome result (λ n. address + n < 0xFE00) }
+    {
+        for at in address..DEVICES {
+            if self.get(at) == 0 {
+                return Some(at - address);
+            }
+        }
+        None
+    }
+}

@@ -1,0 +1,42 @@
+ghost use Rattle.std.specs.Prelude.{◌≡◌, ℕ, ◌<◌, length, replicate, slice_index, slice_set};
+
+use std::marker::Model;
+
+/// The eight registers.
+#[derive(Drop)]
+pub(crate) struct Registers {
+    words: [u16; 8],
+}
+
+impl Model for Registers {
+    ghost use Rattle.std.specs.Prelude.{List, ℕ};
+
+    ghost Value = { List ℕ };
+
+    ghost view = { λ r. r.words };
+}
+
+impl Registers {
+    /// All of them zero.
+    pub(crate) fn new() -> Registers
+        ensures zero { result ≡ replicate 8 0 }
+    {
+        Registers { words: [0; 8] }
+    }
+
+    /// What a register holds.
+    pub(crate) fn get(&self, number: u8) -> u16
+        requires number { number < 8 }
+        ensures word { result ≡ slice_index self.now number }
+    {
+        self.words[number as usize]
+    }
+
+    /// Writes a register.
+    pub(crate) fn set(&mut self, number: u8, word: u16)
+        requires number { number < 8 }
+        ensures word { self.new ≡ slice_set self.old number word }
+    {
+        self.words[number as usize] = word;
+    }
+}

@@ -1,0 +1,86 @@
+//! The states of a process, a type each.
+
+mod call;
+mod end;
+mod run;
+mod wait;
+
+use crate::machine::Machine;
+use crate::want::{How, Want};
+use std::marker::Model;
+
+/// A process that runs.
+#[derive(Drop)]
+pub struct Running {
+    machine: Machine,
+}
+
+impl Model for Running {
+    ghost use Rattle.lc3_machine.specs.Process.{Process};
+
+    ghost Value = { Process };
+
+    ghost view = { λ r. r.machine.process };
+}
+
+/// A process whose next instruction is a trap of the kernel, or its end. Nothing of that instruction is done.
+#[derive(Drop)]
+pub struct AtCall {
+    machine: Machine,
+    want: Want,
+}
+
+impl Model for AtCall {
+    ghost use Rattle.std.specs.Prelude.{◌≡◌};
+    ghost use Rattle.lc3_machine.specs.Process.{Held, Stops};
+    ghost use Rattle.lc3_machine.specs.Effects.{next_step};
+
+    ghost Value = { Held };
+
+    ghost view = { λ a. a.machine };
+
+    ghost invariant = { λ a. next_step a.machine.process ≡ Stops a.want };
+}
+
+/// A process that waits for the answer of the trap that it stands before.
+#[derive(Drop)]
+pub struct Waiting {
+    call: AtCall,
+}
+
+impl Model for Waiting {
+    ghost use Rattle.lc3_machine.specs.Process.{Held};
+    ghost use Rattle.lc3_machine.specs.Steps.{AsksTrap};
+
+    ghost Value = { Held };
+
+    ghost view = { λ w. w.call };
+
+    ghost invariant = { λ w. AsksTrap w.call.process };
+}
+
+/// A process that has ended.
+#[derive(Drop)]
+pub struct Ended {
+    machine: Machine,
+    how: How,
+}
+
+impl Model for Ended {
+    ghost use Rattle.lc3_machine.specs.Process.{EndedProcess};
+
+    ghost Value = { EndedProcess };
+
+    ghost view = { λ e. record { process = e.machine.process; how = e.how } };
+}
+
+/// What local steps of a process lead to.
+#[derive(Drop)]
+pub enum Local {
+    /// All steps are done.
+    Running(Running),
+    /// The next instruction is a trap of the kernel or an end: it isn't done, and no step is counted for it.
+    AtCall(AtCall),
+    /// Memory was refused to the next instruction: it isn't done, and may be tried again.
+    Short(Running),
+}

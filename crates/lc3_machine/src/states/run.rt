@@ -1,0 +1,92 @@
+//! A process that runs.
+
+ghost use Rattle.std.specs.Prelude.{◌≡◌, ℕ, ◌+◌, ◌<◌, ◌≤◌, IfOk, length, slice_index};
+ghost use Rattle.lc3_machine.specs.Process.{start, reg};
+ghost use Rattle.lc3_machine.specs.Steps.{IsStep, IsRun};
+
+use super::{AtCall, Local, Running};
+use crate::machine::{Machine, Progress};
+use lc3_word::{Cc, Image, Reg};
+use std::alloc::{AllocError, Global};
+
+impl Running {
+    /// A process at its start: the image in memory and zeros around it, registers 0, code Z, the program counter at
+    /// the image's origin, this console input, and no output. An error is want of memory.
+    pub fn load(alloc: Global, image: &Image, input: &[u8]) -> Result<Running, AllocError>
+        ensures start { IfOk result (λ r. r ≡ start image.now.origin image.now.words input.now) }
+    {
+        let machine = Machine::load(alloc, image.origin(), image.words(), input)?;
+        Ok(Running { machine })
+    }
+
+    /// Does the next instruction, if it is the process's own.
+    pub fn step(self) -> Local
+        ensures step { IsStep self result }
+    {
+        let Running { mut machine } = self;
+        match machine.step() {
+            Progress::Moved => Local::Running(Running { machine }),
+            Progress::Stopped(want) => Local::AtCall(AtCall { machine, want }),
+            Progress::Short => Local::Short(Running { machine }),
+        }
+    }
+
+    /// Does at most this many instructions, as `step` does each; with how many were done. They are fewer than `max`
+    /// only before a call or an end, or where memory was refused.
+    pub fn run_local(self, max: u32) -> (Local, u32)
+        ensures run { IsRun self max result.0 result.1 }
+    {
+        let Running { mut machine } = self;
+        for done in 0..max {
+            match machine.step() {
+                Progress::Moved => {}
+                Progress::Stopped(want) => return (Local::AtCall(AtCall { machine, want }), done),
+                Progress::Short => return (Local::Short(Running { machine }), done),
+            }
+        }
+        (Local::Running(Running { machine }), max)
+    }
+
+    /// What a register holds.
+    pub fn reg(&self, r: Reg) -> u16
+        ensures value { result ≡ reg self.now r }
+    {
+        self.machine.reg(r)
+    }
+
+    /// The program counter.
+    pub fn pc(&self) -> u16
+        ensures value { result ≡ self.now.pc }
+    {
+        self.machine.pc()
+    }
+
+    /// The condition code that is set.
+    pub fn cc(&self) -> Cc
+        ensures value { result ≡ self.now.cc }
+    {
+        self.machine.cc()
+    }
+
+    /// The word at an address. A word that was never written is 0, and so are the device registers, xFE00 and above.
+    pub fn word(&self, address: u16) -> u16
+        ensures word { result ≡ slice_index self.now.memory address }
+        ensures whole { length self.now.memory ≡ 65536 }
+    {
+        self.machine.word(address)
+    }
+
+    /// The bytes of console input that were not read yet.
+    pub fn input_left(&self) -> &[u8]
+        ensures value { result.now ≡ self.now.input }
+    {
+        self.machine.input_left()
+    }
+
+    /// The bytes written to the console so far, the oldest first.
+    pub fn output(&self) -> &[u8]
+        ensures value { result.now ≡ self.now.output }
+    {
+        self.machine.output()
+    }
+}
