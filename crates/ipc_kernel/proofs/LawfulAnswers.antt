@@ -1,0 +1,202 @@
+-- What holds of every answer, whatever the kernel and the call.
+use Rattle.std.proofs.Common.{◌≡◌, ℕ, ◌&&◌, Bool, true, false, cond, not, nat_lt, nat_le, ◌==◌, List, [], ◌∷◌, length, Option, Some, None, Result, Ok, Err, IfOk, IsTrue, ◌≤◌, refl, sym, subst, ap, length-set, position}
+use Rattle.ipc_names.specs.declared.errno.Errno.{Errno}
+use Rattle.ipc_names.specs.declared.flags.Flags.{Flags}
+use Rattle.ipc_names.specs.Flags.{flags_read}
+use Rattle.ipc_objects.specs.declared.queue.Message.{Message}
+use Rattle.ipc_objects.specs.Queue.{QueueState}
+use Rattle.ipc_kernel.specs.declared.place.Place.{Place}
+use Rattle.ipc_kernel.specs.declared.process.Process.{Process}
+use Rattle.ipc_kernel.specs.declared.process.Slot.{Slot}
+use Rattle.ipc_kernel.specs.declared.process.Descriptor.{Descriptor}
+use Rattle.ipc_kernel.specs.declared.call.Call.{Call}
+use Rattle.ipc_kernel.specs.declared.call.Call.TheVariants.{MqOpen, MqClose, MqUnlink, MqSend, MqReceive, MqGetattr, MqSetattr, SemOpen, SemClose, SemUnlink, SemWait, SemTrywait, SemPost, SemGetvalue, Exit}
+use Rattle.ipc_kernel.specs.declared.call.Reply.{Reply}
+use Rattle.ipc_kernel.specs.declared.call.Reply.TheVariants.{Plain}
+use Rattle.ipc_kernel.specs.declared.call.Answer.{Answer}
+use Rattle.ipc_kernel.specs.declared.call.Answer.TheVariants.{Done, Wait}
+use Rattle.ipc_kernel.specs.Kernel.{KernelState}
+use Rattle.ipc_kernel.specs.Processes.{descriptor_of, slot_of, slot_for, free_descriptor_of, free_slot_of}
+use Rattle.ipc_kernel.specs.Places.{is_empty, are_sizes, queue_named, semaphore_named}
+use Rattle.ipc_kernel.specs.Outcomes.{Outcome, waiting, blocked, open_queue, open_semaphore, unlink}
+use Rattle.ipc_kernel.specs.Queues.{mq_send, take_first, mq_receive, mq_getattr, mq_setattr, mq_close, sizes_asked, new_descriptor, mq_create_at, mq_create, mq_look_up, mq_open}
+use Rattle.ipc_kernel.specs.Semaphores.{sem_getvalue, sem_post, sem_wait, sem_trywait, sem_close, new_slot, one_more_open, sem_open_place, sem_create_at, sem_create, sem_look_up, sem_open}
+use Rattle.ipc_names.specs.Flags.{has_flag}
+use Rattle.ipc_kernel.specs.Replies.{IsReplyTo, IsAnswerTo, message_length}
+use Rattle.ipc_kernel.specs.Answer.{answer, may_wait}
+
+-- a message that a receive answers is no longer than what was asked for, and than a message can be
+abbrev pub IsShort : Call → Answer → Type 0
+IsShort call a = (d len : ℕ) → call ≡ MqReceive d len → (message_length a ≤ len) × (message_length a ≤ 256)
+
+-- the answer is one of the call, a wait is one of a call that can wait and changes nothing, and the processes stay as many
+record IsLawful (call : Call) (k : KernelState) (o : Outcome) : Type 0 where
+  form : IsShort call o.0 → IsAnswerTo call o.0
+  waits : o.0 ≡ Wait → IsTrue (may_wait call)
+  unchanged : o.0 ≡ Wait → o.1 ≡ k
+  count : length o.1.processes ≡ length k.processes
+
+reply_is_no_wait : (r : Reply) → Done r ≡ Wait → ⊥
+reply_is_no_wait r e = cc
+
+lawful_refused : (c : Call) (k : KernelState) (w : ℕ) → IsLawful c k (Done (Plain w), k)
+lawful_refused c k w = record { form = λ s. tt; waits = λ e. absurd (reply_is_no_wait (Plain w) e); unchanged = λ e. refl; count = refl }
+
+lawful_waits : (c : Call) (k : KernelState) → IsTrue (may_wait c) → IsLawful c k (waiting k)
+lawful_waits c k can = record { form = λ s. tt; waits = λ e. can; unchanged = λ e. refl; count = refl }
+
+lawful_done : (c : Call) (k : KernelState) (r : Reply) (places : List Place) (processes : List Process) → (IsShort c (Done r) → IsReplyTo c r) → length processes ≡ length k.processes → IsLawful c k (Done r, record { places = places; processes = processes })
+lawful_done c k r places processes form count = record { form = form; waits = λ e. absurd (reply_is_no_wait r e); unchanged = λ e. absurd (reply_is_no_wait r e); count = count }
+
+lawful_if : (c : Call) (k : KernelState) (b : Bool) (x y : Outcome) → IsLawful c k x → IsLawful c k y → IsLawful c k (cond b x y)
+lawful_if c k true x y h i = h
+lawful_if c k false x y h i = i
+
+lawful_blocked : (c : Call) (k : KernelState) (d : Descriptor) → IsTrue (may_wait c) → IsLawful c k (blocked k d)
+lawful_blocked c k d can = lawful_if c k d.nonblock _ _ (lawful_refused c k _) (lawful_waits c k can)
+
+lawful_sent : (c : Call) (k : KernelState) (priority : ℕ) (words : List ℕ) (o : Option (Descriptor × QueueState)) → IsTrue (may_wait c) → IsLawful c k (mq_send k priority words o)
+lawful_sent c k priority words None can = lawful_refused c k _
+lawful_sent c k priority words (Some held) can =
+    lawful_if c k (held.0.access == 0) _ _ (lawful_refused c k _)
+    (lawful_if c k (nat_le 32 priority) _ _ (lawful_refused c k _)
+    (lawful_if c k (nat_lt held.1.message_size (length words)) _ _ (lawful_refused c k _)
+    (lawful_if c k (nat_le held.1.max_messages (length held.1.messages)) _ _ (lawful_blocked c k held.0 can) (lawful_done c k _ _ _ (λ s. tt) refl))))
+
+lawful_first : (m len : ℕ) (k : KernelState) (d : Descriptor) (q : QueueState) (ms : List Message) → IsLawful (MqReceive m len) k (take_first k d q ms)
+lawful_first m len k d q [] = lawful_blocked (MqReceive m len) k d refl
+lawful_first m len k d q (x ∷ rest) = lawful_done (MqReceive m len) k _ _ _ (λ s. s m len refl) refl
+
+lawful_received : (m len : ℕ) (k : KernelState) (o : Option (Descriptor × QueueState)) → IsLawful (MqReceive m len) k (mq_receive k len o)
+lawful_received m len k None = lawful_refused (MqReceive m len) k _
+lawful_received m len k (Some held) =
+    lawful_if (MqReceive m len) k (held.0.access == 1) _ _ (lawful_refused (MqReceive m len) k _)
+    (lawful_if (MqReceive m len) k (nat_lt len held.1.message_size) _ _ (lawful_refused (MqReceive m len) k _) (lawful_first m len k held.0 held.1 held.1.messages))
+
+lawful_told : (m : ℕ) (k : KernelState) (o : Option (Descriptor × QueueState)) → IsLawful (MqGetattr m) k (mq_getattr k o)
+lawful_told m k None = lawful_refused (MqGetattr m) k _
+lawful_told m k (Some held) = lawful_done (MqGetattr m) k _ _ _ (λ s. tt) refl
+
+lawful_set : (k : KernelState) (p m flags : ℕ) (o : Option (Descriptor × QueueState)) → IsLawful (MqSetattr m flags) k (mq_setattr k p m flags o)
+lawful_set k p m flags None = lawful_refused (MqSetattr m flags) k _
+lawful_set k p m flags (Some held) = lawful_if (MqSetattr m flags) k (has_flag 63487 flags) _ _ (lawful_refused (MqSetattr m flags) k _) (lawful_done (MqSetattr m flags) k _ _ _ (λ s. tt) (length-set k.processes p _))
+
+lawful_closed_queue : (c : Call) (k : KernelState) (p m : ℕ) (o : Option Descriptor) → IsLawful c k (mq_close k p m o)
+lawful_closed_queue c k p m None = lawful_refused c k _
+lawful_closed_queue c k p m (Some held) = lawful_done c k _ _ _ (λ s. tt) (length-set k.processes p _)
+
+lawful_new_descriptor : (c : Call) (k : KernelState) (p place : ℕ) (flags : Flags) (o : Option ℕ) → IsLawful c k (new_descriptor k p place flags o)
+lawful_new_descriptor c k p place flags None = lawful_refused c k _
+lawful_new_descriptor c k p place flags (Some d) = lawful_done c k _ _ _ (λ s. tt) (length-set k.processes p _)
+
+lawful_queue_made : (c : Call) (k : KernelState) (p d : ℕ) (name : List ℕ) (sizes : ℕ × ℕ) (flags : Flags) (o : Option ℕ) → IsLawful c k (mq_create_at k p d name sizes flags o)
+lawful_queue_made c k p d name sizes flags None = lawful_refused c k _
+lawful_queue_made c k p d name sizes flags (Some place) = lawful_done c k _ _ _ (λ s. tt) (length-set k.processes p _)
+
+lawful_queue_created : (c : Call) (k : KernelState) (p : ℕ) (name : List ℕ) (sizes : ℕ × ℕ) (flags : Flags) (o : Option ℕ) → IsLawful c k (mq_create k p name sizes flags o)
+lawful_queue_created c k p name sizes flags None = lawful_refused c k _
+lawful_queue_created c k p name sizes flags (Some d) = lawful_queue_made c k p d name sizes flags (position is_empty k.places)
+
+lawful_queue_looked_up : (c : Call) (k : KernelState) (p : ℕ) (name : List ℕ) (sizes : ℕ × ℕ) (flags : Flags) (o : Option ℕ) → IsLawful c k (mq_look_up k p name sizes flags o)
+lawful_queue_looked_up c k p name sizes flags None = lawful_if c k flags.create _ _ (lawful_queue_created c k p name sizes flags (free_descriptor_of k.processes p)) (lawful_refused c k _)
+lawful_queue_looked_up c k p name sizes flags (Some place) = lawful_if c k (flags.create && flags.excl) _ _ (lawful_refused c k _) (lawful_new_descriptor c k p place flags (free_descriptor_of k.processes p))
+
+lawful_queue_opened : (c : Call) (k : KernelState) (p : ℕ) (name : List ℕ) (sizes : ℕ × ℕ) (r : Result Flags Errno) → IsLawful c k (mq_open k p name sizes r)
+lawful_queue_opened c k p name sizes (Err e) = lawful_refused c k _
+lawful_queue_opened c k p name sizes (Ok flags) = lawful_if c k (flags.create && not (are_sizes sizes)) _ _ (lawful_refused c k _) (lawful_queue_looked_up c k p name sizes flags (queue_named k.places name))
+
+lawful_unlinked : (c : Call) (k : KernelState) (o : Option ℕ) → IsLawful c k (unlink k o)
+lawful_unlinked c k None = lawful_refused c k _
+lawful_unlinked c k (Some place) = lawful_done c k _ _ _ (λ s. tt) refl
+
+lawful_value : (s : ℕ) (k : KernelState) (o : Option (Slot × ℕ)) → IsLawful (SemGetvalue s) k (sem_getvalue k o)
+lawful_value s k None = lawful_refused (SemGetvalue s) k _
+lawful_value s k (Some held) = lawful_done (SemGetvalue s) k _ _ _ (λ s. tt) refl
+
+lawful_posted : (c : Call) (k : KernelState) (o : Option (Slot × ℕ)) → IsLawful c k (sem_post k o)
+lawful_posted c k None = lawful_refused c k _
+lawful_posted c k (Some held) = lawful_if c k (held.1 == 32767) _ _ (lawful_refused c k _) (lawful_done c k _ _ _ (λ s. tt) refl)
+
+lawful_waited : (c : Call) (k : KernelState) (o : Option (Slot × ℕ)) → IsTrue (may_wait c) → IsLawful c k (sem_wait k o)
+lawful_waited c k None can = lawful_refused c k _
+lawful_waited c k (Some held) can = lawful_if c k (held.1 == 0) _ _ (lawful_waits c k can) (lawful_done c k _ _ _ (λ s. tt) refl)
+
+lawful_tried : (c : Call) (k : KernelState) (o : Option (Slot × ℕ)) → IsLawful c k (sem_trywait k o)
+lawful_tried c k None = lawful_refused c k _
+lawful_tried c k (Some held) = lawful_if c k (held.1 == 0) _ _ (lawful_refused c k _) (lawful_done c k _ _ _ (λ s. tt) refl)
+
+lawful_closed : (c : Call) (k : KernelState) (p s : ℕ) (o : Option Slot) → IsLawful c k (sem_close k p s o)
+lawful_closed c k p s None = lawful_refused c k _
+lawful_closed c k p s (Some slot) = lawful_done c k _ _ _ (λ s. tt) (length-set k.processes p _)
+
+lawful_new_slot : (c : Call) (k : KernelState) (p place : ℕ) (o : Option ℕ) → IsLawful c k (new_slot k p place o)
+lawful_new_slot c k p place None = lawful_refused c k _
+lawful_new_slot c k p place (Some s) = lawful_done c k _ _ _ (λ s. tt) (length-set k.processes p _)
+
+lawful_one_more : (c : Call) (k : KernelState) (p s : ℕ) (o : Option Slot) → IsLawful c k (one_more_open k p s o)
+lawful_one_more c k p s None = lawful_refused c k _
+lawful_one_more c k p s (Some slot) = lawful_if c k (slot.opens == 255) _ _ (lawful_refused c k _) (lawful_done c k _ _ _ (λ s. tt) (length-set k.processes p _))
+
+lawful_again : (c : Call) (k : KernelState) (p place : ℕ) (o : Option ℕ) → IsLawful c k (sem_open_place k p place o)
+lawful_again c k p place None = lawful_new_slot c k p place (free_slot_of k.processes p)
+lawful_again c k p place (Some s) = lawful_one_more c k p s (slot_of k.processes p s)
+
+lawful_made : (c : Call) (k : KernelState) (p s : ℕ) (name : List ℕ) (value : ℕ) (o : Option ℕ) → IsLawful c k (sem_create_at k p s name value o)
+lawful_made c k p s name value None = lawful_refused c k _
+lawful_made c k p s name value (Some place) = lawful_done c k _ _ _ (λ s. tt) (length-set k.processes p _)
+
+lawful_created : (c : Call) (k : KernelState) (p : ℕ) (name : List ℕ) (value : ℕ) (o : Option ℕ) → IsLawful c k (sem_create k p name value o)
+lawful_created c k p name value None = lawful_refused c k _
+lawful_created c k p name value (Some s) = lawful_made c k p s name value (position is_empty k.places)
+
+lawful_looked_up : (c : Call) (k : KernelState) (p : ℕ) (name : List ℕ) (create excl : Bool) (value : ℕ) (o : Option ℕ) → IsLawful c k (sem_look_up k p name create excl value o)
+lawful_looked_up c k p name create excl value None = lawful_if c k create _ _ (lawful_created c k p name value (free_slot_of k.processes p)) (lawful_refused c k _)
+lawful_looked_up c k p name create excl value (Some place) = lawful_if c k (create && excl) _ _ (lawful_refused c k _) (lawful_again c k p place (slot_for k.processes p place))
+
+lawful_opened : (c : Call) (k : KernelState) (p : ℕ) (name : List ℕ) (flags value : ℕ) → IsLawful c k (sem_open k p name flags value)
+lawful_opened c k p name flags value = lawful_if c k (has_flag 64 flags && nat_lt 32767 value) _ _ (lawful_refused c k _) (lawful_looked_up c k p name (has_flag 64 flags) (has_flag 128 flags) value (semaphore_named k.places name))
+
+lawful : (k : KernelState) (p : ℕ) (c : Call) → IsLawful c k (answer k p c)
+unfolding answer
+lawful k p (MqOpen name flags attr) = lawful_queue_opened (MqOpen name flags attr) k p name (sizes_asked attr) (flags_read flags)
+lawful k p (MqClose d) = lawful_closed_queue (MqClose d) k p d (descriptor_of k.processes p d)
+lawful k p (MqUnlink name) = lawful_unlinked (MqUnlink name) k (queue_named k.places name)
+lawful k p (MqSend d words priority) = lawful_sent (MqSend d words priority) k priority words (open_queue k p d) refl
+lawful k p (MqReceive d len) = lawful_received d len k (open_queue k p d)
+lawful k p (MqGetattr d) = lawful_told d k (open_queue k p d)
+lawful k p (MqSetattr d flags) = lawful_set k p d flags (open_queue k p d)
+lawful k p (SemOpen name flags value) = lawful_opened (SemOpen name flags value) k p name flags value
+lawful k p (SemClose s) = lawful_closed (SemClose s) k p s (slot_of k.processes p s)
+lawful k p (SemUnlink name) = lawful_unlinked (SemUnlink name) k (semaphore_named k.places name)
+lawful k p (SemWait s) = lawful_waited (SemWait s) k (open_semaphore k p s) refl
+lawful k p (SemTrywait s) = lawful_tried (SemTrywait s) k (open_semaphore k p s)
+lawful k p (SemPost s) = lawful_posted (SemPost s) k (open_semaphore k p s)
+lawful k p (SemGetvalue s) = lawful_value s k (open_semaphore k p s)
+lawful k p Exit = lawful_done Exit k _ _ _ (λ s. tt) (length-set k.processes p _)
+
+-- the answer is one of the call, where a message is short
+pub answer_form : (k : KernelState) (p : ℕ) (c : Call) → IsShort c (answer k p c).0 → IsAnswerTo c (answer k p c).0
+answer_form k p c = (lawful k p c).form
+
+-- a call that waits is one that can
+pub answer_may_wait : (k : KernelState) (p : ℕ) (c : Call) → (answer k p c).0 ≡ Wait → IsTrue (may_wait c)
+answer_may_wait k p c = (lawful k p c).waits
+
+-- a call that waits changes nothing
+pub answer_wait : (k : KernelState) (p : ℕ) (c : Call) → (answer k p c).0 ≡ Wait → (answer k p c).1 ≡ k
+answer_wait k p c = (lawful k p c).unchanged
+
+-- the number of processes stays
+pub answer_count : (k : KernelState) (p : ℕ) (c : Call) → length (answer k p c).1.processes ≡ length k.processes
+answer_count k p c = (lawful k p c).count
+
+-- an answer that was given is one of its call, where a message is short
+pub given_form : {E : Type 0} (r : Result Answer E) (k : KernelState) (p : ℕ) (c : Call) → IfOk r (λ a. a ≡ (answer k p c).0)
+    → ((d len : ℕ) → c ≡ MqReceive d len → IfOk r (λ a. message_length a ≤ len)) → ((d len : ℕ) → c ≡ MqReceive d len → IfOk r (λ a. message_length a ≤ 256)) → IfOk r (λ a. IsAnswerTo c a)
+given_form (Err e) k p c same size limit = tt
+given_form (Ok a) k p c same size limit = subst (λ x. IsAnswerTo c x) (sym same) (answer_form k p c (subst (λ x. IsShort c x) same (λ d len e. (size d len e, limit d len e))))
+
+-- the answer alone, of an answer and a kernel
+pub answer_given : {E : Type 0} (r : Result Answer E) (k new : KernelState) (p : ℕ) (c : Call) → IfOk r (λ a. (a, new) ≡ answer k p c) → IfOk r (λ a. a ≡ (answer k p c).0)
+answer_given (Err e) k new p c h = tt
+answer_given (Ok a) k new p c h = ap (λ (o : Outcome). o.0) h

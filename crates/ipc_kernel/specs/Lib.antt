@@ -1,0 +1,11 @@
+pub mod Limits
+pub mod Processes
+pub mod Places
+pub mod Kernel
+pub mod Outcomes
+pub mod Queues
+pub mod Semaphores
+pub mod Answer
+pub mod Replies
+pub mod Counts
+pub mod Index

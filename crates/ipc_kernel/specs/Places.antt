@@ -1,0 +1,131 @@
+-- The object places: queues and semaphores, each with a name or, once it is unlinked, without. A name in brackets is the page
+-- of POSIX.1-2017.
+use Rattle.std.specs.Prelude.{ℕ, ◌<◌, ◌≤◌, nat_le, length, drop, Bool, true, false, ◌||◌, ◌&&◌, List, [], Option, Some, None, is_some, unwrap_or, slice_get, map, position, if◌then◌else◌}
+use Rattle.std.specs.List.{enumerate_from}
+use Rattle.std.specs.Str.{bytes_eq}
+use Rattle.ipc_objects.specs.declared.queue.Message.{Message}
+use Rattle.ipc_objects.specs.Queue.{QueueState, sent}
+use Rattle.ipc_kernel.specs.Limits.{mq_maxmsg_max, mq_msgsize_max}
+use Rattle.ipc_kernel.specs.declared.place.Place.{Place}
+use Rattle.ipc_kernel.specs.declared.place.Place.TheVariants.{Empty, Mq, Sem}
+use Rattle.ipc_kernel.specs.declared.process.Process.{Process}
+use Rattle.ipc_kernel.specs.Processes.{is_referred}
+
+-- what place i holds
+abbrev pub place_at : List Place → ℕ → Place
+place_at ps i = unwrap_or (slice_get ps i) Empty
+
+-- whether a place is empty
+abbrev pub is_empty : Place → Bool
+is_empty Empty = true
+is_empty (Mq _ _) = false
+is_empty (Sem _ _) = false
+
+-- whether the object in a place has a name
+abbrev pub has_name : Place → Bool
+has_name Empty = false
+has_name (Mq name _) = is_some name
+has_name (Sem name _) = is_some name
+
+-- a place without a name and without a descriptor or slot that refers to it is emptied [mq_unlink, mq_close, sem_unlink, sem_close]
+abbrev pub kept : List Process → ℕ → Place → Place
+kept processes i p = if has_name p || is_referred processes i then p else Empty
+
+-- each such place is emptied
+abbrev pub emptied : List Process → List Place → List Place
+emptied processes ps = map (λ e. kept processes e.0 e.1) (enumerate_from 0 ps)
+
+-- the queue in a place, with its name or none
+abbrev pub queue_and_name : Place → Option (Option (List ℕ) × QueueState)
+queue_and_name Empty = None
+queue_and_name (Mq name queue) = Some (name, queue)
+queue_and_name (Sem _ _) = None
+
+-- the value of the semaphore in a place, with its name or none
+abbrev pub value_and_name : Place → Option (Option (List ℕ) × ℕ)
+value_and_name Empty = None
+value_and_name (Mq _ _) = None
+value_and_name (Sem name value) = Some (name, value)
+
+-- the queue in a place
+abbrev pub queue_in : Place → Option QueueState
+queue_in Empty = None
+queue_in (Mq _ queue) = Some queue
+queue_in (Sem _ _) = None
+
+-- the value of the semaphore in a place
+abbrev pub semaphore_value : Place → Option ℕ
+semaphore_value Empty = None
+semaphore_value (Mq _ _) = None
+semaphore_value (Sem _ value) = Some value
+
+-- the queue with one message more, behind those of its priority or a greater one [mq_send]
+abbrev pub with_message : ℕ → List ℕ → QueueState → QueueState
+with_message prio words q = record q { messages = sent (record { priority = prio; words = words }) q.messages }
+
+-- the queue without the message that is first to be received [mq_receive]
+abbrev pub without_first : QueueState → QueueState
+without_first q = record q { messages = drop 1 q.messages }
+
+-- whether a queue takes one message more, of these words
+abbrev pub HasRoomFor : List ℕ → QueueState → Type 0
+HasRoomFor words q = (length q.messages < q.max_messages) × (length words ≤ q.message_size)
+
+-- whether a queue has a message
+abbrev pub HasMessage : QueueState → Type 0
+HasMessage q = 0 < length q.messages
+
+-- the place with another state of its queue
+abbrev pub with_queue : QueueState → Place → Place
+with_queue q Empty = Empty
+with_queue q (Mq name _) = Mq name q
+with_queue q (Sem name value) = Sem name value
+
+-- the place with another value of its semaphore
+abbrev pub with_value : ℕ → Place → Place
+with_value v Empty = Empty
+with_value v (Mq name queue) = Mq name queue
+with_value v (Sem name _) = Sem name v
+
+-- the place whose object has lost its name
+abbrev pub unnamed : Place → Place
+unnamed Empty = Empty
+unnamed (Mq _ queue) = Mq None queue
+unnamed (Sem _ value) = Sem None value
+
+-- the name of the queue in a place
+abbrev pub queue_name : Place → Option (List ℕ)
+queue_name Empty = None
+queue_name (Mq name _) = name
+queue_name (Sem _ _) = None
+
+-- the name of the semaphore in a place
+abbrev pub semaphore_name : Place → Option (List ℕ)
+semaphore_name Empty = None
+semaphore_name (Mq _ _) = None
+semaphore_name (Sem name _) = name
+
+-- whether a name is this one
+abbrev pub is_name : List ℕ → Option (List ℕ) → Bool
+is_name n None = false
+is_name n (Some m) = bytes_eq n m
+
+-- the place with a name: queues and semaphores have separate name spaces, each by what names its places
+abbrev pub place_named : (Place → Option (List ℕ)) → List Place → List ℕ → Option ℕ
+place_named name_of ps n = position (λ p. is_name n (name_of p)) ps
+
+-- the place of the queue with a name
+abbrev pub queue_named : List Place → List ℕ → Option ℕ
+queue_named ps n = place_named queue_name ps n
+
+-- the place of the semaphore with a name
+abbrev pub semaphore_named : List Place → List ℕ → Option ℕ
+semaphore_named ps n = place_named semaphore_name ps n
+
+-- whether mq_maxmsg and mq_msgsize are in their ranges
+abbrev pub are_sizes : ℕ × ℕ → Bool
+are_sizes sizes = nat_le 1 sizes.0 && nat_le sizes.0 mq_maxmsg_max && nat_le 1 sizes.1 && nat_le sizes.1 mq_msgsize_max
+
+-- a queue without messages
+abbrev pub empty_queue : ℕ × ℕ → QueueState
+empty_queue sizes = record { max_messages = sizes.0; message_size = sizes.1; messages = [] }

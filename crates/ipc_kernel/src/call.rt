@@ -1,0 +1,249 @@
+//! Calls, replies and answers.
+ghost use Rattle.std.specs.Prelude.{◌≡◌, IfOk};
+ghost use Rattle.std.specs.Prelude.{◌↔◌, IsTrue};
+
+use ipc_names::Name;
+use ipc_objects::Words;
+use std::alloc::{AllocError, Global};
+
+/// A call of a process, with its arguments as they were asked: only a name has been tested.
+#[derive(Drop)]
+pub enum Call {
+    /// Opens a message queue, and with O_CREAT makes it. `attr` are the four words of the
+    /// attributes, if they are given with O_CREAT.
+    MqOpen {
+        name: Name,
+        flags: u16,
+        attr: Option<[u16; 4]>,
+    },
+    /// Closes a descriptor.
+    MqClose {
+        mqd: u16,
+    },
+    /// Removes the name of a queue.
+    MqUnlink {
+        name: Name,
+    },
+    /// Adds a message to a queue, or waits while it is full.
+    MqSend {
+        mqd: u16,
+        words: Words,
+        prio: u16,
+    },
+    /// Takes the oldest message of the greatest priority into a buffer of `len` words, or waits
+    /// while the queue is empty.
+    MqReceive {
+        mqd: u16,
+        len: u16,
+    },
+    /// Tells the attributes of an open queue.
+    MqGetattr {
+        mqd: u16,
+    },
+    /// Sets or clears O_NONBLOCK of a descriptor. `flags` is the first word of the new attributes.
+    MqSetattr {
+        mqd: u16,
+        flags: u16,
+    },
+    /// Opens a semaphore, and with O_CREAT makes it with a value.
+    SemOpen {
+        name: Name,
+        flags: u16,
+        value: u16,
+    },
+    /// Closes a slot once.
+    SemClose {
+        slot: u16,
+    },
+    /// Removes the name of a semaphore.
+    SemUnlink {
+        name: Name,
+    },
+    /// Takes one from a semaphore, or waits while it is 0.
+    SemWait {
+        slot: u16,
+    },
+    /// Takes one from a semaphore, or is refused while it is 0.
+    SemTrywait {
+        slot: u16,
+    },
+    /// Adds one to a semaphore.
+    SemPost {
+        slot: u16,
+    },
+    /// Tells the value of a semaphore.
+    SemGetvalue {
+        slot: u16,
+    },
+    /// Closes all that the process has open: its end.
+    Exit,
+}
+
+/// The reply of a call.
+#[derive(Drop)]
+pub enum Reply {
+    /// A descriptor, a slot, 0, or the negative of an error's number.
+    Plain(u16),
+    /// The message of mq_receive, with its priority.
+    Message { words: Words, prio: u16 },
+    /// The four words of the attributes: mq_flags, mq_maxmsg, mq_msgsize and mq_curmsgs. mq_setattr
+    /// tells those before its change.
+    Attr([u16; 4]),
+    /// The value of a semaphore.
+    Value(u16),
+}
+
+/// What a call is answered: a reply, or that it must wait.
+#[derive(Drop)]
+pub enum Answer {
+    Done(Reply),
+    Wait,
+}
+
+impl Call {
+    /// An equal call.
+    pub fn copy(&self, alloc: Global) -> Result<Call, AllocError>
+        ensures copy { IfOk result (λ copy. copy ≡ self.now) }
+    {
+        Ok(match self {
+            Call::MqOpen { name, flags, attr } => {
+                let name = name.copy(alloc)?;
+                Call::MqOpen {
+                    name,
+                    flags: *flags,
+                    attr: *attr,
+                }
+            }
+            Call::MqClose { mqd } => Call::MqClose { mqd: *mqd },
+            Call::MqUnlink { name } => {
+                let name = name.copy(alloc)?;
+                Call::MqUnlink { name }
+            }
+            Call::MqSend { mqd, words, prio } => {
+                let words = words.copy(alloc)?;
+                Call::MqSend {
+                    mqd: *mqd,
+                    words,
+                    prio: *prio,
+                }
+            }
+            Call::MqReceive { mqd, len } => Call::MqReceive {
+                mqd: *mqd,
+                len: *len,
+            },
+            Call::MqGetattr { mqd } => Call::MqGetattr { mqd: *mqd },
+            Call::MqSetattr { mqd, flags } => Call::MqSetattr {
+                mqd: *mqd,
+                flags: *flags,
+            },
+            Call::SemOpen { name, flags, value } => {
+                let name = name.copy(alloc)?;
+                Call::SemOpen {
+                    name,
+                    flags: *flags,
+                    value: *value,
+                }
+            }
+            Call::SemClose { slot } => Call::SemClose { slot: *slot },
+            Call::SemUnlink { name } => {
+                let name = name.copy(alloc)?;
+                Call::SemUnlink { name }
+            }
+            Call::SemWait { slot } => Call::SemWait { slot: *slot },
+            Call::SemTrywait { slot } => Call::SemTrywait { slot: *slot },
+            Call::SemPost { slot } => Call::SemPost { slot: *slot },
+            Call::SemGetvalue { slot } => Call::SemGetvalue { slot: *slot },
+            Call::Exit => Call::Exit,
+        })
+    }
+
+    /// Whether two calls are the same, with the same arguments.
+    pub fn is_same(&self, other: &Call) -> bool
+        ensures same { IsTrue result ↔ (self.now ≡ other.now) }
+    {
+        match (self, other) {
+            (
+                Call::MqOpen { name, flags, attr },
+                Call::MqOpen {
+                    name: other_name,
+                    flags: other_flags,
+                    attr: other_attr,
+                },
+            ) => name.text() == other_name.text() && flags == other_flags && attr == other_attr,
+            (Call::MqClose { mqd }, Call::MqClose { mqd: other }) => mqd == other,
+            (Call::MqUnlink { name }, Call::MqUnlink { name: other }) => name.text()
+                == other.text(),
+            (
+                Call::MqSend { mqd, words, prio },
+                Call::MqSend {
+                    mqd: other_mqd,
+                    words: other_words,
+                    prio: other_prio,
+                },
+            ) => {
+                mqd == other_mqd && words.as_slice() == other_words.as_slice() && prio == other_prio
+            }
+            (
+                Call::MqReceive { mqd, len },
+                Call::MqReceive {
+                    mqd: other_mqd,
+                    len: other_len,
+                },
+            ) => mqd == other_mqd && len == other_len,
+            (Call::MqGetattr { mqd }, Call::MqGetattr { mqd: other }) => mqd == other,
+            (
+                Call::MqSetattr { mqd, flags },
+                Call::MqSetattr {
+                    mqd: other_mqd,
+                    flags: other_flags,
+                },
+            ) => mqd == other_mqd && flags == other_flags,
+            (
+                Call::SemOpen { name, flags, value },
+                Call::SemOpen {
+                    name: other_name,
+                    flags: other_flags,
+                    value: other_value,
+                },
+            ) => name.text() == other_name.text() && flags == other_flags && value == other_value,
+            (Call::SemClose { slot }, Call::SemClose { slot: other }) => slot == other,
+            (Call::SemUnlink { name }, Call::SemUnlink { name: other }) => name.text()
+                == other.text(),
+            (Call::SemWait { slot }, Call::SemWait { slot: other }) => slot == other,
+            (Call::SemTrywait { slot }, Call::SemTrywait { slot: other }) => slot == other,
+            (Call::SemPost { slot }, Call::SemPost { slot: other }) => slot == other,
+            (Call::SemGetvalue { slot }, Call::SemGetvalue { slot: other }) => slot == other,
+            (Call::Exit, Call::Exit) => true,
+            _ => false,
+        }
+    }
+}
+
+impl Reply {
+    /// An equal reply.
+    pub fn copy(&self, alloc: Global) -> Result<Reply, AllocError>
+        ensures copy { IfOk result (λ copy. copy ≡ self.now) }
+    {
+        Ok(match self {
+            Reply::Plain(word) => Reply::Plain(*word),
+            Reply::Message { words, prio } => {
+                let words = words.copy(alloc)?;
+                Reply::Message { words, prio: *prio }
+            }
+            Reply::Attr(words) => Reply::Attr(*words),
+            Reply::Value(word) => Reply::Value(*word),
+        })
+    }
+}
+
+impl Answer {
+    /// An equal answer.
+    pub fn copy(&self, alloc: Global) -> Result<Answer, AllocError>
+        ensures copy { IfOk result (λ copy. copy ≡ self.now) }
+    {
+        match self {
+            Answer::Done(reply) => Ok(Answer::Done(reply.copy(alloc)?)),
+            Answer::Wait => Ok(Answer::Wait),
+        }
+    }
+}

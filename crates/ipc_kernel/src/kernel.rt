@@ -1,0 +1,244 @@
+//! The kernel, and how it answers calls.
+ghost use Rattle.std.specs.Prelude.{◌≡◌, ℕ, ◌<◌, ◌≤◌, ◌-◌, length, IfSome, IfOk, OnErr, IsErr, IsTrue};
+ghost use Rattle.std.specs.Option.{option_map, option_copied};
+ghost use Rattle.ipc_names.specs.Errno.{number_of};
+ghost use Rattle.ipc_kernel.specs.Limits.{object_places, open_max, process_max, sem_value_max, mq_msgsize_max};
+ghost use Rattle.ipc_kernel.specs.Kernel.{KernelState};
+ghost use Rattle.ipc_kernel.specs.Outcomes.{blocked};
+ghost use Rattle.ipc_kernel.specs.Places.{place_at, queue_and_name, value_and_name};
+ghost use Rattle.ipc_kernel.specs.Replies.{message_length};
+ghost use Rattle.ipc_kernel.specs.declared.call.Answer.TheVariants.{Done};
+ghost use Rattle.ipc_kernel.specs.declared.call.Reply.TheVariants.{Plain};
+ghost use Rattle.ipc_kernel.specs.declared.call.Call.TheVariants.{MqReceive};
+
+use crate::places::Places;
+use crate::processes::Processes;
+use crate::{Answer, Call, Descriptor, Reply, Slot};
+use ipc_names::{Errno, Name};
+use ipc_objects::Queue;
+use std::alloc::{AllocError, Global};
+use std::marker::Model;
+
+mod preview;
+mod queues;
+mod semaphores;
+
+/// The kernel: 64 object places, and 16 descriptors and 16 slots of each process.
+#[derive(Drop)]
+pub struct Kernel {
+    places: Places,
+    processes: Processes,
+    alloc: Global,
+}
+
+impl Model for Kernel {
+    ghost use Rattle.ipc_kernel.specs.Kernel.{KernelState, IsSettled};
+
+    ghost Value = { KernelState };
+
+    ghost view = { λ a. record { places = a.places; processes = a.processes } };
+
+    ghost invariant = { λ a. IsSettled (record { places = a.places; processes = a.processes }) };
+}
+
+/// The reply of a refused call.
+fn refusal(errno: Errno) -> Answer
+    ensures { result ≡ Done (Plain (65536 - number_of errno)) }
+{
+    Answer::Done(Reply::Plain(errno.reply()))
+}
+
+/// The reply of a call that tells nothing.
+fn zero() -> Answer
+    ensures { result ≡ Done (Plain 0) }
+{
+    Answer::Done(Reply::Plain(0))
+}
+
+/// What a full or an empty queue answers.
+fn block(descriptor: Descriptor) -> Answer
+    ensures answered { (k : KernelState) → (result, k) ≡ blocked k descriptor }
+    ensures length { message_length result ≡ 0 }
+{
+    if descriptor.nonblock {
+        refusal(Errno::Again)
+    } else {
+        Answer::Wait
+    }
+}
+
+impl Kernel {
+    ghost use Rattle.ipc_kernel.specs.Answer.{answer, exit, is_done, may_grow};
+    ghost use Rattle.ipc_kernel.specs.Kernel.{empty_kernel, IsSettled};
+    ghost use Rattle.ipc_kernel.specs.Outcomes.{open_queue, open_semaphore};
+    ghost use Rattle.ipc_kernel.specs.Processes.{descriptor_of, slot_of};
+    ghost use Rattle.ipc_kernel.specs.Replies.{IsAnswerTo};
+
+    /// The kernel of `count` processes in which nothing is made and nothing is open.
+    #[tactic(auto, using(crate::proofs::KernelLemmas::settled_empty))]
+    pub fn new(alloc: Global, count: usize) -> Result<Kernel, AllocError>
+        requires at_least { 1 ≤ count }
+        requires at_most { count ≤ process_max }
+        ensures empty { IfOk result (λ k. k ≡ empty_kernel count) }
+    {
+        let places = Places::new(alloc)?;
+        let processes = Processes::new(alloc, count)?;
+        Ok(Kernel {
+            places,
+            processes,
+            alloc,
+        })
+    }
+
+    /// The number of processes, 1 to 64.
+    pub fn count(&self) -> usize
+        ensures count { result ≡ length self.now.processes }
+    {
+        self.processes.count()
+    }
+
+    /// The queue in a place, with its name or none.
+    pub fn queue_at(&self, place: u8) -> Option<(Option<&Name>, &Queue)>
+        ensures held { option_map (λ r. (option_copied r.0, r.1.now)) result ≡
+            queue_and_name (place_at self.now.places place) }
+    {
+        self.places.queue_and_name(place)
+    }
+
+    /// The value of the semaphore in a place, 0 to 32,767, with its name or none.
+    pub fn semaphore_at(&self, place: u8) -> Option<(Option<&Name>, u16)>
+        ensures held { option_map (λ r. (option_copied r.0, r.1)) result ≡
+            value_and_name (place_at self.now.places place) }
+    {
+        self.places.value_and_name(place)
+    }
+
+    /// What a descriptor of a process holds, where it is open.
+    pub fn mqd(&self, pid: usize, mqd: u16) -> Option<Descriptor>
+        requires process { pid < length self.now.processes }
+        ensures held { result ≡ descriptor_of self.now.processes pid mqd }
+        ensures range { IfSome result (λ _. mqd < open_max) }
+        ensures place { IfSome result (λ held. held.place < object_places) }
+    {
+        self.processes.descriptor(pid, mqd)
+    }
+
+    /// What a slot of a process holds, where it is open.
+    pub fn slot(&self, pid: usize, slot: u16) -> Option<Slot>
+        requires process { pid < length self.now.processes }
+        ensures held { result ≡ slot_of self.now.processes pid slot }
+        ensures range { IfSome result (λ _. slot < open_max) }
+        ensures place { IfSome result (λ held. held.place < object_places) }
+    {
+        self.processes.slot(pid, slot)
+    }
+
+    /// Answers a call of a process: the reply, or that the call must wait. A refusal is a plain
+    /// reply, the negative of the error's number. Where memory is refused nothing has changed, and
+    /// the same call can be made again; only mq_open, mq_send and sem_open take memory.
+    pub fn call(&mut self, pid: usize, call: &Call) -> Result<Answer, AllocError>
+        requires process { pid < length self.old.processes }
+        ensures answered { IfOk result (λ a. (a, self.new) ≡ answer self.old pid call.now) }
+        ensures form { IfOk result (λ a. IsAnswerTo call.now a) }
+        ensures err { OnErr result (self.new ≡ self.old) }
+        ensures memory { IsErr result → IsTrue (may_grow call.now) }
+        ensures count { length self.new.processes ≡ length self.old.processes }
+        ensures settled { IsSettled self.new }
+    {
+        let answer = self.dispatch(pid, call);
+        let _ = &self.places;
+        answer
+    }
+
+    /// Whether a call would be answered without a wait.
+    #[tactic(auto, unfolding(crate::specs::Answer::answer))]
+    pub fn can_go(&self, pid: usize, call: &Call) -> bool
+        requires process { pid < length self.now.processes }
+        ensures answered { result ≡ is_done (answer self.now pid call.now).0 }
+    {
+        match call {
+            Call::SemWait { slot } => !matches!(self.open_semaphore(pid, *slot), Some((_, 0))),
+            Call::MqSend { mqd, words, prio } => {
+                !matches!(self.preview_send(pid, *mqd, words, *prio), Answer::Wait)
+            }
+            Call::MqReceive { mqd, len } => {
+                !matches!(self.first_message(pid, *mqd, *len), Err(Answer::Wait))
+            }
+            _ => true,
+        }
+    }
+
+    #[tactic(auto, unfolding(crate::specs::Answer::answer))]
+    fn dispatch(&mut self, pid: usize, call: &Call) -> Result<Answer, AllocError>
+        requires { pid < length self.old.processes }
+        ensures answered { IfOk result (λ a. (a, self.new) ≡ answer self.old pid call.now) }
+        ensures err { OnErr result (self.new ≡ self.old) }
+        ensures memory { IsErr result → IsTrue (may_grow call.now) }
+        ensures count { length self.new.processes ≡ length self.old.processes }
+        ensures size { (d len : ℕ) → call.now ≡ MqReceive d len →
+            IfOk result (λ a. message_length a ≤ len) }
+        ensures limit { (d len : ℕ) → call.now ≡ MqReceive d len →
+            IfOk result (λ a. message_length a ≤ mq_msgsize_max) }
+    {
+        match call {
+            Call::MqOpen { name, flags, attr } => self.mq_open(pid, name, *flags, *attr),
+            Call::MqClose { mqd } => Ok(self.mq_close(pid, *mqd)),
+            Call::MqUnlink { name } => Ok(self.mq_unlink(name)),
+            Call::MqSend { mqd, words, prio } => self.mq_send(pid, *mqd, words, *prio),
+            Call::MqReceive { mqd, len } => Ok(self.mq_receive(pid, *mqd, *len)),
+            Call::MqGetattr { mqd } => Ok(self.mq_getattr(pid, *mqd)),
+            Call::MqSetattr { mqd, flags } => Ok(self.mq_setattr(pid, *mqd, *flags)),
+            Call::SemOpen { name, flags, value } => self.sem_open(pid, name, *flags, *value),
+            Call::SemClose { slot } => Ok(self.sem_close(pid, *slot)),
+            Call::SemUnlink { name } => Ok(self.sem_unlink(name)),
+            Call::SemWait { slot } => Ok(self.sem_wait(pid, *slot)),
+            Call::SemTrywait { slot } => Ok(self.sem_trywait(pid, *slot)),
+            Call::SemPost { slot } => Ok(self.sem_post(pid, *slot)),
+            Call::SemGetvalue { slot } => Ok(self.sem_getvalue(pid, *slot)),
+            Call::Exit => Ok(self.exit(pid)),
+        }
+    }
+
+    /// Closes all descriptors and slots of a process.
+    #[tactic(auto, using(crate::proofs::KernelLemmas::settled_after))]
+    fn exit(&mut self, pid: usize) -> Answer
+        requires { pid < length self.old.processes }
+        ensures answered { (result, self.new) ≡ exit self.old pid }
+        ensures count { length self.new.processes ≡ length self.old.processes }
+    {
+        self.processes.close_all(pid);
+        self.places.empty_unused(&self.processes);
+        zero()
+    }
+
+    /// An open descriptor, with its queue.
+    fn open_queue(&self, pid: usize, mqd: u16) -> Option<(Descriptor, &Queue)>
+        requires { pid < length self.now.processes }
+        ensures found { option_map (λ r. (r.0, r.1.now)) result ≡ open_queue self.now pid mqd }
+        ensures range { IfSome result (λ _. mqd < open_max) }
+        ensures place { IfSome result (λ held. held.0.place < object_places) }
+    {
+        match self.processes.descriptor(pid, mqd) {
+            None => None,
+            Some(held) => match self.places.queue(held.place) {
+                None => None,
+                Some(queue) => Some((held, queue)),
+            },
+        }
+    }
+
+    /// An open slot, with the value of its semaphore.
+    fn open_semaphore(&self, pid: usize, slot: u16) -> Option<(Slot, u16)>
+        requires { pid < length self.now.processes }
+        ensures found { result ≡ open_semaphore self.now pid slot }
+        ensures bound { IfSome result (λ held. held.1 ≤ sem_value_max) }
+    {
+        match self.processes.slot(pid, slot) {
+            None => None,
+            Some(held) => match self.places.value(held.place) {
+                None => None,
+                Some(value) => Some((held, value)),
+            },
+        }
+    }
+}

@@ -1,0 +1,18 @@
+//! The kernel: object places, descriptors, slots, and the calls on message queues and semaphores.
+#![tactic(auto)]
+
+mod call;
+mod kernel;
+pub mod laws;
+mod place;
+mod places;
+mod process;
+mod processes;
+
+pub use call::{Answer, Call, Reply};
+pub use kernel::Kernel;
+pub use place::Place;
+pub use process::{Descriptor, Process, Slot};
+
+#[cfg(test)]
+mod tests;

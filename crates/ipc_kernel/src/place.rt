@@ -1,0 +1,158 @@
+//! One object place.
+ghost use Rattle.std.specs.Prelude.{◌≡◌, ◌+◌, ◌-◌, ◌<◌, ◌≤◌, ◌||◌, if◌then◌else◌, length, IfSome, OnOk, OnErr};
+ghost use Rattle.std.specs.Prelude.{◌∷◌, IsSomeAnd, drop};
+ghost use Rattle.std.specs.Option.{option_map, option_copied};
+ghost use Rattle.ipc_objects.specs.Queue.{QueueState};
+ghost use Rattle.ipc_objects.specs.declared.queue.Message.{Message};
+ghost use Rattle.ipc_kernel.specs.Limits.{sem_value_max, mq_prio_max};
+ghost use Rattle.ipc_kernel.specs.declared.place.Place.TheVariants.{Empty};
+
+use ipc_names::Name;
+use ipc_objects::{Queue, Semaphore};
+use std::alloc::AllocError;
+
+/// What an object place holds: nothing, or a queue or a semaphore. An unlinked object has no name.
+#[derive(Drop)]
+pub enum Place {
+    Empty,
+    Mq {
+        name: Option<Name>,
+        queue: Queue,
+    },
+    Sem {
+        name: Option<Name>,
+        semaphore: Semaphore,
+    },
+}
+
+impl Place {
+    ghost use Rattle.ipc_kernel.specs.Places.{is_empty, has_name, semaphore_value, with_value, unnamed, queue_in, with_queue, with_message, without_first, HasRoomFor, HasMessage, queue_and_name, value_and_name};
+
+    pub(crate) fn is_empty(&self) -> bool
+        ensures { result ≡ is_empty self.now }
+    {
+        matches!(self, Place::Empty)
+    }
+
+    fn has_name(&self) -> bool
+        ensures { result ≡ has_name self.now }
+    {
+        match self {
+            Place::Empty => false,
+            Place::Mq { name, .. } => name.is_some(),
+            Place::Sem { name, .. } => name.is_some(),
+        }
+    }
+
+    /// The value of the semaphore.
+    pub(crate) fn value(&self) -> Option<u16>
+        ensures value { result ≡ semaphore_value self.now }
+        ensures bound { IfSome result (λ value. value ≤ sem_value_max) }
+    {
+        match self {
+            Place::Sem { semaphore, .. } => Some(semaphore.value()),
+            _ => None,
+        }
+    }
+
+    /// The queue.
+    pub(crate) fn queue(&self) -> Option<&Queue>
+        ensures { option_copied result ≡ queue_in self.now }
+    {
+        match self {
+            Place::Mq { queue, .. } => Some(queue),
+            _ => None,
+        }
+    }
+
+    /// The queue, with its name or none.
+    pub(crate) fn queue_and_name(&self) -> Option<(Option<&Name>, &Queue)>
+        ensures { option_map (λ r. (option_copied r.0, r.1.now)) result ≡ queue_and_name self.now }
+    {
+        match self {
+            Place::Mq { name, queue } => Some((name.as_ref(), queue)),
+            _ => None,
+        }
+    }
+
+    /// The value of the semaphore, with its name or none.
+    pub(crate) fn value_and_name(&self) -> Option<(Option<&Name>, u16)>
+        ensures { option_map (λ r. (option_copied r.0, r.1)) result ≡ value_and_name self.now }
+    {
+        match self {
+            Place::Sem { name, semaphore } => Some((name.as_ref(), semaphore.value())),
+            _ => None,
+        }
+    }
+
+    /// Adds a message to the queue.
+    pub(crate) fn send(&mut self, priority: u16, words: Vec<u16>) -> Result<(), AllocError>
+        requires queue { IsSomeAnd (queue_in self.old) (HasRoomFor words.items) }
+        requires priority { priority < mq_prio_max }
+        ensures ok { OnOk result ((q : QueueState) → queue_in self.old ≡ Some q →
+            self.new ≡ with_queue (with_message priority words.items q) self.old) }
+        ensures err { OnErr result (self.new ≡ self.old) }
+    {
+        if let Place::Mq { queue, .. } = self {
+            if queue.send(priority, words).is_err() {
+                return Err(AllocError);
+            }
+        }
+        Ok(())
+    }
+
+    /// Takes the first message from the queue.
+    pub(crate) fn receive(&mut self) -> (u16, Vec<u16>)
+        requires { IsSomeAnd (queue_in self.old) HasMessage }
+        ensures first { (q : QueueState) → queue_in self.old ≡ Some q →
+            q.messages ≡ record { priority = result.0; words = result.1.items } ∷ drop 1 q.messages }
+        ensures rest { (q : QueueState) → queue_in self.old ≡ Some q →
+            self.new ≡ with_queue (without_first q) self.old }
+    {
+        match self {
+            Place::Mq { queue, .. } => queue.receive(),
+            _ => unreachable!(),
+        }
+    }
+
+    /// Adds one to the value of the semaphore.
+    pub(crate) fn post(&mut self, value: u16)
+        requires value { semaphore_value self.old ≡ Some value }
+        requires room { value < sem_value_max }
+        ensures { self.new ≡ with_value (value + 1) self.old }
+    {
+        if let Place::Sem { semaphore, .. } = self {
+            semaphore.post();
+        }
+    }
+
+    /// Takes one from the value of the semaphore.
+    pub(crate) fn take(&mut self, value: u16)
+        requires value { semaphore_value self.old ≡ Some value }
+        ensures { self.new ≡ with_value (value - 1) self.old }
+    {
+        if let Place::Sem { semaphore, .. } = self {
+            let _ = semaphore.try_wait();
+        }
+    }
+
+    /// Takes the name from the object.
+    pub(crate) fn unname(&mut self)
+        ensures { self.new ≡ unnamed self.old }
+    {
+        match self {
+            Place::Empty => {}
+            Place::Mq { name, .. } => *name = None,
+            Place::Sem { name, .. } => *name = None,
+        }
+    }
+
+    /// Empties a place without a name to which nothing refers.
+    pub(crate) fn keep_or_empty(&mut self, referred: bool)
+        ensures { self.new ≡ (if has_name self.old || referred then self.old else Empty) }
+    {
+        if !self.has_name() && !referred {
+            *self = Place::Empty;
+        }
+    }
+}

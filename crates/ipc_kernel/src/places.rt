@@ -1,0 +1,374 @@
+//! The object places, with an index of the names of queues and one of the names of semaphores.
+ghost use Rattle.std.specs.Prelude.{◌≡◌, ◌+◌, ◌-◌, ◌<◌, ◌≤◌, length, position, replicate, slice_set, Some, None, IfOk, IfSome, IfNone, OnOk, OnErr};
+ghost use Rattle.std.specs.FinMap as fin;
+ghost use Rattle.std.specs.Prelude.{◌∷◌, IsSomeAnd, IsTrue, drop};
+ghost use Rattle.std.specs.Option.{option_map, option_copied};
+ghost use Rattle.ipc_objects.specs.Queue.{QueueState};
+ghost use Rattle.ipc_objects.specs.declared.queue.Message.{Message};
+ghost use Rattle.ipc_kernel.specs.Limits.{object_places, sem_value_max, mq_prio_max};
+ghost use Rattle.ipc_kernel.specs.Places.{queue_in, with_queue, with_message, without_first, HasRoomFor, HasMessage, are_sizes, empty_queue};
+ghost use Rattle.ipc_kernel.specs.Places.{is_empty, semaphore_value, with_value, unnamed, queue_named, semaphore_named, queue_and_name, value_and_name, place_at, emptied};
+ghost use Rattle.ipc_kernel.specs.declared.place.Place.TheVariants.{Empty, Mq, Sem};
+
+use crate::place::Place;
+use crate::processes::Processes;
+use ipc_names::{Name, NameTable};
+use ipc_objects::{Queue, Semaphore};
+use std::alloc::{AllocError, Global};
+use std::marker::Model;
+
+/// The number of object places.
+pub(crate) const PLACES: usize = 64;
+
+fn index_of_empty(places: &[Place]) -> Option<usize>
+    ensures first { result ≡ position is_empty places.now }
+    ensures range { IfSome result (λ i. i < length places.now) }
+{
+    places.iter().position(|place| place.is_empty())
+}
+
+fn empty_unused_in(places: &mut [Place], processes: &Processes)
+    requires { length places.old ≤ 256 }
+    ensures { places.new ≡ emptied processes.now places.old }
+{
+    for i in 0..places.len() {
+        let referred = processes.is_referred(i as u8);
+        places[i].keep_or_empty(referred);
+    }
+}
+
+#[tactic(auto, using(crate::proofs::PlaceLemmas::queue_in_range, crate::proofs::PlaceLemmas::place_at_read))]
+fn send_at(
+    places: &mut Vec<Place>,
+    place: u8,
+    priority: u16,
+    words: Vec<u16>,
+) -> Result<(), AllocError>
+    requires queue { IsSomeAnd (queue_in (place_at places.old.items place)) (HasRoomFor words.items) }
+    requires priority { priority < mq_prio_max }
+    ensures ok { OnOk result ((q : QueueState) → queue_in (place_at places.old.items place) ≡ Some q →
+        places.new.items ≡ slice_set places.old.items place (with_queue (with_message priority words.items q) (place_at places.old.items place))) }
+    ensures err { OnErr result (places.new.items ≡ places.old.items) }
+{
+    let place = &mut places[place as usize];
+    place.send(priority, words)
+}
+
+#[tactic(auto, using(crate::proofs::PlaceLemmas::queue_in_range, crate::proofs::PlaceLemmas::place_at_read))]
+fn receive_at(places: &mut Vec<Place>, place: u8) -> (u16, Vec<u16>)
+    requires { IsSomeAnd (queue_in (place_at places.old.items place)) HasMessage }
+    ensures first { (q : QueueState) → queue_in (place_at places.old.items place) ≡ Some q →
+        q.messages ≡ record { priority = result.0; words = result.1.items } ∷ drop 1 q.messages }
+    ensures rest { (q : QueueState) → queue_in (place_at places.old.items place) ≡ Some q →
+        places.new.items ≡ slice_set places.old.items place (with_queue (without_first q) (place_at places.old.items place)) }
+{
+    let place = &mut places[place as usize];
+    place.receive()
+}
+
+#[tactic(auto, using(crate::proofs::PlaceLemmas::semaphore_in_range, crate::proofs::PlaceLemmas::place_at_read))]
+fn post_at(places: &mut Vec<Place>, place: u8, value: u16)
+    requires value { semaphore_value (place_at places.old.items place) ≡ Some value }
+    requires room { value < sem_value_max }
+    ensures { places.new.items ≡ slice_set places.old.items place (with_value (value + 1) (place_at places.old.items place)) }
+{
+    let place = &mut places[place as usize];
+    place.post(value);
+}
+
+#[tactic(auto, using(crate::proofs::PlaceLemmas::semaphore_in_range, crate::proofs::PlaceLemmas::place_at_read))]
+fn take_at(places: &mut Vec<Place>, place: u8, value: u16)
+    requires value { semaphore_value (place_at places.old.items place) ≡ Some value }
+    ensures { places.new.items ≡ slice_set places.old.items place (with_value (value - 1) (place_at places.old.items place)) }
+{
+    let place = &mut places[place as usize];
+    place.take(value);
+}
+
+#[tactic(auto, using(crate::proofs::PlaceLemmas::place_at_read))]
+fn unname_at(places: &mut Vec<Place>, place: u8)
+    requires { place < length places.old.items }
+    ensures { places.new.items ≡ slice_set places.old.items place (unnamed (place_at places.old.items place)) }
+{
+    let place = &mut places[place as usize];
+    place.unname();
+}
+
+fn put_queue_at(places: &mut Vec<Place>, place: u8, name: Name, queue: Queue)
+    requires { place < length places.old.items }
+    ensures { places.new.items ≡ slice_set places.old.items place (Mq (Some name) queue) }
+{
+    places[place as usize] = Place::Mq {
+        name: Some(name),
+        queue,
+    };
+}
+
+fn put_semaphore_at(places: &mut Vec<Place>, place: u8, name: Name, value: u16)
+    requires place { place < length places.old.items }
+    requires value { value ≤ sem_value_max }
+    ensures { places.new.items ≡ slice_set places.old.items place (Sem (Some name) value) }
+{
+    places[place as usize] = Place::Sem {
+        name: Some(name),
+        semaphore: Semaphore::new(value),
+    };
+}
+
+/// An empty queue of sizes in their ranges.
+fn new_queue(alloc: Global, max_messages: u16, message_size: u16) -> Result<Queue, AllocError>
+    requires { IsTrue (are_sizes (max_messages, message_size)) }
+    ensures { IfOk result (λ q. q ≡ empty_queue (max_messages, message_size)) }
+{
+    Queue::new(alloc, max_messages, message_size)
+}
+
+/// Adds a copy of a name to an index.
+fn index_name(
+    names: &mut NameTable,
+    alloc: Global,
+    name: &Name,
+    place: u8,
+) -> Result<(), AllocError>
+    requires { fin.get names.old name.now ≡ None }
+    ensures ok { OnOk result (names.new ≡ fin.insert names.old name.now place) }
+    ensures err { OnErr result (names.new ≡ names.old) }
+{
+    let key = name.copy(alloc)?;
+    match names.put(key, place) {
+        Ok(()) => Ok(()),
+        Err(_) => Err(AllocError),
+    }
+}
+
+fn empty_unused_at(places: &mut Vec<Place>, processes: &Processes)
+    requires { length places.old.items ≤ 256 }
+    ensures { places.new.items ≡ emptied processes.now places.old.items }
+{
+    empty_unused_in(places.as_mut_slice(), processes);
+}
+
+/// The object places.
+#[derive(Drop)]
+pub(crate) struct Places {
+    places: Vec<Place>,
+    queue_names: NameTable,
+    semaphore_names: NameTable,
+    alloc: Global,
+}
+
+impl Model for Places {
+    ghost use Rattle.std.specs.Prelude.{List};
+    ghost use Rattle.ipc_kernel.specs.declared.place.Place.{Place};
+    ghost use Rattle.ipc_kernel.specs.Index.{IsIndexed};
+
+    ghost Value = { List Place };
+
+    ghost view = { λ a. a.places.items };
+
+    ghost invariant = { λ a. IsIndexed a.places.items a.queue_names a.semaphore_names };
+}
+
+impl Places {
+    /// Empty places.
+    pub(crate) fn new(alloc: Global) -> Result<Places, AllocError>
+        ensures { IfOk result (λ ps. ps ≡ replicate object_places Empty) }
+    {
+        let mut places = Vec::with_capacity(alloc, PLACES)?;
+        for _ in 0..PLACES {
+            places.push(Place::Empty)?;
+        }
+        let queue_names = NameTable::new(alloc);
+        let semaphore_names = NameTable::new(alloc);
+        Ok(Places {
+            places,
+            queue_names,
+            semaphore_names,
+            alloc,
+        })
+    }
+
+    pub(crate) fn first_empty(&self) -> Option<u8>
+        ensures first { result ≡ position is_empty self.now }
+        ensures range { IfSome result (λ i. i < object_places) }
+    {
+        match index_of_empty(self.places.as_slice()) {
+            Some(i) => Some(i as u8),
+            None => None,
+        }
+    }
+
+    pub(crate) fn find_queue(&self, name: &Name) -> Option<u8>
+        ensures found { result ≡ queue_named self.now name.now }
+        ensures range { IfSome result (λ i. i < object_places) }
+    {
+        self.queue_names.find(name)
+    }
+
+    pub(crate) fn find_semaphore(&self, name: &Name) -> Option<u8>
+        ensures found { result ≡ semaphore_named self.now name.now }
+        ensures range { IfSome result (λ i. i < object_places) }
+    {
+        self.semaphore_names.find(name)
+    }
+
+    /// The value of the semaphore in a place.
+    pub(crate) fn value(&self, place: u8) -> Option<u16>
+        ensures value { result ≡ semaphore_value (place_at self.now place) }
+        ensures bound { IfSome result (λ value. value ≤ sem_value_max) }
+    {
+        match self.places.get(place as usize) {
+            Some(place) => place.value(),
+            None => None,
+        }
+    }
+
+    /// The queue in a place.
+    pub(crate) fn queue(&self, place: u8) -> Option<&Queue>
+        ensures { option_copied result ≡ queue_in (place_at self.now place) }
+    {
+        match self.places.get(place as usize) {
+            Some(place) => place.queue(),
+            None => None,
+        }
+    }
+
+    /// The queue in a place, with its name or none.
+    pub(crate) fn queue_and_name(&self, place: u8) -> Option<(Option<&Name>, &Queue)>
+        ensures { option_map (λ r. (option_copied r.0, r.1.now)) result ≡ queue_and_name (place_at self.now place) }
+    {
+        match self.places.get(place as usize) {
+            Some(place) => place.queue_and_name(),
+            None => None,
+        }
+    }
+
+    /// The value of the semaphore in a place, with its name or none.
+    pub(crate) fn value_and_name(&self, place: u8) -> Option<(Option<&Name>, u16)>
+        ensures { option_map (λ r. (option_copied r.0, r.1)) result ≡ value_and_name (place_at self.now place) }
+    {
+        match self.places.get(place as usize) {
+            Some(place) => place.value_and_name(),
+            None => None,
+        }
+    }
+
+    /// Adds a message to the queue in a place.
+    pub(crate) fn send(
+        &mut self,
+        place: u8,
+        priority: u16,
+        words: Vec<u16>,
+    ) -> Result<(), AllocError>
+        requires queue { IsSomeAnd (queue_in (place_at self.old place)) (HasRoomFor words.items) }
+        requires priority { priority < mq_prio_max }
+        ensures ok { OnOk result ((q : QueueState) → queue_in (place_at self.old place) ≡ Some q →
+            self.new ≡ slice_set self.old place (with_queue (with_message priority words.items q) (place_at self.old place))) }
+        ensures err { OnErr result (self.new ≡ self.old) }
+    {
+        send_at(&mut self.places, place, priority, words)
+    }
+
+    /// Takes the first message from the queue in a place.
+    pub(crate) fn receive(&mut self, place: u8) -> (u16, Vec<u16>)
+        requires { IsSomeAnd (queue_in (place_at self.old place)) HasMessage }
+        ensures first { (q : QueueState) → queue_in (place_at self.old place) ≡ Some q →
+            q.messages ≡ record { priority = result.0; words = result.1.items } ∷ drop 1 q.messages }
+        ensures rest { (q : QueueState) → queue_in (place_at self.old place) ≡ Some q →
+            self.new ≡ slice_set self.old place (with_queue (without_first q) (place_at self.old place)) }
+    {
+        receive_at(&mut self.places, place)
+    }
+
+    /// Adds one to the value of the semaphore in a place.
+    pub(crate) fn post(&mut self, place: u8, value: u16)
+        requires value { semaphore_value (place_at self.old place) ≡ Some value }
+        requires room { value < sem_value_max }
+        ensures { self.new ≡ slice_set self.old place (with_value (value + 1) (place_at self.old place)) }
+    {
+        post_at(&mut self.places, place, value);
+    }
+
+    /// Takes one from the value of the semaphore in a place.
+    pub(crate) fn take(&mut self, place: u8, value: u16)
+        requires value { semaphore_value (place_at self.old place) ≡ Some value }
+        ensures { self.new ≡ slice_set self.old place (with_value (value - 1) (place_at self.old place)) }
+    {
+        take_at(&mut self.places, place, value);
+    }
+
+    /// Removes a name from its queue, and answers the place.
+    pub(crate) fn unname_queue(&mut self, name: &Name) -> Option<u8>
+        ensures found { result ≡ queue_named self.old name.now }
+        ensures unnamed { IfSome result (λ place. self.new ≡ slice_set self.old place (unnamed (place_at self.old place))) }
+        ensures none { IfNone result (self.new ≡ self.old) }
+    {
+        let taken = self.queue_names.take(name);
+        if let Some(place) = taken {
+            unname_at(&mut self.places, place);
+        }
+        taken
+    }
+
+    /// Removes a name from its semaphore, and answers the place.
+    pub(crate) fn unname_semaphore(&mut self, name: &Name) -> Option<u8>
+        ensures found { result ≡ semaphore_named self.old name.now }
+        ensures unnamed { IfSome result (λ place. self.new ≡ slice_set self.old place (unnamed (place_at self.old place))) }
+        ensures none { IfNone result (self.new ≡ self.old) }
+    {
+        let taken = self.semaphore_names.take(name);
+        if let Some(place) = taken {
+            unname_at(&mut self.places, place);
+        }
+        taken
+    }
+
+    /// Puts a new queue with a name that is free into an empty place.
+    pub(crate) fn put_queue(
+        &mut self,
+        place: u8,
+        name: &Name,
+        max_messages: u16,
+        message_size: u16,
+    ) -> Result<(), AllocError>
+        requires place { place < object_places }
+        requires sizes { IsTrue (are_sizes (max_messages, message_size)) }
+        requires empty { place_at self.old place ≡ Empty }
+        requires absent { queue_named self.old name.now ≡ None }
+        ensures ok { OnOk result (self.new ≡ slice_set self.old place (Mq (Some name.now) (empty_queue (max_messages, message_size)))) }
+        ensures err { OnErr result (self.new ≡ self.old) }
+    {
+        let queue = new_queue(self.alloc, max_messages, message_size)?;
+        let kept = name.copy(self.alloc)?;
+        index_name(&mut self.queue_names, self.alloc, name, place)?;
+        put_queue_at(&mut self.places, place, kept, queue);
+        Ok(())
+    }
+
+    /// Puts a new semaphore with a name that is free into an empty place.
+    pub(crate) fn put_semaphore(
+        &mut self,
+        place: u8,
+        name: &Name,
+        value: u16,
+    ) -> Result<(), AllocError>
+        requires place { place < object_places }
+        requires value { value ≤ sem_value_max }
+        requires empty { place_at self.old place ≡ Empty }
+        requires absent { semaphore_named self.old name.now ≡ None }
+        ensures ok { OnOk result (self.new ≡ slice_set self.old place (Sem (Some name.now) value)) }
+        ensures err { OnErr result (self.new ≡ self.old) }
+    {
+        let kept = name.copy(self.alloc)?;
+        index_name(&mut self.semaphore_names, self.alloc, name, place)?;
+        put_semaphore_at(&mut self.places, place, kept, value);
+        Ok(())
+    }
+
+    /// Empties each place without a name and without a descriptor or slot that refers to it.
+    pub(crate) fn empty_unused(&mut self, processes: &Processes)
+        ensures { self.new ≡ emptied processes.now self.old }
+    {
+        empty_unused_at(&mut self.places, processes);
+    }
+}

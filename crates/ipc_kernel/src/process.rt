@@ -1,0 +1,109 @@
+//! The descriptors and slots of one process.
+ghost use Rattle.std.specs.Prelude.{◌≡◌, ◌<◌, IfSome, length, position, is_none, slice_get, unwrap_or};
+ghost use Rattle.ipc_kernel.specs.Limits.{open_max};
+ghost use Rattle.ipc_kernel.specs.Processes.{slot_refers, with_descriptor, with_slot};
+
+/// The number of descriptors, and of slots, of a process.
+pub(crate) const OPEN_MAX: usize = 16;
+
+/// An open message queue: the object place of the queue, and how this descriptor opened it.
+#[derive(Clone, Copy)]
+pub struct Descriptor {
+    /// The object place, 0 to 63.
+    pub place: u8,
+    /// 0 to receive (O_RDONLY), 1 to send (O_WRONLY), 2 for both (O_RDWR).
+    pub access: u8,
+    /// A call that would wait is refused (O_NONBLOCK).
+    pub nonblock: bool,
+}
+
+/// An open semaphore: its object place, and how often the process has it open.
+#[derive(Clone, Copy)]
+pub struct Slot {
+    /// The object place, 0 to 63.
+    pub place: u8,
+    /// The opens that are not closed, 1 to 255.
+    pub opens: u8,
+}
+
+/// The descriptors and slots of one process, each open or free.
+#[derive(Clone, Copy)]
+pub struct Process {
+    pub descriptors: [Option<Descriptor>; OPEN_MAX],
+    pub slots: [Option<Slot>; OPEN_MAX],
+}
+
+pub(crate) fn slot_refers_to(slot: &Option<Slot>, place: u8) -> bool
+    ensures { result ≡ slot_refers place slot.now }
+{
+    match slot {
+        Some(slot) => slot.place == place,
+        None => false,
+    }
+}
+
+pub(crate) fn descriptor_at(descriptors: &[Option<Descriptor>], mqd: u16) -> Option<Descriptor>
+    ensures held { result ≡ unwrap_or (slice_get descriptors.now mqd) None }
+    ensures range { IfSome result (λ _. mqd < length descriptors.now) }
+{
+    match descriptors.get(mqd as usize) {
+        Some(held) => *held,
+        None => None,
+    }
+}
+
+pub(crate) fn slot_at(slots: &[Option<Slot>], slot: u16) -> Option<Slot>
+    ensures held { result ≡ unwrap_or (slice_get slots.now slot) None }
+    ensures range { IfSome result (λ _. slot < length slots.now) }
+{
+    match slots.get(slot as usize) {
+        Some(held) => *held,
+        None => None,
+    }
+}
+
+pub(crate) fn first_free_descriptor(descriptors: &[Option<Descriptor>]) -> Option<usize>
+    ensures first { result ≡ position is_none descriptors.now }
+    ensures range { IfSome result (λ i. i < length descriptors.now) }
+{
+    descriptors
+        .iter()
+        .position(|descriptor| descriptor.is_none())
+}
+
+pub(crate) fn first_free_slot(slots: &[Option<Slot>]) -> Option<usize>
+    ensures first { result ≡ position is_none slots.now }
+    ensures range { IfSome result (λ i. i < length slots.now) }
+{
+    slots.iter().position(|slot| slot.is_none())
+}
+
+pub(crate) fn first_that_refers(slots: &[Option<Slot>], place: u8) -> Option<usize>
+    ensures first { result ≡ position (slot_refers place) slots.now }
+    ensures range { IfSome result (λ i. i < length slots.now) }
+{
+    slots.iter().position(|slot| slot_refers_to(slot, place))
+}
+
+pub(crate) fn write_slot(tables: &mut Vec<Process>, pid: usize, slot: usize, value: Option<Slot>)
+    requires process { pid < length tables.old.items }
+    requires slot { slot < open_max }
+    ensures { tables.new.items ≡ with_slot tables.old.items pid slot value }
+{
+    let process = &mut tables[pid];
+    process.slots[slot] = value;
+}
+
+pub(crate) fn write_descriptor(
+    tables: &mut Vec<Process>,
+    pid: usize,
+    mqd: usize,
+    value: Option<Descriptor>,
+)
+    requires process { pid < length tables.old.items }
+    requires mqd { mqd < open_max }
+    ensures { tables.new.items ≡ with_descriptor tables.old.items pid mqd value }
+{
+    let process = &mut tables[pid];
+    process.descriptors[mqd] = value;
+}

@@ -1,0 +1,17 @@
+pub mod DraftLemmas
+pub mod FieldSteps
+pub mod LabelLemmas
+pub mod LayoutLemmas
+pub mod LineLemmas
+pub mod OperandSteps
+pub mod Outcomes
+pub mod PlaceLemmas
+pub mod ReachLemmas
+pub mod ReadLemmas
+pub mod RowLemmas
+pub mod SizeLemmas
+pub mod SymbolsLemmas
+pub mod TextLemmas
+pub mod TextRows
+pub mod TokenSteps
+pub mod WordLemmas

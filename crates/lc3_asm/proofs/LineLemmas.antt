@@ -1,0 +1,154 @@
+-- What is known of a line that was read: it stands where it may, and its operands fit their forms.
+use Rattle.std.proofs.Common.{◌≡◌, ℕ, ◌-◌, ◌<◌, ◌≤◌, Bool, true, false, List, [], ◌∷◌, length, refl, Some, None, Option, arith, ◌∙◌}
+use Rattle.std.specs.Prelude.{Ok, Err, ◌&&◌, ◌==◌, nat_lt, nat_le, if◌then◌else◌}
+use Rattle.std.specs.Char.{to_ascii_uppercase}
+use Rattle.std.proofs.lemmas.Bool.{and_parts}
+use Rattle.std.proofs.lemmas.Bool.Decides.{nat_tests}
+use lib.IntN.{ℤ}
+use Rattle.lc3_word.specs.Numbers.{number}
+use Rattle.lc3_table.specs.Tokens.{Token, Word, Quoted, Unclosed, tokens}
+use Rattle.lc3_table.specs.Words.{register, upper, is_label}
+use Rattle.lc3_table.specs.Statements.{Line, Blank, LabelAlone, Operates, Operand, Register, Number, Label, Characters, unless, or_fault, token_fault, parts, order_fault, with_operands, all_operands, operands, operand, placed, counted, named, characters, accepts, takes_register, takes_label, forms, line, ◌>>=◌}
+use Rattle.lc3_table.specs.declared.operation.Form.{Form}
+use Rattle.lc3_table.specs.declared.operation.Form.TheVariants as form
+use Rattle.lc3_table.specs.declared.operation.Fault.TheVariants as fault
+use Rattle.lc3_asm.proofs.Outcomes.{then-ok, unless-ok, if-ok, ok-same}
+
+-- the statement that a line was read from
+record Came (started : Bool) (l : Line Operand) : Type 0 where
+  statement : Line Token
+  ordered : order_fault started statement ≡ None
+  operands_are : with_operands statement ≡ Ok l
+
+line_came : (started : Bool) (bytes : List ℕ) (l : Line Operand) → line started bytes ≡ Ok l → Came started l
+line_came started bytes l e =
+    let a = unless-ok (token_fault (tokens bytes)) (parts (tokens bytes) >>= λ p. unless (order_fault started p) (with_operands p)) l e in
+    let b = then-ok (parts (tokens bytes)) (λ p. unless (order_fault started p) (with_operands p)) l a.1 in
+    let c = unless-ok (order_fault started b.0) (with_operands b.0) l b.2 in
+    record { statement = b.0; ordered = c.0; operands_are = c.1 }
+
+same_order : (started : Bool) (p : Line Token) (l : Line Operand) → order_fault started p ≡ None → with_operands p ≡ Ok l → order_fault started l ≡ None
+same_order started Blank l h e = let same : Blank ≡ l = ok-same Blank l e in rw (← same) refl
+same_order started (LabelAlone n) l h e = let same : LabelAlone n ≡ l = ok-same (LabelAlone n) l e in rw (← same) h
+same_order started (Operates a o ts) l h e =
+    let read = then-ok (all_operands (forms o) ts) (λ xs. Ok (Operates a o xs)) l e in
+    let same : Operates a o read.0 ≡ l = ok-same (Operates a o read.0) l read.2 in
+    rw (← same) h
+
+-- a line without fault stands where it may
+pub line_ordered : (started : Bool) (bytes : List ℕ) (l : Line Operand) → line started bytes ≡ Ok l → order_fault started l ≡ None
+line_ordered started bytes l e =
+    let came = line_came started bytes l e in
+    same_order started came.statement l came.ordered came.operands_are
+
+-- an operand that may stand in a form
+abbrev pub fits : Form → Operand → Bool
+fits form.Characters (Characters cs) = true
+fits form.Characters x = false
+fits f (Characters cs) = false
+fits f (Register r) = takes_register f && nat_lt r 8
+fits f (Label n) = takes_label f
+fits form.Register (Number z) = false
+fits f (Number z) = true
+
+abbrev pub all_fit : List Form → List Operand → Bool
+all_fit [] [] = true
+all_fit (f ∷ fs) (x ∷ xs) = fits f x && all_fit fs xs
+all_fit _ _ = false
+
+abbrev pub line_fits : Line Operand → Bool
+line_fits (Operates n o xs) = all_fit (forms o) xs
+line_fits _ = true
+
+register-below : (w : List ℕ) (r : ℕ) → register w ≡ Some r → nat_lt r 8 ≡ true
+unfolding register
+register-below [] r e = cc
+register-below (a ∷ []) r e = cc
+register-below (a ∷ d ∷ []) r e = by (to_ascii_uppercase a == 82 && nat_le 48 d && nat_le d 55) refl e
+  where
+    by : (b : Bool) → (to_ascii_uppercase a == 82 && nat_le 48 d && nat_le d 55) ≡ b → (if b then Some (d - 48) else None) ≡ Some r → nat_lt r 8 ≡ true
+    by true t h =
+        let last : nat_le d 55 ≡ true = (and_parts (to_ascii_uppercase a == 82 && nat_le 48 d) (nat_le d 55) t).1 in
+        let same : d - 48 ≡ r = cc in
+        let small : d ≤ 55 = grind (arith, nat_tests) in
+        let below : r < 8 = omega arith in
+        grind (arith, nat_tests)
+    by false t h = cc
+register-below (a ∷ d ∷ c ∷ cs) r e = cc
+
+named-fits : (f : Form) (w : List ℕ) (x : Operand) → ((n : List ℕ) → fits f (Label n) ≡ takes_label f) → named f w ≡ Ok x → fits f x ≡ true
+named-fits f w x label e =
+    let taken = if-ok (takes_label f && is_label w) (Ok (Label (upper w))) x fault.BadNumber e in
+    let same : Label (upper w) ≡ x = ok-same (Label (upper w)) x taken.1 in
+    rw (← same) (label (upper w) ∙ (and_parts (takes_label f) (is_label w) taken.0).0)
+
+counted-fits : (f : Form) (w : List ℕ) (o : Option ℤ) (x : Operand) → ((z : ℤ) → fits f (Number z) ≡ true) → ((n : List ℕ) → fits f (Label n) ≡ takes_label f) → counted f w o ≡ Ok x → fits f x ≡ true
+counted-fits f w (Some z) x count label e =
+    let taken = if-ok (accepts f z) (Ok (Number z)) x fault.Range e in
+    let same : Number z ≡ x = ok-same (Number z) x taken.1 in
+    rw (← same) (count z)
+counted-fits f w None x count label e = named-fits f w x label e
+
+registered-fits : (f : Form) (w : List ℕ) (r : ℕ) (x : Operand) → register w ≡ Some r → ((s : ℕ) → fits f (Register s) ≡ (takes_register f && nat_lt s 8))
+    → (if takes_register f then Ok (Register r) else Err fault.BadOperands) ≡ Ok x → fits f x ≡ true
+registered-fits f w r x is fit e =
+    let taken = if-ok (takes_register f) (Ok (Register r)) x fault.BadOperands e in
+    let same : Register r ≡ x = ok-same (Register r) x taken.1 in
+    let below : nat_lt r 8 ≡ true = register-below w r is in
+    let both : (takes_register f && nat_lt r 8) ≡ true = rw (taken.0, below) refl in
+    rw (← same) (fit r ∙ both)
+
+no_characters : (w : List ℕ) (o : Option ℤ) (x : Operand) → counted form.Characters w o ≡ Ok x → fits form.Characters x ≡ true
+no_characters w (Some z) x e = cc
+no_characters w None x e = cc
+
+word-fits : (f : Form) (w : List ℕ) (o : Option ℕ) (x : Operand) → register w ≡ o → placed f w o ≡ Ok x → fits f x ≡ true
+word-fits form.Characters w (Some r) x e h = cc
+word-fits form.Characters w None x e h = no_characters w (number w) x h
+word-fits form.Register w (Some r) x e h = registered-fits form.Register w r x e (λ s. refl) h
+word-fits form.Register w None x e h = cc
+word-fits f w (Some r) x e h = registered-fits f w r x e (λ s. refl) h
+word-fits f w None x e h = counted-fits f w (number w) x (λ z. refl) (λ n. refl) h
+
+string-fits : (o : Option (List ℕ)) (x : Operand) → (or_fault o fault.BadString >>= λ cs. Ok (Characters cs)) ≡ Ok x → fits form.Characters x ≡ true
+string-fits (Some cs) x h = let same : Characters cs ≡ x = ok-same (Characters cs) x h in rw (← same) refl
+string-fits None x h = cc
+
+operand-fits : (f : Form) (t : Token) (x : Operand) → operand f t ≡ Ok x → fits f x ≡ true
+operand-fits form.Characters (Quoted s) x h = string-fits (characters s) x h
+operand-fits form.Characters (Word w) x h = cc
+operand-fits form.Characters Unclosed x h = cc
+operand-fits f (Word w) x h = word-fits f w (register w) x refl h
+operand-fits f (Quoted s) x h = cc
+operand-fits f Unclosed x h = cc
+
+operands-fit : (fs : List Form) (ts : List Token) (xs : List Operand) → length fs ≡ length ts → operands fs ts ≡ Ok xs → all_fit fs xs ≡ true
+operands-fit [] [] xs n h = let same : [] ≡ xs = ok-same [] xs h in rw (← same) refl
+operands-fit [] (t ∷ ts) xs n h = absurd (omega (arith, n))
+operands-fit (f ∷ fs) [] xs n h = absurd (omega (arith, n))
+operands-fit (f ∷ fs) (t ∷ ts) xs n h =
+    let first = then-ok (operand f t) (λ x. operands fs ts >>= λ ys. Ok (x ∷ ys)) xs h in
+    let rest = then-ok (operands fs ts) (λ ys. Ok (first.0 ∷ ys)) xs first.2 in
+    let same : first.0 ∷ rest.0 ≡ xs = ok-same (first.0 ∷ rest.0) xs rest.2 in
+    let all : all_fit fs rest.0 ≡ true = operands-fit fs ts rest.0 (omega (arith, n)) rest.1 in
+    rw (← same, operand-fits f t first.0 first.1, all) refl
+
+all_operands-fit : (fs : List Form) (ts : List Token) (xs : List Operand) → all_operands fs ts ≡ Ok xs → all_fit fs xs ≡ true
+all_operands-fit fs ts xs e =
+    let taken = if-ok (length fs == length ts) (operands fs ts) xs fault.BadOperands e in
+    let test : (length fs == length ts) ≡ true = taken.0 in
+    operands-fit fs ts xs (grind (arith, nat_tests)) taken.1
+
+statement-fits : (p : Line Token) (l : Line Operand) → with_operands p ≡ Ok l → line_fits l ≡ true
+statement-fits Blank l e = let same : Blank ≡ l = ok-same Blank l e in rw (← same) refl
+statement-fits (LabelAlone n) l e = let same : LabelAlone n ≡ l = ok-same (LabelAlone n) l e in rw (← same) refl
+statement-fits (Operates a o ts) l e =
+    let read = then-ok (all_operands (forms o) ts) (λ xs. Ok (Operates a o xs)) l e in
+    let same : Operates a o read.0 ≡ l = ok-same (Operates a o read.0) l read.2 in
+    rw (← same) (all_operands-fit (forms o) ts read.0 read.1)
+
+-- the operands of a line fit their forms
+pub line_fitting : (started : Bool) (bytes : List ℕ) (l : Line Operand) → line started bytes ≡ Ok l → line_fits l ≡ true
+line_fitting started bytes l e =
+    let came = line_came started bytes l e in
+    statement-fits came.statement l came.operands_are

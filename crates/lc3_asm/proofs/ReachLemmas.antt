@@ -1,0 +1,294 @@
+-- An instruction reaches the place of the label that it names.
+use Rattle.std.proofs.Common.{◌≡◌, ℕ, ◌+◌, ◌<◌, ◌≤◌, Bool, true, false, List, [], ◌∷◌, ◌++◌, map, refl, ap, sym, ◌∙◌, arith, Some, None, Option}
+use Rattle.std.specs.Prelude.{Ok, pos, neg_ℤ, ◌+ℤ◌, ◌-ℤ◌, ◌≤ℤ◌, int_le, ◌&&◌, nat_lt, option_and_then}
+use lib.IntN.{ℤ}
+use Rattle.std.specs.List.{list_any}
+use Rattle.std.proofs.lemmas.Int.{ints}
+use Rattle.std.proofs.lemmas.Bool.{and_parts, ltb-true}
+use Rattle.lc3_word.specs.Words.{IsSigned, low_bits}
+use Rattle.lc3_table.specs.declared.instr.Instr.{Instr}
+use Rattle.lc3_table.specs.declared.instr.Instr.TheVariants.{Br, Jsr, Ld, Ldi, Lea, St, Sti}
+use Rattle.lc3_table.specs.declared.operation.Operation.{Operation}
+use Rattle.lc3_table.specs.declared.operation.Operation.TheVariants as op
+use Rattle.lc3_table.specs.declared.operation.Form.{Form}
+use Rattle.lc3_table.specs.declared.operation.Form.TheVariants as form
+use Rattle.lc3_table.specs.declared.fields.Field.{Field}
+use Rattle.lc3_table.specs.declared.fields.Field.TheVariants as field
+use Rattle.lc3_table.specs.declared.operation.Fault.TheVariants as fault
+use Rattle.lc3_table.specs.Instructions.{word_of, IsInstruction}
+use Rattle.lc3_table.specs.Decoding.{instruction_at}
+use Rattle.lc3_table.specs.Statements.{Line, Operates, Operand, Register, Label, forms, operation_order, is_between, or_fault, ◌>>=◌}
+use Rattle.lc3_table.specs.Meaning.{within, reached, resolved, all_resolved, encoded, instruction}
+use Rattle.lc3_table.proofs.Reading.{instruction_at-word_of}
+use Rattle.lc3_asm.specs.Texts.{Program, program, value, labels, origin, words_of, address_after, is_origin}
+use Rattle.lc3_asm.specs.Laws.{HasLine, Reaches, word_at, pc_offset, target_named, numbered}
+use Rattle.lc3_asm.proofs.Outcomes.{then-ok, or_fault-ok, if-ok, ok-same}
+use Rattle.lc3_asm.proofs.LineLemmas.{all_fit, line_fitting, line_ordered}
+use Rattle.lc3_asm.proofs.ReadLemmas.{meant, lines-read, read-at}
+use Rattle.lc3_asm.proofs.LabelLemmas.{labels-below}
+use Rattle.lc3_asm.proofs.PlaceLemmas.{found, origin-front, word-at}
+
+-- a label that an offset of this many bits reaches
+record Near (values : List ℕ → Option ℕ) (address bits : ℕ) (name : List ℕ) (y : Field) : Type 0 where
+  offset : ℤ
+  target : ℕ
+  target_is : values name ≡ Some target
+  field_is : y ≡ field.Number offset
+  signed : IsSigned bits offset
+  reaches : pos (address + 1) +ℤ offset ≡ pos target
+
+signed9 : (z : ℤ) → is_between (neg_ℤ (pos 256)) (pos 255) z ≡ true → IsSigned 9 z
+signed9 z h =
+    let both = and_parts (int_le (neg_ℤ (pos 256)) z) (int_le z (pos 255)) h in
+    let low : neg_ℤ (pos 256) ≤ℤ z = grind (arith, ints, both.0) in
+    let high : z ≤ℤ pos 255 = grind (arith, ints, both.1) in
+    record { low = omega (arith, ints, low); high = omega (arith, ints, high) }
+
+signed11 : (z : ℤ) → is_between (neg_ℤ (pos 1024)) (pos 1023) z ≡ true → IsSigned 11 z
+signed11 z h =
+    let both = and_parts (int_le (neg_ℤ (pos 1024)) z) (int_le z (pos 1023)) h in
+    let low : neg_ℤ (pos 1024) ≤ℤ z = grind (arith, ints, both.0) in
+    let high : z ≤ℤ pos 1023 = grind (arith, ints, both.1) in
+    record { low = omega (arith, ints, low); high = omega (arith, ints, high) }
+
+near : (values : List ℕ → Option ℕ) (address bits : ℕ) (f : Form) (low high : ℤ) (name : List ℕ) (y : Field)
+    → ((t : ℕ) → reached f address t ≡ within low high (pos t -ℤ pos (address + 1))) → ((z : ℤ) → is_between low high z ≡ true → IsSigned bits z)
+    → resolved values address f (Label name) ≡ Ok y → Near values address bits name y
+near values address bits f low high name y is signed e =
+    let target = then-ok (or_fault (values name) fault.Undefined) (λ t. reached f address t >>= λ z. Ok (field.Number z)) y e in
+    let number = then-ok (reached f address target.0) (λ z. Ok (field.Number z)) y target.2 in
+    let inside = if-ok (is_between low high (pos target.0 -ℤ pos (address + 1))) (Ok (pos target.0 -ℤ pos (address + 1))) number.0 fault.OffsetRange (sym (is target.0) ∙ number.1) in
+    let same : pos target.0 -ℤ pos (address + 1) ≡ number.0 = ok-same (pos target.0 -ℤ pos (address + 1)) number.0 inside.1 in
+    record {
+      offset = number.0;
+      target = target.0;
+      target_is = or_fault-ok (values name) fault.Undefined target.0 target.1;
+      field_is = sym (ok-same (field.Number number.0) y number.2);
+      signed = rw (← same) (signed (pos target.0 -ℤ pos (address + 1)) inside.0);
+      reaches = omega (arith, ints, same);
+    }
+
+near9 : (values : List ℕ → Option ℕ) (address : ℕ) (name : List ℕ) (y : Field) → resolved values address form.Target (Label name) ≡ Ok y → Near values address 9 name y
+near9 values address name y e = near values address 9 form.Target (neg_ℤ (pos 256)) (pos 255) name y (λ t. refl) signed9 e
+
+near11 : (values : List ℕ → Option ℕ) (address : ℕ) (name : List ℕ) (y : Field) → resolved values address form.FarTarget (Label name) ≡ Ok y → Near values address 11 name y
+near11 values address name y e = near values address 11 form.FarTarget (neg_ℤ (pos 1024)) (pos 1023) name y (λ t. refl) signed11 e
+
+-- the fields of a label alone, and of a register and a label
+one-field : (values : List ℕ → Option ℕ) (address : ℕ) (f : Form) (name : List ℕ) (ys : List Field) → all_resolved values address (f ∷ []) (Label name ∷ []) ≡ Ok ys
+    → (y : Field) × (resolved values address f (Label name) ≡ Ok y) × (ys ≡ y ∷ [])
+one-field values address f name ys e =
+    let first = then-ok (resolved values address f (Label name)) (λ y. all_resolved values address [] [] >>= λ zs. Ok (y ∷ zs)) ys e in
+    (first.0, first.1, sym (ok-same (first.0 ∷ []) ys first.2))
+
+two-fields : (values : List ℕ → Option ℕ) (address r : ℕ) (f : Form) (name : List ℕ) (ys : List Field) → all_resolved values address (form.Register ∷ f ∷ []) (Register r ∷ Label name ∷ []) ≡ Ok ys
+    → (y : Field) × (resolved values address f (Label name) ≡ Ok y) × (ys ≡ field.Register r ∷ y ∷ [])
+two-fields values address r f name ys e =
+    let rest = then-ok (all_resolved values address (f ∷ []) (Label name ∷ [])) (λ zs. Ok (field.Register r ∷ zs)) ys e in
+    let last = one-field values address f name rest.0 rest.1 in
+    (last.0, last.1, sym (ok-same (field.Register r ∷ rest.0) ys rest.2) ∙ ap (λ zs. field.Register r ∷ zs) last.2)
+
+-- the instruction that a line with a label is
+record Written (values : List ℕ → Option ℕ) (address : ℕ) (o : Operation) (xs : List Operand) (name ws : List ℕ) : Type 0 where
+  written : Instr
+  offset : ℤ
+  target : ℕ
+  written_is : instruction o (map (numbered offset) xs) ≡ Some written
+  offset_is : pc_offset written ≡ Some offset
+  target_is : values name ≡ Some target
+  is_instruction : IsInstruction written
+  word_is : ws ≡ word_of written ∷ []
+  reaches : pos (address + 1) +ℤ offset ≡ pos target
+
+register-fits : (r : ℕ) (b : Bool) → ((true && nat_lt r 8) && b) ≡ true → r < 8
+register-fits r b h = ltb-true r 8 (and_parts (nat_lt r 8) b h).0
+
+written : (values : List ℕ → Option ℕ) (address : ℕ) (o : Operation) (xs : List Operand) (name ws : List ℕ) → all_fit (forms o) xs ≡ true → target_named o xs ≡ Some name
+    → (all_resolved values address (forms o) xs >>= λ ys. Ok (encoded o xs ys)) ≡ Ok ws → Written values address o xs name ws
+unfolding instruction
+written values address (op.Branch n z p) (Label m ∷ []) name ws h t e =
+    let same : m ≡ name = cc in
+    let ys = then-ok (all_resolved values address (form.Target ∷ []) (Label m ∷ [])) (λ ys. Ok (encoded (op.Branch n z p) (Label m ∷ []) ys)) ws e in
+    let y = one-field values address form.Target m ys.0 ys.1 in
+    let near = near9 values address m y.0 y.1 in
+    let word : encoded (op.Branch n z p) (Label m ∷ []) ys.0 ≡ ws = ok-same _ ws ys.2 in
+    rw (← same) (record {
+      written = Br n z p near.offset;
+      offset = near.offset;
+      target = near.target;
+      written_is = refl;
+      offset_is = refl;
+      target_is = near.target_is;
+      is_instruction = near.signed;
+      word_is = sym word ∙ ap (encoded (op.Branch n z p) (Label m ∷ [])) (y.2 ∙ ap (λ x. x ∷ []) near.field_is);
+      reaches = near.reaches;
+    })
+written values address op.JumpSubroutine (Label m ∷ []) name ws h t e =
+    let same : m ≡ name = cc in
+    let ys = then-ok (all_resolved values address (form.FarTarget ∷ []) (Label m ∷ [])) (λ ys. Ok (encoded op.JumpSubroutine (Label m ∷ []) ys)) ws e in
+    let y = one-field values address form.FarTarget m ys.0 ys.1 in
+    let near = near11 values address m y.0 y.1 in
+    let word : encoded op.JumpSubroutine (Label m ∷ []) ys.0 ≡ ws = ok-same _ ws ys.2 in
+    rw (← same) (record {
+      written = Jsr near.offset;
+      offset = near.offset;
+      target = near.target;
+      written_is = refl;
+      offset_is = refl;
+      target_is = near.target_is;
+      is_instruction = near.signed;
+      word_is = sym word ∙ ap (encoded op.JumpSubroutine (Label m ∷ [])) (y.2 ∙ ap (λ x. x ∷ []) near.field_is);
+      reaches = near.reaches;
+    })
+written values address op.Load (Register r ∷ Label m ∷ []) name ws h t e =
+    let same : m ≡ name = cc in
+    let ys = then-ok (all_resolved values address (form.Register ∷ form.Target ∷ []) (Register r ∷ Label m ∷ [])) (λ ys. Ok (encoded op.Load (Register r ∷ Label m ∷ []) ys)) ws e in
+    let y = two-fields values address r form.Target m ys.0 ys.1 in
+    let near = near9 values address m y.0 y.1 in
+    let word : encoded op.Load (Register r ∷ Label m ∷ []) ys.0 ≡ ws = ok-same _ ws ys.2 in
+    rw (← same) (record {
+      written = Ld r near.offset;
+      offset = near.offset;
+      target = near.target;
+      written_is = refl;
+      offset_is = refl;
+      target_is = near.target_is;
+      is_instruction = (register-fits r (true && true) h, near.signed);
+      word_is = sym word ∙ ap (encoded op.Load (Register r ∷ Label m ∷ [])) (y.2 ∙ ap (λ x. field.Register r ∷ x ∷ []) near.field_is);
+      reaches = near.reaches;
+    })
+written values address op.LoadIndirect (Register r ∷ Label m ∷ []) name ws h t e =
+    let same : m ≡ name = cc in
+    let ys = then-ok (all_resolved values address (form.Register ∷ form.Target ∷ []) (Register r ∷ Label m ∷ [])) (λ ys. Ok (encoded op.LoadIndirect (Register r ∷ Label m ∷ []) ys)) ws e in
+    let y = two-fields values address r form.Target m ys.0 ys.1 in
+    let near = near9 values address m y.0 y.1 in
+    let word : encoded op.LoadIndirect (Register r ∷ Label m ∷ []) ys.0 ≡ ws = ok-same _ ws ys.2 in
+    rw (← same) (record {
+      written = Ldi r near.offset;
+      offset = near.offset;
+      target = near.target;
+      written_is = refl;
+      offset_is = refl;
+      target_is = near.target_is;
+      is_instruction = (register-fits r (true && true) h, near.signed);
+      word_is = sym word ∙ ap (encoded op.LoadIndirect (Register r ∷ Label m ∷ [])) (y.2 ∙ ap (λ x. field.Register r ∷ x ∷ []) near.field_is);
+      reaches = near.reaches;
+    })
+written values address op.LoadAddress (Register r ∷ Label m ∷ []) name ws h t e =
+    let same : m ≡ name = cc in
+    let ys = then-ok (all_resolved values address (form.Register ∷ form.Target ∷ []) (Register r ∷ Label m ∷ [])) (λ ys. Ok (encoded op.LoadAddress (Register r ∷ Label m ∷ []) ys)) ws e in
+    let y = two-fields values address r form.Target m ys.0 ys.1 in
+    let near = near9 values address m y.0 y.1 in
+    let word : encoded op.LoadAddress (Register r ∷ Label m ∷ []) ys.0 ≡ ws = ok-same _ ws ys.2 in
+    rw (← same) (record {
+      written = Lea r near.offset;
+      offset = near.offset;
+      target = near.target;
+      written_is = refl;
+      offset_is = refl;
+      target_is = near.target_is;
+      is_instruction = (register-fits r (true && true) h, near.signed);
+      word_is = sym word ∙ ap (encoded op.LoadAddress (Register r ∷ Label m ∷ [])) (y.2 ∙ ap (λ x. field.Register r ∷ x ∷ []) near.field_is);
+      reaches = near.reaches;
+    })
+written values address op.Store (Register r ∷ Label m ∷ []) name ws h t e =
+    let same : m ≡ name = cc in
+    let ys = then-ok (all_resolved values address (form.Register ∷ form.Target ∷ []) (Register r ∷ Label m ∷ [])) (λ ys. Ok (encoded op.Store (Register r ∷ Label m ∷ []) ys)) ws e in
+    let y = two-fields values address r form.Target m ys.0 ys.1 in
+    let near = near9 values address m y.0 y.1 in
+    let word : encoded op.Store (Register r ∷ Label m ∷ []) ys.0 ≡ ws = ok-same _ ws ys.2 in
+    rw (← same) (record {
+      written = St r near.offset;
+      offset = near.offset;
+      target = near.target;
+      written_is = refl;
+      offset_is = refl;
+      target_is = near.target_is;
+      is_instruction = (register-fits r (true && true) h, near.signed);
+      word_is = sym word ∙ ap (encoded op.Store (Register r ∷ Label m ∷ [])) (y.2 ∙ ap (λ x. field.Register r ∷ x ∷ []) near.field_is);
+      reaches = near.reaches;
+    })
+written values address op.StoreIndirect (Register r ∷ Label m ∷ []) name ws h t e =
+    let same : m ≡ name = cc in
+    let ys = then-ok (all_resolved values address (form.Register ∷ form.Target ∷ []) (Register r ∷ Label m ∷ [])) (λ ys. Ok (encoded op.StoreIndirect (Register r ∷ Label m ∷ []) ys)) ws e in
+    let y = two-fields values address r form.Target m ys.0 ys.1 in
+    let near = near9 values address m y.0 y.1 in
+    let word : encoded op.StoreIndirect (Register r ∷ Label m ∷ []) ys.0 ≡ ws = ok-same _ ws ys.2 in
+    rw (← same) (record {
+      written = Sti r near.offset;
+      offset = near.offset;
+      target = near.target;
+      written_is = refl;
+      offset_is = refl;
+      target_is = near.target_is;
+      is_instruction = (register-fits r (true && true) h, near.signed);
+      word_is = sym word ∙ ap (encoded op.StoreIndirect (Register r ∷ Label m ∷ [])) (y.2 ∙ ap (λ x. field.Register r ∷ x ∷ []) near.field_is);
+      reaches = near.reaches;
+    })
+written values address o xs name ws h t e = cc
+
+-- such a line stands behind the `.ORIG`
+started-before : (s : Bool) (o : Operation) (xs : List Operand) (name : List ℕ) → target_named o xs ≡ Some name → operation_order s o ≡ None → s ≡ true
+started-before true o xs name t e = refl
+started-before false op.Origin xs name t e = cc
+started-before false o xs name t e = cc
+
+pub reaches_label : (text : List ℕ) (p : Program) (before : List (Line Operand)) (label : Option (List ℕ)) (o : Operation) (xs : List Operand) (name : List ℕ)
+    → program text ≡ Ok p → HasLine text before (Operates label o xs) → target_named o xs ≡ Some name → Reaches p (address_after before) o xs name
+reaches_label text p before label o xs name accepted has named =
+    let ls = before ++ Operates label o xs ∷ has.0 in
+    let means = meant text p ls accepted has.1 in
+    let reads = lines-read text ls has.1 in
+    let read = read-at [] before (Operates label o xs) has.0 reads in
+    let place = found (labels ls) [] before (Operates label o xs) has.0 means.made reads means.words_are in
+    let line = written (value (labels ls)) (address_after before) o xs name place.here (line_fitting (list_any is_origin before) read.bytes (Operates label o xs) read.read) named place.here_is in
+    let started = started-before (list_any is_origin before) o xs name named (line_ordered (list_any is_origin before) read.bytes (Operates label o xs) read.read) in
+    let first : origin ls ≡ origin before = origin-front before (Operates label o xs ∷ has.0) started in
+    let at : word_at (record { origin = origin ls; words = words_of means.made }) (address_after before) ≡ Some (word_of line.written) =
+    word-at (origin ls) (address_after before) (words_of means.made) place.earlier place.later (word_of line.written) (place.cut ∙ ap (λ u. place.earlier ++ (u ++ place.later)) line.word_is)
+    (omega (arith, first, place.count)) in
+    rw (← means.laid) (record {
+      written = line.written;
+      offset = line.offset;
+      target = line.target;
+      written_is = line.written_is;
+      offset_is = line.offset_is;
+      target_is = line.target_is;
+      stands = ap (option_and_then instruction_at) at ∙ instruction_at-word_of line.written (word_of line.written) line.is_instruction refl;
+      reaches = line.reaches;
+    })
+
+-- the word of a `.FILL` of a label
+filled : (values : List ℕ → Option ℕ) (address : ℕ) (name ws : List ℕ) → (all_resolved values address (form.Value ∷ []) (Label name ∷ []) >>= λ ys. Ok (encoded op.Fill (Label name ∷ []) ys)) ≡ Ok ws
+    → (target : ℕ) × (values name ≡ Some target) × (ws ≡ low_bits 16 (pos target) ∷ [])
+filled values address name ws e =
+    let ys = then-ok (all_resolved values address (form.Value ∷ []) (Label name ∷ [])) (λ ys. Ok (encoded op.Fill (Label name ∷ []) ys)) ws e in
+    let y = one-field values address form.Value name ys.0 ys.1 in
+    let target = then-ok (or_fault (values name) fault.Undefined) (λ t. reached form.Value address t >>= λ z. Ok (field.Number z)) y.0 y.1 in
+    let field_is : field.Number (pos target.0) ≡ y.0 = ok-same (field.Number (pos target.0)) y.0 target.2 in
+    let word : encoded op.Fill (Label name ∷ []) ys.0 ≡ ws = ok-same _ ws ys.2 in
+    (target.0, or_fault-ok (values name) fault.Undefined target.0 target.1, sym word ∙ ap (encoded op.Fill (Label name ∷ [])) (y.2 ∙ ap (λ x. x ∷ []) (sym field_is)))
+
+fill-started : (s : Bool) → operation_order s op.Fill ≡ None → s ≡ true
+fill-started true e = refl
+fill-started false e = cc
+
+pub fill_holds_address : (text : List ℕ) (p : Program) (before : List (Line Operand)) (label : Option (List ℕ)) (name : List ℕ)
+    → program text ≡ Ok p → HasLine text before (Operates label op.Fill (Label name ∷ []))
+    → (target : ℕ) × (value p.symbols name ≡ Some target) × (word_at p.image (address_after before) ≡ Some target)
+fill_holds_address text p before label name accepted has =
+    let l = Operates label op.Fill (Label name ∷ []) in
+    let ls = before ++ l ∷ has.0 in
+    let means = meant text p ls accepted has.1 in
+    let reads = lines-read text ls has.1 in
+    let read = read-at [] before l has.0 reads in
+    let place = found (labels ls) [] before l has.0 means.made reads means.words_are in
+    let word = filled (value (labels ls)) (address_after before) name place.here place.here_is in
+    let started = fill-started (list_any is_origin before) (line_ordered (list_any is_origin before) read.bytes l read.read) in
+    let first : origin ls ≡ origin before = origin-front before (l ∷ has.0) started in
+    let small : word.0 ≤ 0xFE00 = labels-below [] ls name word.0 reads (omega arith) word.1 in
+    let whole : low_bits 16 (pos word.0) ≡ word.0 = omega (arith, small) in
+    let at : word_at (record { origin = origin ls; words = words_of means.made }) (address_after before) ≡ Some word.0 =
+    word-at (origin ls) (address_after before) (words_of means.made) place.earlier place.later word.0 (place.cut ∙ ap (λ u. place.earlier ++ (u ++ place.later)) (word.2 ∙ ap (λ w. w ∷ []) whole))
+    (omega (arith, first, place.count)) in
+    rw (← means.laid) (word.0, word.1, at)

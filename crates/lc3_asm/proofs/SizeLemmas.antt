@@ -1,0 +1,139 @@
+-- A line that was read has as many words as its size says.
+use Rattle.std.proofs.Common.{◌≡◌, ℕ, Bool, true, false, List, [], ◌∷◌, length, refl, arith, Some, None, Option}
+use Rattle.std.specs.Prelude.{Ok, is_some, ◌&&◌, nat_abs}
+use Rattle.std.proofs.lemmas.List.{length-append, length-replicate}
+use lib.IntN.{ℤ}
+use Rattle.lc3_table.specs.Statements.{Line, Blank, LabelAlone, Operates, Operand, Register, Number, Label, Characters, or_fault, forms, ◌>>=◌}
+use Rattle.lc3_table.specs.Meaning.{words, size, operation_size, encoded, instruction, instruction_words, resolved, reached, all_resolved}
+use Rattle.lc3_table.specs.declared.fields.Field.{Field}
+use Rattle.lc3_table.specs.declared.fields.Field.TheVariants as field
+use Rattle.lc3_table.specs.declared.instr.Instr.{Instr}
+use Rattle.lc3_table.specs.declared.operation.Operation.{Operation}
+use Rattle.lc3_table.specs.declared.operation.Operation.TheVariants as op
+use Rattle.lc3_table.specs.declared.operation.Form.{Form}
+use Rattle.lc3_table.specs.declared.operation.Form.TheVariants as form
+use Rattle.lc3_table.specs.declared.operation.Fault.TheVariants as fault
+use Rattle.lc3_asm.proofs.Outcomes.{then-ok, ok-same}
+use Rattle.lc3_asm.proofs.LineLemmas.{fits, all_fit, line_fits}
+use Rattle.std.proofs.lemmas.Bool.{and_parts}
+
+-- a field that an operand of a form can be
+abbrev pub field_fits : Form → Field → Bool
+field_fits form.Characters field.Nothing = true
+field_fits form.Characters y = false
+field_fits form.Register (field.Register r) = true
+field_fits form.Register y = false
+field_fits form.RegisterOrImmediate (field.Register r) = true
+field_fits f (field.Number z) = true
+field_fits f y = false
+
+abbrev pub fields_fit : List Form → List Field → Bool
+fields_fit [] [] = true
+fields_fit (f ∷ fs) (y ∷ ys) = field_fits f y && fields_fit fs ys
+fields_fit _ _ = false
+
+label-field : (f : Form) (n : List ℕ) (z : ℤ) → fits f (Label n) ≡ true → field_fits f (field.Number z) ≡ true
+label-field form.Target n z h = refl
+label-field form.FarTarget n z h = refl
+label-field form.Value n z h = refl
+label-field f n z h = cc
+
+register-field : (f : Form) (r : ℕ) → fits f (Register r) ≡ true → field_fits f (field.Register r) ≡ true
+register-field form.Register r h = refl
+register-field form.RegisterOrImmediate r h = refl
+register-field f r h = cc
+
+number-field : (f : Form) (z : ℤ) → fits f (Number z) ≡ true → field_fits f (field.Number z) ≡ true
+number-field form.Register z h = cc
+number-field form.Characters z h = cc
+number-field f z h = refl
+
+characters-field : (f : Form) (cs : List ℕ) → fits f (Characters cs) ≡ true → field_fits f field.Nothing ≡ true
+characters-field form.Characters cs h = refl
+characters-field f cs h = cc
+
+resolved-fits : (values : List ℕ → Option ℕ) (address : ℕ) (f : Form) (x : Operand) (y : Field) → fits f x ≡ true → resolved values address f x ≡ Ok y → field_fits f y ≡ true
+resolved-fits values address f (Register r) y h e = let same : field.Register r ≡ y = ok-same (field.Register r) y e in rw (← same) (register-field f r h)
+resolved-fits values address f (Number z) y h e = let same : field.Number z ≡ y = ok-same (field.Number z) y e in rw (← same) (number-field f z h)
+resolved-fits values address f (Characters cs) y h e = let same : field.Nothing ≡ y = ok-same field.Nothing y e in rw (← same) (characters-field f cs h)
+resolved-fits values address f (Label n) y h e =
+    let target = then-ok (or_fault (values n) fault.Undefined) (λ t. reached f address t >>= λ z. Ok (field.Number z)) y e in
+    let number = then-ok (reached f address target.0) (λ z. Ok (field.Number z)) y target.2 in
+    let same : field.Number number.0 ≡ y = ok-same (field.Number number.0) y number.2 in
+    rw (← same) (label-field f n number.0 h)
+
+all_resolved-fits : (values : List ℕ → Option ℕ) (address : ℕ) (fs : List Form) (xs : List Operand) (ys : List Field) → all_fit fs xs ≡ true → all_resolved values address fs xs ≡ Ok ys → fields_fit fs ys ≡ true
+all_resolved-fits values address [] [] ys h e = let same : [] ≡ ys = ok-same [] ys e in rw (← same) refl
+all_resolved-fits values address [] (x ∷ xs) ys h e = cc
+all_resolved-fits values address (f ∷ fs) [] ys h e = cc
+all_resolved-fits values address (f ∷ fs) (x ∷ xs) ys h e =
+    let first = then-ok (resolved values address f x) (λ y. all_resolved values address fs xs >>= λ zs. Ok (y ∷ zs)) ys e in
+    let rest = then-ok (all_resolved values address fs xs) (λ zs. Ok (first.0 ∷ zs)) ys first.2 in
+    let same : first.0 ∷ rest.0 ≡ ys = ok-same (first.0 ∷ rest.0) ys rest.2 in
+    let fit = and_parts (fits f x) (all_fit fs xs) h in
+    let one : field_fits f first.0 ≡ true = resolved-fits values address f x first.0 fit.0 first.1 in
+    let all : fields_fit fs rest.0 ≡ true = all_resolved-fits values address fs xs rest.0 fit.1 rest.1 in
+    rw (← same, one, all) refl
+
+-- the operations that are one instruction
+abbrev is_instruction : Operation → Bool
+is_instruction op.Origin = false
+is_instruction op.Fill = false
+is_instruction op.Block = false
+is_instruction op.Text = false
+is_instruction op.End = false
+is_instruction _ = true
+
+instruction-found : (o : Operation) (ys : List Field) → is_instruction o ≡ true → fields_fit (forms o) ys ≡ true → is_some (instruction o ys) ≡ true
+unfolding instruction
+instruction-found op.Add (field.Register d ∷ field.Register s ∷ field.Register t ∷ []) i h = refl
+instruction-found op.Add (field.Register d ∷ field.Register s ∷ field.Number z ∷ []) i h = refl
+instruction-found op.And (field.Register d ∷ field.Register s ∷ field.Register t ∷ []) i h = refl
+instruction-found op.And (field.Register d ∷ field.Register s ∷ field.Number z ∷ []) i h = refl
+instruction-found op.Not (field.Register d ∷ field.Register s ∷ []) i h = refl
+instruction-found (op.Branch n z p) (field.Number o ∷ []) i h = refl
+instruction-found op.Jump (field.Register b ∷ []) i h = refl
+instruction-found op.JumpSubroutine (field.Number o ∷ []) i h = refl
+instruction-found op.JumpSubroutineRegister (field.Register b ∷ []) i h = refl
+instruction-found op.Load (field.Register d ∷ field.Number o ∷ []) i h = refl
+instruction-found op.LoadIndirect (field.Register d ∷ field.Number o ∷ []) i h = refl
+instruction-found op.LoadRegister (field.Register d ∷ field.Register b ∷ field.Number o ∷ []) i h = refl
+instruction-found op.LoadAddress (field.Register d ∷ field.Number o ∷ []) i h = refl
+instruction-found op.Return [] i h = refl
+instruction-found op.ReturnInterrupt [] i h = refl
+instruction-found op.Store (field.Register s ∷ field.Number o ∷ []) i h = refl
+instruction-found op.StoreIndirect (field.Register s ∷ field.Number o ∷ []) i h = refl
+instruction-found op.StoreRegister (field.Register s ∷ field.Register b ∷ field.Number o ∷ []) i h = refl
+instruction-found op.Trap (field.Number z ∷ []) i h = refl
+instruction-found op.Getc [] i h = refl
+instruction-found op.Out [] i h = refl
+instruction-found op.Puts [] i h = refl
+instruction-found op.In [] i h = refl
+instruction-found op.Putsp [] i h = refl
+instruction-found op.Halt [] i h = refl
+instruction-found op.NoOperation [] i h = refl
+instruction-found o ys i h = cc
+
+one_word : (i : Option Instr) → is_some i ≡ true → length (instruction_words i) ≡ 1
+one_word (Some i) h = refl
+one_word None h = cc
+
+encoded-exact : (o : Operation) (xs : List Operand) (ys : List Field) → all_fit (forms o) xs ≡ true → fields_fit (forms o) ys ≡ true → length (encoded o xs ys) ≡ operation_size o xs
+unfolding instruction
+encoded-exact op.Origin xs ys h k = refl
+encoded-exact op.End xs ys h k = refl
+encoded-exact op.Text (Characters cs ∷ []) ys h k = omega (arith, length-append cs (0 ∷ []))
+encoded-exact op.Block (Number z ∷ []) ys h k = length-replicate {A = ℕ} (nat_abs z) 0
+encoded-exact op.Fill xs (field.Number z ∷ []) h k = refl
+encoded-exact op.Text xs ys h k = cc
+encoded-exact op.Block xs ys h k = cc
+encoded-exact op.Fill xs ys h k = cc
+encoded-exact o xs ys h k = one_word (instruction o ys) (instruction-found o ys refl k)
+
+pub words-exact : (values : List ℕ → Option ℕ) (address : ℕ) (l : Line Operand) (ws : List ℕ) → line_fits l ≡ true → words values address l ≡ Ok ws → length ws ≡ size l
+words-exact values address Blank ws h e = let same : [] ≡ ws = ok-same [] ws e in rw (← same) refl
+words-exact values address (LabelAlone n) ws h e = let same : [] ≡ ws = ok-same [] ws e in rw (← same) refl
+words-exact values address (Operates n o xs) ws h e =
+    let fields = then-ok (all_resolved values address (forms o) xs) (λ ys. Ok (encoded o xs ys)) ws e in
+    let same : encoded o xs fields.0 ≡ ws = ok-same (encoded o xs fields.0) ws fields.2 in
+    rw (← same) (encoded-exact o xs fields.0 h (all_resolved-fits values address (forms o) xs fields.0 h fields.1))

@@ -1,0 +1,33 @@
+//! What is true of every accepted text. The functions do nothing: each one's contract is a law of the
+//! definitions in specs/.
+
+ghost use Rattle.lc3_asm.specs.Laws.{LabelsAreLineAddresses, InstructionsReachLabels, FillsHoldAddresses, RowsCoverImage, ListingShowsImage};
+
+/// A label has the address of the line that defines it.
+pub fn labels_are_line_addresses()
+    ensures law { LabelsAreLineAddresses }
+{}
+
+/// The instruction at a line reaches the place of the label that it names.
+///
+/// At the address of a line `BR M`, `JSR M`, `LD R0,M`, `LDI R0,M`, `LEA R0,M`, `ST R0,M` or `STI R0,M`
+/// the image has that very instruction, with an offset in the place of the label. The offset, added to
+/// the address plus 1, is the label's address.
+pub fn instructions_reach_labels()
+    ensures law { InstructionsReachLabels }
+{}
+
+/// The word of a line `.FILL M` is the address of the label.
+pub fn fills_hold_addresses()
+    ensures law { FillsHoldAddresses }
+{}
+
+/// The rows cover the image: each begins where the one before it ends, and the last ends with the image.
+pub fn rows_cover_image()
+    ensures law { RowsCoverImage }
+{}
+
+/// The listing shows each word of the image at its address, in order.
+pub fn listing_shows_image()
+    ensures law { ListingShowsImage }
+{}

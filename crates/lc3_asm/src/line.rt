@@ -1,0 +1,199 @@
+//! A line of a source text.
+
+ghost use Rattle.std.specs.Prelude.{◌≡◌, option_map, string_bytes, map, IsTrue, true, ◌≤◌, ◌^◌, IfOk, None};
+ghost use Rattle.lc3_asm.specs.Views.{seen, Gives, seen_line};
+ghost use Rattle.lc3_table.specs.Statements.{label_defined, begins_with_dot, operation_order, order_fault, with_operands, unless, Operates, line_of, line};
+
+use crate::fault::LineError;
+use crate::statement::{Operand, all_operands, token_fault, token_operation, upper, without_colon};
+use crate::token::{Token, tokens};
+use crate::word::is_label;
+use lc3_table::{Fault, Operation};
+use std::alloc::Global;
+
+/// What a line says.
+#[derive(Debug, Drop)]
+pub enum Line {
+    /// Nothing but separators and a comment.
+    Blank,
+    /// A label, in upper case, and nothing else.
+    LabelAlone(String),
+    /// An operation or directive with its operands, behind a label in upper case or none.
+    Operates {
+        label: Option<String>,
+        operation: Operation,
+        operands: Vec<Operand>,
+    },
+}
+
+/// Whether a word is written as a directive.
+fn begins_with_dot(word: &[u8]) -> bool
+    ensures { result ≡ begins_with_dot word.now }
+{
+    matches!(word, [b'.', ..])
+}
+
+/// The label that a token defines, in upper case.
+fn label_defined(alloc: Global, token: Token<'_>) -> Result<String, LineError>
+    ensures { Gives string_bytes result (label_defined (seen token.entry)) }
+{
+    let Token::Word(word) = token else {
+        return Err(LineError::Fault(Fault::BadOperation));
+    };
+    if begins_with_dot(word) {
+        return Err(LineError::Fault(Fault::BadOperation));
+    }
+    let name = without_colon(word);
+    if is_label(name) {
+        Ok(upper(alloc, name)?)
+    } else {
+        Err(LineError::Fault(Fault::BadLabel))
+    }
+}
+
+/// What is wrong with the place of an operation, behind a `.ORIG` or before any.
+fn operation_order(started: bool, operation: Operation) -> Option<Fault>
+    ensures { result ≡ operation_order started operation }
+{
+    match operation {
+        Operation::Origin => if started {
+            Some(Fault::SecondOrig)
+        } else {
+            None
+        },
+        _ => if started { None } else { Some(Fault::NoOrig) },
+    }
+}
+
+/// An operation with its operands, after this label or none.
+fn operates(
+    alloc: Global,
+    started: bool,
+    label: Option<String>,
+    operation: Operation,
+    tokens: &[Token<'_>],
+) -> Result<Line, LineError>
+    ensures { Gives seen_line result (unless (operation_order started operation) (with_operands (Operates (option_map string_bytes label) operation (map seen tokens.now)))) }
+{
+    if let Some(fault) = operation_order(started, operation) {
+        return Err(LineError::Fault(fault));
+    }
+    let operands = all_operands(alloc, operation.forms(), tokens)?;
+    Ok(Line::Operates {
+        label,
+        operation,
+        operands,
+    })
+}
+
+/// What the tokens of a line say, where a `.ORIG` stands before the line or not.
+fn line_of(alloc: Global, started: bool, tokens: &[Token<'_>]) -> Result<Line, LineError>
+    ensures { Gives seen_line result (line_of started (map seen tokens.now)) }
+{
+    if let Some(fault) = token_fault(tokens) {
+        return Err(LineError::Fault(fault));
+    }
+    let Some((first, rest)) = tokens.split_first() else {
+        return Ok(Line::Blank);
+    };
+    if let Some(operation) = token_operation(*first) {
+        return operates(alloc, started, None, operation, rest);
+    }
+    let label = label_defined(alloc, *first)?;
+    let Some((second, rest)) = rest.split_first() else {
+        return if started {
+            Ok(Line::LabelAlone(label))
+        } else {
+            Err(LineError::Fault(Fault::NoOrig))
+        };
+    };
+    match token_operation(*second) {
+        None => Err(LineError::Fault(Fault::BadOperation)),
+        Some(Operation::Origin) => Err(LineError::Fault(Fault::BadLabel)),
+        Some(operation) => operates(alloc, started, Some(label), operation, rest),
+    }
+}
+
+/// What a line says, where a `.ORIG` stands before it or not; or its first fault.
+#[tactic(auto, using(crate::proofs::LineLemmas::line_ordered))]
+pub fn read_line(alloc: Global, started: bool, bytes: &[u8]) -> Result<Line, LineError>
+    ensures exact { Gives seen_line result (line started bytes.now) }
+    ensures ordered { IfOk result (λ l. order_fault started (seen_line l) ≡ None) }
+{
+    let tokens = tokens(alloc, bytes)?;
+    line_of(alloc, started, &tokens)
+}
+
+impl Line {
+    ghost use Rattle.lc3_table.specs.Meaning.{size};
+    ghost use Rattle.lc3_asm.specs.Texts.{label_of, is_origin, is_end, origin_named};
+
+    /// How many words the line makes.
+    pub fn size(&self) -> u64
+        ensures words { result ≡ size (seen_line self.now) }
+        ensures fits { result ≤ 2 ^ 63 }
+    {
+        match self {
+            Line::Operates {
+                operation: Operation::Origin | Operation::End,
+                ..
+            } => 0,
+            Line::Operates {
+                operation,
+                operands,
+                ..
+            } => match (operation, operands.first()) {
+                (Operation::Block, Some(Operand::Number(count))) => count.unsigned_abs(),
+                (Operation::Text, Some(Operand::Characters(characters))) => characters.len() as u64
+                    + 1,
+                _ => 1,
+            },
+            _ => 0,
+        }
+    }
+
+    /// The label that the line defines.
+    pub fn label(&self) -> Option<&str>
+        ensures { option_map (λ name. name.now) result ≡ label_of (seen_line self.now) }
+    {
+        match self {
+            Line::Blank => None,
+            Line::LabelAlone(name) => Some(name.as_str()),
+            Line::Operates {
+                label: Some(name),
+                ..
+            } => Some(name.as_str()),
+            Line::Operates { label: None, .. } => None,
+        }
+    }
+
+    /// The number that a `.ORIG` names.
+    pub fn origin(&self) -> Option<u64>
+        ensures { result ≡ origin_named (seen_line self.now) }
+    {
+        match self {
+            Line::Operates {
+                operation: Operation::Origin,
+                operands,
+                ..
+            } => match operands.first() {
+                Some(Operand::Number(address)) => Some(address.unsigned_abs()),
+                _ => Some(0),
+            },
+            _ => None,
+        }
+    }
+
+    /// Whether the line is `.END`.
+    pub fn is_end(&self) -> bool
+        ensures { result ≡ is_end (seen_line self.now) }
+    {
+        matches!(
+            self,
+            Line::Operates {
+                operation: Operation::End,
+                ..
+            }
+        )
+    }
+}

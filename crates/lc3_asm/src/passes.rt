@@ -1,0 +1,98 @@
+//! The two passes over a source text.
+
+ghost use Rattle.std.specs.Prelude.{◌≡◌, ◌<◌, ◌∷◌, [], Ok, IfOk, IfErr, IfSome, length, ◌≤◌, ◌==◌};
+ghost use Rattle.std.specs.List.{position_or_len};
+ghost use Rattle.lc3_asm.specs.Texts.{lines, lines_read, program_of, program};
+ghost use Rattle.lc3_asm.specs.Drafts.{lines_if, IsFault};
+
+use crate::assembled::Assembled;
+use crate::draft::Draft;
+use crate::fault::{AsmFault, LineError};
+use crate::layout::layout;
+use lc3_table::Fault;
+use lc3_word::Image;
+use std::alloc::Global;
+
+/// How many bytes stand before the first line feed.
+fn line_len(text: &[u8]) -> usize
+    ensures count { result ≡ position_or_len (λ c. c == 10) text.now }
+    ensures within { result ≤ length text.now }
+{
+    text.iter().take_while(|byte| **byte != b'\n').count()
+}
+
+/// The first line of a text, and what follows its line feed.
+fn first_line(text: &[u8]) -> (&[u8], Option<&[u8]>)
+    ensures cut { lines text.now ≡ result.0.now ∷ lines_if result.1 }
+    ensures shorter { IfSome result.1 (λ rest. length rest.now < length text.now) }
+{
+    let end = line_len(text);
+    if end < text.len() {
+        (&text[..end], Some(&text[end + 1..]))
+    } else {
+        (text, None)
+    }
+}
+
+/// The lines up to `.END`, or the first faulty line.
+fn first_pass(alloc: Global, source: &str) -> Result<Draft, AsmFault>
+    ensures read { IfOk result (λ draft. lines_read source.now ≡ Ok draft) }
+    ensures refused { IfErr result (λ fault. IsFault fault (lines_read source.now)) }
+{
+    let mut draft = Draft::new(alloc);
+    let mut rest = Some(source.as_bytes());
+    while let Some(text) = rest {
+        let (line, after) = first_line(text);
+        let number = draft.len() + 1;
+        match draft.with_line(alloc, line) {
+            Ok((longer, true)) => return Ok(longer),
+            Ok((longer, false)) => draft = longer,
+            Err(LineError::Memory) => return Err(AsmFault::NoMemory),
+            Err(LineError::Fault(kind)) => return Err(AsmFault::At { line: number, kind }),
+        }
+        rest = after;
+    }
+    Ok(draft)
+}
+
+/// How many lines a text has.
+#[tactic(auto, using(crate::proofs::TextLemmas::count_lines))]
+fn line_count(text: &[u8]) -> usize
+    ensures { result ≡ length (lines text.now) }
+{
+    text.iter().filter(|byte| **byte == b'\n').count() + 1
+}
+
+/// The image, the symbols and the rows of lines without faults of the first pass.
+fn second_pass(alloc: Global, draft: Draft) -> Result<Assembled, AsmFault>
+    ensures accepted { IfOk result (λ assembled. program_of draft ≡ Ok assembled) }
+    ensures refused { IfErr result (λ fault. IsFault fault (program_of draft)) }
+{
+    let (words, rows) = layout(alloc, draft.symbols(), draft.lines(), draft.places())?;
+    match Image::new(draft.origin(), words) {
+        Ok(image) => Ok(Assembled::new(image, draft.into_symbols(), rows)),
+        Err(_) => unreachable!(),
+    }
+}
+
+/// Assembles a source text.
+///
+/// The first pass reads the lines in order up to `.END`. The first line that can't be read, whose label
+/// is defined already or that reaches xFE00 is the fault, with the first that is wrong with it; a text
+/// without a `.ORIG` is `NoOrig` at its last line. The second pass takes the lines in order once more,
+/// and the first that names a label which isn't defined, or one too far away, is the fault. Labels are
+/// kept in upper case, lines are counted from 1, and want of memory says nothing about the text.
+pub fn assemble(alloc: Global, source: &str) -> Result<Assembled, AsmFault>
+    ensures accepted { IfOk result (λ assembled. program source.now ≡ Ok assembled) }
+    ensures refused { IfErr result (λ fault. IsFault fault (program source.now)) }
+{
+    let draft = first_pass(alloc, source)?;
+    if draft.started() {
+        second_pass(alloc, draft)
+    } else {
+        Err(AsmFault::At {
+            line: line_count(source.as_bytes()),
+            kind: Fault::NoOrig,
+        })
+    }
+}

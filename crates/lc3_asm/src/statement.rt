@@ -1,0 +1,269 @@
+//! Operands of a statement.
+
+ghost use Rattle.std.specs.Prelude.{◌≡◌, ◌<◌, ◌≤◌, ℕ, IfOk, string_bytes, map, IsAscii, is_some, option_map, List, Option, Some, None, IfSome, IfNone, nat_abs, true, nat_le, ◌&&◌, length, ◌||◌, ◌-ℤ◌, pos};
+ghost use Rattle.lc3_asm.specs.Views.{seen, seen_operand, Gives};
+ghost use Rattle.lc3_table.specs.Words.{upper, register};
+ghost use Rattle.std.specs.List.{list_all};
+ghost use Rattle.lc3_table.specs.Statements.{is_between, characters, onto, fault_in, token_fault, placed, counted, operand, operands, all_operands, escape, is_string_byte, takes_register, takes_label, accepts, forms, token_operation, without_colon};
+ghost use Rattle.lc3_word.specs.Numbers.{number};
+ghost use Rattle.lc3_table.specs.Tokens.{Word};
+
+use crate::fault::LineError;
+use crate::token::Token;
+use crate::word::{is_label, operation, register};
+use lc3_table::{Fault, Form, Operation};
+use lc3_word::{Reg, number_of};
+use std::alloc::{AllocError, Global};
+
+/// An operand.
+#[derive(Debug, Drop)]
+pub enum Operand {
+    Register(Reg),
+    Number(i64),
+    /// A label, in upper case.
+    Label(String),
+    /// What a string writes, its escapes resolved.
+    Characters(Vec<u8>),
+}
+
+/// What an escape writes, by the character after its backslash.
+fn escape(byte: u8) -> Option<u8>
+    ensures { result ≡ escape byte }
+{
+    match byte {
+        b'n' => Some(b'\n'),
+        b't' => Some(b'\t'),
+        b'r' => Some(b'\r'),
+        b'a' => Some(0x07),
+        b'b' => Some(0x08),
+        b'f' => Some(0x0C),
+        b'v' => Some(0x0B),
+        b'e' => Some(0x1B),
+        b'0' => Some(0),
+        b'"' | b'\\' => Some(byte),
+        _ => None,
+    }
+}
+
+/// Whether a string may hold the byte: x20 to x7E and tab.
+fn is_string_byte(byte: u8) -> bool
+    ensures { result ≡ is_string_byte byte }
+{
+    matches!(byte, 0x20..=0x7E | b'\t')
+}
+
+/// The operation or directive that a token names.
+pub fn token_operation(token: Token<'_>) -> Option<Operation>
+    ensures { result ≡ token_operation (seen token.entry) }
+{
+    match token {
+        Token::Word(word) => operation(word),
+        _ => None,
+    }
+}
+
+/// Without the `:` that may end a label where it is defined.
+pub fn without_colon(word: &[u8]) -> &[u8]
+    ensures { result.now ≡ without_colon word.now }
+{
+    match word {
+        [name @ .., b':'] => name,
+        _ => word,
+    }
+}
+
+/// The word in upper case.
+pub fn upper(alloc: Global, word: &[u8]) -> Result<String, AllocError>
+    requires { IsAscii word.now }
+    ensures { IfOk result (λ name. string_bytes name ≡ upper word.now) }
+{
+    let mut name = String::new(alloc);
+    for byte in word {
+        name.push(char::from(byte.to_ascii_uppercase()))?;
+    }
+    Ok(name)
+}
+
+/// The first character that a string writes, and what follows it.
+fn first_character(text: &[u8]) -> Option<(u8, &[u8])>
+    requires { 0 < length text.now }
+    ensures none { IfNone result (characters text.now ≡ None) }
+    ensures first { IfSome result (λ found. characters text.now ≡ onto (Some found.0) (characters found.1.now)) }
+    ensures shorter { IfSome result (λ found. length found.1.now < length text.now) }
+{
+    match text {
+        [b'\\', code, rest @ ..] => Some((escape(*code)?, rest)),
+        [byte, rest @ ..] if *byte != b'\\' && is_string_byte(*byte) => Some((*byte, rest)),
+        _ => None,
+    }
+}
+
+/// Whether a string has no bad character and no bad escape.
+fn is_string(text: &[u8]) -> bool
+    ensures { result ≡ is_some (characters text.now) }
+{
+    let mut rest = text;
+    while !rest.is_empty() {
+        let Some((_, after)) = first_character(rest) else {
+            return false;
+        };
+        rest = after;
+    }
+    true
+}
+
+/// The characters that a string writes.
+fn characters(alloc: Global, text: &[u8]) -> Result<Option<Vec<u8>>, AllocError>
+    ensures { IfOk result (λ read. option_map (λ v. v.items) read ≡ characters text.now) }
+{
+    let mut found = Vec::new(alloc);
+    let mut rest = text;
+    while !rest.is_empty() {
+        let Some((byte, after)) = first_character(rest) else {
+            return Ok(None);
+        };
+        found.push(byte)?;
+        rest = after;
+    }
+    Ok(Some(found))
+}
+
+/// Whether a word has characters of x21 to x7E alone.
+fn is_printable(word: &[u8]) -> bool
+    ensures { result ≡ list_all (λ c. nat_le 33 c && nat_le c 126) word.now }
+{
+    word.iter().all(|byte| 33 <= *byte && *byte <= 126)
+}
+
+/// What is wrong with a token.
+fn fault_in(token: Token<'_>) -> Option<Fault>
+    ensures { result ≡ fault_in (seen token.entry) }
+{
+    match token {
+        Token::Word(word) => if is_printable(word) {
+            None
+        } else {
+            Some(Fault::BadToken)
+        },
+        Token::Quoted(text) => if is_string(text) {
+            None
+        } else {
+            Some(Fault::BadString)
+        },
+        Token::Unclosed => Some(Fault::BadString),
+    }
+}
+
+/// The leftmost faulty token's fault.
+pub fn token_fault(tokens: &[Token<'_>]) -> Option<Fault>
+    ensures { result ≡ token_fault (map seen tokens.now) }
+{
+    for token in tokens {
+        if let Some(fault) = fault_in(*token) {
+            return Some(fault);
+        }
+    }
+    None
+}
+
+/// low ≤ number ≤ high
+fn is_between(low: i64, high: i64, number: i64) -> bool
+    ensures { result ≡ is_between low high number }
+{
+    low <= number && number <= high
+}
+
+/// Whether a number, or the number less 65,536, lies within the bounds of a field.
+fn is_in_field(low: i64, high: i64, number: i64) -> bool
+    requires { nat_abs number ≤ 1_000_000_000 }
+    ensures { result ≡ (is_between low high number || is_between low high (number -ℤ pos 65536)) }
+{
+    let is_signed = is_between(low, high, number);
+    let is_unsigned = is_between(low, high, number - 65_536);
+    is_signed || is_unsigned
+}
+
+/// Whether a number may stand there.
+fn accepts(form: Form, number: i64) -> bool
+    requires { nat_abs number ≤ 1_000_000_000 }
+    ensures { result ≡ accepts form number }
+{
+    match form {
+        Form::RegisterOrImmediate => is_in_field(-16, 31, number),
+        Form::Offset => is_in_field(-32, 63, number),
+        Form::Target => is_in_field(-256, 511, number),
+        Form::FarTarget => is_in_field(-1024, 2047, number),
+        Form::Vector => is_between(0, 255, number),
+        Form::Address => is_between(0, 65_024, number),
+        Form::Count => is_between(1, 65_024, number),
+        Form::Value => is_between(-32_768, 65_535, number),
+        Form::Register | Form::Characters => false,
+    }
+}
+
+/// A word that is no register, as an operand of this form.
+fn number_or_label(alloc: Global, form: Form, word: &[u8]) -> Result<Operand, LineError>
+    ensures { Gives seen_operand result (counted form word.now (number word.now)) }
+{
+    match number_of(word) {
+        Some(number) if accepts(form, number) => Ok(Operand::Number(number)),
+        Some(_) => Err(LineError::Fault(Fault::Range)),
+        None if form.takes_label() && is_label(word) => Ok(Operand::Label(upper(alloc, word)?)),
+        None => Err(LineError::Fault(Fault::BadNumber)),
+    }
+}
+
+/// A word as an operand of this form.
+fn word_operand(alloc: Global, form: Form, word: &[u8]) -> Result<Operand, LineError>
+    ensures { Gives seen_operand result (placed form word.now (register word.now)) }
+{
+    match register(word) {
+        Some(register) if form.takes_register() => Ok(Operand::Register(register)),
+        Some(_) => Err(LineError::Fault(Fault::BadOperands)),
+        None if form == Form::Register => Err(LineError::Fault(Fault::BadOperands)),
+        None => number_or_label(alloc, form, word),
+    }
+}
+
+/// The token as an operand of this form.
+fn token_operand(alloc: Global, form: Form, token: Token<'_>) -> Result<Operand, LineError>
+    ensures { Gives seen_operand result (operand form (seen token.entry)) }
+{
+    match (form, token) {
+        (Form::Characters, Token::Quoted(text)) => match characters(alloc, text)? {
+            Some(characters) => Ok(Operand::Characters(characters)),
+            None => Err(LineError::Fault(Fault::BadString)),
+        },
+        (Form::Characters, _) => Err(LineError::Fault(Fault::BadOperands)),
+        (_, Token::Word(word)) => word_operand(alloc, form, word),
+        _ => Err(LineError::Fault(Fault::BadOperands)),
+    }
+}
+
+/// The operands, or the leftmost fault among them.
+fn operands(alloc: Global, forms: &[Form], tokens: &[Token<'_>]) -> Result<Vec<Operand>, LineError>
+    requires { length forms.now ≡ length tokens.now }
+    ensures { Gives (λ v. map seen_operand v.items) result (operands forms.now (map seen tokens.now)) }
+{
+    let mut found = Vec::new(alloc);
+    for (i, token) in tokens.iter().enumerate() {
+        let operand = token_operand(alloc, forms[i], *token)?;
+        found.push(operand)?;
+    }
+    Ok(found)
+}
+
+/// The operands, of which there are as many as the operation takes.
+pub fn all_operands(
+    alloc: Global,
+    forms: &[Form],
+    tokens: &[Token<'_>],
+) -> Result<Vec<Operand>, LineError>
+    ensures { Gives (λ v. map seen_operand v.items) result (all_operands forms.now (map seen tokens.now)) }
+{
+    if forms.len() == tokens.len() {
+        operands(alloc, forms, tokens)
+    } else {
+        Err(LineError::Fault(Fault::BadOperands))
+    }
+}

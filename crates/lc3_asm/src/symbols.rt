@@ -1,0 +1,105 @@
+//! The labels of a text with their addresses, in the order of their definitions.
+
+ghost use Rattle.std.specs.Prelude.{◌≡◌, ℕ, List, [], ◌∷◌, ◌++◌, OnOk, OnErr, string_bytes, false, length, option_map, slice_get};
+ghost use Rattle.lc3_asm.specs.Texts.{value};
+ghost use Rattle.lc3_asm.specs.Symbols.{listed, is_defined};
+ghost use Rattle.lc3_asm.specs.Listings.{symbol_line, symbols_text};
+
+use indexmap::IndexMap;
+use lc3_word::Hex;
+use std::alloc::{AllocError, Global};
+use std::fmt::Write;
+use std::marker::Model;
+
+/// The labels of a text in upper case with their addresses, in the order of their definitions.
+#[derive(Drop)]
+pub struct Symbols {
+    addresses: IndexMap<String, u16>,
+}
+
+impl Model for Symbols {
+    ghost Value = { List (List ℕ × ℕ) };
+
+    ghost view = { λ s. listed s.addresses.entries };
+}
+
+impl Symbols {
+    pub(crate) fn new(alloc: Global) -> Self
+        ensures { result ≡ [] }
+    {
+        Symbols {
+            addresses: IndexMap::new(alloc),
+        }
+    }
+
+    /// How many labels there are.
+    pub fn len(&self) -> usize
+        ensures count { result ≡ length self.now }
+    {
+        self.addresses.len()
+    }
+
+    /// The label at this place, from 0, and its address.
+    pub fn get(&self, index: usize) -> Option<(&str, u16)>
+        ensures label { option_map (λ e. (e.0.now, e.1)) result ≡ slice_get self.now index }
+    {
+        let (name, address) = self.addresses.get_index(index)?;
+        Some((name.as_str(), *address))
+    }
+
+    /// The address of a label, which is written in upper case.
+    pub fn value(&self, name: &str) -> Option<u16>
+        ensures address { result ≡ value self.now name.now }
+    {
+        self.addresses.get(name).copied()
+    }
+
+    /// Whether the label is there.
+    pub(crate) fn contains(&self, name: &str) -> bool
+        ensures { result ≡ is_defined self.now name.now }
+    {
+        self.addresses.contains_key(name)
+    }
+
+    /// Adds a label at the end.
+    pub(crate) fn define(&mut self, name: String, address: u16) -> Result<(), AllocError>
+        requires { is_defined self.old (string_bytes name) ≡ false }
+        ensures ok { OnOk result (self.new ≡ self.old ++ (string_bytes name, address) ∷ []) }
+        ensures err { OnErr result (self.new ≡ self.old) }
+    {
+        self.addresses.insert(name, address)?;
+        Ok(())
+    }
+
+    /// Appends a line for each label: its name and its address.
+    pub(crate) fn push_lines(&self, text: &mut String) -> Result<(), AllocError>
+        ensures { OnOk result (string_bytes text.new ≡ string_bytes text.old ++ symbols_text self.now) }
+    {
+        push_lines(text, &self.addresses)
+    }
+}
+
+/// Appends a line for each label.
+fn push_lines(text: &mut String, addresses: &IndexMap<String, u16>) -> Result<(), AllocError>
+    ensures { OnOk result (string_bytes text.new ≡ string_bytes text.old ++ symbols_text (listed addresses.now.entries)) }
+{
+    for i in 0..addresses.len() {
+        let Some((name, address)) = addresses.get_index(i) else {
+            unreachable!()
+        };
+        push_line(text, name.as_str(), *address)?;
+    }
+    Ok(())
+}
+
+/// Appends the line of a label.
+#[tactic(auto, unfolding(crate::specs::Listings::symbol_line))]
+fn push_line(text: &mut String, name: &str, address: u16) -> Result<(), AllocError>
+    ensures { OnOk result (string_bytes text.new ≡ string_bytes text.old ++ symbol_line name.now address) }
+{
+    let place = Hex(address);
+    match write!(text, "{name} {place}\n") {
+        Ok(()) => Ok(()),
+        Err(e) => Err(e),
+    }
+}

@@ -1,0 +1,108 @@
+//! What a word of a source line is: a register, an operation, a label.
+
+ghost use Rattle.std.specs.Prelude.{◌≡◌, ◌↔◌, IsTrue, true, map, IfOk, string_bytes, find, IsAscii};
+ghost use Rattle.std.specs.List.{list_all};
+ghost use Rattle.lc3_table.specs.Words.{register, operation, same_name, name, is_label, is_label_byte, begins_with_digit, has_label_form, is_taken, upper};
+
+use lc3_table::{OPERATIONS, Operation};
+use lc3_word::{Reg, number_of};
+
+/// The register that a word names, in either case.
+#[tactic(auto, unfolding(lc3_table::specs::Words::register))]
+pub fn register(word: &[u8]) -> Option<Reg>
+    ensures { result ≡ register word.now }
+{
+    match word {
+        [b'R' | b'r', digit @ b'0'..=b'7'] => Reg::new(*digit - b'0'),
+        _ => None,
+    }
+}
+
+/// Whether a word is this name, in either case.
+#[tactic(auto, unfolding(lc3_table::specs::Words::same_name))]
+fn is_name(name: &str, word: &[u8]) -> bool
+    ensures { result ≡ same_name name.now word.now }
+{
+    name.as_bytes().eq_ignore_ascii_case(word)
+}
+
+/// The operation that is shown by this name.
+fn operation_shown(word: &[u8]) -> Option<Operation>
+    ensures { result ≡ find (λ o. same_name (name o) word.now) OPERATIONS }
+{
+    OPERATIONS
+        .iter()
+        .copied()
+        .find(|operation| is_name(operation.name(), word))
+}
+
+/// The operation or directive that a word names, in either case. `BR` alone is `BRnzp`.
+#[tactic(auto, unfolding(lc3_table::specs::Words::operation))]
+pub fn operation(word: &[u8]) -> Option<Operation>
+    ensures { result ≡ operation word.now }
+{
+    if is_name("BR", word) {
+        return Some(Operation::Branch {
+            negative: true,
+            zero: true,
+            positive: true,
+        });
+    }
+    operation_shown(word)
+}
+
+/// A letter, a digit or `_`.
+#[tactic(auto, unfolding(lc3_table::specs::Words::is_label_byte))]
+fn is_label_byte(byte: u8) -> bool
+    ensures { result ≡ is_label_byte byte }
+{
+    byte.is_ascii_alphanumeric() || byte == b'_'
+}
+
+/// The most characters that a label has.
+pub const LABEL_LENGTH: usize = 80;
+
+/// Whether the first character is a digit.
+#[tactic(auto, unfolding(lc3_table::specs::Words::begins_with_digit))]
+fn begins_with_digit(word: &[u8]) -> bool
+    ensures { result ≡ begins_with_digit word.now }
+{
+    match word.first() {
+        Some(byte) => byte.is_ascii_digit(),
+        None => false,
+    }
+}
+
+/// Letters, digits and `_` alone.
+fn is_label_bytes(word: &[u8]) -> bool
+    ensures { result ≡ list_all is_label_byte word.now }
+{
+    word.iter().all(|byte| is_label_byte(*byte))
+}
+
+/// 1 to 80 letters, digits or `_`, no digit first.
+#[tactic(auto, unfolding(lc3_table::specs::Words::has_label_form))]
+fn has_label_form(word: &[u8]) -> bool
+    ensures { result ≡ has_label_form word.now }
+{
+    let fits = !word.is_empty() && word.len() <= LABEL_LENGTH;
+    fits && is_label_bytes(word) && !begins_with_digit(word)
+}
+
+/// Whether a word is a number, a register or an operation.
+#[tactic(auto, unfolding(lc3_table::specs::Words::is_taken))]
+fn is_taken(word: &[u8]) -> bool
+    ensures { result ≡ is_taken word.now }
+{
+    let is_operand = number_of(word).is_some() || register(word).is_some();
+    is_operand || operation(word).is_some()
+}
+
+/// Whether a word can be a label.
+#[tactic(auto, using(crate::proofs::WordLemmas::label_ascii), unfolding(lc3_table::specs::Words::is_label))]
+pub fn is_label(word: &[u8]) -> bool
+    ensures test { result ≡ is_label word.now }
+    ensures ascii { result ≡ true → IsAscii word.now }
+{
+    has_label_form(word) && !is_taken(word)
+}
