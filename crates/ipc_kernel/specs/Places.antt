@@ -3,7 +3,6 @@
 use Rattle.std.specs.Prelude.{ℕ, ◌<◌, ◌≤◌, nat_le, length, drop, Bool, true, false, ◌||◌, ◌&&◌, List, [], Option, Some, None, is_some, unwrap_or, slice_get, map, position, if◌then◌else◌}
 use Rattle.std.specs.List.{enumerate_from}
 use Rattle.std.specs.Str.{bytes_eq}
-use Rattle.ipc_objects.specs.declared.queue.Message.{Message}
 use Rattle.ipc_objects.specs.Queue.{QueueState, sent}
 use Rattle.ipc_kernel.specs.Limits.{mq_maxmsg_max, mq_msgsize_max}
 use Rattle.ipc_kernel.specs.declared.place.Place.{Place}

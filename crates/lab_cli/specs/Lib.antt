@@ -1,0 +1,5 @@
+pub mod Fault
+pub mod Hex
+pub mod Report
+pub mod Run
+pub mod Stages

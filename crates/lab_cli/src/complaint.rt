@@ -1,0 +1,101 @@
+//! What the program says of a fault.
+use crate::fault::CliFault;
+use lc3_asm::AsmFault;
+use lc3_obj::ObjFault;
+use lc3_table::Fault;
+use std::fmt;
+
+/// A fault, as the program names it.
+#[derive(Clone, Copy, Debug, PartialEq, Eq)]
+pub enum Reason {
+    Empty,
+    BadWord { at: usize },
+    OddLength,
+    TooLong,
+    Line { number: usize, fault: Fault },
+    NotUtf8,
+    TooLarge,
+    CannotRead,
+    CannotWrite,
+    NoMemory,
+}
+
+impl Reason {
+    /// The complaint about this fault at a place.
+    pub fn at(self, place: &str) -> Complaint<'_> {
+        Complaint {
+            place,
+            reason: self,
+        }
+    }
+}
+
+impl From<CliFault> for Reason {
+    fn from(fault: CliFault) -> Reason {
+        match fault {
+            CliFault::Empty => Reason::Empty,
+            CliFault::BadWord { at } => Reason::BadWord { at },
+            CliFault::TooLong => Reason::TooLong,
+            CliFault::TooLarge => Reason::TooLarge,
+            CliFault::Read => Reason::CannotRead,
+            CliFault::Write => Reason::CannotWrite,
+            CliFault::NoMemory => Reason::NoMemory,
+        }
+    }
+}
+
+impl From<ObjFault> for Reason {
+    fn from(fault: ObjFault) -> Reason {
+        match fault {
+            ObjFault::Empty => Reason::Empty,
+            ObjFault::OddLength => Reason::OddLength,
+            ObjFault::TooLong => Reason::TooLong,
+            ObjFault::NoMemory => Reason::NoMemory,
+            ObjFault::Write => Reason::CannotWrite,
+        }
+    }
+}
+
+impl From<AsmFault> for Reason {
+    fn from(fault: AsmFault) -> Reason {
+        match fault {
+            AsmFault::NoMemory => Reason::NoMemory,
+            AsmFault::At { line, kind } => Reason::Line {
+                number: line,
+                fault: kind,
+            },
+        }
+    }
+}
+
+impl fmt::Display for Reason {
+    fn fmt<W: fmt::Write>(&self, f: &mut fmt::Formatter<W>) -> fmt::Result {
+        match *self {
+            Reason::Empty => write!(f, "Empty"),
+            Reason::BadWord { at } => write!(f, "word {at}: BadWord"),
+            Reason::OddLength => write!(f, "OddLength"),
+            Reason::TooLong => write!(f, "TooLong"),
+            Reason::Line { number, fault } => write!(f, "line {number}: {fault:?}"),
+            Reason::NotUtf8 => write!(f, "not UTF-8"),
+            Reason::TooLarge => write!(f, "too large"),
+            Reason::CannotRead => write!(f, "cannot read"),
+            Reason::CannotWrite => write!(f, "cannot write"),
+            Reason::NoMemory => write!(f, "out of memory"),
+        }
+    }
+}
+
+/// A fault and where it was found: a file's name, or a part of the program's work.
+#[derive(Clone, Copy, Debug)]
+pub struct Complaint<'a> {
+    place: &'a str,
+    reason: Reason,
+}
+
+impl fmt::Display for Complaint<'_> {
+    fn fmt<W: fmt::Write>(&self, f: &mut fmt::Formatter<W>) -> fmt::Result {
+        let place = self.place;
+        let reason = self.reason;
+        write!(f, "lc3lab: {place}: {reason}")
+    }
+}

@@ -1,0 +1,39 @@
+//! Files that are read or written whole.
+use crate::complaint::Reason;
+use crate::input::read_whole;
+use lab_io::{Input, Output};
+use lc3_obj::{read_image, write_image};
+use lc3_word::Image;
+use std::alloc::Global;
+use std::fs;
+use std::io::ErrorKind;
+use std::rt::Files;
+
+/// The text of a source file.
+pub fn read_source<T: Files>(rt: &T, alloc: Global, name: &str) -> Result<String, Reason> {
+    let bytes = read_file(rt, alloc, name)?;
+    String::from_utf8(bytes).map_err(|_| Reason::NotUtf8)
+}
+
+/// The image in an object file.
+pub fn read_object<T: Files>(rt: &T, alloc: Global, name: &str) -> Result<Image, Reason> {
+    let bytes = read_file(rt, alloc, name)?;
+    Ok(read_image(alloc, bytes.as_slice())?)
+}
+
+fn read_file<T: Files>(rt: &T, alloc: Global, name: &str) -> Result<Vec<u8>, Reason> {
+    match fs::open(rt, name) {
+        Ok(file) => Ok(read_whole(alloc, &mut Input::new(file))?),
+        Err(error) if error.kind() == ErrorKind::OutOfMemory => Err(Reason::NoMemory),
+        Err(_) => Err(Reason::CannotRead),
+    }
+}
+
+/// Makes the object file of an image; an older file of that name is replaced.
+pub fn write_object<T: Files>(rt: &T, name: &str, image: &Image) -> Result<(), Reason> {
+    match fs::create(rt, name) {
+        Ok(file) => Ok(write_image(image, &mut Output::new(file))?),
+        Err(error) if error.kind() == ErrorKind::OutOfMemory => Err(Reason::NoMemory),
+        Err(_) => Err(Reason::CannotWrite),
+    }
+}

@@ -1,0 +1,85 @@
+//! The command line.
+use clap::{Arg, ArgAction, ArgMatches, Command, Error};
+use std::alloc::{AllocError, Global};
+
+/// What the words of a command line ask for.
+#[derive(Clone, Copy, Debug, PartialEq, Eq)]
+pub enum Request<'a> {
+    Assemble {
+        source: &'a str,
+        object: &'a str,
+        list: bool,
+    },
+    Disassemble {
+        object: &'a str,
+    },
+}
+
+/// What the words ask for, or the text of help or of what is wrong with them.
+pub fn read_words<'a>(alloc: Global, words: &'a [String]) -> Result<Request<'a>, Error> {
+    let matches = program(alloc)?.try_get_matches_from(words)?;
+    Ok(request_of(&matches))
+}
+
+const EXAMPLE: &str = "\
+Without a command it reads an image as hexadecimal words from standard input, the origin first, runs it for at most \
+100,000 steps and prints a report.
+
+Example:
+  printf '3000 2002 F021 F025 0048\\n' | lc3lab";
+
+fn program<'a>(alloc: Global) -> Result<Command<'a>, AllocError> {
+    Command::new(alloc, "lc3lab")
+        .about("A laboratory of LC-3 processes")
+        .after_help(EXAMPLE)
+        .bin_name("lc3lab")?
+        .no_binary_name(true)
+        .subcommand_required(true)
+        .override_usage("lc3lab [COMMAND]")
+        .subcommand(asm(alloc)?)?
+        .subcommand(dis(alloc)?)
+}
+
+fn asm<'a>(alloc: Global) -> Result<Command<'a>, AllocError> {
+    let source = Arg::new(alloc, "SOURCE")
+        .required(true)
+        .help("A source text, as UTF-8");
+    let object = Arg::new(alloc, "OBJECT")
+        .required(true)
+        .help("The object file to write");
+    let list = Arg::new(alloc, "list")
+        .long("list")
+        .action(ArgAction::SetTrue)
+        .help("Prints the listing");
+    Command::new(alloc, "asm")
+        .about("Assembles a source and writes its object file")
+        .after_help("Example:\n  lc3lab asm hello.asm hello.obj --list")
+        .arg(source)?
+        .arg(object)?
+        .arg(list)
+}
+
+fn dis<'a>(alloc: Global) -> Result<Command<'a>, AllocError> {
+    let object = Arg::new(alloc, "OBJECT")
+        .required(true)
+        .help("The object file to read");
+    Command::new(alloc, "dis")
+        .about("Prints the words of an object file as instructions")
+        .after_help("Example:\n  lc3lab dis hello.obj")
+        .arg(object)
+}
+
+/// The parser has made sure that each required word is there.
+fn request_of<'a>(matches: &ArgMatches<'a>) -> Request<'a> {
+    match matches.subcommand() {
+        Some(("asm", words)) => Request::Assemble {
+            source: words.get_str("SOURCE").unwrap_or_default(),
+            object: words.get_str("OBJECT").unwrap_or_default(),
+            list: words.get_flag("list"),
+        },
+        Some((_, words)) => Request::Disassemble {
+            object: words.get_str("OBJECT").unwrap_or_default(),
+        },
+        None => Request::Disassemble { object: "" },
+    }
+}

@@ -1,0 +1,53 @@
+//! The laboratory's program.
+#![tactic(auto)]
+
+mod command;
+mod complaint;
+mod fault;
+mod files;
+mod hex;
+mod input;
+mod line;
+mod process;
+mod report;
+mod run;
+mod translating;
+
+use command::{FAULT, USAGE, command as perform_command};
+use lab_io::{Input, Output};
+use std::env;
+use std::io::ErrorKind;
+use std::process::ExitCode;
+
+fn main(rt: HostRuntime) -> ExitCode {
+    let alloc = rt.alloc();
+    let mut errors = Output::new(rt.stderr());
+    let arguments = match env::args(&rt) {
+        Ok(arguments) => arguments,
+        Err(error) if error.kind() == ErrorKind::OutOfMemory => {
+            let _ = errors.write_all(b"lc3lab: run: out of memory\n");
+            return ExitCode::from(FAULT);
+        }
+        Err(_) => {
+            let _ = errors.write_all(b"error: the words of the command line are not UTF-8\n");
+            return ExitCode::from(USAGE);
+        }
+    };
+    let Ok(words) = arguments.skip(1).collect::<Vec<String>>(alloc) else {
+        let _ = errors.write_all(b"lc3lab: run: out of memory\n");
+        return ExitCode::from(FAULT);
+    };
+    let mut input = Input::new(rt.stdin());
+    let mut output = Output::new(rt.stdout());
+    ExitCode::from(perform_command(
+        &rt,
+        alloc,
+        words.as_slice(),
+        &mut input,
+        &mut output,
+        &mut errors,
+    ))
+}
+
+#[cfg(test)]
+mod tests;

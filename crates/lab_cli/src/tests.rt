@@ -1,0 +1,254 @@
+mod commands;
+
+use crate::command::{FAULT, SUCCESS, command};
+use crate::fault::CliFault;
+use crate::hex::read_text;
+use crate::process::{Process, run_image};
+use crate::run::hex_run;
+use lab_io::{Input, Output, SlowIn, SlowOut};
+use lc3_word::{Cc, Reg};
+use std::alloc::AllocError;
+use std::test::Fail;
+
+#[derive(Debug, Drop)]
+pub struct Outcome {
+    pub status: u8,
+    pub output: Vec<u8>,
+    pub errors: Vec<u8>,
+}
+
+fn perform_once(rt: &HostRuntime, words: &[&str], input: &[u8]) -> Result<Outcome, AllocError> {
+    let alloc = rt.alloc();
+    let mut strings = Vec::new(alloc);
+    for word in words {
+        strings.push(String::from_str(alloc, word)?)?;
+    }
+    let mut output = Vec::new(alloc);
+    let mut errors = Vec::new(alloc);
+    let status = command(
+        rt,
+        alloc,
+        strings.as_slice(),
+        &mut Input::new(input),
+        &mut Output::new(&mut output),
+        &mut Output::new(&mut errors),
+    );
+    Ok(Outcome {
+        status,
+        output,
+        errors,
+    })
+}
+
+/// A command whose memory is refused has status 1 and can be given once more.
+pub fn perform(rt: &HostRuntime, words: &[&str], input: &[u8]) -> Result<Outcome, AllocError> {
+    match perform_once(rt, words, input) {
+        Ok(outcome) if !is_short(&outcome) => Ok(outcome),
+        _ => perform_once(rt, words, input),
+    }
+}
+
+fn is_short(outcome: &Outcome) -> bool {
+    outcome.status == FAULT && outcome.errors.as_slice().ends_with(b": out of memory\n")
+}
+
+fn reports(rt: &HostRuntime, input: &[u8], report: &[u8]) -> Result<bool, Fail> {
+    let shown = perform(rt, &[], input)?;
+    Ok(shown.status == SUCCESS && shown.output.as_slice() == report && shown.errors.is_empty())
+}
+
+fn refuses(rt: &HostRuntime, input: &[u8], line: &[u8]) -> Result<bool, Fail> {
+    let shown = perform(rt, &[], input)?;
+    Ok(shown.status == FAULT && shown.output.is_empty() && shown.errors.as_slice() == line)
+}
+
+const H: &[u8] = b"0 ended x3003 halt\nout 0 H\nverdict ended\n";
+
+#[test]
+fn reports_the_run_of_hexadecimal_words(rt: HostRuntime) -> Result<(), Fail> {
+    assert!(rt; reports(&rt, b"3000 2002 F021 F025 0048\n", H)?);
+    assert!(rt; reports(&rt, b" \r\n3000\tx2002 Xf021\r\nF025 48", H)?);
+    Ok(())
+}
+
+/// Zero words are run through up to the device registers.
+#[test]
+fn reports_how_a_process_ends(rt: HostRuntime) -> Result<(), Fail> {
+    assert!(rt;
+        reports(
+            &rt,
+            b"3000",
+            b"0 ended xFE00 device\nout 0\nverdict ended\n"
+        )?
+    );
+    assert!(rt;
+        reports(
+            &rt,
+            b"FE00",
+            b"0 ended xFE00 device\nout 0\nverdict ended\n"
+        )?
+    );
+    assert!(rt;
+        reports(
+            &rt,
+            b"3000 D000",
+            b"0 ended x3000 illegal\nout 0\nverdict ended\n"
+        )?
+    );
+    assert!(rt;
+        reports(
+            &rt,
+            b"3000 0000 F0FF",
+            b"0 ended x3001 badtrap\nout 0\nverdict ended\n"
+        )?
+    );
+    assert!(rt;
+        reports(
+            &rt,
+            b"3000 F020",
+            b"0 ended x3000 noinput\nout 0\nverdict ended\n"
+        )?
+    );
+    Ok(())
+}
+
+#[test]
+fn reports_a_process_that_still_runs(rt: HostRuntime) -> Result<(), Fail> {
+    assert!(rt;
+        reports(
+            &rt,
+            b"3000 0FFF",
+            b"0 running x3000 BRnzp #-1\nout 0\nverdict open\n"
+        )?
+    );
+    Ok(())
+}
+
+/// A line feed and a backslash are written.
+#[test]
+fn escapes_what_cannot_be_printed(rt: HostRuntime) -> Result<(), Fail> {
+    assert!(rt;
+        reports(
+            &rt,
+            b"3000 2004 F021 2003 F021 F025 A 5C",
+            b"0 ended x3005 halt\nout 0 \\x0A\\x5C\nverdict ended\n"
+        )?
+    );
+    Ok(())
+}
+
+#[test]
+fn names_the_first_fault(rt: HostRuntime) -> Result<(), Fail> {
+    assert!(rt; refuses(&rt, b"", b"lc3lab: standard input: Empty\n")?);
+    assert!(rt; refuses(&rt, b" \n", b"lc3lab: standard input: Empty\n")?);
+    assert!(rt; refuses(&rt, b"3000 G", b"lc3lab: standard input: word 2: BadWord\n")?);
+    for bad in ["x", "0x30", "12345", "xx1", "1,2", "3\x0c4", "\x7f"] {
+        let mut text = String::from_str(rt.alloc(), "3000 ")?;
+        text.push_str(bad)?;
+        assert!(rt;
+            refuses(
+                &rt,
+                text.as_bytes(),
+                b"lc3lab: standard input: word 2: BadWord\n"
+            )?
+        );
+    }
+    assert!(rt;
+        refuses(
+            &rt,
+            b"FDFF 0 12345",
+            b"lc3lab: standard input: word 3: BadWord\n"
+        )?
+    );
+    assert!(rt;
+        refuses(
+            &rt,
+            b"3000 \xff",
+            b"lc3lab: standard input: word 2: BadWord\n"
+        )?
+    );
+    assert!(rt; refuses(&rt, b"FDFF 0 1", b"lc3lab: standard input: TooLong\n")?);
+    assert!(rt; refuses(&rt, b"FE01", b"lc3lab: standard input: TooLong\n")?);
+    Ok(())
+}
+
+#[test]
+fn refuses_too_large_an_input(rt: HostRuntime) -> Result<(), Fail> {
+    let blanks = vec![in rt.alloc(); b' '; 4_000_001]?;
+    assert!(rt;
+        refuses(
+            &rt,
+            blanks.as_slice(),
+            b"lc3lab: standard input: too large\n"
+        )?
+    );
+    assert!(rt; refuses(&rt, &blanks[1..], b"lc3lab: standard input: Empty\n")?);
+    Ok(())
+}
+
+/// Each single byte is a digit, an image of no words that is run to the device registers, or a fault.
+#[test]
+fn reads_each_single_byte(rt: HostRuntime) -> Result<(), Fail> {
+    for byte in 0..=255u8 {
+        let shown = perform(&rt, &[], &[byte])?;
+        if byte.is_ascii_hexdigit() {
+            assert_eq!(rt; shown.status, SUCCESS);
+        } else if byte == b' ' || byte == b'\t' || byte == b'\r' || byte == b'\n' {
+            assert!(rt; shown.errors.as_slice() == b"lc3lab: standard input: Empty\n".as_slice());
+        } else {
+            assert!(rt;
+                shown.errors.as_slice() == b"lc3lab: standard input: word 1: BadWord\n".as_slice()
+            );
+        }
+    }
+    Ok(())
+}
+
+/// The sum of x7FFF and 1 is negative.
+#[test]
+fn leaves_the_registers_of_a_halt(rt: HostRuntime) -> Result<(), Fail> {
+    let image = read_text(rt.alloc(), b"2FFF 2002 1021 F025 7FFF")?;
+    match run_image(rt.alloc(), &image)? {
+        Process::Ended(process) => {
+            assert_eq!(rt; process.pc(), 0x3002);
+            assert_eq!(rt; process.reg(Reg::of_low_bits(0)), 0x8000);
+            assert!(rt; process.cc() == Cc::N);
+        }
+        _ => panic!(rt; "the process has ended"),
+    }
+    Ok(())
+}
+
+#[test]
+fn answers_a_failing_input(rt: HostRuntime) -> Result<(), Fail> {
+    let alloc = rt.alloc();
+    let text = b"3000 2002 F021 F025 0048\n";
+    for per_call in 1..3usize {
+        for moved in 0..26usize {
+            let mut output = Vec::new(alloc);
+            let mut input = Input::new(SlowIn::new(text, per_call, moved));
+            let result = hex_run(alloc, &mut input, &mut Output::new(&mut output));
+            assert_eq!(rt; result, Err(CliFault::Read));
+            assert!(rt; input.failed());
+            assert!(rt; output.is_empty());
+        }
+    }
+    Ok(())
+}
+
+#[test]
+fn answers_a_failing_output(rt: HostRuntime) -> Result<(), Fail> {
+    let alloc = rt.alloc();
+    let text = b"3000 2002 F021 F025 0048\n";
+    for per_call in 1..3usize {
+        for moved in 0..41usize {
+            let mut room = [0u8; 48];
+            let mut output = Output::new(SlowOut::new(&mut room, per_call, moved));
+            let result = hex_run(alloc, &mut Input::new(text.as_slice()), &mut output);
+            assert_eq!(rt; result, Err(CliFault::Write));
+            assert!(rt; output.failed());
+            assert!(rt; room[..moved] == H[..moved]);
+        }
+    }
+    Ok(())
+}
