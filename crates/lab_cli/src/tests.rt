@@ -1,3 +1,5 @@
+ghost use Rattle.std.specs.Prelude.{◌≤◌};
+
 mod commands;
 
 use crate::command::{FAULT, SUCCESS, command};
@@ -7,7 +9,8 @@ use crate::process::{Process, run_image};
 use crate::run::hex_run;
 use lab_io::{Input, Output, SlowIn, SlowOut};
 use lc3_word::{Cc, Reg};
-use std::alloc::AllocError;
+use std::alloc::{AllocError, Global};
+use std::process::Abort;
 use std::test::Fail;
 
 #[derive(Debug, Drop)]
@@ -17,14 +20,17 @@ pub struct Outcome {
     pub errors: Vec<u8>,
 }
 
+/// Room for all that a command of these tests writes, so that no growth of a device is refused.
+const ROOM: usize = 4096;
+
 fn perform_once(rt: &HostRuntime, words: &[&str], input: &[u8]) -> Result<Outcome, AllocError> {
     let alloc = rt.alloc();
     let mut strings = Vec::new(alloc);
     for word in words {
         strings.push(String::from_str(alloc, word)?)?;
     }
-    let mut output = Vec::new(alloc);
-    let mut errors = Vec::new(alloc);
+    let mut output = Vec::with_capacity(alloc, ROOM)?;
+    let mut errors = Vec::with_capacity(alloc, ROOM)?;
     let status = command(
         rt,
         alloc,
@@ -61,6 +67,8 @@ fn refuses(rt: &HostRuntime, input: &[u8], line: &[u8]) -> Result<bool, Fail> {
     let shown = perform(rt, &[], input)?;
     Ok(shown.status == FAULT && shown.output.is_empty() && shown.errors.as_slice() == line)
 }
+
+const HI: &[u8] = b"3000 2002 F021 F025 0048\n";
 
 const H: &[u8] = b"0 ended x3003 halt\nout 0 H\nverdict ended\n";
 
@@ -174,7 +182,10 @@ fn names_the_first_fault(rt: HostRuntime) -> Result<(), Fail> {
 
 #[test]
 fn refuses_too_large_an_input(rt: HostRuntime) -> Result<(), Fail> {
-    let blanks = vec![in rt.alloc(); b' '; 4_000_001]?;
+    let blanks = match vec![in rt.alloc(); b' '; 4_000_001] {
+        Ok(blanks) => blanks,
+        Err(_) => vec![in rt.alloc(); b' '; 4_000_001]?,
+    };
     assert!(rt;
         refuses(
             &rt,
@@ -204,11 +215,20 @@ fn reads_each_single_byte(rt: HostRuntime) -> Result<(), Fail> {
     Ok(())
 }
 
+fn run_text(alloc: Global, text: &[u8]) -> Result<Process, CliFault> {
+    let image = read_text(alloc, text)?;
+    Ok(run_image(alloc, &image)?)
+}
+
 /// The sum of x7FFF and 1 is negative.
 #[test]
 fn leaves_the_registers_of_a_halt(rt: HostRuntime) -> Result<(), Fail> {
-    let image = read_text(rt.alloc(), b"2FFF 2002 1021 F025 7FFF")?;
-    match run_image(rt.alloc(), &image)? {
+    let text = b"2FFF 2002 1021 F025 7FFF";
+    let process = match run_text(rt.alloc(), text) {
+        Err(CliFault::NoMemory) => run_text(rt.alloc(), text)?,
+        result => result?,
+    };
+    match process {
         Process::Ended(process) => {
             assert_eq!(rt; process.pc(), 0x3002);
             assert_eq!(rt; process.reg(Reg::of_low_bits(0)), 0x8000);
@@ -219,36 +239,69 @@ fn leaves_the_registers_of_a_halt(rt: HostRuntime) -> Result<(), Fail> {
     Ok(())
 }
 
-#[test]
-fn answers_a_failing_input(rt: HostRuntime) -> Result<(), Fail> {
-    let alloc = rt.alloc();
-    let text = b"3000 2002 F021 F025 0048\n";
-    for per_call in 1..3usize {
-        for moved in 0..26usize {
-            let mut output = Vec::new(alloc);
-            let mut input = Input::new(SlowIn::new(text, per_call, moved));
-            let result = hex_run(alloc, &mut input, &mut Output::new(&mut output));
-            assert_eq!(rt; result, Err(CliFault::Read));
-            assert!(rt; input.failed());
-            assert!(rt; output.is_empty());
-        }
-    }
-    Ok(())
+/// The answer over an input that moves so many bytes, which failed and left the output empty unless memory was refused.
+fn answer_of_input(
+    rt: &impl Abort,
+    alloc: Global,
+    per_call: usize,
+    moved: usize,
+) -> Result<(), CliFault>
+    requires { 1 ≤ per_call }
+{
+    let mut room = [0u8; 48];
+    let mut input = Input::new(SlowIn::new(HI, per_call, moved));
+    let mut output = Output::new(SlowOut::new(&mut room, 48, 48));
+    let answer = hex_run(alloc, &mut input, &mut output);
+    assert!(rt; input.failed() || answer == Err(CliFault::NoMemory));
+    assert!(rt; room == [0u8; 48]);
+    answer
 }
 
 #[test]
-fn answers_a_failing_output(rt: HostRuntime) -> Result<(), Fail> {
-    let alloc = rt.alloc();
-    let text = b"3000 2002 F021 F025 0048\n";
+fn answers_a_failing_input(rt: HostRuntime) {
     for per_call in 1..3usize {
-        for moved in 0..41usize {
-            let mut room = [0u8; 48];
-            let mut output = Output::new(SlowOut::new(&mut room, per_call, moved));
-            let result = hex_run(alloc, &mut Input::new(text.as_slice()), &mut output);
-            assert_eq!(rt; result, Err(CliFault::Write));
-            assert!(rt; output.failed());
-            assert!(rt; room[..moved] == H[..moved]);
+        for moved in 0..26usize {
+            let answer = match answer_of_input(&rt, rt.alloc(), per_call, moved) {
+                Err(CliFault::NoMemory) => answer_of_input(&rt, rt.alloc(), per_call, moved),
+                answer => answer,
+            };
+            assert_eq!(rt; answer, Err(CliFault::Read));
         }
     }
-    Ok(())
+}
+
+/// The answer over an output that moves so many bytes, which holds a beginning of the report that long, or nothing where
+/// memory was refused.
+fn answer_of_output(
+    rt: &impl Abort,
+    alloc: Global,
+    per_call: usize,
+    moved: usize,
+) -> Result<(), CliFault>
+    requires per_call { 1 ≤ per_call }
+    requires moved { moved ≤ 41 }
+{
+    let mut room = [0u8; 48];
+    let mut output = Output::new(SlowOut::new(&mut room, per_call, moved));
+    let answer = hex_run(alloc, &mut Input::new(HI), &mut output);
+    if answer == Err(CliFault::NoMemory) {
+        assert!(rt; room == [0u8; 48]);
+    } else {
+        assert!(rt; output.failed());
+        assert!(rt; room[..moved] == H[..moved]);
+    }
+    answer
+}
+
+#[test]
+fn answers_a_failing_output(rt: HostRuntime) {
+    for per_call in 1..3usize {
+        for moved in 0..41usize {
+            let answer = match answer_of_output(&rt, rt.alloc(), per_call, moved) {
+                Err(CliFault::NoMemory) => answer_of_output(&rt, rt.alloc(), per_call, moved),
+                answer => answer,
+            };
+            assert_eq!(rt; answer, Err(CliFault::Write));
+        }
+    }
 }
