@@ -1,0 +1,119 @@
+-- What the next step of a process asks for: the calls of POSIX.1-2017 (mq_open, mq_send, .. sem_getvalue), with their
+-- arguments in registers R0 to R3 and in memory.
+use Rattle.std.specs.Prelude.{◌≡◌, ℕ, ◌==◌, ◌&&◌, ◌||◌, not, Bool, true, List, Option, Some, None, slice_index, if◌then◌else◌, Result, Ok, Err}
+use Rattle.lc3_machine.specs.declared.want.How.{How}
+use Rattle.lc3_machine.specs.declared.want.Want.TheVariants.{Trap, End}
+use Rattle.lc3_machine.specs.Process.{Process, Outcome, GoesOn, Stops, reg}
+use Rattle.lc3_machine.specs.Effects.{next_step}
+use Rattle.ipc_names.specs.declared.errno.Errno.{Errno}
+use Rattle.ipc_names.specs.declared.errno.Errno.TheVariants.{Fault}
+use Rattle.ipc_names.specs.Name.{name_read}
+use Rattle.ipc_names.specs.Flags.{has_flag}
+use Rattle.ipc_kernel.specs.declared.call.Call.{Call}
+use Rattle.ipc_kernel.specs.declared.call.Call.TheVariants.{MqOpen, MqClose, MqUnlink, MqSend, MqReceive, MqGetattr, MqSetattr, SemOpen, SemClose, SemUnlink, SemWait, SemTrywait, SemPost, SemGetvalue, Exit}
+use Rattle.ipc_traps.specs.declared.Asked.{Asked}
+use Rattle.ipc_traps.specs.declared.Asked.TheVariants as asked_for
+use Rattle.ipc_traps.specs.Names.{is_in_memory, words_at, reaches_devices, name_words}
+
+-- what the next step is: a local step with the process after it, a refusal, a call of the kernel, or the end
+pub data Request : Type 0 where
+  Local : Process → Request
+  Refuses : Errno → Request
+  Calls : Call → Request
+  Ends : How → Request
+
+-- a call whose memory ranges must lie below the device registers, else EFAULT
+abbrev pub within : Bool → Request → Request
+within inside request = if inside then request else Refuses Fault
+
+-- a call by a name that was read
+abbrev pub named : (List ℕ → Call) → Result (List ℕ) Errno → Request
+named call (Err e) = Refuses e
+named call (Ok name) = Calls (call name)
+
+-- the name at the address in R0: EFAULT if it reaches the device registers, then ENAMETOOLONG, then EINVAL for its form
+unfoldable pub name_at : Process → Result (List ℕ) Errno
+name_at p = if reaches_devices p.memory (reg p 0) then Err Fault else name_read (name_words p.memory (reg p 0))
+
+-- a call by that name; its other memory ranges are looked at before the name's length and form
+abbrev pub by_name : Process → Bool → (List ℕ → Call) → Request
+by_name p inside call = within inside (named call (name_at p))
+
+-- whether mq_open is given attributes: O_CREAT is set, and their address in R2 is not 0
+abbrev pub has_attributes : Process → Bool
+has_attributes p = has_flag 0x40 (reg p 1) && not (reg p 2 == 0)
+
+-- the attributes for mq_open
+abbrev pub attributes : Process → Option (List ℕ)
+attributes p = if has_attributes p then Some (words_at p.memory (reg p 2) 4) else None
+
+-- mq_open: name at R0, flags R1, attributes at R2
+abbrev pub queue_opened : Process → Request
+queue_opened p =
+    by_name p (not (has_attributes p) || is_in_memory (reg p 2) 4)
+    (λ name. MqOpen name (reg p 1) (attributes p))
+
+-- mq_send: descriptor R0, buffer at R1, length R2, priority R3
+abbrev pub message_sent : Process → Request
+message_sent p =
+    within (is_in_memory (reg p 1) (reg p 2)) (Calls (MqSend (reg p 0) (words_at p.memory (reg p 1) (reg p 2)) (reg p 3)))
+
+-- mq_receive: descriptor R0, buffer at R1, length R2, the priority goes to R3 unless that is 0
+abbrev pub message_received : Process → Request
+message_received p =
+    within (is_in_memory (reg p 1) (reg p 2) && ((reg p 3 == 0) || is_in_memory (reg p 3) 1))
+    (Calls (MqReceive (reg p 0) (reg p 2)))
+
+-- mq_getattr: descriptor R0, attributes go to R1
+abbrev pub attributes_read : Process → Request
+attributes_read p = within (is_in_memory (reg p 1) 4) (Calls (MqGetattr (reg p 0)))
+
+-- mq_setattr: descriptor R0, new attributes at R1, the old ones go to R2 unless that is 0
+abbrev pub attributes_set : Process → Request
+attributes_set p =
+    within (is_in_memory (reg p 1) 4 && ((reg p 2 == 0) || is_in_memory (reg p 2) 4))
+    (Calls (MqSetattr (reg p 0) (slice_index p.memory (reg p 1))))
+
+-- sem_getvalue: slot R0, the value goes to R1
+abbrev pub value_read : Process → Request
+value_read p = within (is_in_memory (reg p 1) 1) (Calls (SemGetvalue (reg p 0)))
+
+-- what a trap of the kernel asks for, by its vector; the last is x55
+unfoldable pub trap_asks : ℕ → Process → Request
+trap_asks v p =
+    if v == 0x40 then queue_opened p else
+    if v == 0x41 then Calls (MqClose (reg p 0)) else
+    if v == 0x42 then by_name p true MqUnlink else
+    if v == 0x43 then message_sent p else
+    if v == 0x44 then message_received p else
+    if v == 0x45 then attributes_read p else
+    if v == 0x46 then attributes_set p else
+    if v == 0x50 then by_name p true (λ name. SemOpen name (reg p 1) (reg p 2)) else
+    if v == 0x51 then Calls (SemClose (reg p 0)) else
+    if v == 0x52 then by_name p true SemUnlink else
+    if v == 0x53 then Calls (SemWait (reg p 0)) else
+    if v == 0x54 then Calls (SemTrywait (reg p 0)) else
+    if v == 0x56 then value_read p else
+    Calls (SemPost (reg p 0))
+
+-- what an outcome of the machine asks for
+abbrev pub outcome_asks : Process → Outcome → Request
+outcome_asks p (GoesOn q) = Local q
+outcome_asks p (Stops (Trap v)) = trap_asks v p
+outcome_asks p (Stops (End how)) = Ends how
+
+-- what the next step of a process asks for
+unfoldable pub asked : Process → Request
+asked p = outcome_asks p (next_step p)
+
+-- what a process asks by a trap, as it was read
+abbrev pub request_of : Asked → Request
+request_of (asked_for.Kernel call) = Calls call
+request_of (asked_for.Refused e) = Refuses e
+
+-- what is asked of the kernel, or the refusal; an end asks for Exit
+abbrev pub IsAsked : Request → Asked → Type 0
+IsAsked (Local q) a = ⊥
+IsAsked (Refuses e) a = a ≡ asked_for.Refused e
+IsAsked (Calls call) a = a ≡ asked_for.Kernel call
+IsAsked (Ends how) a = a ≡ asked_for.Kernel Exit

@@ -1,0 +1,28 @@
+-- What a call reads from the memory of the process that makes it.
+use Rattle.std.specs.Prelude.{ℕ, ◌+◌, ◌==◌, ◌&&◌, ◌||◌, Bool, List, length, take, nat_le, nat_lt}
+use Rattle.std.specs.List.{position_or_len}
+use Rattle.lc3_machine.specs.Console.{words_from}
+
+-- whether a range lies below the device registers; one of no words always does
+abbrev pub is_in_memory : ℕ → ℕ → Bool
+is_in_memory at len = (len == 0) || nat_le (at + len) 0xFE00
+
+-- the words of a range
+abbrev pub words_at : List ℕ → ℕ → ℕ → List ℕ
+words_at memory at len = take len (words_from memory at)
+
+-- the words that are looked at for a name: up to 256, below the device registers
+unfoldable pub window : List ℕ → ℕ → List ℕ
+window memory at = take 256 (words_from memory at)
+
+-- how many of them stand before the first zero word
+unfoldable pub name_length : List ℕ → ℕ → ℕ
+name_length memory at = position_or_len (λ w. w == 0) (window memory at)
+
+-- whether a name reaches the device registers before a zero word, and before 256 others
+unfoldable pub reaches_devices : List ℕ → ℕ → Bool
+reaches_devices memory at = (name_length memory at == length (window memory at)) && nat_lt (name_length memory at) 256
+
+-- the words of a name
+abbrev pub name_words : List ℕ → ℕ → List ℕ
+name_words memory at = words_at memory at (name_length memory at)

@@ -1,0 +1,24 @@
+//! From the registers and the memory of a process to the call that it makes, and from the reply back.
+#![tactic(auto)]
+
+mod memory;
+mod reading;
+mod replying;
+
+use ipc_kernel::Call;
+use ipc_names::Errno;
+pub use reading::read_call;
+pub use replying::{effect_of, prepare};
+
+/// What a process that stands before a call asks for.
+#[derive(Drop)]
+pub enum Asked {
+    /// A call of the kernel.
+    Kernel(Call),
+    /// Nothing: a memory range is refused (EFAULT), or a name (EFAULT, ENAMETOOLONG, or EINVAL for its form). The
+    /// kernel doesn't see such a call.
+    Refused(Errno),
+}
+
+#[cfg(test)]
+mod tests;

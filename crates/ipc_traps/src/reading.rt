@@ -1,0 +1,216 @@
+//! The call that a process makes.
+
+ghost use Rattle.std.specs.Prelude.{◌≡◌, IfOk, ◌<◌, true, ℕ, Result, Ok, Err};
+ghost use Rattle.lc3_machine.specs.Process.{reg};
+ghost use Rattle.lc3_machine.specs.Steps.{AsksTrap};
+ghost use Rattle.ipc_kernel.specs.declared.call.Call.TheVariants.{MqUnlink, SemOpen, SemUnlink};
+ghost use Rattle.ipc_traps.specs.Names.{is_in_memory};
+ghost use Rattle.ipc_traps.specs.Asked.{IsAsked, request_of, asked, trap_asks, name_at, by_name, has_attributes, attributes, queue_opened, message_sent, message_received, attributes_read, attributes_set, value_read};
+
+use crate::Asked;
+use crate::memory::{is_in_memory, name_length, read_four, read_words, register};
+use ipc_kernel::Call;
+use ipc_names::{Errno, Name};
+use ipc_objects::Words;
+use lc3_machine::{AtCall, Want};
+use std::alloc::{AllocError, Global};
+
+/// The flag of mq_open that asks for a queue to be made.
+const O_CREAT: u16 = 0x40;
+
+/// What a process asks of the kernel by the trap that it stands before, or the refusal; a process at its end asks for
+/// `Exit`. The arguments are as they stand in the registers and in memory, not yet tested. An error is want of memory.
+#[tactic(auto, unfolding(crate::specs::Asked::asked))]
+pub fn read_call(alloc: Global, call: &AtCall) -> Result<Asked, AllocError>
+    ensures asked { IfOk result (λ a. IsAsked (asked call.now.process) a) }
+    ensures trap { AsksTrap call.now.process → IfOk result (λ a. asked call.now.process ≡ request_of a) }
+{
+    match call.want() {
+        Want::End(_) => Ok(Asked::Kernel(Call::Exit)),
+        Want::Trap(vector) => read_trap(alloc, call, vector),
+    }
+}
+
+/// What the trap with this vector asks for.
+#[tactic(auto, unfolding(crate::specs::Asked::trap_asks))]
+fn read_trap(alloc: Global, call: &AtCall, vector: u8) -> Result<Asked, AllocError>
+    ensures { IfOk result (λ a. request_of a ≡ trap_asks vector call.now.process) }
+{
+    let first = register(call, 0);
+    match vector {
+        0x40 => read_open(alloc, call),
+        0x41 => Ok(Asked::Kernel(Call::MqClose { mqd: first })),
+        0x42 => read_unlink(alloc, call),
+        0x43 => read_send(alloc, call),
+        0x44 => Ok(read_receive(call)),
+        0x45 => Ok(read_getattr(call)),
+        0x46 => Ok(read_setattr(call)),
+        0x50 => read_sem_open(alloc, call),
+        0x51 => Ok(Asked::Kernel(Call::SemClose { slot: first })),
+        0x52 => read_sem_unlink(alloc, call),
+        0x53 => Ok(Asked::Kernel(Call::SemWait { slot: first })),
+        0x54 => Ok(Asked::Kernel(Call::SemTrywait { slot: first })),
+        0x56 => Ok(read_getvalue(call)),
+        _ => Ok(Asked::Kernel(Call::SemPost { slot: first })),
+    }
+}
+
+/// The name at the address in R0, or why it is refused.
+#[tactic(auto, unfolding(crate::specs::Asked::name_at))]
+fn read_name(alloc: Global, call: &AtCall) -> Result<Result<Name, Errno>, AllocError>
+    ensures { IfOk result (λ read. read ≡ name_at call.now.process) }
+{
+    let at = register(call, 0);
+    let Some(len) = name_length(call, at) else {
+        return Ok(Err(Errno::Fault));
+    };
+    let words = read_words(alloc, call, at, len)?;
+    Name::read(alloc, &words)
+}
+
+/// Whether mq_open is given attributes: O_CREAT is set, and R2 isn't 0.
+fn has_attributes(call: &AtCall) -> bool
+    ensures { result ≡ has_attributes call.now.process }
+{
+    register(call, 1) & O_CREAT != 0 && register(call, 2) != 0
+}
+
+/// The attributes for mq_open.
+fn attributes(call: &AtCall) -> Option<[u16; 4]>
+    requires { has_attributes call.now.process ≡ true → is_in_memory (reg call.now.process 2) 4 ≡ true }
+    ensures { result ≡ attributes call.now.process }
+{
+    if has_attributes(call) {
+        Some(read_four(call, register(call, 2)))
+    } else {
+        None
+    }
+}
+
+/// mq_open
+fn read_open(alloc: Global, call: &AtCall) -> Result<Asked, AllocError>
+    ensures { IfOk result (λ a. request_of a ≡ queue_opened call.now.process) }
+{
+    if has_attributes(call) && !is_in_memory(register(call, 2), 4) {
+        return Ok(Asked::Refused(Errno::Fault));
+    }
+    match read_name(alloc, call)? {
+        Err(e) => Ok(Asked::Refused(e)),
+        Ok(name) => Ok(Asked::Kernel(Call::MqOpen {
+            name,
+            flags: register(call, 1),
+            attr: attributes(call),
+        })),
+    }
+}
+
+/// mq_unlink
+fn read_unlink(alloc: Global, call: &AtCall) -> Result<Asked, AllocError>
+    ensures { IfOk result (λ a. request_of a ≡ by_name call.now.process true MqUnlink) }
+{
+    match read_name(alloc, call)? {
+        Err(e) => Ok(Asked::Refused(e)),
+        Ok(name) => Ok(Asked::Kernel(Call::MqUnlink { name })),
+    }
+}
+
+/// sem_open
+fn read_sem_open(alloc: Global, call: &AtCall) -> Result<Asked, AllocError>
+    ensures { IfOk result (λ a. request_of a ≡ by_name call.now.process true (λ name. SemOpen name (reg call.now.process 1) (reg call.now.process 2))) }
+{
+    match read_name(alloc, call)? {
+        Err(e) => Ok(Asked::Refused(e)),
+        Ok(name) => Ok(Asked::Kernel(Call::SemOpen {
+            name,
+            flags: register(call, 1),
+            value: register(call, 2),
+        })),
+    }
+}
+
+/// sem_unlink
+fn read_sem_unlink(alloc: Global, call: &AtCall) -> Result<Asked, AllocError>
+    ensures { IfOk result (λ a. request_of a ≡ by_name call.now.process true SemUnlink) }
+{
+    match read_name(alloc, call)? {
+        Err(e) => Ok(Asked::Refused(e)),
+        Ok(name) => Ok(Asked::Kernel(Call::SemUnlink { name })),
+    }
+}
+
+/// mq_send
+fn read_send(alloc: Global, call: &AtCall) -> Result<Asked, AllocError>
+    ensures { IfOk result (λ a. request_of a ≡ message_sent call.now.process) }
+{
+    let at = register(call, 1);
+    let len = register(call, 2);
+    if !is_in_memory(at, len) {
+        return Ok(Asked::Refused(Errno::Fault));
+    }
+    let words = read_words(alloc, call, at, len)?;
+    Ok(Asked::Kernel(Call::MqSend {
+        mqd: register(call, 0),
+        words: Words::from_vec(words),
+        prio: register(call, 3),
+    }))
+}
+
+/// mq_receive
+fn read_receive(call: &AtCall) -> Asked
+    ensures { request_of result ≡ message_received call.now.process }
+{
+    let len = register(call, 2);
+    let prio_at = register(call, 3);
+    if !is_in_memory(register(call, 1), len) {
+        return Asked::Refused(Errno::Fault);
+    }
+    if prio_at != 0 && !is_in_memory(prio_at, 1) {
+        return Asked::Refused(Errno::Fault);
+    }
+    Asked::Kernel(Call::MqReceive {
+        mqd: register(call, 0),
+        len,
+    })
+}
+
+/// mq_getattr
+fn read_getattr(call: &AtCall) -> Asked
+    ensures { request_of result ≡ attributes_read call.now.process }
+{
+    if !is_in_memory(register(call, 1), 4) {
+        return Asked::Refused(Errno::Fault);
+    }
+    Asked::Kernel(Call::MqGetattr {
+        mqd: register(call, 0),
+    })
+}
+
+/// mq_setattr
+fn read_setattr(call: &AtCall) -> Asked
+    ensures { request_of result ≡ attributes_set call.now.process }
+{
+    let new_at = register(call, 1);
+    let old_at = register(call, 2);
+    if !is_in_memory(new_at, 4) {
+        return Asked::Refused(Errno::Fault);
+    }
+    if old_at != 0 && !is_in_memory(old_at, 4) {
+        return Asked::Refused(Errno::Fault);
+    }
+    Asked::Kernel(Call::MqSetattr {
+        mqd: register(call, 0),
+        flags: call.word(new_at),
+    })
+}
+
+/// sem_getvalue
+fn read_getvalue(call: &AtCall) -> Asked
+    ensures { request_of result ≡ value_read call.now.process }
+{
+    if !is_in_memory(register(call, 1), 1) {
+        return Asked::Refused(Errno::Fault);
+    }
+    Asked::Kernel(Call::SemGetvalue {
+        slot: register(call, 0),
+    })
+}

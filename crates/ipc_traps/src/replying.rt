@@ -1,0 +1,142 @@
+//! What a reply does to the process that made the call.
+
+ghost use Rattle.std.specs.Prelude.{◌≡◌, ℕ, ◌<◌, OnOk, Option};
+ghost use Rattle.lc3_machine.specs.Effects.{next_step};
+ghost use Rattle.lc3_machine.specs.Memory.{StaysReady};
+ghost use Rattle.lc3_machine.specs.Reply.{CanTake, answered};
+ghost use Rattle.ipc_traps.specs.Asked.{message_received, attributes_read, attributes_set, value_read};
+ghost use Rattle.ipc_traps.specs.Reply.{vector_in, unless_zero, four_words_go, replied, replied_to, HasRoom, IsPrepared, IsPreparedFor};
+
+use crate::memory::{is_in_memory, register};
+use ipc_kernel::Reply;
+use lc3_machine::{AtCall, Effect, Want};
+use std::alloc::AllocError;
+
+/// How many words the longest message has.
+const LONGEST: u16 = 256;
+
+/// An address, of which 0 stands for none.
+fn unless_zero(address: u16) -> Option<u16>
+    ensures { result ≡ unless_zero address }
+{
+    if address == 0 { None } else { Some(address) }
+}
+
+/// Where the call wants the attributes of a queue written.
+fn four_words_go(call: &AtCall) -> Option<u16>
+    ensures { result ≡ four_words_go (vector_in (next_step call.now.process)) call.now.process }
+{
+    match call.want() {
+        Want::Trap(0x46) => unless_zero(register(call, 2)),
+        _ => Some(register(call, 1)),
+    }
+}
+
+/// What a reply does to the process that made the call: `finish` with this effect is the reply.
+#[tactic(auto, unfolding(crate::specs::Reply::replied, crate::specs::Reply::HasRoom))]
+pub fn effect_of(call: &AtCall, reply: Reply) -> Effect
+    ensures effect { answered call.now.process result ≡ replied call.now.process reply }
+    ensures room { HasRoom call.now reply → CanTake call.now.ready result }
+{
+    match reply {
+        Reply::Plain(word) => Effect::Plain(word),
+        Reply::Message { words, prio } => Effect::Message {
+            at: register(call, 1),
+            words: words.into_vec(),
+            prio_at: unless_zero(register(call, 3)),
+            prio,
+        },
+        Reply::Attr(words) => Effect::Four {
+            at: four_words_go(call),
+            words,
+        },
+        Reply::Value(word) => Effect::One {
+            at: register(call, 1),
+            word,
+        },
+    }
+}
+
+/// Makes writable each word that a reply to the call may write, of a buffer for a message the first 256 words at most.
+/// An error is want of memory: some of the words may be writable then.
+#[tactic(auto, unfolding(crate::specs::Reply::IsPrepared, crate::specs::Reply::HasRoom, crate::specs::Asked::asked, crate::specs::Asked::trap_asks))]
+pub fn prepare(call: &mut AtCall) -> Result<(), AllocError>
+    ensures process { call.new.process ≡ call.old.process }
+    ensures ready { StaysReady call.old.ready call.new.ready }
+    ensures ok { OnOk result (IsPrepared call.new) }
+{
+    let Want::Trap(vector) = call.want() else {
+        return Ok(());
+    };
+    match vector {
+        0x44 => prepare_receive(call),
+        0x45 => prepare_getattr(call),
+        0x46 => prepare_setattr(call),
+        0x56 => prepare_getvalue(call),
+        _ => Ok(()),
+    }
+}
+
+/// mq_receive: the message and its priority
+fn prepare_receive(call: &mut AtCall) -> Result<(), AllocError>
+    ensures process { call.new.process ≡ call.old.process }
+    ensures ready { StaysReady call.old.ready call.new.ready }
+    ensures ok { OnOk result (IsPreparedFor 0x44 (message_received call.new.process) call.new) }
+{
+    let at = register(call, 1);
+    let len = register(call, 2);
+    let prio_at = register(call, 3);
+    if !is_in_memory(at, len) {
+        return Ok(());
+    }
+    if prio_at == 0 {
+        return call.reserve(at, len.min(LONGEST));
+    }
+    if !is_in_memory(prio_at, 1) {
+        return Ok(());
+    }
+    call.reserve(at, len.min(LONGEST))?;
+    call.reserve(prio_at, 1)
+}
+
+/// mq_getattr: the attributes
+fn prepare_getattr(call: &mut AtCall) -> Result<(), AllocError>
+    ensures process { call.new.process ≡ call.old.process }
+    ensures ready { StaysReady call.old.ready call.new.ready }
+    ensures ok { OnOk result (IsPreparedFor 0x45 (attributes_read call.new.process) call.new) }
+{
+    let at = register(call, 1);
+    if !is_in_memory(at, 4) {
+        return Ok(());
+    }
+    call.reserve(at, 4)
+}
+
+/// mq_setattr: the old attributes
+fn prepare_setattr(call: &mut AtCall) -> Result<(), AllocError>
+    ensures process { call.new.process ≡ call.old.process }
+    ensures ready { StaysReady call.old.ready call.new.ready }
+    ensures ok { OnOk result (IsPreparedFor 0x46 (attributes_set call.new.process) call.new) }
+{
+    let at = register(call, 2);
+    if at == 0 {
+        return Ok(());
+    }
+    if !is_in_memory(at, 4) {
+        return Ok(());
+    }
+    call.reserve(at, 4)
+}
+
+/// sem_getvalue: the value
+fn prepare_getvalue(call: &mut AtCall) -> Result<(), AllocError>
+    ensures process { call.new.process ≡ call.old.process }
+    ensures ready { StaysReady call.old.ready call.new.ready }
+    ensures ok { OnOk result ((v : ℕ) → IsPreparedFor v (value_read call.new.process) call.new) }
+{
+    let at = register(call, 1);
+    if !is_in_memory(at, 1) {
+        return Ok(());
+    }
+    call.reserve(at, 1)
+}

@@ -1,0 +1,13 @@
+pub mod ScheduleJoins
+pub mod ScheduleWords
+pub mod ScheduleNumbers
+pub mod ScheduleSteps
+pub mod ScheduleTextLemmas
+pub mod ScheduleReadsBack
+pub mod ScheduleFaults
+pub mod Places
+pub mod Runs
+pub mod Stands
+pub mod Ends
+pub mod WorldLemmas
+pub mod ScheduleRuns

@@ -1,0 +1,252 @@
+-- Joined blocks.
+use Rattle.std.proofs.Common.{◌≡◌, ◌≢◌, ℕ, suc, zero, subst, ◌+◌, ◌-◌, ◌<◌, ◌≤◌, Bool, true, false, cond, List, [], ◌∷◌, ◌++◌, length, take, get_or, set, replicate, refl, ap, sym, ◌∙◌, append_assoc, append-nil, arith}
+use Rattle.std.specs.Prelude.{◌==◌}
+use Rattle.std.specs.List.{AllByRecursion}
+use Rattle.std.proofs.lemmas.List.{replicate-append-replicate, take_all, take_more, set_at, nil_from_length, length-take-le, get_or_default, length-append, length-replicate}
+use Rattle.std.proofs.lemmas.List.Sums.{sum_by-cons, sum_by_push}
+use Rattle.std.proofs.lemmas.Bool.Decides.{nat_tests}
+use Rattle.lab_sched.specs.declared.schedule.block.Block.{Block}
+use Rattle.lab_sched.specs.declared.schedule.block.TheConstants.{MOST_STEPS}
+use Rattle.lab_sched.specs.ScheduleLaws.{StepsTell}
+use Rattle.lab_sched.specs.Schedules.{block, steps_of, total_of, before, joined, IsBlock, AreApart, IsSchedule}
+
+same_pid : (m n : ℕ) → (m == n) ≡ true → m ≡ n
+same_pid m n h = grind (arith, nat_tests)
+
+other_pid : (m n : ℕ) → (m == n) ≡ false → m ≢ n
+other_pid m n h = grind (arith, nat_tests)
+
+pub is_same : (m n : ℕ) → m ≡ n → (m == n) ≡ true
+is_same m n h = grind (arith, nat_tests)
+
+pub is_other : (m n : ℕ) → m ≢ n → (m == n) ≡ false
+is_other m n h = grind (arith, nat_tests)
+
+-- steps
+
+steps-before : (b : Block) (bs : List Block) → steps_of (before b bs) ≡ replicate b.count b.pid ++ steps_of bs
+unfolding steps_of
+steps-before b [] = refl
+steps-before b (c ∷ rest) = go (b.pid == c.pid) refl
+  where
+    go : (t : Bool) → (b.pid == c.pid) ≡ t → steps_of (cond t (block b.pid (b.count + c.count) ∷ rest) (b ∷ c ∷ rest)) ≡ replicate b.count b.pid ++ steps_of (c ∷ rest)
+    go true h =
+        rw (← same_pid b.pid c.pid h) (rw (← replicate-append-replicate b.count c.count b.pid) (append_assoc (replicate b.count b.pid) (replicate c.count b.pid) (steps_of rest)))
+    go false h = refl
+
+pub steps-joined : (bs : List Block) → steps_of (joined bs) ≡ steps_of bs
+unfolding steps_of joined
+steps-joined [] = refl
+steps-joined (b ∷ rest) = steps-before b (joined rest) ∙ ap (λ s. replicate b.count b.pid ++ s) (steps-joined rest)
+
+-- totals
+
+total-before : (b : Block) (bs : List Block) → total_of (before b bs) ≡ b.count + total_of bs
+total-before b [] = omega arith
+total-before b (c ∷ rest) = go (b.pid == c.pid)
+  where
+    go : (t : Bool) → total_of (cond t (block b.pid (b.count + c.count) ∷ rest) (b ∷ c ∷ rest)) ≡ b.count + total_of (c ∷ rest)
+    go true = omega (arith, sum_by-cons (λ (d : Block). d.count) (block b.pid (b.count + c.count)) rest, sum_by-cons (λ (d : Block). d.count) c rest)
+    go false = sum_by-cons (λ (d : Block). d.count) b (c ∷ rest)
+
+pub total-joined : (bs : List Block) → total_of (joined bs) ≡ total_of bs
+unfolding joined
+total-joined [] = refl
+total-joined (b ∷ rest) =
+    total-before b (joined rest) ∙ ap (λ n. b.count + n) (total-joined rest) ∙ sym (sum_by-cons (λ (d : Block). d.count) b rest)
+
+pub length-steps : (bs : List Block) → length (steps_of bs) ≡ total_of bs
+unfolding steps_of
+length-steps [] = refl
+length-steps (b ∷ rest) =
+    length-append (replicate b.count b.pid) (steps_of rest)
+    ∙ omega (arith, length-replicate b.count b.pid, length-steps rest, sum_by-cons (λ (d : Block). d.count) b rest)
+
+-- the normal form
+
+apart-tail : (b : Block) (bs : List Block) → AreApart (b ∷ bs) → AreApart bs
+apart-tail b [] h = tt
+apart-tail b (c ∷ rest) h = h.1
+
+apart-like : (b c : Block) (bs : List Block) → b.pid ≡ c.pid → AreApart (c ∷ bs) → AreApart (b ∷ bs)
+apart-like b c [] e h = tt
+apart-like b c (d ∷ rest) e h = (λ f. h.0 (sym e ∙ f), h.1)
+
+apart-before : (b : Block) (bs : List Block) → AreApart bs → AreApart (before b bs)
+apart-before b [] h = tt
+apart-before b (c ∷ rest) h = go (b.pid == c.pid) refl
+  where
+    go : (t : Bool) → (b.pid == c.pid) ≡ t → AreApart (cond t (block b.pid (b.count + c.count) ∷ rest) (b ∷ c ∷ rest))
+    go true e = apart-like (block b.pid (b.count + c.count)) c rest (same_pid b.pid c.pid e) h
+    go false e = (other_pid b.pid c.pid e, h)
+
+pub apart-joined : (bs : List Block) → AreApart (joined bs)
+unfolding joined
+apart-joined [] = tt
+apart-joined (b ∷ rest) = apart-before b (joined rest) (apart-joined rest)
+
+before-apart : (b c : Block) (rest : List Block) → b.pid ≢ c.pid → before b (c ∷ rest) ≡ b ∷ c ∷ rest
+before-apart b c rest h = rw (is_other b.pid c.pid h) refl
+
+pub joined-apart : (bs : List Block) → AreApart bs → joined bs ≡ bs
+unfolding joined
+joined-apart [] h = refl
+joined-apart (b ∷ []) h = refl
+joined-apart (b ∷ c ∷ rest) h = ap (before b) (joined-apart (c ∷ rest) h.1) ∙ before-apart b c rest h.0
+
+-- a block at the end
+
+pub joined-push_same : (front : List Block) (c b : Block) → AreApart (front ++ c ∷ []) → c.pid ≡ b.pid
+    → joined (front ++ c ∷ [] ++ b ∷ []) ≡ front ++ block b.pid (c.count + b.count) ∷ []
+unfolding joined
+joined-push_same [] c b h e = rw (is_same c.pid b.pid e) (ap (λ p. block p (c.count + b.count) ∷ []) e)
+joined-push_same (x ∷ []) c b h e =
+    ap (before x) (joined-push_same [] c b tt e) ∙ before-apart x (block b.pid (c.count + b.count)) [] (λ f. h.0 (f ∙ sym e))
+joined-push_same (x ∷ y ∷ rest) c b h e =
+    ap (before x) (joined-push_same (y ∷ rest) c b h.1 e) ∙ before-apart x y (rest ++ block b.pid (c.count + b.count) ∷ []) h.0
+
+pub apart-push : (front : List Block) (c b : Block) → AreApart (front ++ c ∷ []) → c.pid ≢ b.pid → AreApart (front ++ c ∷ [] ++ b ∷ [])
+apart-push [] c b h e = (e, tt)
+apart-push (x ∷ []) c b h e = (h.0, apart-push [] c b tt e)
+apart-push (x ∷ y ∷ rest) c b h e = (h.0, apart-push (y ∷ rest) c b h.1 e)
+
+-- joining what is joined already changes nothing
+
+same_block : (p m n : ℕ) (rest : List Block) → m ≡ n → block p m ∷ rest ≡ block p n ∷ rest
+same_block p m n rest e = ap (λ k. block p k ∷ rest) e
+
+pub before-before : (b c : Block) (bs : List Block) → b.pid ≡ c.pid → before b (before c bs) ≡ before (block b.pid (b.count + c.count)) bs
+before-before b c [] e = rw (is_same b.pid c.pid e) refl
+before-before b c (d ∷ rest) e = go (c.pid == d.pid) refl
+  where
+    go : (t : Bool) → (c.pid == d.pid) ≡ t
+        → before b (cond t (block c.pid (c.count + d.count) ∷ rest) (c ∷ d ∷ rest)) ≡ before (block b.pid (b.count + c.count)) (d ∷ rest)
+    go true h =
+        rw (is_same b.pid c.pid e, is_same b.pid d.pid (e ∙ same_pid c.pid d.pid h))
+        (same_block b.pid (b.count + (c.count + d.count)) (b.count + c.count + d.count) rest (omega arith))
+    go false h = rw (is_same b.pid c.pid e, is_other b.pid d.pid (λ f. other_pid c.pid d.pid h (sym e ∙ f))) refl
+
+joined-before : (b : Block) (zs ys : List Block) → joined (before b zs ++ ys) ≡ before b (joined (zs ++ ys))
+unfolding joined
+joined-before b [] ys = refl
+joined-before b (c ∷ zs) ys = go (b.pid == c.pid) refl
+  where
+    go : (t : Bool) → (b.pid == c.pid) ≡ t
+        → joined (cond t (block b.pid (b.count + c.count) ∷ zs) (b ∷ c ∷ zs) ++ ys) ≡ before b (before c (joined (zs ++ ys)))
+    go true h = sym (before-before b c (joined (zs ++ ys)) (same_pid b.pid c.pid h))
+    go false h = refl
+
+pub joined-joined : (xs ys : List Block) → joined (joined xs ++ ys) ≡ joined (xs ++ ys)
+unfolding joined
+joined-joined [] ys = refl
+joined-joined (b ∷ rest) ys = joined-before b (joined rest) ys ∙ ap (before b) (joined-joined rest ys)
+
+-- valid blocks
+
+valid-before : (b : Block) (bs : List Block) → IsBlock b → AllByRecursion IsBlock bs → AllByRecursion IsBlock (before b bs)
+valid-before b [] h hs = (h, tt)
+valid-before b (c ∷ rest) h hs = go (b.pid == c.pid)
+  where
+    go : (t : Bool) → AllByRecursion IsBlock (cond t (block b.pid (b.count + c.count) ∷ rest) (b ∷ c ∷ rest))
+    go true = (record { process = h.process; some = omega arith }, hs.1)
+    go false = (h, hs)
+
+pub valid-joined : (bs : List Block) → AllByRecursion IsBlock bs → AllByRecursion IsBlock (joined bs)
+unfolding joined
+valid-joined [] h = tt
+valid-joined (b ∷ rest) h = valid-before b (joined rest) h.0 (valid-joined rest h.1)
+
+valid-push : (bs : List Block) (b : Block) → AllByRecursion IsBlock bs → IsBlock b → AllByRecursion IsBlock (bs ++ b ∷ [])
+valid-push [] b h k = (k, tt)
+valid-push (c ∷ bs) b h k = (h.0, valid-push bs b h.1 k)
+
+pub total-push : (bs : List Block) (b : Block) → total_of (joined (bs ++ b ∷ [])) ≡ total_of bs + b.count
+total-push bs b = total-joined (bs ++ b ∷ []) ∙ sum_by_push (λ (d : Block). d.count) bs b
+
+steps-append : (xs ys : List Block) → steps_of (xs ++ ys) ≡ steps_of xs ++ steps_of ys
+unfolding steps_of
+steps-append [] ys = refl
+steps-append (b ∷ xs) ys =
+    ap (λ s. replicate b.count b.pid ++ s) (steps-append xs ys) ∙ sym (append_assoc (replicate b.count b.pid) (steps_of xs) (steps_of ys))
+
+steps-one : (b : Block) → steps_of (b ∷ []) ≡ replicate b.count b.pid
+unfolding steps_of
+steps-one b = append-nil (replicate b.count b.pid)
+
+pub steps-push : (bs : List Block) (b : Block) → steps_of (joined (bs ++ b ∷ [])) ≡ steps_of bs ++ replicate b.count b.pid
+steps-push bs b = steps-joined (bs ++ b ∷ []) ∙ steps-append bs (b ∷ []) ∙ ap (λ s. steps_of bs ++ s) (steps-one b)
+
+pub schedule-push : (bs : List Block) (b : Block) → IsSchedule bs → IsBlock b → total_of bs + b.count ≤ MOST_STEPS → IsSchedule (joined (bs ++ b ∷ []))
+schedule-push bs b h k room = record {
+  valid = valid-joined (bs ++ b ∷ []) (valid-push bs b h.valid k);
+  apart = apart-joined (bs ++ b ∷ []);
+  within = rw (total-push bs b) room;
+}
+
+-- the last block of a Vec
+last-split : (xs : List Block) (n : ℕ) (d : Block) → length xs ≡ n → 0 < n → d ≡ get_or xs (n - 1) d → xs ≡ take (n - 1) xs ++ d ∷ []
+last-split xs n d l h e =
+    let within : n - 1 < length xs = omega arith in
+    sym (take_all (n - 1 + 1) xs (omega arith)) ∙ take_more xs (n - 1) d within ∙ ap (λ x. take (n - 1) xs ++ x ∷ []) (sym e)
+
+length-front : (xs : List Block) (n : ℕ) → length xs ≡ n → 0 < n → length (take (n - 1) xs) ≡ n - 1
+length-front xs n l h = length-take-le (n - 1) xs (omega arith)
+
+-- two reads of one element
+pub same_read : (xs : List Block) (i : ℕ) (d e : Block) → i < length xs → d ≡ get_or xs i d → e ≡ get_or xs i e → d ≡ e
+same_read xs i d e h p q = p ∙ get_or_default xs i d e h ∙ sym q
+
+pub joined-set : (xs : List Block) (n : ℕ) (d b : Block) → length xs ≡ n → 0 < n → AreApart xs → d ≡ get_or xs (n - 1) d → d.pid ≡ b.pid
+    → set xs (n - 1) (block d.pid (d.count + b.count)) ≡ joined (xs ++ b ∷ [])
+joined-set xs n d b l h apart e same = go (take (n - 1) xs) (last-split xs n d l h e) (length-front xs n l h)
+  where
+    go : (f : List Block) → xs ≡ f ++ d ∷ [] → length f ≡ n - 1 → set xs (n - 1) (block d.pid (d.count + b.count)) ≡ joined (xs ++ b ∷ [])
+    go f s k =
+        ap (λ ys. set ys (n - 1) (block d.pid (d.count + b.count))) s
+        ∙ set_at f d [] (block d.pid (d.count + b.count)) (n - 1) k
+        ∙ ap (λ p. f ++ block p (d.count + b.count) ∷ []) same
+        ∙ sym (joined-push_same f d b (subst AreApart s apart) same)
+        ∙ ap (λ ys. joined (ys ++ b ∷ [])) (sym s)
+
+pub joined-apart_push : (xs : List Block) (n : ℕ) (d b : Block) → length xs ≡ n → 0 < n → AreApart xs → d ≡ get_or xs (n - 1) d → d.pid ≢ b.pid
+    → xs ++ b ∷ [] ≡ joined (xs ++ b ∷ [])
+joined-apart_push xs n d b l h apart e other = go (take (n - 1) xs) (last-split xs n d l h e)
+  where
+    go : (f : List Block) → xs ≡ f ++ d ∷ [] → xs ++ b ∷ [] ≡ joined (xs ++ b ∷ [])
+    go f s = sym (joined-apart (xs ++ b ∷ []) (subst (λ ys. AreApart (ys ++ b ∷ [])) (sym s) (apart-push f d b (subst AreApart s apart) other)))
+
+pub joined-first : (xs : List Block) (b : Block) → length xs ≡ 0 → xs ++ b ∷ [] ≡ joined (xs ++ b ∷ [])
+joined-first xs b l = rw (nil_from_length xs l) (sym (joined-apart (b ∷ []) tt))
+
+-- blocks from steps
+unfoldable blocks_of : List ℕ → List Block
+blocks_of [] = []
+blocks_of (p ∷ ps) = before (block p 1) (blocks_of ps)
+
+blocks_of-replicate : (n p : ℕ) (ps : List ℕ) → blocks_of (replicate (suc n) p ++ ps) ≡ before (block p (suc n)) (blocks_of ps)
+unfolding blocks_of
+blocks_of-replicate zero p ps = refl
+blocks_of-replicate (suc n) p ps =
+    ap (before (block p 1)) (blocks_of-replicate n p ps)
+    ∙ before-before (block p 1) (block p (suc n)) (blocks_of ps) refl
+    ∙ ap (λ k. before (block p k) (blocks_of ps)) (omega arith)
+
+blocks_of-some : (b : Block) (ps : List ℕ) → 1 ≤ b.count → blocks_of (replicate b.count b.pid ++ ps) ≡ before b (blocks_of ps)
+blocks_of-some b ps h =
+    let e : suc (b.count - 1) ≡ b.count = omega arith in
+    ap (λ n. blocks_of (replicate n b.pid ++ ps)) (sym e) ∙ blocks_of-replicate (b.count - 1) b.pid ps ∙ ap (λ n. before (block b.pid n) (blocks_of ps)) e
+
+before-tail : (b : Block) (bs : List Block) → AreApart (b ∷ bs) → before b bs ≡ b ∷ bs
+before-tail b [] h = refl
+before-tail b (c ∷ rest) h = before-apart b c rest h.0
+
+blocks_of-steps : (bs : List Block) → AllByRecursion IsBlock bs → AreApart bs → blocks_of (steps_of bs) ≡ bs
+unfolding steps_of blocks_of
+blocks_of-steps [] v h = refl
+blocks_of-steps (b ∷ rest) v h =
+    blocks_of-some b (steps_of rest) v.0.some ∙ ap (before b) (blocks_of-steps rest v.1 (apart-tail b rest h)) ∙ before-tail b rest h
+
+-- schedules of the same steps are the same
+pub steps_tell_lem : StepsTell
+steps_tell_lem xs ys h k e =
+    sym (blocks_of-steps xs h.valid h.apart) ∙ ap blocks_of e ∙ blocks_of-steps ys k.valid k.apart

@@ -1,0 +1,119 @@
+-- The text of a schedule reads back as that schedule.
+use Rattle.std.proofs.Common.{◌≡◌, ℕ, ◌+◌, ◌<◌, ◌≤◌, false, List, [], ◌∷◌, ◌++◌, length, map, drop, refl, ap, ◌∙◌, arith, one-add, add-one, Some, None, Ok, Err, Result, IfOk, String, string_bytes, append-nil, length-append}
+use Rattle.std.specs.Prelude.{decimal, position}
+use Rattle.std.specs.List.{All, AllByRecursion, position_or_len}
+use Rattle.std.specs.Char.{digit_value}
+use Rattle.std.specs.Str.Parse.{AllDigits, IsNumeral}
+use Rattle.std.proofs.lemmas.Fmt.{decimal_is_IsNumeral}
+use Rattle.std.proofs.lemmas.Str.Parse.{digit_from_value}
+use Rattle.std.proofs.lemmas.Bool.Decides.{nat_tests}
+use Rattle.std.proofs.lemmas.List.{take_at}
+use Rattle.std.proofs.lemmas.List.Sums.{sum_by-cons}
+use Rattle.std.proofs.lemmas.List.Elements.{All-nil, All-cons, All-append}
+use Rattle.std.proofs.Common.{lt-ltb}
+use Rattle.lab_sched.specs.declared.schedule.block.Block.{Block}
+use Rattle.lab_sched.specs.declared.schedule.block.TheConstants.{PROCESSES, MOST_STEPS}
+use Rattle.lab_sched.specs.ScheduleLaws.{ReadsBack}
+use Rattle.lab_sched.specs.Schedules.{total_of, IsBlock, IsSchedule}
+use Rattle.lab_sched.specs.ScheduleTexts.{block_text, schedule_text, words, is_space, is_star, in_range, process_in, count_in, block_at, block_from, block_in, written, too_long, scheduled, reading, ◌>>=◌}
+use Rattle.lab_sched.proofs.ScheduleJoins.{joined-apart}
+use Rattle.lab_sched.proofs.ScheduleWords.{words-blank, words-last, words-none}
+use Rattle.lab_sched.proofs.ScheduleNumbers.{natural-decimal}
+use Rattle.lab_sched.proofs.ScheduleTextLemmas.{later_text}
+use Rattle.lab_sched.proofs.ScheduleSteps.{fits}
+
+digit_no_space : (c : ℕ) → digit_value c < 10 → is_space c ≡ false
+digit_no_space c h = let r = digit_from_value c h in grind (arith, nat_tests, r)
+
+digit_no_star : (c : ℕ) → digit_value c < 10 → is_star c ≡ false
+digit_no_star c h = let r = digit_from_value c h in grind (arith, nat_tests, r)
+
+digits_no_space : (ds : List ℕ) → AllDigits 10 ds → All (λ c. is_space c ≡ false) ds
+digits_no_space [] h = All-nil (λ c. is_space c ≡ false)
+digits_no_space (d ∷ ds) h = All-cons (λ c. is_space c ≡ false) d ds (digit_no_space d h.0) (digits_no_space ds h.1)
+
+star_after : (ds rest : List ℕ) → AllDigits 10 ds → position_or_len is_star (ds ++ 42 ∷ rest) ≡ length ds
+star_after [] rest h = refl
+star_after (d ∷ ds) rest h = rw (digit_no_star d h.0, star_after ds rest h.1, one-add) refl
+
+star_at : (ds rest : List ℕ) → AllDigits 10 ds → position is_star (ds ++ 42 ∷ rest) ≡ Some (length ds)
+star_at ds rest h = rw (star_after ds rest h, lt-ltb (length ds) (length (ds ++ 42 ∷ rest)) (omega (arith, length-append ds (42 ∷ rest)))) refl
+
+process_in-decimal : (p : ℕ) → p < PROCESSES → process_in (decimal p) ≡ Some p
+unfolding process_in
+process_in-decimal p h = ap (in_range 0 63) (natural-decimal p (omega arith)) ∙ grind (arith, nat_tests)
+
+count_in-decimal : (n : ℕ) → 1 ≤ n → n ≤ MOST_STEPS → count_in (decimal n) ≡ Some n
+unfolding count_in
+count_in-decimal n h k = ap (in_range 1 MOST_STEPS) (natural-decimal n (omega arith)) ∙ grind (arith, nat_tests)
+
+drop_star : (ds rest : List ℕ) → drop (length ds + 1) (ds ++ 42 ∷ rest) ≡ rest
+drop_star [] rest = refl
+drop_star (d ∷ ds) rest = rw (add-one (length (d ∷ ds))) (rw (add-one (length ds)) at (drop_star ds rest))
+
+block_in-text : (b : Block) → IsBlock b → b.count ≤ MOST_STEPS → block_in (block_text b) ≡ Some b
+unfolding block_in block_text
+block_in-text b h k =
+    let pid : IsNumeral 10 (decimal b.pid) = (decimal_is_IsNumeral b.pid (omega (arith, h.process))).0 in
+    ap (λ o. block_at o (decimal b.pid ++ 42 ∷ decimal b.count)) (star_at (decimal b.pid) (decimal b.count) pid.1)
+    ∙ ap (λ w. block_from (process_in w) (count_in (drop (length (decimal b.pid) + 1) (decimal b.pid ++ 42 ∷ decimal b.count)))) (take_at (decimal b.pid) (42 ∷ decimal b.count) (length (decimal b.pid)) refl)
+    ∙ ap (λ w. block_from (process_in (decimal b.pid)) (count_in w)) (drop_star (decimal b.pid) (decimal b.count))
+    ∙ rw (process_in-decimal b.pid h.process, count_in-decimal b.count h.some k) refl
+
+text_no_space : (b : Block) → IsBlock b → b.count ≤ MOST_STEPS → All (λ c. is_space c ≡ false) (block_text b)
+unfolding block_text
+text_no_space b h k =
+    All-append (λ c. is_space c ≡ false) (decimal b.pid) (42 ∷ decimal b.count)
+    (digits_no_space (decimal b.pid) (decimal_is_IsNumeral b.pid (omega (arith, h.process))).0.1)
+    (All-cons (λ c. is_space c ≡ false) 42 (decimal b.count) refl (digits_no_space (decimal b.count) (decimal_is_IsNumeral b.count (omega arith)).0.1))
+
+text_some : (b : Block) → 0 < length (block_text b)
+unfolding block_text
+text_some b = omega (arith, length-append (decimal b.pid) (42 ∷ decimal b.count))
+
+-- small enough, each of them
+abbrev AreSmall : List Block → Type 0
+AreSmall bs = AllByRecursion (λ b. b.count ≤ MOST_STEPS) bs
+
+words-text : (b : Block) (rest : List Block) → AllByRecursion IsBlock (b ∷ rest) → AreSmall (b ∷ rest)
+    → words (block_text b ++ later_text rest) ≡ block_text b ∷ map block_text rest
+words-text b [] v s = ap words (append-nil (block_text b)) ∙ words-last (block_text b) (text_some b) (text_no_space b v.0 s.0)
+words-text b (c ∷ rest) v s =
+    words-blank (block_text b) (block_text c ++ later_text rest) (text_some b) (text_no_space b v.0 s.0)
+    ∙ ap (λ ws. block_text b ∷ ws) (words-text c rest v.1 s.1)
+
+written-text : (at : ℕ) (bs : List Block) → AllByRecursion IsBlock bs → AreSmall bs → written at (map block_text bs) ≡ Ok bs
+unfolding written
+written-text at [] v s = refl
+written-text at (b ∷ rest) v s = rw (block_in-text b v.0 s.0, written-text (at + 1) rest v.1 s.1) refl
+
+too_long-none : (at total : ℕ) (bs : List Block) → total + total_of bs ≤ MOST_STEPS → too_long at total bs ≡ None
+unfolding too_long
+too_long-none at total [] h = refl
+too_long-none at total (b ∷ rest) h =
+    let sum : total_of (b ∷ rest) ≡ b.count + total_of rest = sum_by-cons (λ (d : Block). d.count) b rest in
+    rw (fits (total + b.count) MOST_STEPS (omega arith)) (too_long-none (at + 1) (total + b.count) rest (omega arith))
+
+small-from_total : (bs : List Block) → total_of bs ≤ MOST_STEPS → AreSmall bs
+small-from_total [] h = tt
+small-from_total (b ∷ rest) h =
+    let sum : total_of (b ∷ rest) ≡ b.count + total_of rest = sum_by-cons (λ (d : Block). d.count) b rest in
+    (omega arith, small-from_total rest (omega arith))
+
+words-schedule : (bs : List Block) → IsSchedule bs → words (schedule_text bs) ≡ map block_text bs
+unfolding schedule_text
+words-schedule [] h = words-none
+words-schedule (b ∷ rest) h = words-text b rest h.valid (small-from_total (b ∷ rest) h.within)
+
+pub reads_back_lem : ReadsBack
+unfolding reading scheduled
+reads_back_lem bs h =
+    ap (λ ws. written 1 ws >>= scheduled) (words-schedule bs h)
+    ∙ ap (λ r. r >>= scheduled) (written-text 1 bs h.valid (small-from_total bs h.within))
+    ∙ rw (too_long-none 1 0 bs (omega (arith, h.within))) (ap Ok (joined-apart bs h.apart))
+
+-- a text that was written reads back
+pub shown_back : {A E : Type 0} (r : Result (String A) E) (bs : List Block) → IsSchedule bs → IfOk r (λ s. string_bytes s ≡ schedule_text bs)
+    → IfOk r (λ s. reading (string_bytes s) ≡ Ok bs)
+shown_back (Ok s) bs h e = ap reading e ∙ reads_back_lem bs h
+shown_back (Err e) bs h k = tt

@@ -1,0 +1,98 @@
+-- One more word of a text, and one more block of a schedule.
+use Rattle.std.proofs.Common.{◌≡◌, ℕ, ◌+◌, ◌<◌, ◌≤◌, true, false, List, [], ◌∷◌, ◌++◌, length, take, drop, get_or, refl, ap, sym, ◌∙◌, arith, Some, None, Result, Ok, Err, append_assoc, append-nil}
+use Rattle.std.specs.Prelude.{nat_lt}
+use Rattle.std.proofs.lemmas.List.{drop_more, take_more, take_all, drop_all, length_push}
+use Rattle.std.proofs.lemmas.Bool.Decides.{nat_tests}
+use Rattle.lab_sched.specs.declared.schedule.block.Block.{Block}
+use Rattle.lab_sched.specs.declared.schedule.fault.SchedFault.{SchedFault}
+use Rattle.lab_sched.specs.declared.schedule.fault.SchedFault.TheVariants.{BadBlock, TooLong, NoMemory}
+use Rattle.lab_sched.specs.declared.schedule.block.TheConstants.{MOST_STEPS}
+use Rattle.lab_sched.specs.Schedules.{joined}
+use Rattle.lab_sched.specs.ScheduleTexts.{words, written, block_in, too_long, scheduled, reading, Fails, ◌>>=◌}
+use Rattle.lab_sched.proofs.ScheduleJoins.{joined-joined}
+
+-- blocks found so far, and those that are read
+abbrev pub with_front : List Block → Result (List Block) SchedFault → Result (List Block) SchedFault
+with_front found read = read >>= λ bs. Ok (found ++ bs)
+
+front_more : (found : List Block) (b : Block) (read : Result (List Block) SchedFault)
+    → with_front found (read >>= λ bs. Ok (b ∷ bs)) ≡ with_front (found ++ b ∷ []) read
+front_more found b (Ok bs) = ap Ok (sym (append_assoc found (b ∷ []) bs))
+front_more found b (Err e) = refl
+
+pub written-more : (found : List Block) (at : ℕ) (word : List ℕ) (ws : List (List ℕ)) (b : Block) → Some b ≡ block_in word
+    → with_front found (written at (word ∷ ws)) ≡ with_front (found ++ b ∷ []) (written (at + 1) ws)
+unfolding written
+written-more found at word ws b e = rw (← e) (front_more found b (written (at + 1) ws))
+
+pub written-bad : (found : List Block) (at : ℕ) (word : List ℕ) (ws : List (List ℕ)) → None ≡ block_in word
+    → with_front found (written at (word ∷ ws)) ≡ Err (BadBlock at)
+unfolding written
+written-bad found at word ws e = rw (← e) refl
+
+pub written-end : (found : List Block) (at : ℕ) → with_front found (written at []) ≡ Ok found
+unfolding written
+written-end found at = ap Ok (append-nil found)
+
+front_none : (read : Result (List Block) SchedFault) → read ≡ with_front [] read
+front_none (Ok bs) = refl
+front_none (Err e) = refl
+
+pub written-start : (at : ℕ) (ws : List (List ℕ)) → written at ws ≡ with_front [] (written at ws)
+written-start at ws = front_none (written at ws)
+
+-- blocks in a row
+
+pub fits : (m n : ℕ) → m ≤ n → nat_lt n m ≡ false
+fits m n h = grind (arith, nat_tests)
+
+exceeds : (m n : ℕ) → n < m → nat_lt n m ≡ true
+exceeds m n h = grind (arith, nat_tests)
+
+pub too_long-more : (bs : List Block) (i total : ℕ) (d : Block) → i < length bs → total + (get_or bs i d).count ≤ MOST_STEPS
+    → too_long (i + 1) total (drop i bs) ≡ too_long (i + 1 + 1) (total + (get_or bs i d).count) (drop (i + 1) bs)
+unfolding too_long
+too_long-more bs i total d h room = rw (drop_more bs i d h, fits (total + (get_or bs i d).count) MOST_STEPS room) refl
+
+pub too_long-here : (bs : List Block) (i total : ℕ) (d : Block) → i < length bs → MOST_STEPS < total + (get_or bs i d).count
+    → too_long (i + 1) total (drop i bs) ≡ Some (i + 1)
+unfolding too_long
+too_long-here bs i total d h room = rw (drop_more bs i d h, exceeds (total + (get_or bs i d).count) MOST_STEPS room) refl
+
+pub too_long-end : (bs : List Block) (i total : ℕ) → length bs ≤ i → too_long (i + 1) total (drop i bs) ≡ None
+unfolding too_long
+too_long-end bs i total h = rw (drop_all i bs h) refl
+
+pub joined-none : [] ≡ joined []
+unfolding joined
+joined-none = refl
+
+pub joined-more : (bs : List Block) (i : ℕ) (d : Block) → i < length bs → joined (joined (take i bs) ++ get_or bs i d ∷ []) ≡ joined (take (i + 1) bs)
+joined-more bs i d h = joined-joined (take i bs) (get_or bs i d ∷ []) ∙ ap joined (sym (take_more bs i d h))
+
+pub scheduled-long : (bs : List Block) (at : ℕ) → too_long 1 0 bs ≡ Some at → scheduled bs ≡ Err (TooLong at)
+unfolding scheduled
+scheduled-long bs at e = rw e refl
+
+pub scheduled-ok : (bs made : List Block) (i : ℕ) → too_long 1 0 bs ≡ None → made ≡ joined (take i bs) → length bs ≤ i → scheduled bs ≡ Ok made
+unfolding scheduled
+scheduled-ok bs made i e m h = rw e (ap Ok (ap joined (sym (take_all i bs h)) ∙ sym m))
+
+-- one more word
+pub written-step : (found new : List Block) (ws rest : List (List ℕ)) (word : List ℕ) (b : Block) → ws ≡ word ∷ rest → Some b ≡ block_in word → new ≡ found ++ b ∷ []
+    → with_front found (written (length found + 1) ws) ≡ with_front new (written (length new + 1) rest)
+written-step found new ws rest word b e f g =
+    rw (e, g, length_push found b) (written-more found (length found + 1) word rest b f)
+
+pub fails-then : {A B : Type 0} (e : SchedFault) (read : Result A SchedFault) (next : A → Result B SchedFault) → Fails e read → Fails e (read >>= next)
+fails-then (BadBlock at) read next h = rw h refl
+fails-then (TooLong at) read next h = rw h refl
+fails-then NoMemory read next h = tt
+
+pub reading-fails : (e : SchedFault) (text : List ℕ) → Fails e (written 1 (words text)) → Fails e (reading text)
+unfolding reading
+reading-fails e text h = fails-then e (written 1 (words text)) scheduled h
+
+pub reading-ok : (text : List ℕ) (blocks : List Block) → written 1 (words text) ≡ Ok blocks → reading text ≡ scheduled blocks
+unfolding reading
+reading-ok text blocks h = rw h refl

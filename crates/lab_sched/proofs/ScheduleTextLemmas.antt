@@ -1,0 +1,26 @@
+-- The text of a schedule, block by block.
+use Rattle.std.proofs.Common.{◌≡◌, ℕ, ◌+◌, ◌<◌, ◌≤◌, List, [], ◌∷◌, ◌++◌, length, drop, get_or, refl, sym, append_assoc, append-nil, arith}
+use Rattle.std.specs.List.{flat_map}
+use Rattle.std.proofs.lemmas.List.{drop_more, drop_all}
+use Rattle.lab_sched.specs.declared.schedule.block.Block.{Block}
+use Rattle.lab_sched.specs.ScheduleTexts.{block_text, schedule_text}
+
+-- blocks with a blank before each
+abbrev pub later_text : List Block → List ℕ
+later_text blocks = flat_map (λ b. 32 ∷ block_text b) blocks
+
+pub later-more : (bytes : List ℕ) (bs : List Block) (i : ℕ) (b : Block) → i < length bs → b ≡ get_or bs i b
+    → bytes ++ later_text (drop i bs) ≡ bytes ++ (32 ∷ block_text b) ++ later_text (drop (i + 1) bs)
+later-more bytes bs i b h e = rw (drop_more bs i b h, ← e) (sym (append_assoc bytes (32 ∷ block_text b) (later_text (drop (i + 1) bs))))
+
+pub later-end : (bytes : List ℕ) (bs : List Block) (i : ℕ) → length bs ≤ i → bytes ++ later_text (drop i bs) ≡ bytes
+later-end bytes bs i h = rw (drop_all i bs h) (append-nil bytes)
+
+pub text-first : (b : Block) (rest : List Block) → block_text b ++ later_text rest ≡ schedule_text (b ∷ rest)
+unfolding schedule_text
+text-first b rest = refl
+
+pub text-none : (bs : List Block) → length bs ≡ 0 → [] ≡ schedule_text bs
+unfolding schedule_text
+text-none [] h = refl
+text-none (b ∷ rest) h = absurd (omega arith)

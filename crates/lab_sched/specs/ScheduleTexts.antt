@@ -1,0 +1,107 @@
+-- The text of a schedule, and what a text is read as.
+use Rattle.std.specs.Prelude.{ℕ, ◌+◌, ◌==◌, ◌||◌, ◌&&◌, ◌≡◌, nat_lt, nat_le, not, Bool, true, false, if◌then◌else◌, Option, Some, None, Result, Ok, Err, List, [], ◌∷◌, ◌++◌, take, drop, decimal, position}
+use Rattle.std.specs.List.{filter, slice_split, flat_map, list_all}
+use Rattle.std.specs.Char.{digit_value}
+use Rattle.std.specs.Str.Parse.{digits_value}
+use Rattle.lab_sched.specs.declared.schedule.block.Block.{Block}
+use Rattle.lab_sched.specs.declared.schedule.fault.SchedFault.{SchedFault}
+use Rattle.lab_sched.specs.declared.schedule.fault.SchedFault.TheVariants.{BadBlock, TooLong, NoMemory}
+use Rattle.lab_sched.specs.declared.schedule.block.TheConstants.{MOST_STEPS}
+use Rattle.lab_sched.specs.Schedules.{block, joined}
+
+-- `P*N`
+unfoldable pub block_text : Block → List ℕ
+block_text b = decimal b.pid ++ (42 ∷ decimal b.count)
+
+-- the blocks, with a blank before each but the first
+unfoldable pub schedule_text : List Block → List ℕ
+schedule_text [] = []
+schedule_text (b ∷ rest) = block_text b ++ flat_map (λ c. 32 ∷ block_text c) rest
+
+-- blank, tab, carriage return, line feed
+abbrev pub is_space : ℕ → Bool
+is_space c = c == 32 || c == 9 || c == 13 || c == 10
+
+abbrev pub is_star : ℕ → Bool
+is_star c = c == 42
+
+abbrev pub is_empty : List ℕ → Bool
+is_empty [] = true
+is_empty (c ∷ cs) = false
+
+-- the words of a text, which runs of spaces separate
+unfoldable pub words : List ℕ → List (List ℕ)
+words text = filter (λ word. not (is_empty word)) (slice_split is_space text)
+
+-- the number that one decimal digit or more write
+unfoldable pub natural : List ℕ → Option ℕ
+natural [] = None
+natural (d ∷ ds) = if list_all (λ c. nat_lt (digit_value c) 10) (d ∷ ds) then Some (digits_value 10 (d ∷ ds)) else None
+
+-- a number that is at least low and at most high
+abbrev pub in_range : ℕ → ℕ → Option ℕ → Option ℕ
+in_range low high None = None
+in_range low high (Some n) = if nat_le low n && nat_le n high then Some n else None
+
+unfoldable pub process_in : List ℕ → Option ℕ
+process_in text = in_range 0 63 (natural text)
+
+unfoldable pub count_in : List ℕ → Option ℕ
+count_in text = in_range 1 MOST_STEPS (natural text)
+
+abbrev pub block_from : Option ℕ → Option ℕ → Option Block
+block_from (Some pid) (Some n) = Some (block pid n)
+block_from (Some pid) None = None
+block_from None n = None
+
+-- a word whose first `*` stands here, or that has none
+abbrev pub block_at : Option ℕ → List ℕ → Option Block
+block_at None word = block_from (process_in word) (Some 1)
+block_at (Some star) word = block_from (process_in (take star word)) (count_in (drop (star + 1) word))
+
+-- `P*N`, or `P` for one step
+unfoldable pub block_in : List ℕ → Option Block
+block_in word = block_at (position is_star word) word
+
+infixl 20 ◌>>=◌
+abbrev pub ◌>>=◌ : {A B : Type 0} → Result A SchedFault → (A → Result B SchedFault) → Result B SchedFault
+(Err e) >>= next = Err e
+(Ok a) >>= next = next a
+
+-- the block, or the fault of the word that is none
+abbrev pub block_or : ℕ → Option Block → Result Block SchedFault
+block_or at None = Err (BadBlock at)
+block_or at (Some b) = Ok b
+
+-- the blocks that words write, where the first of them is word number `at`
+unfoldable pub written : ℕ → List (List ℕ) → Result (List Block) SchedFault
+written at [] = Ok []
+written at (word ∷ rest) = block_or at (block_in word) >>= λ b. written (at + 1) rest >>= λ bs. Ok (b ∷ bs)
+
+-- the number of the block with which more than the most steps are reached, where these steps come before block number `at`
+unfoldable pub too_long : ℕ → ℕ → List Block → Option ℕ
+too_long at total [] = None
+too_long at total (b ∷ rest) = if nat_lt MOST_STEPS (total + b.count) then Some at else too_long (at + 1) (total + b.count) rest
+
+abbrev pub within : Option ℕ → List Block → Result (List Block) SchedFault
+within None blocks = Ok blocks
+within (Some at) blocks = Err (TooLong at)
+
+-- the schedule of blocks in a row
+unfoldable pub scheduled : List Block → Result (List Block) SchedFault
+scheduled blocks = within (too_long 1 0 blocks) (joined blocks)
+
+-- what a text is read as
+unfoldable pub reading : List ℕ → Result (List Block) SchedFault
+reading text = written 1 (words text) >>= scheduled
+
+-- want of memory says nothing of what is read; another fault is what is read
+abbrev pub Fails : {A : Type 0} → SchedFault → Result A SchedFault → Type 0
+Fails (BadBlock at) read = read ≡ Err (BadBlock at)
+Fails (TooLong at) read = read ≡ Err (TooLong at)
+Fails NoMemory read = Unit {0}
+
+-- an answer, by what it shows, is what is read, or it is want of memory
+abbrev pub Gives : {A B : Type 0} → (A → B) → Result A SchedFault → Result B SchedFault → Type 0
+Gives shown (Ok a) read = read ≡ Ok (shown a)
+Gives shown (Err e) read = Fails e read

@@ -1,0 +1,33 @@
+-- Laboratories before their first step.
+use Rattle.std.specs.Prelude.{◌≡◌, ◌≤◌, ℕ, List, All, length, map}
+use Rattle.lc3_machine.specs.Process.{start}
+use Rattle.ipc_kernel.specs.Kernel.{KernelState, empty_kernel}
+use Rattle.lab_sched.specs.declared.fresh.Program.{Program}
+use Rattle.lab_sched.specs.declared.process.Process.{Process as Kept}
+use Rattle.lab_sched.specs.declared.process.Process.TheVariants as kept
+use Rattle.lab_sched.specs.Worlds.{Process, Running, WorldState}
+
+-- a process at the start of a program
+abbrev pub start_of : Program → Process
+start_of p = Running (start p.image.origin p.image.words p.input.items)
+
+-- the processes of programs at their starts, over the empty kernel
+abbrev pub fresh : List Program → WorldState
+fresh ps = record { processes = map start_of ps; kernel = empty_kernel (length ps) }
+
+-- 1 to 64 programs
+abbrev pub IsCount : ℕ → Type 0
+IsCount n = (1 ≤ n) × (n ≤ 64)
+
+-- a process that runs
+abbrev pub Runs : Kept → Type 0
+Runs (kept.Running m) = Unit {0}
+Runs (kept.Waiting h c) = ⊥
+Runs (kept.Ended e) = ⊥
+
+-- the processes of a laboratory before its first step
+pub record IsFresh (ps : List Kept) (k : KernelState) : Type 0 where
+  pub running : All Runs ps
+  pub some : 1 ≤ length ps
+  pub few : length ps ≤ 64
+  pub count : length ps ≡ length k.processes

@@ -1,0 +1,28 @@
+//! Laws of schedules and of their texts, over the definitions alone.
+ghost use Rattle.lab_sched.specs.ScheduleLaws.{ReadsBack, StepsTell, FirstBadBlock, FirstTooLong, ReadSteps};
+
+/// A schedule's text reads back as the schedule.
+pub fn reads_back()
+    ensures law { ReadsBack }
+{}
+
+/// Schedules of the same steps are equal.
+pub fn steps_tell()
+    ensures law { StepsTell }
+{}
+
+/// `BadBlock` comes exactly where a word isn't a block, and names the first.
+pub fn first_bad_block()
+    ensures law { FirstBadBlock }
+{}
+
+/// `TooLong` comes only where each word is a block, and names the first with which there are too
+/// many steps.
+pub fn first_too_long()
+    ensures law { FirstTooLong }
+{}
+
+/// A text is read as the steps that its blocks write out.
+pub fn read_steps()
+    ensures law { ReadSteps }
+{}

@@ -1,0 +1,23 @@
+//! Worlds of processes over one kernel, run by written schedules.
+#![tactic(auto)]
+
+mod entry;
+mod fresh;
+pub mod laws;
+mod process;
+mod schedule;
+mod stepped;
+mod stepping;
+mod verdict;
+mod world;
+
+pub use entry::Entry;
+pub use fresh::{Fresh, FreshFault, Program};
+pub use process::Process;
+pub use schedule::{Block, MOST_STEPS, PROCESSES, SchedFault, Schedule};
+pub use stepped::Stepped;
+pub use verdict::Verdict;
+pub use world::{RunStop, StepFault, World};
+
+#[cfg(test)]
+mod tests;

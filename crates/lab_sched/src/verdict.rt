@@ -1,0 +1,58 @@
+//! How a world stands.
+ghost use Rattle.std.specs.Prelude.{◌≡◌, ◌<◌, ℕ, length, Some, slice_get, true, false};
+ghost use Rattle.lab_sched.specs.Worlds.{Process as Seen, turn_in, nothing, IsEffective};
+ghost use Rattle.lab_sched.specs.Verdicts.{IsVerdict, HaveEnded, HasEnded};
+
+use crate::World;
+
+/// How a world stands.
+#[derive(Clone, Copy, PartialEq, Eq, Debug)]
+pub enum Verdict {
+    /// All processes have ended.
+    Ended,
+    /// Some process waits, none is running, and no step changes the world.
+    Stuck,
+    /// Neither.
+    Open,
+}
+
+impl World {
+    /// Whether all processes have ended.
+    fn have_ended(&self) -> bool
+        ensures yes { result ≡ true → HaveEnded self.now }
+        ensures no { result ≡ false → (p : ℕ) × (p < length self.now.processes) × ((s : Seen) → slice_get self.now.processes p ≡ Some s → HasEnded s → ⊥) }
+    {
+        for pid in 0..self.count() {
+            if !self.has_ended(pid) {
+                return false;
+            }
+        }
+        true
+    }
+
+    /// Whether the step of some process is effective.
+    fn can_move(&self) -> bool
+        ensures yes { result ≡ true → (p : ℕ) × IsEffective (turn_in self.now p) }
+        ensures no { result ≡ false → (p : ℕ) → p < length self.now.processes → turn_in self.now p ≡ nothing }
+    {
+        for pid in 0..self.count() {
+            if self.can_step(pid) {
+                return true;
+            }
+        }
+        false
+    }
+
+    /// Whether all processes have ended, or some wait and none can go on, or neither.
+    pub fn verdict(&self) -> Verdict
+        ensures verdict { IsVerdict self.now result }
+    {
+        if self.can_move() {
+            return Verdict::Open;
+        }
+        if self.have_ended() {
+            return Verdict::Ended;
+        }
+        Verdict::Stuck
+    }
+}

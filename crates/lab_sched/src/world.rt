@@ -1,0 +1,154 @@
+//! Worlds of processes over one kernel.
+ghost use Rattle.std.specs.Prelude.{◌≡◌, ◌<◌, ◌≤◌, ◌↔◌, ℕ, map, length, slice_get, vec_len, vec_capacity, Err, Some, true, false, IfOk, OnOk, OnErr};
+ghost use Rattle.std.specs.List.{insert};
+ghost use Rattle.std.specs.Option.{option_map, option_copied};
+ghost use Rattle.lab_sched.specs.Worlds.{Process as Seen, turn, turn_in, step, nothing, IsEffective};
+ghost use Rattle.lab_sched.specs.Verdicts.{HasEnded};
+ghost use Rattle.lab_sched.specs.Held.{seen, told_of, IsWorld};
+ghost use Rattle.lab_sched.specs.declared.world.StepFault.TheVariants.{NoProcess};
+
+mod run;
+
+use crate::stepping::take_step;
+use crate::{Process, Stepped};
+use ipc_kernel::Kernel;
+pub use run::RunStop;
+use std::marker::Model;
+
+/// Why a step wasn't taken.
+#[derive(Clone, Copy, PartialEq, Eq, Debug)]
+pub enum StepFault {
+    /// The world has no such process.
+    NoProcess,
+    /// Memory was refused.
+    NoMemory,
+}
+
+/// A world: 1 to 64 processes over one kernel.
+#[derive(Drop)]
+pub struct World {
+    processes: Vec<Process>,
+    kernel: Kernel,
+}
+
+impl Model for World {
+    ghost use Rattle.std.specs.Prelude.{map};
+    ghost use Rattle.lab_sched.specs.Worlds.{WorldState};
+    ghost use Rattle.lab_sched.specs.Held.{seen, IsWorld};
+
+    ghost Value = { WorldState };
+
+    ghost view = { λ w. record { processes = map seen w.processes.items; kernel = w.kernel } };
+
+    ghost invariant = { λ w. IsWorld w.processes.items w.kernel };
+}
+
+/// Puts a process back into a list from which one was taken.
+fn put_back(processes: &mut Vec<Process>, pid: usize, process: Process)
+    requires within { pid ≤ length processes.old.items }
+    requires room { vec_len processes.old < vec_capacity processes.old }
+    ensures { processes.new.items ≡ insert processes.old.items pid process }
+{
+    let Ok(()) = processes.insert(pid, process) else {
+        unreachable!()
+    };
+}
+
+fn has_ended(process: &Process) -> bool
+    ensures yes { result ≡ true → HasEnded (seen process.now) }
+    ensures no { result ≡ false → HasEnded (seen process.now) → ⊥ }
+{
+    matches!(process, Process::Ended(_))
+}
+
+/// Whether the step of process `pid` is effective, by the process and the kernel.
+#[tactic(auto, using(crate::proofs::Stands::running_moves, crate::proofs::Stands::retry_moves, crate::proofs::Stands::retry_rests))]
+fn can_step(process: &Process, kernel: &Kernel, pid: usize) -> bool
+    requires process { pid < length kernel.now.processes }
+    ensures yes { result ≡ true → IsEffective (turn kernel.now pid (Some (seen process.now))) }
+    ensures no { result ≡ false → turn kernel.now pid (Some (seen process.now)) ≡ nothing }
+{
+    match process {
+        Process::Running(_) => true,
+        Process::Waiting(_, call) => kernel.can_go(pid, call),
+        Process::Ended(_) => false,
+    }
+}
+
+impl World {
+    /// The world of these processes over this kernel. Each waiting process asks for the call that
+    /// it is kept with, and the words of the reply are ready.
+    pub fn join(processes: Vec<Process>, kernel: Kernel) -> World
+        requires world { IsWorld processes.items kernel }
+        ensures processes { result.processes ≡ map seen processes.items }
+        ensures kernel { result.kernel ≡ kernel }
+    {
+        World { processes, kernel }
+    }
+
+    /// The number of processes, 1 to 64.
+    pub fn count(&self) -> usize
+        ensures count { result ≡ length self.now.processes }
+        ensures some { 1 ≤ result }
+        ensures few { result ≤ 64 }
+    {
+        self.processes.len()
+    }
+
+    /// A process, if it is there.
+    pub fn process(&self, pid: usize) -> Option<&Process>
+        ensures process { option_map seen (option_copied result) ≡ slice_get self.now.processes pid }
+    {
+        self.processes.get(pid)
+    }
+
+    /// The kernel.
+    pub fn kernel(&self) -> &Kernel
+        ensures kernel { result.now ≡ self.now.kernel }
+        ensures count { length self.now.processes ≡ length self.now.kernel.processes }
+    {
+        &self.kernel
+    }
+
+    /// Whether a process has ended.
+    pub(crate) fn has_ended(&self, pid: usize) -> bool
+        requires process { pid < length self.now.processes }
+        ensures yes { result ≡ true → (s : Seen) → slice_get self.now.processes pid ≡ Some s → HasEnded s }
+        ensures no { result ≡ false → (s : Seen) → slice_get self.now.processes pid ≡ Some s → HasEnded s → ⊥ }
+    {
+        has_ended(&self.processes[pid])
+    }
+
+    /// Whether the step of a process is effective.
+    pub(crate) fn can_step(&self, pid: usize) -> bool
+        requires process { pid < length self.now.processes }
+        ensures yes { result ≡ true → IsEffective (turn_in self.now pid) }
+        ensures no { result ≡ false → turn_in self.now pid ≡ nothing }
+    {
+        can_step(&self.processes[pid], &self.kernel, pid)
+    }
+
+    /// Takes one step of a process. After a fault nothing has changed.
+    pub fn step(&mut self, pid: usize) -> Result<Stepped, StepFault>
+        ensures no_process { (result ≡ Err NoProcess) ↔ (length self.old.processes ≤ pid) }
+        ensures world { OnOk result (self.new ≡ step self.old pid) }
+        ensures told { IfOk result (λ stepped. stepped ≡ told_of (turn_in self.old pid)) }
+        ensures err { OnErr result (self.new ≡ self.old) }
+    {
+        if pid >= self.processes.len() {
+            return Err(StepFault::NoProcess);
+        }
+        let alloc = *self.processes.allocator();
+        let process = self.processes.remove(pid);
+        match take_step(alloc, process, &mut self.kernel, pid) {
+            Ok((process, stepped)) => {
+                put_back(&mut self.processes, pid, process);
+                Ok(stepped)
+            }
+            Err(process) => {
+                put_back(&mut self.processes, pid, process);
+                Err(StepFault::NoMemory)
+            }
+        }
+    }
+}

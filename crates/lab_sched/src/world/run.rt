@@ -1,0 +1,119 @@
+//! Runs of worlds by schedules.
+ghost use Rattle.std.specs.Prelude.{◌≡◌, ◌<◌, ◌≤◌, ◌↔◌, length, replicate, take, slice_index, IfOk, IfErr, OnOk, OnErr};
+ghost use Rattle.lab_sched.specs.Schedules.{steps_of};
+ghost use Rattle.lab_sched.specs.Worlds.{run};
+ghost use Rattle.lab_sched.specs.Held.{seen, IsHeld};
+ghost use Rattle.lab_sched.specs.Segments.{IsAfterLocal};
+ghost use Rattle.lab_sched.specs.declared.world.StepFault.TheVariants.{NoProcess};
+
+use super::{StepFault, World, put_back};
+use crate::{Process, Schedule};
+use lc3_machine::Local;
+
+/// Where a run stopped: the number of steps that were taken, those without effect too, and why the
+/// next one wasn't.
+#[derive(Clone, Copy, Debug, PartialEq, Eq)]
+pub struct RunStop {
+    pub done: u64,
+    pub fault: StepFault,
+}
+
+/// Takes local steps of a process, at most so many; with how many were taken.
+fn local_steps(process: Process, most: u32) -> (Process, u32)
+    requires held { IsHeld process }
+    ensures local { IsAfterLocal (seen process) result.1 (seen result.0) }
+    ensures held { IsHeld result.0 }
+    ensures within { result.1 ≤ most }
+{
+    match process {
+        Process::Running(running) => {
+            let (local, done) = running.run_local(most);
+            match local {
+                Local::Running(next) => (Process::Running(next), done),
+                Local::AtCall(call) => (Process::Running(call.back()), done),
+                Local::Short(same) => (Process::Running(same), done),
+            }
+        }
+        other => (other, 0),
+    }
+}
+
+impl World {
+    /// Takes local steps of a process up to its next call, at most `most`, or one step of another
+    /// kind; with how many were taken.
+    fn advance(&mut self, pid: usize, most: u32) -> Result<u32, StepFault>
+        requires some { 1 ≤ most }
+        ensures world { IfOk result (λ taken. self.new ≡ run self.old (replicate taken pid)) }
+        ensures some { IfOk result (λ taken. 1 ≤ taken) }
+        ensures within { IfOk result (λ taken. taken ≤ most) }
+        ensures err { OnErr result (self.new ≡ self.old) }
+        ensures no_process { IfErr result (λ fault. (fault ≡ NoProcess) ↔ (length self.old.processes ≤ pid)) }
+    {
+        if pid >= self.processes.len() {
+            return Err(StepFault::NoProcess);
+        }
+        let taken = self.advance_locally(pid, most);
+        if taken > 0 {
+            return Ok(taken);
+        }
+        match self.step(pid) {
+            Ok(_) => Ok(1),
+            Err(fault) => Err(fault),
+        }
+    }
+
+    /// Takes local steps of a process, at most so many; with how many were taken.
+    fn advance_locally(&mut self, pid: usize, most: u32) -> u32
+        requires process { pid < length self.old.processes }
+        ensures world { self.new ≡ run self.old (replicate result pid) }
+        ensures within { result ≤ most }
+    {
+        let process = self.processes.remove(pid);
+        let (process, taken) = local_steps(process, most);
+        put_back(&mut self.processes, pid, process);
+        taken
+    }
+
+    /// Takes so many steps of a process.
+    fn run_block(&mut self, pid: usize, count: u32) -> Result<(), RunStop>
+        ensures world { OnOk result (self.new ≡ run self.old (replicate count pid)) }
+        ensures stop { IfErr result (λ stop. self.new ≡ run self.old (replicate stop.done pid)) }
+        ensures within { IfErr result (λ stop. stop.done < count) }
+        ensures no_process { IfErr result (λ stop. (stop.fault ≡ NoProcess) ↔ (length self.old.processes ≤ pid)) }
+    {
+        let mut left = count;
+        while left > 0 {
+            match self.advance(pid, left) {
+                Ok(taken) => left -= taken,
+                Err(fault) => {
+                    return Err(RunStop {
+                        done: u64::from(count - left),
+                        fault,
+                    });
+                }
+            }
+        }
+        Ok(())
+    }
+
+    /// Takes the steps of a schedule, one after another.
+    pub fn run(&mut self, schedule: &Schedule) -> Result<(), RunStop>
+        ensures world { OnOk result (self.new ≡ run self.old (steps_of schedule.now)) }
+        ensures stop { IfErr result (λ stop. self.new ≡ run self.old (take stop.done (steps_of schedule.now))) }
+        ensures within { IfErr result (λ stop. stop.done < length (steps_of schedule.now)) }
+        ensures no_process { IfErr result (λ stop. (stop.fault ≡ NoProcess) ↔ (length self.old.processes ≤ slice_index (steps_of schedule.now) stop.done)) }
+    {
+        let blocks = schedule.blocks();
+        let mut done: u64 = 0;
+        for block in blocks {
+            if let Err(stop) = self.run_block(block.pid, block.count) {
+                return Err(RunStop {
+                    done: done + stop.done,
+                    fault: stop.fault,
+                });
+            }
+            done += u64::from(block.count);
+        }
+        Ok(())
+    }
+}
