@@ -1,6 +1,5 @@
 pub mod ScheduleJoins
 pub mod ScheduleWords
-pub mod ScheduleNumbers
 pub mod ScheduleSteps
 pub mod ScheduleTextLemmas
 pub mod ScheduleReadsBack
