@@ -2,6 +2,7 @@
 ghost use Rattle.std.specs.Prelude.{◌≡◌, false};
 
 use crate::complaint::{Complaint, Reason};
+use crate::debugging::debug_programs;
 use crate::fault::CliFault;
 use crate::line::{Request, read_words};
 use crate::run::hex_run;
@@ -76,6 +77,9 @@ fn perform<'a, T: Files, R: Read, W: Write>(
         Request::Disassemble { object } => disassemble_file(rt, alloc, object, output),
         Request::Step { ref programs } => {
             step_programs(rt, alloc, programs.as_slice(), input, output)
+        }
+        Request::Debug { ref programs } => {
+            debug_programs(rt, alloc, programs.as_slice(), input, output)
         }
     }
 }

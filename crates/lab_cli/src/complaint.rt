@@ -1,5 +1,6 @@
 //! What the program says of a fault.
 use crate::fault::CliFault;
+use lab_debug::SessionFault;
 use lab_sched::{RunStop, SchedFault, StepFault};
 use lc3_asm::AsmFault;
 use lc3_obj::ObjFault;
@@ -18,6 +19,8 @@ pub enum Reason {
     TooManySteps { at: usize },
     Count,
     NoProcess { done: u64 },
+    TooManyLines,
+    LineTooLong,
     NotUtf8,
     TooLarge,
     CannotRead,
@@ -92,6 +95,18 @@ impl From<RunStop> for Reason {
     }
 }
 
+impl From<SessionFault> for Reason {
+    fn from(fault: SessionFault) -> Reason {
+        match fault {
+            SessionFault::Read => Reason::CannotRead,
+            SessionFault::Write => Reason::CannotWrite,
+            SessionFault::TooManyLines => Reason::TooManyLines,
+            SessionFault::LineTooLong => Reason::LineTooLong,
+            SessionFault::NoMemory => Reason::NoMemory,
+        }
+    }
+}
+
 impl fmt::Display for Reason {
     fn fmt<W: fmt::Write>(&self, f: &mut fmt::Formatter<W>) -> fmt::Result {
         match *self {
@@ -104,6 +119,8 @@ impl fmt::Display for Reason {
             Reason::TooManySteps { at } => write!(f, "block {at}: TooLong"),
             Reason::Count => write!(f, "Count"),
             Reason::NoProcess { done } => write!(f, "after {done} steps: NoProcess"),
+            Reason::TooManyLines => write!(f, "TooManyLines"),
+            Reason::LineTooLong => write!(f, "LineTooLong"),
             Reason::NotUtf8 => write!(f, "not UTF-8"),
             Reason::TooLarge => write!(f, "too large"),
             Reason::CannotRead => write!(f, "cannot read"),

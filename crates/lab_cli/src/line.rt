@@ -16,6 +16,9 @@ pub enum Request<'a> {
     Step {
         programs: Vec<&'a str>,
     },
+    Debug {
+        programs: Vec<&'a str>,
+    },
 }
 
 /// What the words ask for, or the text of help or of what is wrong with them.
@@ -41,7 +44,8 @@ fn program<'a>(alloc: Global) -> Result<Command<'a>, AllocError> {
         .override_usage("lc3lab [COMMAND]")
         .subcommand(asm(alloc)?)?
         .subcommand(dis(alloc)?)?
-        .subcommand(step(alloc)?)
+        .subcommand(step(alloc)?)?
+        .subcommand(debug(alloc)?)
 }
 
 fn asm<'a>(alloc: Global) -> Result<Command<'a>, AllocError> {
@@ -80,6 +84,13 @@ fn step<'a>(alloc: Global) -> Result<Command<'a>, AllocError> {
         .arg(programs(alloc))
 }
 
+fn debug<'a>(alloc: Global) -> Result<Command<'a>, AllocError> {
+    Command::new(alloc, "debug")
+        .about("Runs programs by commands on standard input, which also show them")
+        .after_help("Example:\n  printf 'step 0 3\\nregs 0\\n' | lc3lab debug hello.obj")
+        .arg(programs(alloc))
+}
+
 /// The programs of a laboratory, one or more.
 fn programs<'a>(alloc: Global) -> Arg<'a> {
     Arg::new(alloc, "PROGRAM")
@@ -97,7 +108,10 @@ fn request_of<'a>(alloc: Global, matches: &ArgMatches<'a>) -> Result<Request<'a>
             list: words.get_flag("list"),
         },
         Some(("step", words)) => Request::Step {
-            programs: words.get_strs("PROGRAM").unwrap_or_default().to_vec(alloc)?,
+            programs: programs_of(alloc, words)?,
+        },
+        Some(("debug", words)) => Request::Debug {
+            programs: programs_of(alloc, words)?,
         },
         Some((_, words)) => Request::Disassemble {
             object: words.get_str("OBJECT").unwrap_or_default(),
@@ -105,4 +119,9 @@ fn request_of<'a>(alloc: Global, matches: &ArgMatches<'a>) -> Result<Request<'a>
         None => Request::Disassemble { object: "" },
     };
     Ok(request)
+}
+
+/// The words of a command that name programs.
+fn programs_of<'a>(alloc: Global, words: &ArgMatches<'a>) -> Result<Vec<&'a str>, AllocError> {
+    words.get_strs("PROGRAM").unwrap_or_default().to_vec(alloc)
 }

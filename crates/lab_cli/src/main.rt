@@ -3,6 +3,7 @@
 
 mod command;
 mod complaint;
+mod debugging;
 mod fault;
 mod files;
 mod hex;

@@ -1,7 +1,7 @@
 //! The programs of a laboratory, as the command line names them.
 use crate::complaint::{Complaint, Reason};
 use crate::files::{read_file, read_object};
-use lab_sched::{Fresh, FreshFault, Program, World};
+use lab_sched::{Fresh, FreshFault, Program};
 use std::alloc::Global;
 use std::rt::Files;
 
@@ -41,10 +41,9 @@ fn read_program<'a, T: Files>(
 }
 
 /// The laboratory of programs, before its first step.
-pub fn laboratory(alloc: Global, programs: &[Program]) -> Result<World, Complaint<'static>> {
-    match Fresh::new(alloc, programs) {
-        Ok(fresh) => Ok(World::from(fresh)),
-        Err(FreshFault::Count) => Err(Reason::Count.at("programs")),
-        Err(FreshFault::NoMemory) => Err(Reason::NoMemory.at("run")),
-    }
+pub fn laboratory(alloc: Global, programs: &[Program]) -> Result<Fresh, Complaint<'static>> {
+    Fresh::new(alloc, programs).map_err(|fault| match fault {
+        FreshFault::Count => Reason::Count.at("programs"),
+        FreshFault::NoMemory => Reason::NoMemory.at("run"),
+    })
 }

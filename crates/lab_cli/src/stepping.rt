@@ -7,7 +7,7 @@ use crate::input::read_whole;
 use crate::programs::{laboratory, read_programs};
 use lab_debug::report_text;
 use lab_io::{Input, Output};
-use lab_sched::Schedule;
+use lab_sched::{Schedule, World};
 use std::alloc::Global;
 use std::io::{Read, Write};
 use std::rt::Files;
@@ -26,7 +26,8 @@ pub fn step_programs<'a, T: Files, R: Read, W: Write>(
 {
     let programs = read_programs(rt, alloc, programs)?;
     let schedule = read_schedule(alloc, input).map_err(|reason| reason.at("schedule"))?;
-    let mut world = laboratory(alloc, programs.as_slice())?;
+    let fresh = laboratory(alloc, programs.as_slice())?;
+    let mut world = World::from(fresh);
     world
         .run(&schedule)
         .map_err(|stop| Reason::from(stop).at("run"))?;

@@ -1,4 +1,4 @@
-//! The command `step`, on files that the tests write and remove.
+//! The commands `step` and `debug`, on files that the tests write and remove.
 use crate::command::{FAULT, SUCCESS};
 use crate::tests::{Outcome, perform};
 use std::fs;
@@ -114,18 +114,19 @@ CREAT  .FILL x40
 /// Reads a byte and writes it.
 const ECHO: &str = ".ORIG x3000\nGETC\nOUT\nHALT\n";
 
-/// The outcome of `step` on the programs of two sources.
-fn step_two(
+/// The outcome of a command on the programs of two sources.
+fn perform_on_two(
     rt: &HostRuntime,
+    command: &str,
     first: &str,
     second: &str,
-    schedule: &str,
+    input: &str,
 ) -> Result<Outcome, Fail> {
     fs::write(rt, "step.asm", first)?;
     let _ = perform(rt, &["asm", "step.asm", "step0.obj"], b"")?;
     fs::write(rt, "step.asm", second)?;
     let _ = perform(rt, &["asm", "step.asm", "step1.obj"], b"")?;
-    let outcome = perform(rt, &["step", "step0.obj", "step1.obj"], schedule.as_bytes())?;
+    let outcome = perform(rt, &[command, "step0.obj", "step1.obj"], input.as_bytes())?;
     fs::remove_file(rt, "step.asm")?;
     fs::remove_file(rt, "step0.obj")?;
     fs::remove_file(rt, "step1.obj")?;
@@ -146,7 +147,7 @@ fn complains(outcome: &Outcome, line: &str) -> bool {
 
 #[test]
 fn messages_from_one_program_to_another(rt: HostRuntime) -> Result<(), Fail> {
-    let outcome = step_two(&rt, PRODUCER, CONSUMER, "0*65 1*68")?;
+    let outcome = perform_on_two(&rt, "step", PRODUCER, CONSUMER, "0*65 1*68")?;
     assert!(rt;
         shows(
             &outcome,
@@ -158,7 +159,7 @@ fn messages_from_one_program_to_another(rt: HostRuntime) -> Result<(), Fail> {
 
 #[test]
 fn semaphores_taken_one_process_after_the_other(rt: HostRuntime) -> Result<(), Fail> {
-    let outcome = step_two(&rt, FIRST_A, FIRST_B, "0*18 1*18")?;
+    let outcome = perform_on_two(&rt, "step", FIRST_A, FIRST_B, "0*18 1*18")?;
     assert!(rt;
         shows(
             &outcome,
@@ -170,11 +171,33 @@ fn semaphores_taken_one_process_after_the_other(rt: HostRuntime) -> Result<(), F
 
 #[test]
 fn semaphores_taken_in_opposite_order(rt: HostRuntime) -> Result<(), Fail> {
-    let outcome = step_two(&rt, FIRST_A, FIRST_B, "0*12 1*13 0*1")?;
+    let outcome = perform_on_two(&rt, "step", FIRST_A, FIRST_B, "0*12 1*13 0*1")?;
     assert!(rt;
         shows(
             &outcome,
             "0 waiting x300C TRAP x53\nout 0\n1 waiting x300C TRAP x53\nout 1\nverdict stuck\n"
+        )
+    );
+    Ok(())
+}
+
+/// Each process holds one semaphore and waits for the other's.
+#[test]
+fn a_deadlock_looked_at(rt: HostRuntime) -> Result<(), Fail> {
+    let script = "run 0*12 1*13 0*1\nregs 0\nsems\nprocs\nfds 1\nquit\n";
+    let outcome = perform_on_two(&rt, "debug", FIRST_A, FIRST_B, script)?;
+    assert!(rt;
+        shows(
+            &outcome,
+            "verdict stuck
+R0 x0001 R1 x0040 R2 x0001 R3 x0000 R4 x0000 R5 x0001 R6 x0000 R7 x300B PC x300C CC P
+0 /a 0
+1 /b 0
+0 waiting x300C TRAP x53
+1 waiting x300C TRAP x53
+sem 0 1 1
+sem 1 0 1
+"
         )
     );
     Ok(())
