@@ -1,5 +1,5 @@
 -- Courses: one after another, of one step, of one process's local steps, and of its calls.
-use Rattle.std.proofs.Common.{ℕ, zero, suc, ◌+◌, ◌≡◌, ◌==◌, ◌++◌, List, [], ◌∷◌, Some, true, false, cond, refl, sym, ap, subst, ◌∙◌, arith, length, set, slice_get, replicate, ◌≢◌}
+use Rattle.std.proofs.Common.{ℕ, zero, suc, ◌+◌, ◌≡◌, ◌==◌, ◌++◌, List, [], ◌∷◌, Option, Some, None, true, false, cond, refl, sym, ap, subst, ◌∙◌, arith, length, set, slice_get, replicate, ◌≢◌}
 use Rattle.std.proofs.lemmas.List.{append_assoc, append-nil, set-set, replicate_more}
 use Rattle.std.proofs.lemmas.Bool.{eq-eqb, eqb-true, false_from_ne_true}
 use Rattle.std.proofs.Math.Numerals.{add-one}
@@ -7,16 +7,17 @@ use Rattle.lc3_machine.specs.Process.{Process as Machine}
 use Rattle.ipc_kernel.specs.declared.call.Call.{Call}
 use Rattle.ipc_kernel.specs.declared.call.Answer.{Answer}
 use Rattle.ipc_kernel.specs.declared.call.Answer.TheVariants.{Done, Wait}
+use Rattle.ipc_kernel.specs.Kernel.{KernelState}
 use Rattle.ipc_kernel.specs.Answer.{answer}
-use Rattle.lab_sched.specs.Worlds.{Process, Running, Waiting, Ended, WorldState, moves, act, Turn, nothing, local_step, kernel_step, turn, turn_in, first_try, retry, told, after, step, IsEffective, entry_of, run, entries}
+use Rattle.lab_sched.specs.Worlds.{Process, Running, Waiting, Ended, WorldState, Act, moves, calls, act, Turn, nothing, local_step, kernel_step, turn, turn_in, first_try, retry, told, after, step, IsEffective, entry_of, run, entries}
 use Rattle.lab_sched.specs.Course.{AreEffective, count, IsCourse}
 use Rattle.lab_sched.specs.Alone.{AreLocal, IsTold}
-use Rattle.lab_sched.specs.History.{replay}
+use Rattle.lab_sched.specs.History.{replay, IsLegal}
 use Rattle.lab_sched.specs.declared.entry.Entry.{Entry}
 use Rattle.lab_sched.specs.declared.trace.Told.{Told}
 use Rattle.lab_sched.proofs.Places.{get-set_same, get_past, set_same}
 use Rattle.lab_sched.proofs.Runs.{run-append, run-none, run-one, length-run}
-use Rattle.lab_sched.proofs.Histories.{replay-append}
+use Rattle.lab_sched.proofs.Histories.{replay-append, legal-append}
 
 pub entries-append : (w : WorldState) (xs ys : List ℕ) → entries w (xs ++ ys) ≡ entries w xs ++ entries (run w xs) ys
 unfolding run entries
@@ -137,3 +138,28 @@ course_kernel {w} {v} {ps} {es} c = ap (λ (x : WorldState). x.kernel) (sym c.le
 
 pub course_length : {w v : WorldState} {ps : List ℕ} {es : List Entry} → IsCourse w ps v es → length v.processes ≡ length w.processes
 course_length {w} {v} {ps} {es} c = ap (λ (x : WorldState). length x.processes) (sym c.leads) ∙ length-run w ps
+
+-- the entries of a course are a legal history
+legal_try : (k : KernelState) (p : ℕ) (m : Machine) (a : Act) → IsLegal k (entry_of p (first_try k p m a))
+legal_try k p m (moves q) = tt
+legal_try k p m (calls c) = (refl, tt)
+
+legal_retry : (k : KernelState) (p : ℕ) (m : Machine) (c : Call) (a : Answer) → a ≡ (answer k p c).0 → IsLegal k (entry_of p (retry m c a))
+legal_retry k p m c Wait is = tt
+legal_retry k p m c (Done r) is = (is, tt)
+
+legal_turn : (k : KernelState) (p : ℕ) (o : Option Process) → IsLegal k (entry_of p (turn k p o))
+legal_turn k p None = tt
+legal_turn k p (Some (Running m)) = legal_try k p m (act m)
+legal_turn k p (Some (Waiting m c)) = legal_retry k p m c (answer k p c).0 refl
+legal_turn k p (Some (Ended e)) = tt
+
+pub legal_run : (w : WorldState) (ps : List ℕ) → IsLegal w.kernel (entries w ps)
+unfolding entries
+legal_run w [] = tt
+legal_run w (p ∷ ps) =
+    legal-append w.kernel (entry_of p (turn_in w p)) (entries (step w p) ps) (legal_turn w.kernel p (slice_get w.processes p))
+    (subst (λ k. IsLegal k (entries (step w p) ps)) (kernel_turn w p (turn_in w p)) (legal_run (step w p) ps))
+
+pub course_legal : {w v : WorldState} {ps : List ℕ} {es : List Entry} → IsCourse w ps v es → IsLegal w.kernel es
+course_legal {w} {v} {ps} {es} c = subst (λ x. IsLegal w.kernel x) c.entered (legal_run w ps)
