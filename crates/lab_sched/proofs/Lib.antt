@@ -16,3 +16,4 @@ pub mod Courses
 pub mod Alones
 pub mod Rests
 pub mod Commutes
+pub mod Finds
