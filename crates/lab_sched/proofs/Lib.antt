@@ -17,3 +17,4 @@ pub mod Alones
 pub mod Rests
 pub mod Commutes
 pub mod Finds
+pub mod ScheduleEnds
