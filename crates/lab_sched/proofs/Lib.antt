@@ -18,3 +18,4 @@ pub mod Rests
 pub mod Commutes
 pub mod Finds
 pub mod ScheduleEnds
+pub mod Settles

@@ -5,7 +5,7 @@ ghost use Rattle.lab_sched.specs.Worlds.{nothing, turn_in, IsEffective};
 ghost use Rattle.lab_sched.specs.Schedules.{steps_of, total_of};
 ghost use Rattle.lab_sched.specs.Settled.{IsAdded, IsSettled, HasStopped, IsShort};
 ghost use Rattle.lab_sched.specs.Settling.{AsksIn, IsFoundIn, IsTaken};
-ghost use Rattle.lab_sched.specs.declared.schedule.block.TheConstants.{MOST_STEPS};
+ghost use Rattle.lab_sched.specs.declared.schedule.block.TheConstants.{PROCESSES, MOST_STEPS};
 
 use super::bits::{has_bit, with_bit};
 use super::finding::{Found, find};
@@ -48,7 +48,10 @@ impl World {
         let Ok(answer) = self.kernel.answer(alloc, pid, &call) else {
             return 0;
         };
-        if entries.reserve(1).is_err() || self.step(pid).is_err() {
+        if entries.reserve(1).is_err() {
+            return 0;
+        }
+        if self.step(pid).is_err() {
             return 0;
         }
         entries.push_reserved(Entry { pid, call, answer });
@@ -86,6 +89,7 @@ impl World {
         entries: &mut Vec<Entry>,
     ) -> u32
         requires process { pid < length self.old.processes }
+        requires few { pid < PROCESSES }
         requires effective { IsEffective (turn_in self.old pid) }
         requires some { 1 ≤ most }
         requires room { total_of schedule.old + most ≤ MOST_STEPS }
@@ -94,8 +98,7 @@ impl World {
         ensures within { result ≤ most }
         ensures total { total_of schedule.new ≡ total_of schedule.old + result }
     {
-        let few = self.count() <= 64;
-        if !few || schedule.push(pid, 1).is_err() {
+        if schedule.push(pid, 1).is_err() {
             return 0;
         }
         let taken = self.take_steps(pid, most, entries);
@@ -113,6 +116,7 @@ impl World {
         entries: &mut Vec<Entry>,
     ) -> (u32, bool)
         requires process { pid < length self.old.processes }
+        requires few { pid < PROCESSES }
         requires room { total_of schedule.old + left ≤ MOST_STEPS }
         ensures added { IsAdded (record { world = self.old; steps = steps_of schedule.old; entries = entries.old.items }) (replicate result.0 pid)
             (record { world = self.new; steps = steps_of schedule.new; entries = entries.new.items }) }
@@ -122,7 +126,10 @@ impl World {
         ensures total { total_of schedule.new ≡ total_of schedule.old + result.0 }
     {
         let mut taken = 0;
-        while taken < left && self.can_step(pid) {
+        while taken < left {
+            if !self.can_step(pid) {
+                return (taken, false);
+            }
             let more = self.settle_steps(pid, left - taken, schedule, entries);
             if more == 0 {
                 return (taken, true);
