@@ -1,5 +1,5 @@
 -- What a process does next.
-use Rattle.std.proofs.Common.{ℕ, ◌≡◌, ◌≤◌, Some, refl, sym, ap, subst, ◌∙◌, arith, zero}
+use Rattle.std.proofs.Common.{ℕ, ◌≡◌, Some, refl, sym, ap, subst, arith}
 use Rattle.lc3_machine.specs.Process.{Process as Machine, Held}
 use Rattle.lc3_machine.specs.Steps.{IsRun, after as machine_after}
 use Rattle.lc3_machine.specs.declared.states.Local.{Local}

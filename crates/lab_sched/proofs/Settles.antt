@@ -5,6 +5,7 @@ use Rattle.std.proofs.lemmas.Bool.Decides.{eqb_tells}
 use Rattle.std.specs.List.{sum}
 use Rattle.std.proofs.lemmas.List.Sums.{sum_by-set}
 use Rattle.std.specs.Int.{bit_at}
+use Rattle.std.proofs.lemmas.Nat.Bits.{bit_at-zero}
 use Rattle.lc3_machine.specs.Process.{Process as Machine}
 use Rattle.ipc_kernel.specs.declared.call.Call.{Call}
 use Rattle.ipc_kernel.specs.declared.call.Answer.{Answer}
@@ -15,12 +16,12 @@ use Rattle.lab_sched.specs.declared.process.Process.{Process as Kept}
 use Rattle.lab_sched.specs.declared.entry.Entry.{Entry}
 use Rattle.lab_sched.specs.declared.world.finding.Found.{Found}
 use Rattle.lab_sched.specs.declared.world.finding.Found.TheVariants.{Moved, Refusal, Asks}
-use Rattle.lab_sched.specs.Worlds.{Process, Running, Waiting, Ended, WorldState, act, first_try, retry, Turn, nothing, local_step, kernel_step, turn, turn_in, step, after, run, IsEffective}
+use Rattle.lab_sched.specs.Worlds.{Process, Running, Waiting, Ended, WorldState, first_try, retry, nothing, local_step, kernel_step, turn, turn_in, step, after, run, IsEffective}
 use Rattle.lab_sched.specs.Held.{seen}
 use Rattle.lab_sched.specs.Verdicts.{HasEnded}
-use Rattle.lab_sched.specs.Course.{IsCourse, count}
+use Rattle.lab_sched.specs.Course.{IsCourse}
 use Rattle.lab_sched.specs.Settled.{Report, IsAdded, IsSettled, HasStopped, IsShort}
-use Rattle.lab_sched.specs.Settling.{AsksFor, IsLocal, IsFound, AsksIn, IsFoundIn, IsTaken}
+use Rattle.lab_sched.specs.Settling.{AsksFor, IsFound, AsksIn, IsFoundIn, IsTaken}
 use Rattle.lab_sched.proofs.Runs.{run-none}
 use Rattle.lab_sched.proofs.Courses.{course_none, course-append, course_step, course_length, course_local, turn_local, with_process, count-append, count-replicate_same, count-replicate_other}
 use Rattle.lab_sched.proofs.Commutes.{after_other}
@@ -45,6 +46,9 @@ added_length a = course_length a.course
 
 pub added_more : {r q t : Report} (n k p : ℕ) → IsAdded r (replicate n p) q → IsAdded q (replicate k p) t → IsAdded r (replicate (n + k) p) t
 added_more {r} {q} {t} n k p a b = subst (λ ps. IsAdded r ps t) (replicate-append-replicate n k p) (added-append a b)
+
+pub added_no_more : {r q t : Report} (n k p : ℕ) → k ≡ 0 → IsAdded r (replicate n p) q → IsAdded q (replicate k p) t → IsAdded r (replicate n p) t
+added_no_more {r} {q} {t} n k p none a b = subst (λ m. IsAdded r (replicate m p) t) (omega arith) (added_more n k p a b)
 
 pub settled_none : (r : Report) (left : List ℕ) → IsSettled r r left left
 settled_none r left = record { taken = []; added = added_none r; len = refl; counted = λ p below. omega arith }
@@ -107,6 +111,9 @@ stopped_more {w} {v} left bits bits' {short} i k same stopped kept set_bit last 
 
 pub sum_less : (left : List ℕ) (i k : ℕ) → i < length left → k ≤ get_or left i 0 → sum (set left i (get_or left i 0 - k)) + k ≡ sum left
 sum_less left i k within fits = omega (arith, sum_by-set (λ x. x) left i (get_or left i 0 - k) 0 within)
+
+pub sum_at : (left : List ℕ) (i : ℕ) → i < length left → get_or left i 0 ≤ sum left
+sum_at left i within = omega (arith, sum_less left i (get_or left i 0) within (omega arith))
 
 pub added_same : {r q : Report} (k p : ℕ) → k ≡ 0 → IsAdded r (replicate k p) q → r.world ≡ q.world
 added_same {r} {q} k p none a = let b : IsAdded r [] q = subst (λ n. IsAdded r (replicate n p) q) none a in sym (run-none r.world) ∙ b.course.leads
@@ -225,3 +232,7 @@ added_taken w v es fs ss ts ps taken grew = record { told = taken.told; course =
 
 pub added_nothing : (w : WorldState) (es : List Entry) (ss ts : List ℕ) (p : ℕ) → ts ≡ ss → IsAdded (report w ss es) (replicate 0 p) (report w ts es)
 added_nothing w es ss ts p same = subst (λ x. IsAdded (report w ss es) [] (report w x es)) (sym same) (added_none (report w ss es))
+
+-- 0 has no bit
+pub no_bits : (p : ℕ) → bit_at 0 p ≡ 1 → ⊥
+no_bits p h = absurd (omega (arith, bit_at-zero p))

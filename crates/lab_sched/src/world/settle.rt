@@ -48,12 +48,12 @@ impl World {
         let Ok(answer) = self.kernel.answer(alloc, pid, &call) else {
             return 0;
         };
-        if entries.reserve(1).is_err() {
+        let Ok(()) = entries.reserve(1) else {
             return 0;
-        }
-        if self.step(pid).is_err() {
+        };
+        let Ok(_) = self.step(pid) else {
             return 0;
-        }
+        };
         entries.push_reserved(Entry { pid, call, answer });
         1
     }
@@ -69,12 +69,10 @@ impl World {
     {
         match self.find(pid, most) {
             Found::Moved(taken) => taken,
-            Found::Refusal => {
-                if self.step(pid).is_err() {
-                    return 0;
-                }
-                1
-            }
+            Found::Refusal => match self.step(pid) {
+                Ok(_) => 1,
+                Err(_) => 0,
+            },
             Found::Asks(call) => self.take_call(pid, call, entries),
         }
     }
@@ -98,9 +96,9 @@ impl World {
         ensures within { result ≤ most }
         ensures total { total_of schedule.new ≡ total_of schedule.old + result }
     {
-        if schedule.push(pid, 1).is_err() {
+        let Ok(()) = schedule.push(pid, 1) else {
             return 0;
-        }
+        };
         let taken = self.take_steps(pid, most, entries);
         schedule.replace_last(taken);
         taken

@@ -16,5 +16,7 @@ returns c =
     let ps = c.self.inside.processes.items in
     let within = seen_within ps c.self.inside.kernel c.args.self.now c.args.pid c.self.view_is c.requires.process in
     let written = c.put_back.ensures ∙ ap (λ xs. insert xs c.args.pid c.find-process.result.0) c.remove-process.ensures.items ∙ insert-remove ps c.args.pid c.find-process.result.0 within in
-    record { found = found_in ps _ c.self.inside.kernel c.args.self.now c.args.pid c.args.most c.remove-process.result c.find-process.result.0 c.find-process.result.1
-    c.self.view_is within c.remove-process.ensures.value written c.find-process.ensures.found }
+    record {
+      found = found_in ps _ c.self.inside.kernel c.args.self.now c.args.pid c.args.most c.remove-process.result c.find-process.result.0 c.find-process.result.1
+          c.self.view_is within c.remove-process.ensures.value written c.find-process.ensures.found;
+    }
