@@ -6,3 +6,9 @@ pub mod Held
 pub mod Segments
 pub mod Starts
 pub mod Verdicts
+pub mod Course
+pub mod History
+pub mod Alone
+pub mod Finished
+pub mod Settled
+pub mod Settling

@@ -8,6 +8,7 @@ mod process;
 mod schedule;
 mod stepped;
 mod stepping;
+mod trace;
 mod verdict;
 mod world;
 
@@ -16,6 +17,7 @@ pub use fresh::{Fresh, FreshFault, Program};
 pub use process::Process;
 pub use schedule::{Block, MOST_STEPS, PROCESSES, SchedFault, Schedule};
 pub use stepped::Stepped;
+pub use trace::{Told, Trace};
 pub use verdict::Verdict;
 pub use world::{RunStop, StepFault, World};
 

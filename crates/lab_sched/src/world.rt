@@ -7,7 +7,10 @@ ghost use Rattle.lab_sched.specs.Verdicts.{HasEnded};
 ghost use Rattle.lab_sched.specs.Held.{seen, told_of, IsWorld};
 ghost use Rattle.lab_sched.specs.declared.world.StepFault.TheVariants.{NoProcess};
 
+mod bits;
+mod finding;
 mod run;
+mod settle;
 
 use crate::stepping::take_step;
 use crate::{Process, Stepped};
