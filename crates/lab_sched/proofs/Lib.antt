@@ -18,3 +18,4 @@ pub mod Commutes
 pub mod Finds
 pub mod ScheduleEnds
 pub mod Settles
+pub mod VerdictLemmas
