@@ -4,4 +4,3 @@ pub mod ScriptLemmas
 pub mod RowLemmas
 pub mod NumberLemmas
 pub mod UntilLemmas
-pub mod VerdictLemmas

@@ -5,7 +5,7 @@ use Rattle.lab_sched.specs.Held.{told_of}
 use Rattle.ipc_kernel.specs.declared.call.Answer.TheVariants.{Done, Wait}
 use Rattle.lab_sched.specs.declared.stepped.Stepped.TheVariants.{Same}
 use Rattle.lab_debug.specs.Effects.{is_at, halts, until}
-use Rattle.lab_debug.specs.Verdicts.{is_nothing}
+use Rattle.lab_sched.specs.Verdicts.{is_nothing}
 
 -- nothing more happens where the process halts
 pub until-halted : (pid address : ℕ) (w : WorldState) (i n : ℕ) → i < n → halts pid address w ≡ true → until pid address w (n - i) ≡ w

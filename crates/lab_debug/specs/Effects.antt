@@ -11,7 +11,8 @@ use Rattle.lab_debug.specs.Commands.{words_of, command_of}
 use Rattle.lab_debug.specs.Script.{Effect}
 use Rattle.lab_debug.specs.Texts.{machine_of, status_text, procs_text, regs_text, mem_text, dis_text, out_text}
 use Rattle.lab_debug.specs.Objects.{mqs_text, sems_text, fds_text}
-use Rattle.lab_debug.specs.Verdicts.{is_nothing, verdict_text}
+use Rattle.lab_sched.specs.Verdicts.{is_nothing}
+use Rattle.lab_debug.specs.Verdicts.{verdict_text}
 
 abbrev pub refusal_text : Refusal → List ℕ
 refusal_text UnknownCommand = codes "? unknown command\n"

@@ -1,7 +1,7 @@
 //! Verdicts and reports.
 ghost use Rattle.std.specs.Prelude.{◌≡◌, ◌++◌, OnOk, length, string_bytes};
 ghost use Rattle.lab_debug.specs.Rows.{each};
-ghost use Rattle.lab_debug.specs.Verdicts.{verdict_of, verdict_line, verdict_text};
+ghost use Rattle.lab_debug.specs.Verdicts.{verdict_line, verdict_text};
 ghost use Rattle.lab_debug.specs.Reports.{process_report, report_text};
 
 use crate::output::push_out;
@@ -21,7 +21,6 @@ fn line_of(verdict: Verdict) -> &'static str
 }
 
 /// Adds the verdict on a world.
-#[tactic(auto, using(crate::proofs::VerdictLemmas::verdict_from))]
 pub fn push_verdict(text: &mut String, world: &World) -> Result<(), AllocError>
     ensures { OnOk result (string_bytes text.new ≡ string_bytes text.old ++ verdict_text world.now) }
 {
