@@ -1,33 +1,19 @@
--- A process by itself: how far it has come after a number of steps.
-use Rattle.std.specs.Prelude.{ℕ, zero, suc, []}
+-- The run of an image by itself.
+use Rattle.std.specs.Prelude.{ℕ, List, [], ◌∷◌, replicate}
 use Rattle.lc3_word.specs.Segment.{Segment}
-use Rattle.lc3_machine.specs.declared.want.Want.TheVariants.{Trap, End}
-use Rattle.lc3_machine.specs.declared.want.How.TheVariants.{BadTrap}
-use Rattle.lc3_machine.specs.Process.{Process, EndedProcess, Outcome, GoesOn, Stops, start}
-use Rattle.lc3_machine.specs.Effects.{next_step}
-use Rattle.lc3_machine.specs.Reply.{ended}
+use Rattle.lc3_machine.specs.Process.{start}
+use Rattle.ipc_kernel.specs.Kernel.{empty_kernel}
+use Rattle.lab_sched.specs.Worlds.{Running, WorldState, run}
+use Rattle.lab_debug.specs.Reports.{report_text}
 
--- a process runs or has ended
-pub data State : Type 0 where
-  Runs : Process → State
-  HasEnded : EndedProcess → State
+-- the world whose one process has this image and no console input
+abbrev pub alone : Segment → WorldState
+alone image = record { processes = Running (start image.origin image.words []) ∷ []; kernel = empty_kernel 1 }
 
--- a process after what its next step is; no kernel answers it, so a trap of the kernel is a bad one
-abbrev pub taken : Process → Outcome → State
-taken p (GoesOn q) = Runs q
-taken p (Stops (End how)) = HasEnded (record { process = ended p how; how = how })
-taken p (Stops (Trap vector)) = HasEnded (record { process = p; how = BadTrap })
+-- the same after 100,000 steps
+unfoldable pub last_world : Segment → WorldState
+last_world image = run (alone image) (replicate 100000 0)
 
--- one step; that of an ended process has no effect
-abbrev pub stepped : State → State
-stepped (Runs p) = taken p (next_step p)
-stepped (HasEnded e) = HasEnded e
-
--- so many steps
-unfoldable pub state_after : ℕ → State → State
-state_after zero s = s
-state_after (suc n) s = stepped (state_after n s)
-
--- an image is loaded, with no console input, and does 100,000 steps
-unfoldable pub last_state : Segment → State
-last_state image = state_after 100000 (Runs (start image.origin image.words []))
+-- its report
+abbrev pub report_of : Segment → List ℕ
+report_of image = report_text (last_world image)

@@ -2,9 +2,11 @@
 ghost use Rattle.std.specs.Prelude.{◌≡◌, false};
 
 use crate::complaint::{Complaint, Reason};
+use crate::debugging::debug_programs;
 use crate::fault::CliFault;
 use crate::line::{Request, read_words};
 use crate::run::hex_run;
+use crate::stepping::step_programs;
 use crate::translating::{assemble_file, disassemble_file};
 use lab_io::{Input, Output};
 use std::alloc::Global;
@@ -40,7 +42,7 @@ pub fn command<T: Files, R: Read, W: Write, E: Write>(
     }
     match read_words(alloc, words) {
         Ok(request) => {
-            let outcome = perform(rt, alloc, request, output);
+            let outcome = perform(rt, alloc, &request, input, output);
             status(alloc, outcome, errors)
         }
         Err(error) => explain(alloc, &error, output, errors),
@@ -55,19 +57,30 @@ fn complaint(fault: CliFault) -> Complaint<'static> {
     }
 }
 
-fn perform<'a, T: Files, W: Write>(
+/// Does what a request asks for.
+fn perform<'a, T: Files, R: Read, W: Write>(
     rt: &T,
     alloc: Global,
-    request: Request<'a>,
+    request: &Request<'a>,
+    input: &mut Input<R>,
     output: &mut Output<W>,
-) -> Result<(), Complaint<'a>> {
-    match request {
+) -> Result<(), Complaint<'a>>
+    requires input_healthy { input.old.failed ≡ false }
+    requires output_healthy { output.old.failed ≡ false }
+{
+    match *request {
         Request::Assemble {
             source,
             object,
             list,
         } => assemble_file(rt, alloc, source, object, list, output),
         Request::Disassemble { object } => disassemble_file(rt, alloc, object, output),
+        Request::Step { ref programs } => {
+            step_programs(rt, alloc, programs.as_slice(), input, output)
+        }
+        Request::Debug { ref programs } => {
+            debug_programs(rt, alloc, programs.as_slice(), input, output)
+        }
     }
 }
 

@@ -1,5 +1,7 @@
 //! What the program says of a fault.
 use crate::fault::CliFault;
+use lab_debug::SessionFault;
+use lab_sched::{RunStop, SchedFault, StepFault};
 use lc3_asm::AsmFault;
 use lc3_obj::ObjFault;
 use lc3_table::Fault;
@@ -13,6 +15,12 @@ pub enum Reason {
     OddLength,
     TooLong,
     Line { number: usize, fault: Fault },
+    BadBlock { at: usize },
+    TooManySteps { at: usize },
+    Count,
+    NoProcess { done: u64 },
+    TooManyLines,
+    LineTooLong,
     NotUtf8,
     TooLarge,
     CannotRead,
@@ -68,6 +76,37 @@ impl From<AsmFault> for Reason {
     }
 }
 
+impl From<SchedFault> for Reason {
+    fn from(fault: SchedFault) -> Reason {
+        match fault {
+            SchedFault::BadBlock { at } => Reason::BadBlock { at },
+            SchedFault::TooLong { at } => Reason::TooManySteps { at },
+            SchedFault::NoMemory => Reason::NoMemory,
+        }
+    }
+}
+
+impl From<RunStop> for Reason {
+    fn from(stop: RunStop) -> Reason {
+        match stop.fault {
+            StepFault::NoProcess => Reason::NoProcess { done: stop.done },
+            StepFault::NoMemory => Reason::NoMemory,
+        }
+    }
+}
+
+impl From<SessionFault> for Reason {
+    fn from(fault: SessionFault) -> Reason {
+        match fault {
+            SessionFault::Read => Reason::CannotRead,
+            SessionFault::Write => Reason::CannotWrite,
+            SessionFault::TooManyLines => Reason::TooManyLines,
+            SessionFault::LineTooLong => Reason::LineTooLong,
+            SessionFault::NoMemory => Reason::NoMemory,
+        }
+    }
+}
+
 impl fmt::Display for Reason {
     fn fmt<W: fmt::Write>(&self, f: &mut fmt::Formatter<W>) -> fmt::Result {
         match *self {
@@ -76,6 +115,12 @@ impl fmt::Display for Reason {
             Reason::OddLength => write!(f, "OddLength"),
             Reason::TooLong => write!(f, "TooLong"),
             Reason::Line { number, fault } => write!(f, "line {number}: {fault:?}"),
+            Reason::BadBlock { at } => write!(f, "block {at}: BadBlock"),
+            Reason::TooManySteps { at } => write!(f, "block {at}: TooLong"),
+            Reason::Count => write!(f, "Count"),
+            Reason::NoProcess { done } => write!(f, "after {done} steps: NoProcess"),
+            Reason::TooManyLines => write!(f, "TooManyLines"),
+            Reason::LineTooLong => write!(f, "LineTooLong"),
             Reason::NotUtf8 => write!(f, "not UTF-8"),
             Reason::TooLarge => write!(f, "too large"),
             Reason::CannotRead => write!(f, "cannot read"),

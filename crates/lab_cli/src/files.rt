@@ -1,12 +1,12 @@
 //! Files that are read or written whole.
-use crate::complaint::Reason;
+use crate::complaint::{Complaint, Reason};
 use crate::input::read_whole;
 use lab_io::{Input, Output};
 use lc3_obj::{read_image, write_image};
 use lc3_word::Image;
 use std::alloc::Global;
 use std::fs;
-use std::io::ErrorKind;
+use std::io::{ErrorKind, Write};
 use std::rt::Files;
 
 /// The text of a source file.
@@ -21,7 +21,8 @@ pub fn read_object<T: Files>(rt: &T, alloc: Global, name: &str) -> Result<Image,
     Ok(read_image(alloc, bytes.as_slice())?)
 }
 
-fn read_file<T: Files>(rt: &T, alloc: Global, name: &str) -> Result<Vec<u8>, Reason> {
+/// The bytes of a file.
+pub fn read_file<T: Files>(rt: &T, alloc: Global, name: &str) -> Result<Vec<u8>, Reason> {
     match fs::open(rt, name) {
         Ok(file) => Ok(read_whole(alloc, &mut Input::new(file))?),
         Err(error) if error.kind() == ErrorKind::OutOfMemory => Err(Reason::NoMemory),
@@ -36,4 +37,11 @@ pub fn write_object<T: Files>(rt: &T, name: &str, image: &Image) -> Result<(), R
         Err(error) if error.kind() == ErrorKind::OutOfMemory => Err(Reason::NoMemory),
         Err(_) => Err(Reason::CannotWrite),
     }
+}
+
+/// Writes a text to the output of the program.
+pub fn write_text<W: Write>(text: &str, output: &mut Output<W>) -> Result<(), Complaint<'static>> {
+    output
+        .write_all(text.as_bytes())
+        .map_err(|_| Reason::CannotWrite.at("run"))
 }

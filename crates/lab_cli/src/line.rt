@@ -3,7 +3,7 @@ use clap::{Arg, ArgAction, ArgMatches, Command, Error};
 use std::alloc::{AllocError, Global};
 
 /// What the words of a command line ask for.
-#[derive(Clone, Copy, Debug, PartialEq, Eq)]
+#[derive(Drop)]
 pub enum Request<'a> {
     Assemble {
         source: &'a str,
@@ -13,12 +13,18 @@ pub enum Request<'a> {
     Disassemble {
         object: &'a str,
     },
+    Step {
+        programs: Vec<&'a str>,
+    },
+    Debug {
+        programs: Vec<&'a str>,
+    },
 }
 
 /// What the words ask for, or the text of help or of what is wrong with them.
 pub fn read_words<'a>(alloc: Global, words: &'a [String]) -> Result<Request<'a>, Error> {
     let matches = program(alloc)?.try_get_matches_from(words)?;
-    Ok(request_of(&matches))
+    Ok(request_of(alloc, &matches)?)
 }
 
 const EXAMPLE: &str = "\
@@ -37,7 +43,9 @@ fn program<'a>(alloc: Global) -> Result<Command<'a>, AllocError> {
         .subcommand_required(true)
         .override_usage("lc3lab [COMMAND]")
         .subcommand(asm(alloc)?)?
-        .subcommand(dis(alloc)?)
+        .subcommand(dis(alloc)?)?
+        .subcommand(step(alloc)?)?
+        .subcommand(debug(alloc)?)
 }
 
 fn asm<'a>(alloc: Global) -> Result<Command<'a>, AllocError> {
@@ -69,17 +77,51 @@ fn dis<'a>(alloc: Global) -> Result<Command<'a>, AllocError> {
         .arg(object)
 }
 
+fn step<'a>(alloc: Global) -> Result<Command<'a>, AllocError> {
+    Command::new(alloc, "step")
+        .about("Runs programs by the schedule on standard input and prints a report")
+        .after_help("Example:\n  echo '0*65 1*68' | lc3lab step producer.obj consumer.obj")
+        .arg(programs(alloc))
+}
+
+fn debug<'a>(alloc: Global) -> Result<Command<'a>, AllocError> {
+    Command::new(alloc, "debug")
+        .about("Runs programs by commands on standard input, which also show them")
+        .after_help("Example:\n  printf 'step 0 3\\nregs 0\\n' | lc3lab debug hello.obj")
+        .arg(programs(alloc))
+}
+
+/// The programs of a laboratory, one or more.
+fn programs<'a>(alloc: Global) -> Arg<'a> {
+    Arg::new(alloc, "PROGRAM")
+        .required(true)
+        .num_args(1..)
+        .help("An object file, or OBJECT=INPUT with a file of console input")
+}
+
 /// The parser has made sure that each required word is there.
-fn request_of<'a>(matches: &ArgMatches<'a>) -> Request<'a> {
-    match matches.subcommand() {
+fn request_of<'a>(alloc: Global, matches: &ArgMatches<'a>) -> Result<Request<'a>, AllocError> {
+    let request = match matches.subcommand() {
         Some(("asm", words)) => Request::Assemble {
             source: words.get_str("SOURCE").unwrap_or_default(),
             object: words.get_str("OBJECT").unwrap_or_default(),
             list: words.get_flag("list"),
         },
+        Some(("step", words)) => Request::Step {
+            programs: programs_of(alloc, words)?,
+        },
+        Some(("debug", words)) => Request::Debug {
+            programs: programs_of(alloc, words)?,
+        },
         Some((_, words)) => Request::Disassemble {
             object: words.get_str("OBJECT").unwrap_or_default(),
         },
         None => Request::Disassemble { object: "" },
-    }
+    };
+    Ok(request)
+}
+
+/// The words of a command that name programs.
+fn programs_of<'a>(alloc: Global, words: &ArgMatches<'a>) -> Result<Vec<&'a str>, AllocError> {
+    words.get_strs("PROGRAM").unwrap_or_default().to_vec(alloc)
 }

@@ -3,14 +3,15 @@
 
 mod command;
 mod complaint;
+mod debugging;
 mod fault;
 mod files;
 mod hex;
 mod input;
 mod line;
-mod process;
-mod report;
+mod programs;
 mod run;
+mod stepping;
 mod translating;
 
 use command::{FAULT, USAGE, command as perform_command};

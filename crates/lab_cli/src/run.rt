@@ -1,21 +1,47 @@
 //! The run over hexadecimal words.
-ghost use Rattle.std.specs.Prelude.{◌≡◌, ◌≢◌, ◌≤◌, false, IfErr, OnOk, IfSome, IsOkAnd, length};
+ghost use Rattle.std.specs.Prelude.{◌≡◌, ◌≢◌, ◌≤◌, false, IfOk, IfErr, OnOk, IfSome, IsOkAnd, length};
 ghost use Rattle.std.specs.Io.KnownBytes.{Appends};
 ghost use Rattle.lab_cli.specs.Hex.{image_of};
-ghost use Rattle.lab_cli.specs.Report.{report_of};
+ghost use Rattle.lab_cli.specs.Run.{last_world, report_of};
 ghost use Rattle.lab_cli.specs.Fault.{Explains};
 
 use crate::fault::CliFault;
 use crate::hex::read_text;
 use crate::input::read_whole;
-use crate::process::run_image;
-use crate::report::report;
+use lab_debug::report_text;
 use lab_io::{Input, Output};
+use lab_sched::{Fresh, Program, Schedule, World};
+use lc3_word::Image;
 use std::alloc::Global;
 use std::io::{Read, Write};
 
-/// Reads the hexadecimal words of an image to the end of the input, steps its process until it ends or 100,000 steps
-/// are done, and writes the report. The first fault is answered: `Read` or `TooLarge` while the input is read, then
+/// The number of steps.
+const STEPS: u32 = 100_000;
+
+/// The world of an image by itself after 100,000 steps.
+#[tactic(auto, unfolding(crate::specs::Run::last_world))]
+pub fn run_alone(alloc: Global, image: Image) -> Result<World, CliFault>
+    ensures world { IfOk result (λ world. world ≡ last_world image) }
+    ensures err { IfErr result (λ fault. fault ≡ CliFault.NoMemory) }
+{
+    let programs = [Program {
+        image,
+        input: Vec::new(alloc),
+    }];
+    let Ok(fresh) = Fresh::new(alloc, programs.as_slice()) else {
+        return Err(CliFault::NoMemory);
+    };
+    let mut schedule = Schedule::new(alloc);
+    schedule.push(0, STEPS)?;
+    let mut world = World::from(fresh);
+    match world.run(&schedule) {
+        Ok(()) => Ok(world),
+        Err(_) => Err(CliFault::NoMemory),
+    }
+}
+
+/// Reads the hexadecimal words of an image to the end of the input, steps it as process 0 until it ends or 100,000
+/// steps are done, and writes the report. The first fault is answered: `Read` or `TooLarge` while the input is read, then
 /// `BadWord`, `Empty` and `TooLong`, and `Write` last; `NoMemory` may come before any of them but `Read` and
 /// `TooLarge` that came earlier. How much was written before `Write` isn't said.
 pub fn hex_run<R: Read, W: Write>(
@@ -37,8 +63,8 @@ pub fn hex_run<R: Read, W: Write>(
 {
     let text = read_whole(alloc, input)?;
     let image = read_text(alloc, text.as_slice())?;
-    let process = run_image(alloc, &image)?;
-    let report = report(alloc, &process)?;
+    let world = run_alone(alloc, image)?;
+    let report = report_text(alloc, &world)?;
     output
         .write_all(report.as_bytes())
         .map_err(|_| CliFault::Write)

@@ -1,13 +1,15 @@
 ghost use Rattle.std.specs.Prelude.{◌≤◌};
 
 mod commands;
+mod interleavings;
+mod rows;
 
 use crate::command::{FAULT, SUCCESS, command};
 use crate::fault::CliFault;
 use crate::hex::read_text;
-use crate::process::{Process, run_image};
-use crate::run::hex_run;
+use crate::run::{hex_run, run_alone};
 use lab_io::{Input, Output, SlowIn, SlowOut};
+use lab_sched::{Process, World};
 use lc3_word::{Cc, Reg};
 use std::alloc::{AllocError, Global};
 use std::process::Abort;
@@ -215,21 +217,21 @@ fn reads_each_single_byte(rt: HostRuntime) -> Result<(), Fail> {
     Ok(())
 }
 
-fn run_text(alloc: Global, text: &[u8]) -> Result<Process, CliFault> {
+fn run_text(alloc: Global, text: &[u8]) -> Result<World, CliFault> {
     let image = read_text(alloc, text)?;
-    Ok(run_image(alloc, &image)?)
+    run_alone(alloc, image)
 }
 
 /// The sum of x7FFF and 1 is negative.
 #[test]
 fn leaves_the_registers_of_a_halt(rt: HostRuntime) -> Result<(), Fail> {
     let text = b"2FFF 2002 1021 F025 7FFF";
-    let process = match run_text(rt.alloc(), text) {
+    let world = match run_text(rt.alloc(), text) {
         Err(CliFault::NoMemory) => run_text(rt.alloc(), text)?,
         result => result?,
     };
-    match process {
-        Process::Ended(process) => {
+    match world.process(0) {
+        Some(Process::Ended(process)) => {
             assert_eq!(rt; process.pc(), 0x3002);
             assert_eq!(rt; process.reg(Reg::of_low_bits(0)), 0x8000);
             assert!(rt; process.cc() == Cc::N);

@@ -1,6 +1,6 @@
 //! The commands `asm` and `dis`.
 use crate::complaint::{Complaint, Reason};
-use crate::files::{read_object, read_source, write_object};
+use crate::files::{read_object, read_source, write_object, write_text};
 use lab_io::Output;
 use lc3_asm::{assemble, listing};
 use lc3_table::image_text;
@@ -38,10 +38,4 @@ pub fn disassemble_file<'a, T: Files, W: Write>(
     let image = read_object(rt, alloc, object).map_err(|reason| reason.at(object))?;
     let lines = image_text(alloc, &image).map_err(|_| Reason::NoMemory.at("run"))?;
     write_text(&lines, output)
-}
-
-fn write_text<W: Write>(text: &str, output: &mut Output<W>) -> Result<(), Complaint<'static>> {
-    output
-        .write_all(text.as_bytes())
-        .map_err(|_| Reason::CannotWrite.at("run"))
 }

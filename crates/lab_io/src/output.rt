@@ -2,6 +2,7 @@
 ghost use Rattle.std.specs.Prelude.{◌≡◌, ◌<◌, false, length, IfOk, OnOk, OnErr, IsTrue};
 ghost use Rattle.std.specs.Io.{WritesAtMost};
 ghost use Rattle.std.specs.Io.KnownBytes.{Appends, WriteAppends};
+ghost use Rattle.lab_io.specs.Device.{AppendsPrefix};
 
 use crate::Failed;
 use std::io::Write;
@@ -52,10 +53,12 @@ impl<W: Write> Output<W> {
         }
     }
 
-    /// Writes all the bytes. Where it fails, some of them may be written.
+    /// Writes all the bytes, or where it fails a beginning of them.
     pub fn write_all(&mut self, bytes: &[u8]) -> Result<(), Failed>
         ensures bytes { OnOk result
             (Appends (W.contents self.old.device) (W.contents self.new.device) bytes.now) }
+        ensures prefix { OnErr result
+            (AppendsPrefix (W.contents self.old.device) (W.contents self.new.device) bytes.now) }
         ensures ok { OnOk result (self.new.failed ≡ self.old.failed) }
         ensures err { OnErr result (IsTrue self.new.failed) }
     {

@@ -1,6 +1,5 @@
 pub mod ScheduleJoins
 pub mod ScheduleWords
-pub mod ScheduleNumbers
 pub mod ScheduleSteps
 pub mod ScheduleTextLemmas
 pub mod ScheduleReadsBack
@@ -19,3 +18,4 @@ pub mod Commutes
 pub mod Finds
 pub mod ScheduleEnds
 pub mod Settles
+pub mod VerdictLemmas

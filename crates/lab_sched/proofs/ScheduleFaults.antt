@@ -9,7 +9,8 @@ use Rattle.lab_sched.specs.declared.schedule.fault.SchedFault.{SchedFault}
 use Rattle.lab_sched.specs.declared.schedule.fault.SchedFault.TheVariants.{BadBlock, TooLong}
 use Rattle.lab_sched.specs.declared.schedule.block.TheConstants.{PROCESSES, MOST_STEPS}
 use Rattle.lab_sched.specs.Schedules.{block, total_of, steps_of, joined, IsBlock, IsSchedule}
-use Rattle.lab_sched.specs.ScheduleTexts.{words, is_star, natural, in_range, process_in, count_in, block_at, block_from, block_in, block_or, written, too_long, scheduled, within, reading, Gives, Fails, ◌>>=◌}
+use Rattle.lc3_word.specs.Numbers.{unsigned}
+use Rattle.lab_sched.specs.ScheduleTexts.{words, is_star, in_range, process_in, count_in, block_at, block_from, block_in, block_or, written, too_long, scheduled, within, reading, Gives, Fails, ◌>>=◌}
 use Rattle.lab_sched.specs.ScheduleLaws.{IsFirst, IsFirstOver, IsFirstTooLong, FirstBadBlock, FirstTooLong, ReadSteps}
 use Rattle.lab_sched.proofs.ScheduleJoins.{apart-joined, total-joined, steps-joined, valid-joined}
 
@@ -43,11 +44,11 @@ range_at_most low high n m (Some k) h = go (nat_le low k) (nat_le k high) refl r
 
 process_in-valid : (w : List ℕ) (p : ℕ) → process_in w ≡ Some p → p < PROCESSES
 unfolding process_in
-process_in-valid w p h = let r = range_at_most 0 63 p 0 (natural w) h in omega (arith, r.1)
+process_in-valid w p h = let r = range_at_most 0 63 p 0 (unsigned 10 w) h in omega (arith, r.1)
 
 count_in-valid : (w : List ℕ) (n : ℕ) → count_in w ≡ Some n → 1 ≤ n
 unfolding count_in
-count_in-valid w n h = let r = range_at_most 1 MOST_STEPS n 0 (natural w) h in omega (arith, r.0)
+count_in-valid w n h = let r = range_at_most 1 MOST_STEPS n 0 (unsigned 10 w) h in omega (arith, r.0)
 
 block_from-valid : (p n : Option ℕ) (b : Block) → ((k : ℕ) → p ≡ Some k → k < PROCESSES) → ((k : ℕ) → n ≡ Some k → 1 ≤ k)
     → block_from p n ≡ Some b → IsBlock b

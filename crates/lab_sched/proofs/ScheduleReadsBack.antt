@@ -18,7 +18,7 @@ use Rattle.lab_sched.specs.Schedules.{total_of, IsBlock, IsSchedule}
 use Rattle.lab_sched.specs.ScheduleTexts.{block_text, schedule_text, words, is_space, is_star, in_range, process_in, count_in, block_at, block_from, block_in, written, too_long, scheduled, reading, ◌>>=◌}
 use Rattle.lab_sched.proofs.ScheduleJoins.{joined-apart}
 use Rattle.lab_sched.proofs.ScheduleWords.{words-blank, words-last, words-none}
-use Rattle.lab_sched.proofs.ScheduleNumbers.{natural-decimal}
+use Rattle.lc3_word.proofs.Numerals.{unsigned-decimal}
 use Rattle.lab_sched.proofs.ScheduleTextLemmas.{later_text}
 use Rattle.lab_sched.proofs.ScheduleSteps.{fits}
 
@@ -41,11 +41,11 @@ star_at ds rest h = rw (star_after ds rest h, lt-ltb (length ds) (length (ds ++ 
 
 process_in-decimal : (p : ℕ) → p < PROCESSES → process_in (decimal p) ≡ Some p
 unfolding process_in
-process_in-decimal p h = ap (in_range 0 63) (natural-decimal p (omega arith)) ∙ grind (arith, nat_tests)
+process_in-decimal p h = ap (in_range 0 63) (unsigned-decimal p (omega arith)) ∙ grind (arith, nat_tests)
 
 count_in-decimal : (n : ℕ) → 1 ≤ n → n ≤ MOST_STEPS → count_in (decimal n) ≡ Some n
 unfolding count_in
-count_in-decimal n h k = ap (in_range 1 MOST_STEPS) (natural-decimal n (omega arith)) ∙ grind (arith, nat_tests)
+count_in-decimal n h k = ap (in_range 1 MOST_STEPS) (unsigned-decimal n (omega arith)) ∙ grind (arith, nat_tests)
 
 drop_star : (ds rest : List ℕ) → drop (length ds + 1) (ds ++ 42 ∷ rest) ≡ rest
 drop_star [] rest = refl

@@ -1,8 +1,7 @@
 -- The text of a schedule, and what a text is read as.
 use Rattle.std.specs.Prelude.{ℕ, ◌+◌, ◌==◌, ◌||◌, ◌&&◌, ◌≡◌, nat_lt, nat_le, not, Bool, true, false, if◌then◌else◌, Option, Some, None, Result, Ok, Err, List, [], ◌∷◌, ◌++◌, take, drop, decimal, position}
-use Rattle.std.specs.List.{filter, slice_split, flat_map, list_all}
-use Rattle.std.specs.Char.{digit_value}
-use Rattle.std.specs.Str.Parse.{digits_value}
+use Rattle.std.specs.List.{filter, slice_split, flat_map}
+use Rattle.lc3_word.specs.Numbers.{unsigned}
 use Rattle.lab_sched.specs.declared.schedule.block.Block.{Block}
 use Rattle.lab_sched.specs.declared.schedule.fault.SchedFault.{SchedFault}
 use Rattle.lab_sched.specs.declared.schedule.fault.SchedFault.TheVariants.{BadBlock, TooLong, NoMemory}
@@ -33,21 +32,17 @@ is_empty (c ∷ cs) = false
 unfoldable pub words : List ℕ → List (List ℕ)
 words text = filter (λ word. not (is_empty word)) (slice_split is_space text)
 
--- the number that one decimal digit or more write
-unfoldable pub natural : List ℕ → Option ℕ
-natural [] = None
-natural (d ∷ ds) = if list_all (λ c. nat_lt (digit_value c) 10) (d ∷ ds) then Some (digits_value 10 (d ∷ ds)) else None
-
 -- a number that is at least low and at most high
 abbrev pub in_range : ℕ → ℕ → Option ℕ → Option ℕ
 in_range low high None = None
 in_range low high (Some n) = if nat_le low n && nat_le n high then Some n else None
 
+-- decimal digits
 unfoldable pub process_in : List ℕ → Option ℕ
-process_in text = in_range 0 63 (natural text)
+process_in text = in_range 0 63 (unsigned 10 text)
 
 unfoldable pub count_in : List ℕ → Option ℕ
-count_in text = in_range 1 MOST_STEPS (natural text)
+count_in text = in_range 1 MOST_STEPS (unsigned 10 text)
 
 abbrev pub block_from : Option ℕ → Option ℕ → Option Block
 block_from (Some pid) (Some n) = Some (block pid n)

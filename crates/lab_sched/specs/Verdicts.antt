@@ -1,6 +1,7 @@
 -- How a world stands.
-use Rattle.std.specs.Prelude.{◌≡◌, ℕ, Some, slice_get}
-use Rattle.lab_sched.specs.Worlds.{Process, Running, Waiting, Ended, WorldState, turn_in, IsEffective}
+use Rattle.std.specs.Prelude.{◌≡◌, ℕ, Bool, true, false, not, ◌&&◌, if◌then◌else◌, Some, length, slice_get}
+use Rattle.std.specs.List.{list_all, list_any, range_with_len}
+use Rattle.lab_sched.specs.Worlds.{Process, Running, Waiting, Ended, Turn, nothing, local_step, kernel_step, WorldState, turn_in, IsEffective}
 use Rattle.lab_sched.specs.declared.verdict.Verdict.{Verdict}
 use Rattle.lab_sched.specs.declared.verdict.Verdict.TheVariants as verdict
 
@@ -33,3 +34,44 @@ abbrev pub IsVerdict : WorldState → Verdict → Type 0
 IsVerdict w verdict.Ended = HaveEnded w
 IsVerdict w verdict.Stuck = AreStuck w
 IsVerdict w verdict.Open = (HaveEnded w → ⊥) × (AreStuck w → ⊥)
+
+abbrev pub is_running : Process → Bool
+is_running (Running m) = true
+is_running (Waiting m c) = false
+is_running (Ended e) = false
+
+abbrev pub is_waiting : Process → Bool
+is_waiting (Running m) = false
+is_waiting (Waiting m c) = true
+is_waiting (Ended e) = false
+
+abbrev pub is_ended : Process → Bool
+is_ended (Running m) = false
+is_ended (Waiting m c) = false
+is_ended (Ended e) = true
+
+-- whether a step does nothing
+abbrev pub is_nothing : Turn → Bool
+is_nothing nothing = true
+is_nothing (local_step n) = false
+is_nothing (kernel_step m c a) = false
+
+-- whether each process has ended
+abbrev pub all_ended : WorldState → Bool
+all_ended w = list_all is_ended w.processes
+
+-- whether no process has an effective step
+abbrev pub none_moves : WorldState → Bool
+none_moves w = list_all (λ p. is_nothing (turn_in w p)) (range_with_len 0 (length w.processes))
+
+-- whether some process waits, none is running, and no step is effective
+abbrev pub are_stuck : WorldState → Bool
+are_stuck w = list_any is_waiting w.processes && (not (list_any is_running w.processes) && none_moves w)
+
+-- the verdict of a world, worked out
+unfoldable pub verdict_of : WorldState → Verdict
+verdict_of w = if all_ended w then verdict.Ended else if are_stuck w then verdict.Stuck else verdict.Open
+
+-- what is worked out is the verdict
+abbrev pub VerdictWorkedOut : Type 0
+VerdictWorkedOut = (w : WorldState) → IsVerdict w (verdict_of w)

@@ -1,6 +1,7 @@
-//! Laws of schedules and of their texts, over the definitions alone.
+//! Laws over the definitions alone: of schedules and their texts, of effective steps, and of verdicts.
 ghost use Rattle.lab_sched.specs.ScheduleLaws.{ReadsBack, StepsTell, FirstBadBlock, FirstTooLong, ReadSteps};
 ghost use Rattle.lab_sched.specs.Course.{Commute};
+ghost use Rattle.lab_sched.specs.Verdicts.{VerdictWorkedOut};
 
 /// A schedule's text reads back as the schedule.
 pub fn reads_back()
@@ -33,4 +34,10 @@ pub fn read_steps()
 #[tactic(auto, using(crate::proofs::Commutes::commute))]
 pub fn commute_law()
     ensures law { Commute }
+{}
+
+/// The verdict that is worked out of a world's processes is its verdict.
+#[tactic(auto, using(crate::proofs::VerdictLemmas::verdict_worked_out))]
+pub fn verdict_law()
+    ensures law { VerdictWorkedOut }
 {}

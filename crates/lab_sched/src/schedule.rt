@@ -134,4 +134,12 @@ impl Schedule {
     {
         schedule_of(alloc, text.as_bytes())
     }
+
+    /// The schedule that the bytes of a text write, as [`Schedule::read`] the text.
+    pub fn read_bytes(alloc: Global, text: &[u8]) -> Result<Schedule, SchedFault>
+        ensures ok { IfOk result (λ schedule. reading text.now ≡ Ok schedule) }
+        ensures err { IfErr result (λ fault. Fails fault (reading text.now)) }
+    {
+        schedule_of(alloc, text)
+    }
 }

@@ -1,7 +1,7 @@
 //! How a world stands.
 ghost use Rattle.std.specs.Prelude.{◌≡◌, ◌<◌, ℕ, length, Some, slice_get, true, false};
 ghost use Rattle.lab_sched.specs.Worlds.{Process as Seen, turn_in, nothing, IsEffective};
-ghost use Rattle.lab_sched.specs.Verdicts.{IsVerdict, HaveEnded, HasEnded};
+ghost use Rattle.lab_sched.specs.Verdicts.{IsVerdict, HaveEnded, HasEnded, verdict_of};
 
 use crate::World;
 
@@ -46,6 +46,7 @@ impl World {
     /// Whether all processes have ended, or some wait and none can go on, or neither.
     pub fn verdict(&self) -> Verdict
         ensures verdict { IsVerdict self.now result }
+        ensures worked_out { result ≡ verdict_of self.now }
     {
         if self.can_move() {
             return Verdict::Open;

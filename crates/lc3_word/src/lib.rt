@@ -12,7 +12,7 @@ pub use code::{Cc, cc_of};
 pub use hexadecimal::{Hex, hex4};
 pub use image::Image;
 pub use number::{Off, add, sext};
-pub use reading::{number_of, read_number};
+pub use reading::{number_of, read_number, unsigned};
 pub use reg::Reg;
 
 #[cfg(test)]

@@ -6,12 +6,12 @@ ghost use Rattle.lc3_word.specs.Numbers.{unsigned, signed, number, capped};
 /// A greater magnitude is read as this one.
 const GREATEST: u32 = 1_000_000_000;
 
-/// The number that the digits write.
+/// The number that one digit or more write, in a base from 2 to 16. A number over 1,000,000,000 is given as that.
 #[tactic(auto, unfolding(crate::specs::Numbers::unsigned))]
-fn unsigned(base: u32, digits: &[u8]) -> Option<u32>
+pub fn unsigned(base: u32, digits: &[u8]) -> Option<u32>
     requires at_least_binary { 2 ≤ base }
     requires at_most_hexadecimal { base ≤ 16 }
-    ensures { result ≡ option_map (λ n. min n 1_000_000_000) (unsigned base digits.now) }
+    ensures value { result ≡ option_map (λ n. min n 1_000_000_000) (unsigned base digits.now) }
 {
     if digits.is_empty() {
         return None;

@@ -122,6 +122,8 @@ fn helps(rt: HostRuntime) -> Result<(), Fail> {
     assert!(rt; is_helped(&rt, &["asm", "-h"])?);
     assert!(rt; is_helped(&rt, &["dis", "--help"])?);
     assert!(rt; is_helped(&rt, &["help", "dis"])?);
+    assert!(rt; is_helped(&rt, &["step", "--help"])?);
+    assert!(rt; is_helped(&rt, &["debug", "--help"])?);
     Ok(())
 }
 
@@ -137,6 +139,8 @@ fn refuses_wrong_words(rt: HostRuntime) -> Result<(), Fail> {
     assert!(rt; is_misused(&rt, &["--list"])?);
     assert!(rt; is_misused(&rt, &["--version"])?);
     assert!(rt; is_misused(&rt, &["asm"])?);
+    assert!(rt; is_misused(&rt, &["step"])?);
+    assert!(rt; is_misused(&rt, &["debug"])?);
     assert!(rt; is_misused(&rt, &["asm", "hi.asm"])?);
     assert!(rt; is_misused(&rt, &["dis", "hi.obj", "hi.obj"])?);
     assert!(rt; is_misused(&rt, &["dis", "-missing.obj"])?);

@@ -1,10 +1,12 @@
 //! Reading a schedule's text.
-ghost use Rattle.std.specs.Prelude.{◌≡◌, ◌≤◌, ◌<◌, [], ◌∷◌, length, min, not, false, slice_index, option_map, position, IfNone, IfSome, IfOk};
+ghost use Rattle.std.specs.Prelude.{◌≡◌, ◌≤◌, ◌<◌, [], ◌∷◌, length, not, false, slice_index, position, IfNone, IfSome, IfOk};
 ghost use Rattle.std.specs.List.{prefix_len, All};
+ghost use Rattle.lc3_word.specs.Numbers.{unsigned};
 ghost use Rattle.lab_sched.specs.Schedules.{IsBlock};
-ghost use Rattle.lab_sched.specs.ScheduleTexts.{is_space, is_star, words, natural, in_range, process_in, count_in, block_in, written, scheduled, reading, Gives};
+ghost use Rattle.lab_sched.specs.ScheduleTexts.{is_space, is_star, words, in_range, process_in, count_in, block_in, written, scheduled, reading, Gives};
 
 use crate::{Block, MOST_STEPS, PROCESSES, SchedFault, Schedule};
+use lc3_word::unsigned;
 use std::alloc::Global;
 
 fn is_space(byte: u8) -> bool
@@ -51,32 +53,13 @@ fn first_word(text: &[u8]) -> Option<(&[u8], &[u8])>
     Some(text.split_at(word_len(text)))
 }
 
-/// A larger number is read as this one.
-const LARGEST: u32 = MOST_STEPS + 1;
-
-/// The number that digits write, at most `LARGEST`.
-#[tactic(auto, unfolding(crate::specs::ScheduleTexts::natural))]
-fn natural(digits: &[u8]) -> Option<u32>
-    ensures { result ≡ option_map (λ n. min n 1_000_000_000) (natural digits.now) }
-{
-    if digits.is_empty() {
-        return None;
-    }
-    let mut value = 0;
-    for digit in digits {
-        let digit = char::from(*digit).to_digit(10)?;
-        value = (u64::from(value) * 10 + u64::from(digit)).min(u64::from(LARGEST)) as u32;
-    }
-    Some(value)
-}
-
 /// The number that digits write, from low to high.
 fn in_range(low: u32, high: u32, digits: &[u8]) -> Option<u32>
     requires { high ≤ MOST_STEPS }
-    ensures value { result ≡ in_range low high (natural digits.now) }
+    ensures value { result ≡ in_range low high (unsigned 10 digits.now) }
     ensures bounds { IfSome result (λ n. (low ≤ n) × (n ≤ high)) }
 {
-    let value = natural(digits)?;
+    let value = unsigned(10, digits)?;
     if low <= value && value <= high {
         Some(value)
     } else {

@@ -1,0 +1,49 @@
+//! The programs of a laboratory, as the command line names them.
+use crate::complaint::{Complaint, Reason};
+use crate::files::{read_file, read_object};
+use lab_sched::{Fresh, FreshFault, Program};
+use std::alloc::Global;
+use std::rt::Files;
+
+/// The programs that words name: each word is `OBJECT` or `OBJECT=INPUT`, split at its first `=`. A file is read and
+/// checked before the next one is opened.
+pub fn read_programs<'a, T: Files>(
+    rt: &T,
+    alloc: Global,
+    words: &[&'a str],
+) -> Result<Vec<Program>, Complaint<'a>> {
+    let mut programs = Vec::new(alloc);
+    for word in words {
+        let program = read_program(rt, alloc, word)?;
+        programs
+            .push(program)
+            .map_err(|_| Reason::NoMemory.at("run"))?;
+    }
+    Ok(programs)
+}
+
+/// The program of an object file, with the bytes of an input file as its console input, or none.
+fn read_program<'a, T: Files>(
+    rt: &T,
+    alloc: Global,
+    word: &'a str,
+) -> Result<Program, Complaint<'a>> {
+    let Some((object, input)) = word.split_once('=') else {
+        let image = read_object(rt, alloc, word).map_err(|reason| reason.at(word))?;
+        return Ok(Program {
+            image,
+            input: Vec::new(alloc),
+        });
+    };
+    let image = read_object(rt, alloc, object).map_err(|reason| reason.at(object))?;
+    let input = read_file(rt, alloc, input).map_err(|reason| reason.at(input))?;
+    Ok(Program { image, input })
+}
+
+/// The laboratory of programs, before its first step.
+pub fn laboratory(alloc: Global, programs: &[Program]) -> Result<Fresh, Complaint<'static>> {
+    Fresh::new(alloc, programs).map_err(|fault| match fault {
+        FreshFault::Count => Reason::Count.at("programs"),
+        FreshFault::NoMemory => Reason::NoMemory.at("run"),
+    })
+}

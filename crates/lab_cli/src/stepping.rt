@@ -1,0 +1,47 @@
+//! The command `step`.
+ghost use Rattle.std.specs.Prelude.{◌≡◌, false};
+
+use crate::complaint::{Complaint, Reason};
+use crate::files::write_text;
+use crate::input::read_whole;
+use crate::programs::{laboratory, read_programs};
+use lab_debug::report_text;
+use lab_io::{Input, Output};
+use lab_sched::{Schedule, World};
+use std::alloc::Global;
+use std::io::{Read, Write};
+use std::rt::Files;
+
+/// Reads the files of the programs, then a schedule from the input, runs the laboratory of these programs by that
+/// schedule, and writes the report.
+pub fn step_programs<'a, T: Files, R: Read, W: Write>(
+    rt: &T,
+    alloc: Global,
+    programs: &[&'a str],
+    input: &mut Input<R>,
+    output: &mut Output<W>,
+) -> Result<(), Complaint<'a>>
+    requires input_healthy { input.old.failed ≡ false }
+    requires output_healthy { output.old.failed ≡ false }
+{
+    let programs = read_programs(rt, alloc, programs)?;
+    let schedule = read_schedule(alloc, input).map_err(|reason| reason.at("schedule"))?;
+    let fresh = laboratory(alloc, programs.as_slice())?;
+    let mut world = World::from(fresh);
+    world
+        .run(&schedule)
+        .map_err(|stop| Reason::from(stop).at("run"))?;
+    let report = report_text(alloc, &world).map_err(|_| Reason::NoMemory.at("run"))?;
+    write_text(&report, output)
+}
+
+/// The schedule that a whole input writes.
+fn read_schedule<R: Read>(alloc: Global, input: &mut Input<R>) -> Result<Schedule, Reason>
+    requires input_healthy { input.old.failed ≡ false }
+{
+    let bytes = read_whole(alloc, input)?;
+    let Ok(text) = str::from_utf8(bytes.as_slice()) else {
+        return Err(Reason::NotUtf8);
+    };
+    Ok(Schedule::read(alloc, text)?)
+}

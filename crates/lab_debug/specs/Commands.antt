@@ -1,0 +1,117 @@
+-- The commands of a script, as they are written.
+use Rattle.std.specs.Prelude.{ℕ, ◌+◌, ◌==◌, ◌||◌, ◌&&◌, not, nat_le, if◌then◌else◌, ℤ, pos, negsuc, Bool, Option, Some, None, Result, Ok, Err, List, [], ◌∷◌, codes, length, filter, flat_map}
+use Rattle.std.specs.Option.{option_map, option_and_then}
+use Rattle.std.specs.List.{slice_split}
+use Rattle.std.specs.Str.{bytes_eq}
+use Rattle.lc3_word.specs.Numbers.{number}
+use Rattle.lab_sched.specs.declared.schedule.block.Block.{Block}
+use Rattle.lab_sched.specs.declared.schedule.fault.SchedFault.{SchedFault}
+use Rattle.lab_sched.specs.ScheduleTexts.{reading}
+use Rattle.lab_debug.specs.declared.command.Command.{Command}
+use Rattle.lab_debug.specs.declared.command.Command.TheVariants.{Step, Run, Until, Regs, Mem, Dis, Procs, Mqs, Sems, Fds, Out, Quit}
+use Rattle.lab_debug.specs.declared.command.Refusal.{Refusal}
+use Rattle.lab_debug.specs.declared.command.Refusal.TheVariants.{UnknownCommand, BadOperands}
+
+-- a blank, a tab or a carriage return
+abbrev pub is_blank : ℕ → Bool
+is_blank b = (b == 32) || ((b == 9) || (b == 13))
+
+abbrev pub is_word : List ℕ → Bool
+is_word piece = not (length piece == 0)
+
+-- the words of a line are what stands between blanks
+unfoldable pub words_of : List ℕ → List (List ℕ)
+words_of line = filter is_word (slice_split is_blank line)
+
+-- a number from low to high
+abbrev pub within : ℕ → ℕ → ℤ → Option ℕ
+within low high (pos n) = if nat_le low n && nat_le n high then Some n else None
+within low high (negsuc n) = None
+
+-- a number as a source line writes it, from low to high
+unfoldable pub number_within : ℕ → ℕ → List ℕ → Option ℕ
+number_within low high word = option_and_then (within low high) (number word)
+
+abbrev pub process_of : List ℕ → Option ℕ
+process_of word = number_within 0 63 word
+
+abbrev pub address_of : List ℕ → Option ℕ
+address_of word = number_within 0 65535 word
+
+abbrev pub count_of : List ℕ → Option ℕ
+count_of word = number_within 1 1000000 word
+
+-- the operands where there are just one, two or three
+abbrev pub one_of : List (List ℕ) → Option (List ℕ)
+one_of (a ∷ []) = Some a
+one_of ws = None
+
+abbrev pub two_of : List (List ℕ) → Option (List ℕ × List ℕ)
+two_of (a ∷ b ∷ []) = Some (a, b)
+two_of ws = None
+
+abbrev pub three_of : List (List ℕ) → Option (List ℕ × List ℕ × List ℕ)
+three_of (a ∷ b ∷ c ∷ []) = Some (a, b, c)
+three_of ws = None
+
+-- P N: a process and a number of steps
+abbrev pub step_of : List (List ℕ) → Option Command
+step_of ws = option_and_then (λ w. option_and_then (λ p. option_map (λ n. Step p n) (count_of w.1)) (process_of w.0)) (two_of ws)
+
+-- P ADDR N: a process, an address and a number of steps
+abbrev pub until_of : List (List ℕ) → Option Command
+until_of ws =
+    option_and_then (λ w. option_and_then (λ p. option_and_then (λ a. option_map (λ n. Until p a n) (count_of w.2)) (address_of w.1)) (process_of w.0)) (three_of ws)
+
+-- P: a process
+abbrev pub of_process : (ℕ → Command) → List (List ℕ) → Option Command
+of_process make ws = option_and_then (λ w. option_map make (process_of w)) (one_of ws)
+
+-- P ADDR N: a process and a range of memory
+abbrev pub of_range : (ℕ → ℕ → ℕ → Command) → List (List ℕ) → Option Command
+of_range make ws =
+    option_and_then (λ w. option_and_then (λ p. option_and_then (λ a. option_and_then (λ n.
+    if nat_le (a + n) 65536 then Some (make p a n) else None)
+    (number_within 1 256 w.2)) (address_of w.1)) (process_of w.0)) (three_of ws)
+
+-- nothing
+abbrev pub bare_of : Command → List (List ℕ) → Option Command
+bare_of command [] = Some command
+bare_of command (w ∷ ws) = None
+
+-- the operands of `run` as one text, each after a blank
+abbrev pub after_blanks : List (List ℕ) → List ℕ
+after_blanks ws = flat_map (λ word. 32 ∷ word) ws
+
+-- BLOCKS: a schedule
+abbrev pub run_of : Result (List Block) SchedFault → Result Command Refusal
+run_of (Ok schedule) = Ok (Run schedule)
+run_of (Err fault) = Err BadOperands
+
+abbrev pub or_bad : Option Command → Result Command Refusal
+or_bad (Some command) = Ok command
+or_bad None = Err BadOperands
+
+-- whether a word is this one, in lower case
+unfoldable pub is_named : List ℕ → List ℕ → Bool
+is_named name word = bytes_eq name word
+
+-- a command other than `run` by its name and its operands
+unfoldable pub plain_command : List ℕ → List (List ℕ) → Result Command Refusal
+plain_command name ws =
+    if is_named (codes "step") name then or_bad (step_of ws) else
+    if is_named (codes "until") name then or_bad (until_of ws) else
+    if is_named (codes "regs") name then or_bad (of_process Regs ws) else
+    if is_named (codes "mem") name then or_bad (of_range Mem ws) else
+    if is_named (codes "dis") name then or_bad (of_range Dis ws) else
+    if is_named (codes "procs") name then or_bad (bare_of Procs ws) else
+    if is_named (codes "mqs") name then or_bad (bare_of Mqs ws) else
+    if is_named (codes "sems") name then or_bad (bare_of Sems ws) else
+    if is_named (codes "fds") name then or_bad (of_process Fds ws) else
+    if is_named (codes "out") name then or_bad (of_process Out ws) else
+    if is_named (codes "quit") name then or_bad (bare_of Quit ws) else
+    Err UnknownCommand
+
+-- a command by its name and its operands
+unfoldable pub command_of : List ℕ → List (List ℕ) → Result Command Refusal
+command_of name ws = if is_named (codes "run") name then run_of (reading (after_blanks ws)) else plain_command name ws

@@ -1,0 +1,95 @@
+-- What a line of a script does.
+use Rattle.std.specs.Prelude.{ℕ, ◌+◌, ◌==◌, ◌||◌, ◌≤◌, ◌<◌, ⊤, zero, suc, Bool, true, false, if◌then◌else◌, nat_lt, Option, Some, None, Result, Ok, Err, List, [], ◌∷◌, codes, length, replicate, slice_get}
+use Rattle.std.specs.List.{list_all}
+use Rattle.lab_sched.specs.Worlds.{Process, WorldState, turn_in, step, run}
+use Rattle.lab_sched.specs.Schedules.{steps_of}
+use Rattle.lab_debug.specs.declared.command.Command.{Command}
+use Rattle.lab_debug.specs.declared.command.Command.TheVariants.{Step, Run, Until, Regs, Mem, Dis, Procs, Mqs, Sems, Fds, Out, Quit}
+use Rattle.lab_debug.specs.declared.command.Refusal.{Refusal}
+use Rattle.lab_debug.specs.declared.command.Refusal.TheVariants.{UnknownCommand, BadOperands, NoProcess}
+use Rattle.lab_debug.specs.Commands.{words_of, command_of}
+use Rattle.lab_debug.specs.Script.{Effect}
+use Rattle.lab_debug.specs.Texts.{machine_of, status_text, procs_text, regs_text, mem_text, dis_text, out_text}
+use Rattle.lab_debug.specs.Objects.{mqs_text, sems_text, fds_text}
+use Rattle.lab_debug.specs.Verdicts.{is_nothing, verdict_text}
+
+abbrev pub refusal_text : Refusal → List ℕ
+refusal_text UnknownCommand = codes "? unknown command\n"
+refusal_text BadOperands = codes "? bad operands\n"
+refusal_text NoProcess = codes "? no such process\n"
+
+-- whether the program counter of a process is at an address
+abbrev pub is_at : ℕ → Option Process → Bool
+is_at address None = false
+is_at address (Some s) = (machine_of s).pc == address
+
+-- whether process pid is at an address, or its step has no effect
+abbrev pub halts : ℕ → ℕ → WorldState → Bool
+halts pid address w = is_at address (slice_get w.processes pid) || is_nothing (turn_in w pid)
+
+-- the world after at most n steps of process pid: up to an address, and only steps that have an effect
+unfoldable pub until : ℕ → ℕ → WorldState → ℕ → WorldState
+until pid address w zero = w
+until pid address w (suc n) = if halts pid address w then w else until pid address (step w pid) n
+
+-- a text of a world, and nothing else
+abbrev pub shows : (WorldState → List ℕ) → WorldState → Effect WorldState
+shows text w = record { text = text w; world = w; ends = false }
+
+abbrev pub refused : Refusal → WorldState → Effect WorldState
+refused refusal w = record { text = refusal_text refusal; world = w; ends = false }
+
+-- what a command does, where its processes are there
+abbrev pub carried_out : WorldState → Command → Effect WorldState
+carried_out w (Step pid n) = shows (status_text pid) (run w (replicate n pid))
+carried_out w (Run schedule) = shows verdict_text (run w (steps_of schedule))
+carried_out w (Until pid address n) = shows (status_text pid) (until pid address w n)
+carried_out w (Regs pid) = shows (regs_text pid) w
+carried_out w (Mem pid address n) = shows (mem_text pid address n) w
+carried_out w (Dis pid address n) = shows (dis_text pid address n) w
+carried_out w Procs = shows procs_text w
+carried_out w Mqs = shows mqs_text w
+carried_out w Sems = shows sems_text w
+carried_out w (Fds pid) = shows (fds_text pid) w
+carried_out w (Out pid) = shows (out_text pid) w
+carried_out w Quit = record { text = []; world = w; ends = true }
+
+abbrev pub is_there : WorldState → ℕ → Bool
+is_there w pid = nat_lt pid (length w.processes)
+
+-- whether each process that a command names is there
+abbrev pub are_there : WorldState → Command → Bool
+are_there w (Step pid n) = is_there w pid
+are_there w (Run schedule) = list_all (λ b. is_there w b.pid) schedule
+are_there w (Until pid address n) = is_there w pid
+are_there w (Regs pid) = is_there w pid
+are_there w (Mem pid address n) = is_there w pid
+are_there w (Dis pid address n) = is_there w pid
+are_there w Procs = true
+are_there w Mqs = true
+are_there w Sems = true
+are_there w (Fds pid) = is_there w pid
+are_there w (Out pid) = is_there w pid
+are_there w Quit = true
+
+abbrev pub obeyed : WorldState → Command → Effect WorldState
+obeyed w command = if are_there w command then carried_out w command else refused NoProcess w
+
+abbrev pub answered : WorldState → Result Command Refusal → Effect WorldState
+answered w (Ok command) = obeyed w command
+answered w (Err refusal) = refused refusal w
+
+-- a line without words does nothing
+abbrev pub words_effect : WorldState → List (List ℕ) → Effect WorldState
+words_effect w [] = shows (λ v. []) w
+words_effect w (name ∷ operands) = answered w (command_of name operands)
+
+unfoldable pub line_effect : WorldState → List ℕ → Effect WorldState
+line_effect w line = words_effect w (words_of line)
+
+-- a number of steps is 1 to 1,000,000, and a range is in memory
+abbrev pub IsCommand : Command → Type 0
+IsCommand (Step pid n) = (pid < 64) × (1 ≤ n) × (n ≤ 1000000)
+IsCommand (Mem pid address n) = address + n ≤ 65536
+IsCommand (Dis pid address n) = address + n ≤ 65536
+IsCommand command = ⊤

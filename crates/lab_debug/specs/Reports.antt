@@ -1,0 +1,14 @@
+-- The report on a world.
+use Rattle.std.specs.Prelude.{ℕ, List, ◌++◌, length}
+use Rattle.lab_sched.specs.Worlds.{WorldState}
+use Rattle.lab_debug.specs.Rows.{each}
+use Rattle.lab_debug.specs.Texts.{status_text, out_text}
+use Rattle.lab_debug.specs.Verdicts.{verdict_text}
+
+-- the status line and the output line of process pid
+abbrev pub process_report : ℕ → WorldState → List ℕ
+process_report pid w = status_text pid w ++ out_text pid w
+
+-- these of each process, and then the verdict
+unfoldable pub report_text : WorldState → List ℕ
+report_text w = each (length w.processes) (λ pid. process_report pid w) ++ verdict_text w

@@ -1,0 +1,239 @@
+//! The commands of a script, as they are written.
+ghost use Rattle.std.specs.Prelude.{◌≡◌, IfOk, IfSome, map, codes};
+ghost use Rattle.lab_sched.specs.ScheduleTexts.{reading};
+ghost use Rattle.lab_debug.specs.Effects.{IsCommand};
+ghost use Rattle.lab_debug.specs.Commands.{step_of, until_of, bare_of, of_process, of_range, run_of, after_blanks, is_named, plain_command, command_of};
+
+use crate::operands::{address_in, count_in, join_words, number_in, one, process_in, three, two};
+use lab_sched::{SchedFault, Schedule};
+use std::alloc::{AllocError, Global};
+
+/// What a line asks for.
+#[derive(Drop)]
+pub enum Command {
+    /// So many steps of a process.
+    Step { pid: usize, count: u32 },
+    /// The steps of a schedule.
+    Run(Schedule),
+    /// At most so many steps of a process, up to an address.
+    Until { pid: usize, address: u16, count: u32 },
+    /// The registers of a process.
+    Regs { pid: usize },
+    /// A range of memory of a process.
+    Mem { pid: usize, address: u16, count: u32 },
+    /// The same with the text of each word.
+    Dis { pid: usize, address: u16, count: u32 },
+    /// Each status line.
+    Procs,
+    /// The queues.
+    Mqs,
+    /// The semaphores.
+    Sems,
+    /// The descriptors and slots of a process.
+    Fds { pid: usize },
+    /// The output of a process.
+    Out { pid: usize },
+    /// The end of the session.
+    Quit,
+}
+
+ghost use Rattle.lab_debug.specs.declared.command.Command.TheVariants.{Regs, Mem, Dis, Fds, Out};
+
+/// Why a line is refused, in this order.
+#[derive(Clone, Copy, Debug, PartialEq, Eq)]
+pub enum Refusal {
+    /// The first word is no command.
+    UnknownCommand,
+    /// The count, the form or the range of the operands isn't the command's.
+    BadOperands,
+    /// A process that is named isn't there.
+    NoProcess,
+}
+
+/// `P N`
+fn read_step(operands: &[&[u8]]) -> Option<Command>
+    ensures value { result ≡ step_of (map (λ word. word.now) operands.now) }
+    ensures ranges { IfSome result (λ command. IsCommand command) }
+{
+    let (pid, count) = two(operands)?;
+    let pid = process_in(pid)?;
+    let count = count_in(count)?;
+    Some(Command::Step { pid, count })
+}
+
+/// `P ADDR N`, up to an address
+fn read_until(operands: &[&[u8]]) -> Option<Command>
+    ensures value { result ≡ until_of (map (λ word. word.now) operands.now) }
+    ensures ranges { IfSome result (λ command. IsCommand command) }
+{
+    let (pid, address, count) = three(operands)?;
+    let pid = process_in(pid)?;
+    let address = address_in(address)?;
+    let count = count_in(count)?;
+    Some(Command::Until {
+        pid,
+        address,
+        count,
+    })
+}
+
+/// `P`, of its registers
+fn read_regs(operands: &[&[u8]]) -> Option<Command>
+    ensures value { result ≡ of_process Regs (map (λ word. word.now) operands.now) }
+    ensures ranges { IfSome result (λ command. IsCommand command) }
+{
+    let pid = process_in(one(operands)?)?;
+    Some(Command::Regs { pid })
+}
+
+/// `P`, of its descriptors and slots
+fn read_fds(operands: &[&[u8]]) -> Option<Command>
+    ensures value { result ≡ of_process Fds (map (λ word. word.now) operands.now) }
+    ensures ranges { IfSome result (λ command. IsCommand command) }
+{
+    let pid = process_in(one(operands)?)?;
+    Some(Command::Fds { pid })
+}
+
+/// `P`, of its output
+fn read_out(operands: &[&[u8]]) -> Option<Command>
+    ensures value { result ≡ of_process Out (map (λ word. word.now) operands.now) }
+    ensures ranges { IfSome result (λ command. IsCommand command) }
+{
+    let pid = process_in(one(operands)?)?;
+    Some(Command::Out { pid })
+}
+
+/// `P ADDR N`, of its memory
+fn read_mem(operands: &[&[u8]]) -> Option<Command>
+    ensures value { result ≡ of_range Mem (map (λ word. word.now) operands.now) }
+    ensures ranges { IfSome result (λ command. IsCommand command) }
+{
+    let (pid, address, count) = three(operands)?;
+    let pid = process_in(pid)?;
+    let address = address_in(address)?;
+    let count = number_in(1, 256, count)?;
+    if u32::from(address) + count <= 65_536 {
+        Some(Command::Mem {
+            pid,
+            address,
+            count,
+        })
+    } else {
+        None
+    }
+}
+
+/// `P ADDR N`, of its memory with the text of each word
+fn read_dis(operands: &[&[u8]]) -> Option<Command>
+    ensures value { result ≡ of_range Dis (map (λ word. word.now) operands.now) }
+    ensures ranges { IfSome result (λ command. IsCommand command) }
+{
+    let (pid, address, count) = three(operands)?;
+    let pid = process_in(pid)?;
+    let address = address_in(address)?;
+    let count = number_in(1, 256, count)?;
+    if u32::from(address) + count <= 65_536 {
+        Some(Command::Dis {
+            pid,
+            address,
+            count,
+        })
+    } else {
+        None
+    }
+}
+
+/// A command without operands
+fn read_bare(command: Command, operands: &[&[u8]]) -> Option<Command>
+    requires { IsCommand command }
+    ensures value { result ≡ bare_of command (map (λ word. word.now) operands.now) }
+    ensures ranges { IfSome result (λ c. IsCommand c) }
+{
+    if operands.is_empty() {
+        Some(command)
+    } else {
+        None
+    }
+}
+
+/// Whether a word is this name.
+#[tactic(auto, unfolding(crate::specs::Commands::is_named))]
+fn is_name(name: &str, word: &[u8]) -> bool
+    ensures { result ≡ is_named name.now word.now }
+{
+    name.as_bytes() == word
+}
+
+/// A command other than `run` by its name and its operands.
+#[tactic(auto, unfolding(crate::specs::Commands::plain_command))]
+fn read_plain(name: &[u8], operands: &[&[u8]]) -> Result<Command, Refusal>
+    ensures value { result ≡ plain_command name.now (map (λ word. word.now) operands.now) }
+    ensures ranges { IfOk result (λ command. IsCommand command) }
+{
+    if is_name("step", name) {
+        return read_step(operands).ok_or(Refusal::BadOperands);
+    }
+    if is_name("until", name) {
+        return read_until(operands).ok_or(Refusal::BadOperands);
+    }
+    if is_name("regs", name) {
+        return read_regs(operands).ok_or(Refusal::BadOperands);
+    }
+    if is_name("mem", name) {
+        return read_mem(operands).ok_or(Refusal::BadOperands);
+    }
+    if is_name("dis", name) {
+        return read_dis(operands).ok_or(Refusal::BadOperands);
+    }
+    if is_name("procs", name) {
+        return read_bare(Command::Procs, operands).ok_or(Refusal::BadOperands);
+    }
+    if is_name("mqs", name) {
+        return read_bare(Command::Mqs, operands).ok_or(Refusal::BadOperands);
+    }
+    if is_name("sems", name) {
+        return read_bare(Command::Sems, operands).ok_or(Refusal::BadOperands);
+    }
+    if is_name("fds", name) {
+        return read_fds(operands).ok_or(Refusal::BadOperands);
+    }
+    if is_name("out", name) {
+        return read_out(operands).ok_or(Refusal::BadOperands);
+    }
+    if is_name("quit", name) {
+        return read_bare(Command::Quit, operands).ok_or(Refusal::BadOperands);
+    }
+    Err(Refusal::UnknownCommand)
+}
+
+/// `BLOCKS`, a schedule
+fn read_run(alloc: Global, operands: &[&[u8]]) -> Result<Result<Command, Refusal>, AllocError>
+    ensures value { IfOk result (λ read. read ≡ run_of (reading (after_blanks (map (λ word. word.now) operands.now)))) }
+    ensures ranges { IfOk result (λ read. IfOk read (λ command. IsCommand command)) }
+{
+    let text = join_words(alloc, operands)?;
+    match Schedule::read_bytes(alloc, text.as_slice()) {
+        Ok(schedule) => Ok(Ok(Command::Run(schedule))),
+        Err(SchedFault::NoMemory) => Err(AllocError),
+        Err(SchedFault::BadBlock { .. } | SchedFault::TooLong { .. }) => {
+            Ok(Err(Refusal::BadOperands))
+        }
+    }
+}
+
+/// A command by its name and its operands.
+#[tactic(auto, unfolding(crate::specs::Commands::command_of))]
+pub fn read_command(
+    alloc: Global,
+    name: &[u8],
+    operands: &[&[u8]],
+) -> Result<Result<Command, Refusal>, AllocError>
+    ensures value { IfOk result (λ read. read ≡ command_of name.now (map (λ word. word.now) operands.now)) }
+    ensures ranges { IfOk result (λ read. IfOk read (λ command. IsCommand command)) }
+{
+    if is_name("run", name) {
+        return read_run(alloc, operands);
+    }
+    Ok(read_plain(name, operands))
+}

@@ -1,0 +1,208 @@
+//! What a line of a script does.
+ghost use Rattle.std.specs.Prelude.{◌≡◌, true, false, ◌≤◌, ◌<◌, IfOk, OnOk, string_bytes, length, replicate, slice_get};
+ghost use Rattle.std.specs.List.{list_all};
+ghost use Rattle.lab_sched.specs.Worlds.{run};
+ghost use Rattle.lab_sched.specs.Schedules.{steps_of};
+ghost use Rattle.lab_sched.specs.declared.stepped.Stepped.TheVariants.{Same};
+ghost use Rattle.lab_debug.specs.Texts.{status_text};
+ghost use Rattle.lab_debug.specs.Verdicts.{verdict_text};
+ghost use Rattle.lab_debug.specs.Effects.{IsCommand, is_at, until, is_there, are_there, carried_out, obeyed, line_effect, refusal_text};
+
+use crate::command::{Command, Refusal, read_command};
+use crate::machine;
+use crate::operands::split_words;
+use crate::texts::{
+    dis_text, fds_text, mem_text, mqs_text, out_text, procs_text, regs_text, sems_text,
+    status_text, verdict_text,
+};
+use lab_sched::{Block, Schedule, Stepped, World};
+use std::alloc::{AllocError, Global};
+
+/// What a line answers: its text, and whether it ends the session.
+#[derive(Drop)]
+pub struct Reply {
+    pub text: String,
+    pub ends: bool,
+}
+
+/// The text of a refusal.
+fn refuse(alloc: Global, refusal: Refusal) -> Result<Reply, AllocError>
+    ensures text { IfOk result (λ r. string_bytes r.text ≡ refusal_text refusal) }
+    ensures ends { IfOk result (λ r. r.ends ≡ false) }
+{
+    let text = match refusal {
+        Refusal::UnknownCommand => String::from_str(alloc, "? unknown command\n")?,
+        Refusal::BadOperands => String::from_str(alloc, "? bad operands\n")?,
+        Refusal::NoProcess => String::from_str(alloc, "? no such process\n")?,
+    };
+    Ok(Reply { text, ends: false })
+}
+
+/// Takes the steps of a schedule.
+fn run_schedule(world: &mut World, schedule: &Schedule) -> Result<(), AllocError>
+    ensures { OnOk result (world.new ≡ run world.old (steps_of schedule.now)) }
+{
+    match world.run(schedule) {
+        Ok(()) => Ok(()),
+        Err(_) => Err(AllocError),
+    }
+}
+
+/// Takes so many steps of a process.
+#[tactic(auto, unfolding(lab_sched::specs::Schedules::steps_of))]
+fn step_times(alloc: Global, world: &mut World, pid: usize, count: u32) -> Result<(), AllocError>
+    requires process { pid < 64 }
+    requires some { 1 ≤ count }
+    requires few { count ≤ 1_000_000 }
+    ensures { OnOk result (world.new ≡ run world.old (replicate count pid)) }
+{
+    let mut schedule = Schedule::new(alloc);
+    schedule.push(pid, count)?;
+    run_schedule(world, &schedule)
+}
+
+/// Whether the program counter of process `pid` is at an address.
+fn is_at(world: &World, pid: usize, address: u16) -> bool
+    ensures { result ≡ is_at address (slice_get world.now.processes pid) }
+{
+    match world.process(pid) {
+        Some(process) => machine::pc(process) == address,
+        None => false,
+    }
+}
+
+/// Whether a step did nothing.
+fn is_same(stepped: Stepped) -> bool
+    ensures yes { result ≡ true → stepped ≡ Same }
+    ensures no { result ≡ false → stepped ≡ Same → ⊥ }
+{
+    matches!(stepped, Stepped::Same)
+}
+
+/// Takes at most so many steps of a process: up to an address, and only steps that have an effect.
+fn step_until(
+    world: &mut World,
+    pid: usize,
+    address: u16,
+    count: u32,
+) -> Result<(), AllocError>
+    ensures { OnOk result (world.new ≡ until pid address world.old count) }
+{
+    for i in 0..count {
+        if is_at(world, pid, address) {
+            return Ok(());
+        }
+        let Ok(stepped) = world.step(pid) else {
+            return Err(AllocError);
+        };
+        if is_same(stepped) {
+            return Ok(());
+        }
+    }
+    Ok(())
+}
+
+/// Whether process `pid` is there.
+fn is_there(world: &World, pid: usize) -> bool
+    ensures { result ≡ is_there world.now pid }
+{
+    pid < world.count()
+}
+
+/// Whether the process of each block is there.
+fn blocks_are_there(world: &World, blocks: &[Block]) -> bool
+    ensures { result ≡ list_all (λ b. is_there world.now b.pid) blocks.now }
+{
+    blocks.iter().all(|block| is_there(world, block.pid))
+}
+
+/// Whether each process that a command names is there.
+fn are_there(world: &World, command: &Command) -> bool
+    ensures { result ≡ are_there world.now command.now }
+{
+    match command {
+        Command::Step { pid, .. }
+        | Command::Until { pid, .. }
+        | Command::Regs { pid }
+        | Command::Mem { pid, .. }
+        | Command::Dis { pid, .. }
+        | Command::Fds { pid }
+        | Command::Out { pid } => is_there(world, *pid),
+        Command::Run(schedule) => blocks_are_there(world, schedule.blocks()),
+        Command::Procs | Command::Mqs | Command::Sems | Command::Quit => true,
+    }
+}
+
+/// Carries out a command whose processes are there.
+fn carry_out(alloc: Global, world: &mut World, command: Command) -> Result<Reply, AllocError>
+    requires { IsCommand command }
+    ensures { IfOk result (λ r. record { text = string_bytes r.text; world = world.new; ends = r.ends } ≡ carried_out world.old command) }
+{
+    let text = match command {
+        Command::Step { pid, count } => {
+            step_times(alloc, world, pid, count)?;
+            status_text(alloc, world, pid)?
+        }
+        Command::Run(schedule) => {
+            run_schedule(world, &schedule)?;
+            verdict_text(alloc, world)?
+        }
+        Command::Until {
+            pid,
+            address,
+            count,
+        } => {
+            step_until(world, pid, address, count)?;
+            status_text(alloc, world, pid)?
+        }
+        Command::Regs { pid } => regs_text(alloc, world, pid)?,
+        Command::Mem {
+            pid,
+            address,
+            count,
+        } => mem_text(alloc, world, pid, address, count)?,
+        Command::Dis {
+            pid,
+            address,
+            count,
+        } => dis_text(alloc, world, pid, address, count)?,
+        Command::Procs => procs_text(alloc, world)?,
+        Command::Mqs => mqs_text(alloc, world)?,
+        Command::Sems => sems_text(alloc, world)?,
+        Command::Fds { pid } => fds_text(alloc, world, pid)?,
+        Command::Out { pid } => out_text(alloc, world, pid)?,
+        Command::Quit => {
+            let text = String::new(alloc);
+            return Ok(Reply { text, ends: true });
+        }
+    };
+    Ok(Reply { text, ends: false })
+}
+
+/// Carries out a command, or refuses it where a process isn't there.
+fn obey(alloc: Global, world: &mut World, command: Command) -> Result<Reply, AllocError>
+    requires { IsCommand command }
+    ensures { IfOk result (λ r. record { text = string_bytes r.text; world = world.new; ends = r.ends } ≡ obeyed world.old command) }
+{
+    if are_there(world, &command) {
+        carry_out(alloc, world, command)
+    } else {
+        refuse(alloc, Refusal::NoProcess)
+    }
+}
+
+/// Carries out a line.
+#[tactic(auto, unfolding(crate::specs::Effects::line_effect))]
+pub fn perform(alloc: Global, world: &mut World, line: &[u8]) -> Result<Reply, AllocError>
+    ensures { IfOk result (λ r. record { text = string_bytes r.text; world = world.new; ends = r.ends } ≡ line_effect world.old line.now) }
+{
+    let words = split_words(alloc, line)?;
+    let Some((name, operands)) = words.as_slice().split_first() else {
+        let text = String::new(alloc);
+        return Ok(Reply { text, ends: false });
+    };
+    match read_command(alloc, name, operands)? {
+        Ok(command) => obey(alloc, world, command),
+        Err(refusal) => refuse(alloc, refusal),
+    }
+}

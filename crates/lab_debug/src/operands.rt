@@ -1,0 +1,108 @@
+//! The words of a line, and operands that they write.
+ghost use Rattle.std.specs.Prelude.{◌≡◌, ◌≤◌, ◌<◌, IfOk, IfSome, map};
+ghost use Rattle.std.specs.Option.{option_map};
+ghost use Rattle.lab_debug.specs.Commands.{is_blank as is_blank_of, words_of, number_within, process_of, address_of, count_of, one_of, two_of, three_of, after_blanks};
+
+use lc3_word::number_of;
+use std::alloc::{AllocError, Global};
+
+/// A blank, a tab or a carriage return.
+fn is_blank(byte: u8) -> bool
+    ensures { result ≡ is_blank_of byte }
+{
+    matches!(byte, b' ' | b'\t' | b'\r')
+}
+
+/// What stands between blanks.
+pub fn split_words(alloc: Global, line: &[u8]) -> Result<Vec<&[u8]>, AllocError>
+    ensures { IfOk result (λ words. map (λ word. word.now) words.items ≡ words_of line.now) }
+{
+    line.split(|b| is_blank(*b))
+        .filter(|piece| !piece.is_empty())
+        .collect(alloc)
+}
+
+/// The words as one text, each after a blank.
+pub fn join_words(alloc: Global, words: &[&[u8]]) -> Result<Vec<u8>, AllocError>
+    ensures { IfOk result (λ text. text.items ≡ after_blanks (map (λ word. word.now) words.now)) }
+{
+    let mut text = Vec::new(alloc);
+    for word in words {
+        text.push(b' ')?;
+        text.extend_from_slice(word)?;
+    }
+    Ok(text)
+}
+
+/// The number that a word writes, from `low` to `high`.
+#[tactic(auto, using(crate::proofs::NumberLemmas::number_within_capped))]
+pub fn number_in(low: u32, high: u32, word: &[u8]) -> Option<u32>
+    requires { high < 1_000_000_000 }
+    ensures value { result ≡ number_within low high word.now }
+    ensures range { IfSome result (λ n. (low ≤ n) × (n ≤ high)) }
+{
+    let number = number_of(word)?;
+    if i64::from(low) <= number && number <= i64::from(high) {
+        Some(number as u32)
+    } else {
+        None
+    }
+}
+
+/// A process, 0 to 63.
+pub fn process_in(word: &[u8]) -> Option<usize>
+    ensures value { result ≡ process_of word.now }
+    ensures range { IfSome result (λ pid. pid < 64) }
+{
+    let pid = number_in(0, 63, word)?;
+    Some(pid as usize)
+}
+
+/// An address, 0 to 65,535.
+pub fn address_in(word: &[u8]) -> Option<u16>
+    ensures value { result ≡ address_of word.now }
+{
+    let address = number_in(0, 65_535, word)?;
+    Some(address as u16)
+}
+
+/// A number of steps, 1 to 1,000,000.
+pub fn count_in(word: &[u8]) -> Option<u32>
+    ensures value { result ≡ count_of word.now }
+    ensures range { IfSome result (λ n. (1 ≤ n) × (n ≤ 1_000_000)) }
+{
+    number_in(1, 1_000_000, word)
+}
+
+/// The operand, where there is just one.
+pub fn one<'a>(operands: &[&'a [u8]]) -> Option<&'a [u8]>
+    ensures { option_map (λ w. w.now) result ≡ one_of (map (λ word. word.now) operands.now) }
+{
+    match operands {
+        [a] => Some(*a),
+        _ => None,
+    }
+}
+
+/// The operands, where there are just two.
+pub fn two<'a>(operands: &[&'a [u8]]) -> Option<(&'a [u8], &'a [u8])>
+    ensures { option_map (λ w. (w.0.now, w.1.now)) result ≡ two_of (map (λ word. word.now) operands.now) }
+{
+    match operands {
+        [a, b] => Some((*a, *b)),
+        _ => None,
+    }
+}
+
+/// Three operands.
+pub type Three<'a> = (&'a [u8], &'a [u8], &'a [u8]);
+
+/// The operands, where there are just three.
+pub fn three<'a>(operands: &[&'a [u8]]) -> Option<Three<'a>>
+    ensures { option_map (λ w. (w.0.now, w.1.now, w.2.now)) result ≡ three_of (map (λ word. word.now) operands.now) }
+{
+    match operands {
+        [a, b, c] => Some((*a, *b, *c)),
+        _ => None,
+    }
+}

@@ -1,0 +1,75 @@
+//! Registers, program counter and condition code.
+ghost use Rattle.std.specs.Prelude.{◌≡◌, ◌++◌, Some, OnOk, string_bytes};
+ghost use Rattle.lab_sched.specs.Held.{seen};
+ghost use Rattle.lab_debug.specs.Rows.{each};
+ghost use Rattle.lab_debug.specs.Texts.{machine_of, code_text, register_part, counter_part, regs_line, regs_text};
+
+use crate::machine;
+use lab_sched::{Process, World};
+use lc3_word::{Cc, Hex, Reg};
+use std::alloc::AllocError;
+
+/// A condition code by its letter.
+fn code_name(code: Cc) -> &'static str
+    ensures text { result.now ≡ code_text code }
+{
+    match code {
+        Cc::N => "N",
+        Cc::Z => "Z",
+        Cc::P => "P",
+    }
+}
+
+/// Adds a register and a blank.
+#[tactic(auto, unfolding(crate::specs::Texts::register_part))]
+fn push_register(text: &mut String, process: &Process, r: Reg) -> Result<(), AllocError>
+    ensures { OnOk result (string_bytes text.new ≡ string_bytes text.old ++ register_part (machine_of (seen process.now)) r) }
+{
+    let word = Hex(machine::reg(process, r));
+    match write!(text, "{r} {word} ") {
+        Ok(()) => Ok(()),
+        Err(error) => Err(error),
+    }
+}
+
+/// Adds R0 to R7, each with a blank.
+#[tactic(auto, using(crate::proofs::RowLemmas::each_none, crate::proofs::RowLemmas::each_more))]
+fn push_registers(text: &mut String, process: &Process) -> Result<(), AllocError>
+    ensures { OnOk result (string_bytes text.new ≡ string_bytes text.old ++ each 8 (register_part (machine_of (seen process.now)))) }
+{
+    for number in 0..8u16 {
+        push_register(text, process, Reg::of_low_bits(number))?;
+    }
+    Ok(())
+}
+
+/// Adds the program counter and the condition code.
+#[tactic(auto, unfolding(crate::specs::Texts::counter_part))]
+fn push_counter(text: &mut String, process: &Process) -> Result<(), AllocError>
+    ensures { OnOk result (string_bytes text.new ≡ string_bytes text.old ++ counter_part (machine_of (seen process.now))) }
+{
+    let pc = Hex(machine::pc(process));
+    let code = code_name(machine::cc(process));
+    match write!(text, "PC {pc} CC {code}\n") {
+        Ok(()) => Ok(()),
+        Err(error) => Err(error),
+    }
+}
+
+/// Adds the line of a process's registers.
+fn push_line(text: &mut String, process: &Process) -> Result<(), AllocError>
+    ensures { OnOk result (string_bytes text.new ≡ string_bytes text.old ++ regs_line (machine_of (seen process.now))) }
+{
+    push_registers(text, process)?;
+    push_counter(text, process)
+}
+
+/// Adds the registers of process `pid`, where it is there.
+pub fn push_regs(text: &mut String, world: &World, pid: usize) -> Result<(), AllocError>
+    ensures { OnOk result (string_bytes text.new ≡ string_bytes text.old ++ regs_text pid world.now) }
+{
+    match world.process(pid) {
+        Some(process) => push_line(text, process),
+        None => Ok(()),
+    }
+}

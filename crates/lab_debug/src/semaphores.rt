@@ -1,0 +1,33 @@
+//! Semaphores and their values.
+ghost use Rattle.std.specs.Prelude.{◌≡◌, ◌++◌, OnOk, string_bytes};
+ghost use Rattle.ipc_kernel.specs.Places.{place_at, value_and_name};
+ghost use Rattle.lab_debug.specs.Objects.{semaphore_line, sems_text};
+
+use crate::queues::{PLACES, push_object};
+use lab_sched::World;
+use std::alloc::AllocError;
+
+/// Adds the line of the semaphore in a place, if there is one.
+fn push_place(text: &mut String, world: &World, place: u8) -> Result<(), AllocError>
+    ensures { OnOk result (string_bytes text.new ≡ string_bytes text.old ++ semaphore_line place (value_and_name (place_at world.now.kernel.places place))) }
+{
+    let Some((name, value)) = world.kernel().semaphore_at(place) else {
+        return Ok(());
+    };
+    push_object(text, place, name)?;
+    match write!(text, "{value}\n") {
+        Ok(()) => Ok(()),
+        Err(error) => Err(error),
+    }
+}
+
+/// Adds the semaphores in order of place.
+#[tactic(auto, using(crate::proofs::RowLemmas::each_none))]
+pub fn push_sems(text: &mut String, world: &World) -> Result<(), AllocError>
+    ensures { OnOk result (string_bytes text.new ≡ string_bytes text.old ++ sems_text world.now) }
+{
+    for place in 0..PLACES {
+        push_place(text, world, place)?;
+    }
+    Ok(())
+}

@@ -1,0 +1,101 @@
+//! Status lines.
+ghost use Rattle.std.specs.Prelude.{◌≡◌, ◌++◌, Some, OnOk, string_bytes};
+ghost use Rattle.lab_sched.specs.Held.{seen};
+ghost use Rattle.lab_debug.specs.Texts.{machine_of, how_text, place_text, state_text, status_line, status_text, procs_text};
+
+use crate::machine;
+use lab_sched::{Process, World};
+use lc3_machine::How;
+use lc3_table::WordText;
+use lc3_word::Hex;
+use std::alloc::AllocError;
+use std::fmt;
+
+/// The device register page begins here.
+const DEVICES: u16 = 0xFE00;
+
+/// The word at the program counter, or a dash in the device register page.
+#[derive(Drop)]
+struct Place<'a>(&'a Process);
+
+impl fmt::Display for Place<'_> {
+    ghost output = { λ p. Some (place_text (machine_of (seen p.0.now))) };
+
+    #[tactic(auto, unfolding(crate::specs::Texts::place_text))]
+    fn fmt<W: fmt::Write>(&self, f: &mut fmt::Formatter<W>) -> fmt::Result {
+        let pc = machine::pc(self.0);
+        if pc < DEVICES {
+            let word = WordText(machine::word(self.0, pc));
+            write!(f, "{word}")
+        } else {
+            write!(f, "-")
+        }
+    }
+}
+
+/// How a process ended, in a word.
+fn how_name(how: How) -> &'static str
+    ensures text { result.now ≡ how_text how }
+{
+    match how {
+        How::Halt => "halt",
+        How::Illegal => "illegal",
+        How::Device => "device",
+        How::BadTrap => "badtrap",
+        How::NoInput => "noinput",
+    }
+}
+
+/// Where a process stands.
+#[derive(Drop)]
+struct State<'a>(&'a Process);
+
+impl fmt::Display for State<'_> {
+    ghost output = { λ s. Some (state_text (seen s.0.now)) };
+
+    fn fmt<W: fmt::Write>(&self, f: &mut fmt::Formatter<W>) -> fmt::Result {
+        let pc = Hex(machine::pc(self.0));
+        let place = Place(self.0);
+        match self.0 {
+            Process::Running(_) => write!(f, "running {pc} {place}"),
+            Process::Waiting(_, _) => write!(f, "waiting {pc} {place}"),
+            Process::Ended(ended) => {
+                let how = how_name(ended.how());
+                write!(f, "ended {pc} {how}")
+            }
+        }
+    }
+}
+
+/// Adds the status line of a process.
+#[tactic(auto, unfolding(crate::specs::Texts::status_line))]
+fn push_line(text: &mut String, pid: usize, process: &Process) -> Result<(), AllocError>
+    ensures { OnOk result (string_bytes text.new ≡ string_bytes text.old ++ status_line pid (seen process.now)) }
+{
+    let state = State(process);
+    match write!(text, "{pid} {state}\n") {
+        Ok(()) => Ok(()),
+        Err(error) => Err(error),
+    }
+}
+
+/// Adds the status line of process `pid`, where it is there.
+pub fn push_status(text: &mut String, world: &World, pid: usize) -> Result<(), AllocError>
+    ensures { OnOk result (string_bytes text.new ≡ string_bytes text.old ++ status_text pid world.now) }
+{
+    match world.process(pid) {
+        Some(process) => push_line(text, pid, process),
+        None => Ok(()),
+    }
+}
+
+/// Adds each status line.
+#[tactic(auto, using(crate::proofs::RowLemmas::each_none))]
+pub fn push_procs(text: &mut String, world: &World) -> Result<(), AllocError>
+    ensures { OnOk result (string_bytes text.new ≡ string_bytes text.old ++ procs_text world.now) }
+{
+    for pid in 0..world.count() {
+        push_status(text, world, pid)?;
+    }
+    Ok(())
+}
