@@ -11,6 +11,8 @@ mod bits;
 mod finding;
 mod run;
 mod settle;
+#[cfg(test)]
+mod tests;
 
 use crate::stepping::take_step;
 use crate::{Process, Stepped};
