@@ -12,17 +12,34 @@ use std::alloc::{AllocError, Global};
 #[derive(Drop)]
 pub enum Command {
     /// So many steps of a process.
-    Step { pid: usize, count: u32 },
+    Step {
+        pid: usize,
+        count: u32,
+    },
     /// The steps of a schedule.
     Run(Schedule),
     /// At most so many steps of a process, up to an address.
-    Until { pid: usize, address: u16, count: u32 },
+    Until {
+        pid: usize,
+        address: u16,
+        count: u32,
+    },
     /// The registers of a process.
-    Regs { pid: usize },
+    Regs {
+        pid: usize,
+    },
     /// A range of memory of a process.
-    Mem { pid: usize, address: u16, count: u32 },
+    Mem {
+        pid: usize,
+        address: u16,
+        count: u32,
+    },
     /// The same with the text of each word.
-    Dis { pid: usize, address: u16, count: u32 },
+    Dis {
+        pid: usize,
+        address: u16,
+        count: u32,
+    },
     /// Each status line.
     Procs,
     /// The queues.
@@ -30,9 +47,13 @@ pub enum Command {
     /// The semaphores.
     Sems,
     /// The descriptors and slots of a process.
-    Fds { pid: usize },
+    Fds {
+        pid: usize,
+    },
     /// The output of a process.
-    Out { pid: usize },
+    Out {
+        pid: usize,
+    },
     /// The end of the session.
     Quit,
 }

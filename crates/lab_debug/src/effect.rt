@@ -80,12 +80,7 @@ fn is_same(stepped: Stepped) -> bool
 }
 
 /// Takes at most so many steps of a process: up to an address, and only steps that have an effect.
-fn step_until(
-    world: &mut World,
-    pid: usize,
-    address: u16,
-    count: u32,
-) -> Result<(), AllocError>
+fn step_until(world: &mut World, pid: usize, address: u16, count: u32) -> Result<(), AllocError>
     ensures { OnOk result (world.new ≡ until pid address world.old count) }
 {
     for i in 0..count {
