@@ -52,6 +52,7 @@ pub struct Outcome {
     pub fault: Option<SessionFault>,
 }
 
+/// A program whose image begins at x3000.
 fn program(alloc: Global, words: &[u16]) -> Result<Program, AllocError> {
     match Image::new(0x3000, words.to_vec(alloc)?) {
         Ok(image) => Ok(Program {
@@ -71,6 +72,7 @@ pub fn world(alloc: Global, programs: &[&[u16]]) -> Result<World, FreshFault> {
     Ok(World::from(Fresh::new(alloc, list.as_slice())?))
 }
 
+/// A session from the start of these programs; it may be refused memory.
 fn perform_once(alloc: Global, programs: &[&[u16]], script: &[u8]) -> Result<Outcome, FreshFault> {
     let world = world(alloc, programs)?;
     let mut text = Vec::with_capacity(alloc, ROOM)?;
@@ -112,6 +114,7 @@ pub fn writes(
 /// Two processes each wait for the semaphore that the other has.
 pub const DEADLOCK: &[u8] = b"run 0*12 1*13 0*1\nregs 0\nsems\nprocs\nfds 1\nquit\n";
 
+/// What that writes.
 pub const DEADLOCKED: &[u8] =
     b"verdict stuck\nR0 x0001 R1 x0040 R2 x0001 R3 x0000 R4 x0000 R5 x0001 R6 x0000 R7 x300B PC x300C CC P\n0 /a 0\n1 /b 0\n0 waiting x300C TRAP x53\n1 waiting x300C TRAP x53\nsem 0 1 1\nsem 1 0 1\n";
 

@@ -16,9 +16,11 @@ mem\nmem 0 0\nmem 0 0 0\nmem 0 0 257\nmem 0 65535 2\nmem 9 65535 2\nmem 0 65536 
 dis\ndis 0 0\ndis 0 0 0\ndis 0 0 257\ndis 0 65535 2\ndis 9 65535 2\ndis 0 65536 1\ndis 64 0 1\ndis 0 0 1 1
 procs 0\nmqs 0\nsems 0\nquit 0";
 
+/// Each of these lines is refused for a process that isn't there.
 const NO_PROCESS: &[u8] =
     b"step 1 1\nrun 0*1 1 0*1\nuntil 63 0 1\nregs 63\nmem 1 65535 1\ndis 1 65535 1\nfds 1\nout 1";
 
+/// None of these lines begins with a command.
 const UNKNOWN: &[u8] =
     b"stop\nprofile\nStep 0 1\nsteps 0 1\nste 0 1\nregs,0\n\x0C\n\x00 procs\n\xFF\xFE\n0";
 
