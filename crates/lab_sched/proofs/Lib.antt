@@ -11,3 +11,8 @@ pub mod Stands
 pub mod Ends
 pub mod WorldLemmas
 pub mod ScheduleRuns
+pub mod Histories
+pub mod Courses
+pub mod Alones
+pub mod Rests
+pub mod Commutes

@@ -52,7 +52,7 @@ pub retry_rests : (m : Machine) (c : Call) (a : Answer) → is_done a ≡ false 
 retry_rests m c (Done r) is = cc
 retry_rests m c Wait is = refl
 
-moves_on : (k : KernelState) (p : ℕ) (s : Process) → IsRunning s → turn k p (Some s) ≡ nothing → ⊥
+pub moves_on : (k : KernelState) (p : ℕ) (s : Process) → IsRunning s → turn k p (Some s) ≡ nothing → ⊥
 moves_on k p (Running m) is e = subst IsEffective e (running_moves k p m)
 moves_on k p (Waiting m c) is e = is
 moves_on k p (Ended e') is e = is

@@ -1,5 +1,6 @@
 //! Laws of schedules and of their texts, over the definitions alone.
 ghost use Rattle.lab_sched.specs.ScheduleLaws.{ReadsBack, StepsTell, FirstBadBlock, FirstTooLong, ReadSteps};
+ghost use Rattle.lab_sched.specs.Course.{Commute};
 
 /// A schedule's text reads back as the schedule.
 pub fn reads_back()
@@ -25,4 +26,11 @@ pub fn first_too_long()
 /// A text is read as the steps that its blocks write out.
 pub fn read_steps()
     ensures law { ReadSteps }
+{}
+
+/// From one world, effective steps with equal counts per process and equal entries lead to equal
+/// worlds.
+#[tactic(auto, using(crate::proofs::Commutes::commute))]
+pub fn commute_law()
+    ensures law { Commute }
 {}

@@ -1,5 +1,10 @@
 //! Traces: what one process did, with the answers that it was given.
+ghost use Rattle.std.specs.Prelude.{◌≡◌, ◌+◌, ◌<◌, ◌≤◌, ◌^◌, OnOk, vec_len, vec_capacity};
+ghost use Rattle.lab_sched.specs.Worlds.{Process};
+ghost use Rattle.lab_sched.specs.Alone.{Alone, AreLocal, IsTold, steps};
+
 use ipc_kernel::{Answer, Call};
+use std::alloc::{AllocError, Global};
 
 /// A call with its answer, and how many local steps came before it.
 #[derive(Drop)]
@@ -14,4 +19,53 @@ pub struct Told {
 pub struct Trace {
     pub calls: Vec<Told>,
     pub after: u32,
+}
+
+impl Trace {
+    /// The trace of a process that has done nothing yet.
+    pub fn new(alloc: Global) -> Trace
+        ensures alone { (s : Process) → Alone s result s }
+        ensures steps { steps result ≡ 0 }
+    {
+        Trace {
+            calls: Vec::new(alloc),
+            after: 0,
+        }
+    }
+
+    /// Makes room for two more calls.
+    pub fn reserve(&mut self) -> Result<(), AllocError>
+        ensures room { OnOk result (vec_len self.new.calls + 2 ≤ vec_capacity self.new.calls) }
+        ensures alone { (s x : Process) → Alone s self.old x → Alone s self.new x }
+        ensures steps { steps self.new ≡ steps self.old }
+    {
+        self.calls.reserve(2)
+    }
+
+    /// Adds so many local steps.
+    pub fn add_local(&mut self, count: u32)
+        requires few { steps self.old + count < 2 ^ 32 }
+        ensures alone { (s x y : Process) → Alone s self.old x → AreLocal count x y → Alone s self.new y }
+        ensures steps { steps self.new ≡ steps self.old + count }
+        ensures len { vec_len self.new.calls ≡ vec_len self.old.calls }
+        ensures room { vec_capacity self.new.calls ≡ vec_capacity self.old.calls }
+    {
+        self.after += count;
+    }
+
+    /// Adds a call with its answer.
+    pub fn add_call(&mut self, call: Call, answer: Answer)
+        requires room { vec_len self.old.calls < vec_capacity self.old.calls }
+        ensures alone { (s x y : Process) → Alone s self.old x → IsTold x call answer y → Alone s self.new y }
+        ensures steps { steps self.new ≡ steps self.old + 1 }
+        ensures len { vec_len self.new.calls ≡ vec_len self.old.calls + 1 }
+        ensures room { vec_capacity self.new.calls ≡ vec_capacity self.old.calls }
+    {
+        self.calls.push_reserved(Told {
+            before: self.after,
+            call,
+            answer,
+        });
+        self.after = 0;
+    }
 }
