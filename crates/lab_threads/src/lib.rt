@@ -2,7 +2,13 @@
 #![tactic(auto)]
 
 mod book;
+mod crew;
+mod desk;
+mod fault;
 mod gate;
+mod walk;
+mod worker;
 
 pub use book::Book;
+pub use fault::RunFault;
 pub use gate::{Gate, NoGate};
