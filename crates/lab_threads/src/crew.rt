@@ -6,7 +6,7 @@ ghost use Rattle.lab_threads.specs.Walks.{AreWalks};
 
 use crate::desk::Office;
 use crate::walk::{Walk, Walks};
-use crate::worker::{Seat, work};
+use crate::worker::work;
 use crate::{Gate, RunFault};
 use lab_sched::Process;
 use std::alloc::Global;
@@ -40,13 +40,7 @@ fn spawn_all<'s, E, R: Threads + Wait + Sync, G: Gate>(
             start: Snapshot::of(&start),
             limit,
         };
-        let seat = Seat {
-            office,
-            gate,
-            alloc,
-            pid,
-        };
-        let worker = move || work(rt, seat, start, limit);
+        let worker = move || work(rt, alloc, office, gate, pid, start, limit);
         let Ok(handle) = scope.spawn_with(promise, worker) else {
             stop_rest(rt, office, count - pid);
             return Err(RunFault::Spawn);

@@ -24,20 +24,20 @@ use std::sync::Wait;
 
 /// Where a worker stands: the office where it makes the calls of its process, and its gate.
 #[derive(Drop)]
-pub(crate) struct Seat<'s, G> {
-    pub office: &'s Office,
-    pub gate: &'s G,
-    pub alloc: Global,
-    pub pid: usize,
+struct Seat<'s, G> {
+    office: &'s Office,
+    gate: &'s G,
+    alloc: Global,
+    pid: usize,
 }
 
 /// A process after some steps, and how many they were: none where memory was refused, or the book
 /// didn't fit its call.
 #[derive(Drop)]
-pub(crate) struct Went {
-    pub process: Process,
-    pub taken: u32,
-    pub fits: bool,
+struct Went {
+    process: Process,
+    taken: u32,
+    fits: bool,
 }
 
 /// A process that has taken no step, for want of memory.
@@ -270,11 +270,25 @@ fn make_call<R: Wait, G: Gate>(
 
 /// Steps a process until it has ended, waits for good, has taken `limit` steps or was refused
 /// memory, or its call doesn't fit the book.
-pub(crate) fn work<R: Wait, G: Gate>(rt: &R, seat: Seat<'_, G>, start: Process, limit: u32) -> Walk
+pub(crate) fn work<R: Wait, G: Gate>(
+    rt: &R,
+    alloc: Global,
+    office: &Office,
+    gate: &G,
+    pid: usize,
+    start: Process,
+    limit: u32,
+) -> Walk
     ensures walk { IsWalk limit start result }
 {
+    let seat = Seat {
+        office,
+        gate,
+        alloc,
+        pid,
+    };
     let mut process = start;
-    let mut trace = Trace::new(seat.alloc);
+    let mut trace = Trace::new(alloc);
     let mut left = limit;
     let mut nth = 0;
     let mut fits = true;
@@ -295,7 +309,7 @@ pub(crate) fn work<R: Wait, G: Gate>(rt: &R, seat: Seat<'_, G>, start: Process, 
             Process::Waiting(..) | Process::Ended(_) => break,
         }
     }
-    seat.office.stop(rt);
+    office.stop(rt);
     Walk {
         process,
         trace,
