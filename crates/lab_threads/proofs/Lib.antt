@@ -1,3 +1,4 @@
 pub mod Books
 pub mod Steps
 pub mod Joins
+pub mod Weaves

@@ -7,6 +7,7 @@ mod desk;
 mod fault;
 mod gate;
 mod walk;
+mod weaving;
 mod worker;
 
 pub use book::Book;
