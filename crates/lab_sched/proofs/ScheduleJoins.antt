@@ -163,13 +163,13 @@ valid-push (c ∷ bs) b h k = (h.0, valid-push bs b h.1 k)
 pub total-push : (bs : List Block) (b : Block) → total_of (joined (bs ++ b ∷ [])) ≡ total_of bs + b.count
 total-push bs b = total-joined (bs ++ b ∷ []) ∙ sum_by_push (λ (d : Block). d.count) bs b
 
-steps-append : (xs ys : List Block) → steps_of (xs ++ ys) ≡ steps_of xs ++ steps_of ys
+pub steps-append : (xs ys : List Block) → steps_of (xs ++ ys) ≡ steps_of xs ++ steps_of ys
 unfolding steps_of
 steps-append [] ys = refl
 steps-append (b ∷ xs) ys =
     ap (λ s. replicate b.count b.pid ++ s) (steps-append xs ys) ∙ sym (append_assoc (replicate b.count b.pid) (steps_of xs) (steps_of ys))
 
-steps-one : (b : Block) → steps_of (b ∷ []) ≡ replicate b.count b.pid
+pub steps-one : (b : Block) → steps_of (b ∷ []) ≡ replicate b.count b.pid
 unfolding steps_of
 steps-one b = append-nil (replicate b.count b.pid)
 
@@ -184,12 +184,12 @@ schedule-push bs b h k room = record {
 }
 
 -- the last block of a Vec
-last-split : (xs : List Block) (n : ℕ) (d : Block) → length xs ≡ n → 0 < n → d ≡ get_or xs (n - 1) d → xs ≡ take (n - 1) xs ++ d ∷ []
+pub last-split : (xs : List Block) (n : ℕ) (d : Block) → length xs ≡ n → 0 < n → d ≡ get_or xs (n - 1) d → xs ≡ take (n - 1) xs ++ d ∷ []
 last-split xs n d l h e =
     let within : n - 1 < length xs = omega arith in
     sym (take_all (n - 1 + 1) xs (omega arith)) ∙ take_more xs (n - 1) d within ∙ ap (λ x. take (n - 1) xs ++ x ∷ []) (sym e)
 
-length-front : (xs : List Block) (n : ℕ) → length xs ≡ n → 0 < n → length (take (n - 1) xs) ≡ n - 1
+pub length-front : (xs : List Block) (n : ℕ) → length xs ≡ n → 0 < n → length (take (n - 1) xs) ≡ n - 1
 length-front xs n l h = length-take-le (n - 1) xs (omega arith)
 
 -- two reads of one element

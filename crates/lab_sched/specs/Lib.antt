@@ -11,3 +11,4 @@ pub mod History
 pub mod Alone
 pub mod Finished
 pub mod Settled
+pub mod Settling

@@ -8,6 +8,7 @@ ghost use Rattle.lab_sched.specs.ScheduleLaws.{IsFirst, IsFirstTooLong};
 
 mod block;
 mod fault;
+mod last;
 mod reading;
 #[cfg(test)]
 mod tests;

@@ -7,7 +7,12 @@ ghost use Rattle.lab_sched.specs.Verdicts.{HasEnded};
 ghost use Rattle.lab_sched.specs.Held.{seen, told_of, IsWorld};
 ghost use Rattle.lab_sched.specs.declared.world.StepFault.TheVariants.{NoProcess};
 
+mod bits;
+mod finding;
 mod run;
+mod settle;
+#[cfg(test)]
+mod tests;
 
 use crate::stepping::take_step;
 use crate::{Process, Stepped};

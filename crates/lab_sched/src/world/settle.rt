@@ -1,0 +1,200 @@
+//! Settling worlds: each process goes on while it may and can.
+ghost use Rattle.std.specs.Prelude.{◌≡◌, ◌<◌, ◌≤◌, ◌+◌, ◌⊎◌, ℕ, length, replicate, IsTrue, sum, true, false};
+ghost use Rattle.std.specs.Int.{bit_at};
+ghost use Rattle.lab_sched.specs.Worlds.{nothing, turn_in, IsEffective};
+ghost use Rattle.lab_sched.specs.Schedules.{steps_of, total_of};
+ghost use Rattle.lab_sched.specs.Settled.{IsAdded, IsSettled, HasStopped, IsShort};
+ghost use Rattle.lab_sched.specs.Settling.{AsksIn, IsFoundIn, IsTaken};
+ghost use Rattle.lab_sched.specs.declared.schedule.block.TheConstants.{PROCESSES, MOST_STEPS};
+
+use super::bits::{has_bit, with_bit};
+use super::finding::{Found, find};
+use super::{World, put_back};
+use crate::{Entry, Schedule};
+use ipc_kernel::Call;
+
+/// Whether there was a step.
+fn has_moved(moved: bool, taken: u32) -> bool
+    ensures yes { result ≡ true → (moved ≡ true) ⊎ (0 < taken) }
+    ensures no { result ≡ false → (moved ≡ false) × (taken ≡ 0) }
+{
+    moved || taken > 0
+}
+
+impl World {
+    /// Takes local steps of a process, at most so many, or finds the call that it asks or waits
+    /// for.
+    fn find(&mut self, pid: usize, most: u32) -> Found
+        requires process { pid < length self.old.processes }
+        ensures found { IsFoundIn self.old pid most result self.new }
+    {
+        let alloc = *self.processes.allocator();
+        let process = self.processes.remove(pid);
+        let (process, found) = find(alloc, process, most);
+        put_back(&mut self.processes, pid, process);
+        found
+    }
+
+    /// Takes the step of a process whose call is answered, and adds its entry; with how many steps
+    /// were taken, none where memory was refused.
+    fn take_call(&mut self, pid: usize, call: Call, entries: &mut Vec<Entry>) -> u32
+        requires process { pid < length self.old.processes }
+        requires effective { IsEffective (turn_in self.old pid) }
+        requires asks { AsksIn self.old pid call }
+        ensures taken { IsTaken self.old entries.old.items (replicate result pid) self.new entries.new.items }
+        ensures within { result ≤ 1 }
+    {
+        let alloc = *self.processes.allocator();
+        let Ok(answer) = self.kernel.answer(alloc, pid, &call) else {
+            return 0;
+        };
+        let Ok(()) = entries.reserve(1) else {
+            return 0;
+        };
+        let Ok(_) = self.step(pid) else {
+            return 0;
+        };
+        entries.push_reserved(Entry { pid, call, answer });
+        1
+    }
+
+    /// Takes steps of a process whose step is effective, at least one and at most `most`, and adds
+    /// their entries; with how many were taken, none where memory was refused.
+    fn take_steps(&mut self, pid: usize, most: u32, entries: &mut Vec<Entry>) -> u32
+        requires process { pid < length self.old.processes }
+        requires effective { IsEffective (turn_in self.old pid) }
+        requires some { 1 ≤ most }
+        ensures taken { IsTaken self.old entries.old.items (replicate result pid) self.new entries.new.items }
+        ensures within { result ≤ most }
+    {
+        match self.find(pid, most) {
+            Found::Moved(taken) => taken,
+            Found::Refusal => match self.step(pid) {
+                Ok(_) => 1,
+                Err(_) => 0,
+            },
+            Found::Asks(call) => self.take_call(pid, call, entries),
+        }
+    }
+
+    /// Takes steps of a process whose step is effective, at least one and at most `most`, and adds
+    /// them and their entries; with how many were taken, none where memory was refused.
+    fn settle_steps(
+        &mut self,
+        pid: usize,
+        most: u32,
+        schedule: &mut Schedule,
+        entries: &mut Vec<Entry>,
+    ) -> u32
+        requires process { pid < length self.old.processes }
+        requires few { pid < PROCESSES }
+        requires effective { IsEffective (turn_in self.old pid) }
+        requires some { 1 ≤ most }
+        requires room { total_of schedule.old + most ≤ MOST_STEPS }
+        ensures added { IsAdded (record { world = self.old; steps = steps_of schedule.old; entries = entries.old.items }) (replicate result pid)
+            (record { world = self.new; steps = steps_of schedule.new; entries = entries.new.items }) }
+        ensures within { result ≤ most }
+        ensures total { total_of schedule.new ≡ total_of schedule.old + result }
+    {
+        let Ok(()) = schedule.push(pid, 1) else {
+            return 0;
+        };
+        let taken = self.take_steps(pid, most, entries);
+        schedule.replace_last(taken);
+        taken
+    }
+
+    /// Takes steps of a process while it has some left and its step is effective. The answers are
+    /// how many steps that was, and whether memory was refused.
+    fn settle_process(
+        &mut self,
+        pid: usize,
+        left: u32,
+        schedule: &mut Schedule,
+        entries: &mut Vec<Entry>,
+    ) -> (u32, bool)
+        requires process { pid < length self.old.processes }
+        requires few { pid < PROCESSES }
+        requires room { total_of schedule.old + left ≤ MOST_STEPS }
+        ensures added { IsAdded (record { world = self.old; steps = steps_of schedule.old; entries = entries.old.items }) (replicate result.0 pid)
+            (record { world = self.new; steps = steps_of schedule.new; entries = entries.new.items }) }
+        ensures stops { (result.0 ≡ left) ⊎ (turn_in self.new pid ≡ nothing) ⊎ IsTrue result.1 }
+        ensures within { result.0 ≤ left }
+        ensures short { IsTrue result.1 → (result.0 < left) × IsEffective (turn_in self.new pid) }
+        ensures total { total_of schedule.new ≡ total_of schedule.old + result.0 }
+    {
+        let mut taken = 0;
+        while taken < left {
+            if !self.can_step(pid) {
+                return (taken, false);
+            }
+            let more = self.settle_steps(pid, left - taken, schedule, entries);
+            if more == 0 {
+                return (taken, true);
+            }
+            taken += more;
+        }
+        (taken, false)
+    }
+
+    /// One round over the processes. The answers are whether there was a step, and the bits of the
+    /// processes whose step was refused for want of memory.
+    fn settle_round(
+        &mut self,
+        left: &mut [u32],
+        refused: u64,
+        schedule: &mut Schedule,
+        entries: &mut Vec<Entry>,
+    ) -> (bool, u64)
+        requires len { length left.old ≡ length self.old.processes }
+        requires room { total_of schedule.old + sum left.old ≤ MOST_STEPS }
+        requires bits { (p : ℕ) → bit_at refused p ≡ 1 → IsShort self.old left.old p }
+        ensures settled { IsSettled (record { world = self.old; steps = steps_of schedule.old; entries = entries.old.items })
+            (record { world = self.new; steps = steps_of schedule.new; entries = entries.new.items }) left.old left.new }
+        ensures bits { (p : ℕ) → bit_at result.1 p ≡ 1 → IsShort self.new left.new p }
+        ensures fewer { IsTrue result.0 → sum left.new < sum left.old }
+        ensures stopped { result.0 ≡ false → (p : ℕ) → p < length left.new → HasStopped self.new left.new result.1 p }
+        ensures total { total_of schedule.new + sum left.new ≡ total_of schedule.old + sum left.old }
+    {
+        let mut moved = false;
+        let mut bits = refused;
+        for pid in 0..self.count() {
+            if has_bit(bits, pid) {
+                continue;
+            }
+            let had = left[pid];
+            let (taken, short) = self.settle_process(pid, had, schedule, entries);
+            left[pid] = had - taken;
+            moved = has_moved(moved, taken);
+            bits = with_bit(bits, pid, short);
+        }
+        (moved, bits)
+    }
+
+    /// Takes steps of each process in turn while it has some left and its step is effective, in
+    /// rounds until a whole round has no such step. Each step is added to the schedule and its entry
+    /// to the entries, and it is taken from what its process has left. The answer has the bit of
+    /// each process whose step was refused for want of memory; that step isn't taken.
+    pub fn settle(
+        &mut self,
+        left: &mut [u32],
+        schedule: &mut Schedule,
+        entries: &mut Vec<Entry>,
+    ) -> u64
+        requires len { length left.old ≡ length self.old.processes }
+        requires room { total_of schedule.old + sum left.old ≤ MOST_STEPS }
+        ensures settled { IsSettled (record { world = self.old; steps = steps_of schedule.old; entries = entries.old.items })
+            (record { world = self.new; steps = steps_of schedule.new; entries = entries.new.items }) left.old left.new }
+        ensures stopped { (p : ℕ) → p < length left.new → HasStopped self.new left.new result p }
+        ensures bits { (p : ℕ) → bit_at result p ≡ 1 → IsShort self.new left.new p }
+    {
+        let mut refused = 0;
+        loop {
+            let (moved, bits) = self.settle_round(left, refused, schedule, entries);
+            refused = bits;
+            if !moved {
+                return refused;
+            }
+        }
+    }
+}
