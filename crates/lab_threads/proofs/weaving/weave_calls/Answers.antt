@@ -8,7 +8,7 @@ use Rattle.lab_threads.proofs.weaving.weave_calls.Goals as goal
 
 pub loop-entry-init : goal.loop-entry-init
 loop-entry-init c =
-    let none : (p : ℕ) → get_or c.in_ok-next.next.items p 0 ≡ 0 = zeros c.in_ok-next.next.items _ (search rules) in
+    let none : (p : ℕ) → get_or c.in_ok-next.next.items p 0 ≡ 0 = zeros c.in_ok-next.next.items (length c.args.walks.now) (search rules) in
     let empty = empty_steps c.new-schedule.result c.new-schedule.ensures.empty in
     record {
       len = search rules;
