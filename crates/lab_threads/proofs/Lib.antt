@@ -2,3 +2,4 @@ pub mod Books
 pub mod Steps
 pub mod Joins
 pub mod Weaves
+pub mod Endings
