@@ -4,7 +4,8 @@ use Rattle.std.specs.Int.{bit_at}
 use Rattle.std.specs.Option.{option_map}
 use Rattle.std.proofs.lemmas.List.{length-map}
 use Rattle.std.proofs.lemmas.Nat.Bits.{bit_at-zero}
-use Rattle.std.proofs.lemmas.Option.{slice_get-map, slice_get_within, get_or_from_slice_get, same_Some}
+use Rattle.std.proofs.lemmas.List.Elements.{All-map}
+use Rattle.std.proofs.lemmas.Option.{slice_get-map, slice_get-get_or, slice_get_within, get_or_from_slice_get, same_Some}
 use Rattle.ipc_kernel.specs.Kernel.{KernelState, empty_kernel}
 use Rattle.lab_sched.specs.Worlds.{Process, WorldState, turn}
 use Rattle.lab_sched.specs.Course.{count, IsCourse}
@@ -80,3 +81,25 @@ begun_is starts w ps-is k-is =
     let len : length starts ≡ length w.processes = sym (length-map starts seen) ∙ ap length ps-is in
     ap (λ xs. record { processes = xs; kernel = empty_kernel (length starts) }) ps-is
     ∙ ap (λ k. record { processes = w.processes; kernel = k }) (ap empty_kernel len ∙ sym k-is)
+
+-- what `weave` says, of the lists that its slices show
+pub from_course : (ss : List ℕ) (walks walks' : List Walk) (h h' : List Entry) → walks' ≡ walks → h' ≡ h
+    → ((starts : List Kept) (limit : ℕ) → AreWalks limit starts walks' → IsLegal (empty_kernel (length starts)) h' → IsCourse (begun starts) ss (ended (length starts) walks' h') h')
+    → (starts : List Kept) (limit : ℕ) → AreWalks limit starts walks → IsLegal (empty_kernel (length starts)) h → IsCourse (begun starts) ss (ended (length starts) walks h) h
+from_course ss walks walks' h h' walks-is h-is all =
+    let P : List Walk → List Entry → Type 0 = λ v e. (starts : List Kept) (limit : ℕ) → AreWalks limit starts v → IsLegal (empty_kernel (length starts)) e → IsCourse (begun starts) ss (ended (length starts) v e) e in
+    subst (λ v. P v h) walks-is (subst (λ e. P walks' e) h-is all)
+
+pub from_counts : (ss : List ℕ) (walks walks' : List Walk) → walks' ≡ walks → ((p : ℕ) (k : Walk) → slice_get walks' p ≡ Some k → count p ss ≡ steps k.trace)
+    → (p : ℕ) (k : Walk) → slice_get walks p ≡ Some k → count p ss ≡ steps k.trace
+from_counts ss walks walks' walks-is all = subst (λ v. (p : ℕ) (k : Walk) → slice_get v p ≡ Some k → count p ss ≡ steps k.trace) walks-is all
+
+-- where the walks of running processes end is ready for replies
+pub walks_held : (limit : ℕ) (starts : List Kept) (walks : List Walk) → AreWalks limit starts walks → All Runs starts → All IsHeld (map (λ k. k.process) walks)
+walks_held limit starts walks are runs =
+    All-map IsHeld (λ (k : Walk). k.process) walks
+    (λ p d below.
+        let within : p < length starts = subst (λ n. p < n) are.len below in
+        let start = some_at starts p within in
+        let is : get_or starts p start.0 ≡ start.0 = get_or_from_slice_get starts p start.0 start.0 start.1 in
+        (are.each p start.0 (get_or walks p d) start.1 (slice_get-get_or walks p d below)).held (runs_held start.0 (subst Runs is (runs p start.0 within))))

@@ -39,7 +39,11 @@ pub struct Report {
 fn lefts(alloc: Global, walks: &[Walk]) -> Result<Vec<u32>, AllocError>
     ensures { IfOk result (λ v. v.items ≡ map (λ k. k.left) walks.now) }
 {
-    walks.iter().map(|walk| walk.left).collect(alloc)
+    let mut left = Vec::with_capacity(alloc, walks.len())?;
+    for walk in walks {
+        left.push(walk.left)?;
+    }
+    Ok(left)
 }
 
 /// The process where each walk ends.
