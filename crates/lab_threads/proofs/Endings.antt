@@ -99,7 +99,7 @@ pub walks_held : (limit : ℕ) (starts : List Kept) (walks : List Walk) → AreW
 walks_held limit starts walks are runs =
     All-map IsHeld (λ (k : Walk). k.process) walks
     (λ p d below.
-        let within : p < length starts = subst (λ n. p < n) are.len below in
-        let start = some_at starts p within in
-        let is : get_or starts p start.0 ≡ start.0 = get_or_from_slice_get starts p start.0 start.0 start.1 in
-        (are.each p start.0 (get_or walks p d) start.1 (slice_get-get_or walks p d below)).held (runs_held start.0 (subst Runs is (runs p start.0 within))))
+    let within : p < length starts = subst (λ n. p < n) are.len below in
+    let start = some_at starts p within in
+    let is : get_or starts p start.0 ≡ start.0 = get_or_from_slice_get starts p start.0 start.0 start.1 in
+    (are.each p start.0 (get_or walks p d) start.1 (slice_get-get_or walks p d below)).held (runs_held start.0 (subst Runs is (runs p start.0 within))))

@@ -15,3 +15,6 @@ pub use book::Book;
 pub use fault::RunFault;
 pub use gate::{Gate, NoGate};
 pub use reports::{Report, run_threads};
+
+#[cfg(test)]
+mod tests;

@@ -138,7 +138,10 @@ fn end_process<R: Wait, G: Gate>(
     }
     *nth = nth.saturating_add(1);
     seat.gate.arrive(seat.pid, *nth);
-    match seat.office.call(rt, seat.alloc, seat.pid, &Call::Exit, false) {
+    match seat
+        .office
+        .call(rt, seat.alloc, seat.pid, &Call::Exit, false)
+    {
         Came::Done { reply: _, copy } => {
             trace.add_call(Call::Exit, Answer::Done(copy));
             Went {
@@ -212,9 +215,7 @@ fn step_trap<R: Wait, G: Gate>(
     match read_call(seat.alloc, &call) {
         Err(_) => stays(call.back()),
         Ok(Asked::Refused(e)) => follow(seat, refused(call, e), trace, left),
-        Ok(Asked::Kernel(request)) => {
-            make_call(rt, seat, call, request, trace, left, nth)
-        }
+        Ok(Asked::Kernel(request)) => { make_call(rt, seat, call, request, trace, left, nth) }
     }
 }
 
@@ -245,7 +246,10 @@ fn make_call<R: Wait, G: Gate>(
     };
     *nth = nth.saturating_add(1);
     seat.gate.arrive(seat.pid, *nth);
-    match seat.office.call(rt, seat.alloc, seat.pid, &request, left > 1) {
+    match seat
+        .office
+        .call(rt, seat.alloc, seat.pid, &request, left > 1)
+    {
         Came::Refused => stays(call.back()),
         Came::Misfit => misfit(call),
         Came::Waits { fits } => {

@@ -2,7 +2,6 @@ use Rattle.std.proofs.Common.{◌≡◌, length, arith, ap, rules, ◌∙◌, le
 use Rattle.lab_threads.proofs.Books.{kept_none, none_after}
 use Rattle.lab_threads.proofs.book.Book.new.Goals as goal
 
-
 pub invariant_of-result : goal.invariant_of-result
 invariant_of-result c =
     let len : length c.loop.waiting.items ≡ c.args.count = omega (arith, c.loop.invariant.len) in
