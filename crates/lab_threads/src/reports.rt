@@ -125,6 +125,8 @@ fn run_starts<R: Threads + Wait + Sync, G: Gate>(
     requires some { 1 ≤ length starts.items }
     requires few { length starts.items ≤ 64 }
     ensures course { IfOk result (λ r. IsCourse (begun starts.items) (steps_of r.schedule) r.world r.history.items) }
+    ensures legal { IfOk result (λ r. IsLegal (empty_kernel (length starts.items)) r.history.items) }
+    ensures kernel { IfOk result (λ r. r.world.kernel ≡ replay (empty_kernel (length starts.items)) r.history.items) }
     ensures finished { IfOk result (λ r. IsFinished r.world (steps_of r.schedule) limit) }
     ensures verdict { IfOk result (λ r. IsVerdict r.world r.verdict) }
 {

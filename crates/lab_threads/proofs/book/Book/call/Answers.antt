@@ -5,4 +5,4 @@ use Rattle.lab_threads.proofs.book.Book.call.Goals as goal
 pub invariant_of-self-2 : goal.invariant_of-self-2
 invariant_of-self-2 c =
     kept_after c.args.pid c.args.call.now c.in_ok-preview.preview c.self.invariant (search rules) c.in_ok-preview.ensures.answered
-    (ap (λ o. o.1) c.in_ok-answer.ensures.answered) (search rules) (search rules)
+    (search rules) (search rules) (search rules)
