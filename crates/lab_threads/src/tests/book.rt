@@ -37,6 +37,13 @@ fn is_plain(answer: Answer, word: u16) -> bool {
     }
 }
 
+fn is_message(answer: Answer, word: u16) -> bool {
+    match answer {
+        Answer::Done(Reply::Message { words, .. }) => words.as_slice() == [word].as_slice(),
+        _ => false,
+    }
+}
+
 #[test]
 fn a_queue_for_one_message(rt: HostRuntime) {
     let alloc = rt.alloc();
@@ -67,12 +74,7 @@ fn a_queue_for_one_message(rt: HostRuntime) {
     }
     assert!(rt; !book.fits(1, &seven), "it waits for another call");
     let receive = Call::MqReceive { mqd: 0, len: 1 };
-    match make(&rt, alloc, &mut book, 0, &receive) {
-        Answer::Done(Reply::Message { words, .. }) => {
-            assert!(rt; words.as_slice() == [7].as_slice(), "the message");
-        }
-        _ => panic!(rt; "a message"),
-    }
+    assert!(rt; is_message(make(&rt, alloc, &mut book, 0, &receive), 7), "the message");
     assert!(rt; is_plain(make(&rt, alloc, &mut book, 1, &eight), 0), "sent");
     let pids: [usize; 7] = [0, 0, 0, 1, 1, 0, 1];
     assert_eq!(rt; book.history().len(), 7);
