@@ -2,6 +2,7 @@ ghost use Rattle.std.specs.Prelude.{◌≤◌};
 
 mod commands;
 mod interleavings;
+mod row_programs;
 mod rows;
 
 use crate::command::{FAULT, SUCCESS, command};
