@@ -93,8 +93,8 @@ is_expected() {
 
 # run_once LIMIT "REPORT...": a threaded run of `programs`. Its report is expected, and its schedule shows it again.
 run_once() {
-    if ! "$LC3LAB" run --limit "$1" $programs >"$made/printed"; then
-        echo "no report"
+    if ! "$LC3LAB" run --limit "$1" $programs >"$made/printed" || ! grep -q '^schedule' "$made/printed"; then
+        echo "no report and schedule"
         return 1
     fi
     sed '$d' "$made/printed" >"$made/report"
