@@ -1,6 +1,9 @@
 ghost use Rattle.std.specs.Prelude.{◌≤◌};
 
 mod commands;
+mod course;
+mod course_locks;
+mod course_orders;
 mod interleavings;
 mod row_programs;
 mod rows;

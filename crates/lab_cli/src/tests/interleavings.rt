@@ -133,7 +133,7 @@ fn perform_on_two(
     Ok(outcome)
 }
 
-fn shows(outcome: &Outcome, report: &str) -> bool {
+pub fn shows(outcome: &Outcome, report: &str) -> bool {
     outcome.status == SUCCESS
         && outcome.output.as_slice() == report.as_bytes()
         && outcome.errors.is_empty()
