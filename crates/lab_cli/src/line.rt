@@ -113,10 +113,9 @@ fn debug<'a>(alloc: Global) -> Result<Command<'a>, AllocError> {
 
 /// The programs of a laboratory, one or more.
 fn programs<'a>(alloc: Global) -> Arg<'a> {
-    Arg::new(alloc, "PROGRAM")
-        .required(true)
-        .num_args(1..)
-        .help("An object file, or OBJECT=INPUT with a file of console input")
+    Arg::new(alloc, "PROGRAM").required(true).num_args(1..).help(
+        "An object file, or OBJECT=INPUT with a file of console input",
+    )
 }
 
 /// The parser has made sure that each required word is there.

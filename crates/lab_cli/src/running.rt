@@ -29,8 +29,9 @@ pub fn run_programs<'a, T: Files + Threads + Wait + Sync, W: Write>(
 {
     let programs = read_programs(rt, alloc, programs)?;
     let fresh = laboratory(alloc, programs.as_slice())?;
-    let report = run_threads(rt, alloc, fresh, limit.clamp(1, MOST_STEPS), &NoGate)
-        .map_err(|fault| Reason::from(fault).at("run"))?;
+    let report = run_threads(rt, alloc, fresh, limit.clamp(1, MOST_STEPS), &NoGate).map_err(
+        |fault| Reason::from(fault).at("run"),
+    )?;
     let text = text_of(alloc, &report).map_err(|_| Reason::NoMemory.at("run"))?;
     write_text(&text, output)
 }

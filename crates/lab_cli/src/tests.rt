@@ -17,7 +17,10 @@ use lab_sched::{Process, World};
 use lc3_word::{Cc, Reg};
 use std::alloc::{AllocError, Global};
 use std::process::Abort;
+use std::rt::Files;
+use std::sync::Wait;
 use std::test::Fail;
+use std::thread::Threads;
 
 #[derive(Debug, Drop)]
 pub struct Outcome {
@@ -29,7 +32,11 @@ pub struct Outcome {
 /// Room for all that a command of these tests writes, so that no growth of a device is refused.
 const ROOM: usize = 4096;
 
-fn perform_once(rt: &HostRuntime, words: &[&str], input: &[u8]) -> Result<Outcome, AllocError> {
+fn perform_once<T: Files + AllocGlobal + Threads + Wait + Sync>(
+    rt: &T,
+    words: &[&str],
+    input: &[u8],
+) -> Result<Outcome, AllocError> {
     let alloc = rt.alloc();
     let mut strings = Vec::new(alloc);
     for word in words {
@@ -53,7 +60,11 @@ fn perform_once(rt: &HostRuntime, words: &[&str], input: &[u8]) -> Result<Outcom
 }
 
 /// A command whose memory is refused has status 1 and can be given once more.
-pub fn perform(rt: &HostRuntime, words: &[&str], input: &[u8]) -> Result<Outcome, AllocError> {
+pub fn perform<T: Files + AllocGlobal + Threads + Wait + Sync>(
+    rt: &T,
+    words: &[&str],
+    input: &[u8],
+) -> Result<Outcome, AllocError> {
     match perform_once(rt, words, input) {
         Ok(outcome) if !is_short(&outcome) => Ok(outcome),
         _ => perform_once(rt, words, input),
@@ -64,12 +75,20 @@ fn is_short(outcome: &Outcome) -> bool {
     outcome.status == FAULT && outcome.errors.as_slice().ends_with(b": out of memory\n")
 }
 
-fn reports(rt: &HostRuntime, input: &[u8], report: &[u8]) -> Result<bool, Fail> {
+fn reports<T: Files + AllocGlobal + Threads + Wait + Sync>(
+    rt: &T,
+    input: &[u8],
+    report: &[u8],
+) -> Result<bool, Fail> {
     let shown = perform(rt, &[], input)?;
     Ok(shown.status == SUCCESS && shown.output.as_slice() == report && shown.errors.is_empty())
 }
 
-fn refuses(rt: &HostRuntime, input: &[u8], line: &[u8]) -> Result<bool, Fail> {
+fn refuses<T: Files + AllocGlobal + Threads + Wait + Sync>(
+    rt: &T,
+    input: &[u8],
+    line: &[u8],
+) -> Result<bool, Fail> {
     let shown = perform(rt, &[], input)?;
     Ok(shown.status == FAULT && shown.output.is_empty() && shown.errors.as_slice() == line)
 }

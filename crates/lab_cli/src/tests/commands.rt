@@ -3,7 +3,10 @@ use crate::command::{FAULT, SUCCESS, USAGE};
 use crate::tests::{Outcome, perform};
 use std::alloc::AllocError;
 use std::io::ErrorKind;
+use std::rt::Files;
+use std::sync::Wait;
 use std::test::Fail;
+use std::thread::Threads;
 use std::{fs, io};
 
 const HI: &str = ".ORIG x3000\nLEA R0,M\nPUTS\nHALT\nM .STRINGZ \"Hi\"\n";
@@ -105,7 +108,10 @@ fn names_the_file_at_fault(rt: HostRuntime) -> Result<(), Fail> {
 }
 
 /// Help has an example, and goes to the output.
-fn is_helped(rt: &HostRuntime, words: &[&str]) -> Result<bool, AllocError> {
+fn is_helped<T: Files + AllocGlobal + Threads + Wait + Sync>(
+    rt: &T,
+    words: &[&str],
+) -> Result<bool, AllocError> {
     let help = perform(rt, words, b"")?;
     let is_right = help.status == SUCCESS && help.errors.is_empty();
     match str::from_utf8(help.output.as_slice()) {
@@ -128,7 +134,10 @@ fn helps(rt: HostRuntime) -> Result<(), Fail> {
     Ok(())
 }
 
-fn is_misused(rt: &HostRuntime, words: &[&str]) -> Result<bool, AllocError> {
+fn is_misused<T: Files + AllocGlobal + Threads + Wait + Sync>(
+    rt: &T,
+    words: &[&str],
+) -> Result<bool, AllocError> {
     let refused = perform(rt, words, b"3000")?;
     Ok(refused.status == USAGE && refused.output.is_empty() && !refused.errors.is_empty())
 }

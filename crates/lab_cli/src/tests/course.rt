@@ -3,7 +3,10 @@
 use crate::tests::interleavings::shows;
 use crate::tests::perform;
 use std::fs;
+use std::rt::Files;
+use std::sync::Wait;
 use std::test::Fail;
+use std::thread::Threads;
 
 const HELLO: &str = r#"
          .ORIG x3000
@@ -140,7 +143,11 @@ NUMBER .BLKW 1
 "#;
 
 /// Assembles a source to an object file of this name.
-pub fn assemble(rt: &HostRuntime, object: &str, source: &str) -> Result<(), Fail> {
+pub fn assemble<T: Files + AllocGlobal + Threads + Wait + Sync>(
+    rt: &T,
+    object: &str,
+    source: &str,
+) -> Result<(), Fail> {
     fs::write(rt, "course.asm", source)?;
     let _ = perform(rt, &["asm", "course.asm", object], b"")?;
     fs::remove_file(rt, "course.asm")?;
@@ -151,7 +158,11 @@ pub fn assemble(rt: &HostRuntime, object: &str, source: &str) -> Result<(), Fail
 #[test]
 fn a_program_stepped(rt: HostRuntime) -> Result<(), Fail> {
     assemble(&rt, "hello.obj", HELLO)?;
-    let turns = perform(&rt, &["step", "hello.obj", "hello.obj"], b"0*2 1*12 0*18 1*8\n")?;
+    let turns = perform(
+        &rt,
+        &["step", "hello.obj", "hello.obj"],
+        b"0*2 1*12 0*18 1*8\n",
+    )?;
     let look = perform(
         &rt,
         &["debug", "hello.obj"],
@@ -172,7 +183,8 @@ regs 0
 step 0 1
 out 0
 quit
-".as_bytes(),
+"
+            .as_bytes(),
     )?;
     fs::remove_file(&rt, "hello.obj")?;
     assert!(rt;
@@ -291,7 +303,8 @@ regs 0
 mem 0 x301B 1
 mqs
 quit
-".as_bytes(),
+"
+            .as_bytes(),
     )?;
     fs::remove_file(&rt, "sender.obj")?;
     fs::remove_file(&rt, "receiver.obj")?;

@@ -273,12 +273,26 @@ fn philosophers_at_a_table(rt: HostRuntime) -> Result<(), Fail> {
     }
     let left = perform(
         &rt,
-        &["step", "left.obj=0", "left.obj=1", "left.obj=2", "left.obj=3", "left.obj=4"],
+        &[
+            "step",
+            "left.obj=0",
+            "left.obj=1",
+            "left.obj=2",
+            "left.obj=3",
+            "left.obj=4",
+        ],
         b"0*22 1*22 2*22 3*22 4*22 0*2 1*2 2*2 3*2 4*2\n",
     )?;
     let low = perform(
         &rt,
-        &["step", "low.obj=0", "low.obj=1", "low.obj=2", "low.obj=3", "low.obj=4"],
+        &[
+            "step",
+            "low.obj=0",
+            "low.obj=1",
+            "low.obj=2",
+            "low.obj=3",
+            "low.obj=4",
+        ],
         b"0*22 1*22 2*22 3*22 4*22 0*2 1*2 2*2 3*2 4*2 3*99 2*99 1*99 0*99 4*99\n",
     )?;
     fs::remove_file(&rt, "left.obj")?;

@@ -187,12 +187,24 @@ fn a_barrier_used_again(rt: HostRuntime) -> Result<(), Fail> {
     assemble(&rt, "gates.obj", TWO_GATES)?;
     let overtaken = perform(
         &rt,
-        &["step", "start.obj", "worker.obj", "worker.obj", "worker.obj"],
+        &[
+            "step",
+            "start.obj",
+            "worker.obj",
+            "worker.obj",
+            "worker.obj",
+        ],
         b"0*99 1*99 2*99 3*999\n",
     )?;
     let hidden = perform(
         &rt,
-        &["debug", "start.obj", "worker.obj", "worker.obj", "worker.obj"],
+        &[
+            "debug",
+            "start.obj",
+            "worker.obj",
+            "worker.obj",
+            "worker.obj",
+        ],
         "run 0*7 2*25 1*24 3*73
 out 1
 out 2
@@ -202,7 +214,8 @@ out 1
 out 2
 out 3
 quit
-".as_bytes(),
+"
+            .as_bytes(),
     )?;
     let held = perform(
         &rt,

@@ -2,7 +2,10 @@
 use crate::command::{FAULT, SUCCESS};
 use crate::tests::{Outcome, perform};
 use std::fs;
+use std::rt::Files;
+use std::sync::Wait;
 use std::test::Fail;
+use std::thread::Threads;
 
 const PRODUCER: &str = r#"
       .ORIG x3000
@@ -115,8 +118,8 @@ CREAT  .FILL x40
 const ECHO: &str = ".ORIG x3000\nGETC\nOUT\nHALT\n";
 
 /// The outcome of a command on the programs of two sources.
-fn perform_on_two(
-    rt: &HostRuntime,
+fn perform_on_two<T: Files + AllocGlobal + Threads + Wait + Sync>(
+    rt: &T,
     command: &str,
     first: &str,
     second: &str,

@@ -70,12 +70,7 @@ fn word(process: &Process, at: u16) -> u16 {
     }
 }
 
-fn replies_once(
-    alloc: Global,
-    world: &World,
-    pid: usize,
-    count: u8,
-) -> Result<String, AllocError> {
+fn replies_once(alloc: Global, world: &World, pid: usize, count: u8) -> Result<String, AllocError> {
     let mut text = String::new(alloc);
     let Some(process) = world.process(pid) else {
         return Ok(text);

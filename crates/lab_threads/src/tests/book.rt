@@ -74,7 +74,10 @@ fn a_queue_for_one_message(rt: HostRuntime) {
     }
     assert!(rt; !book.fits(1, &seven), "it waits for another call");
     let receive = Call::MqReceive { mqd: 0, len: 1 };
-    assert!(rt; is_message(make(&rt, alloc, &mut book, 0, &receive), 7), "the message");
+    assert!(rt;
+        is_message(make(&rt, alloc, &mut book, 0, &receive), 7),
+        "the message"
+    );
     assert!(rt; is_plain(make(&rt, alloc, &mut book, 1, &eight), 0), "sent");
     let pids: [usize; 7] = [0, 0, 0, 1, 1, 0, 1];
     assert_eq!(rt; book.history().len(), 7);
