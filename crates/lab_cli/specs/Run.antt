@@ -10,10 +10,10 @@ use Rattle.lab_debug.specs.Reports.{report_text}
 abbrev pub alone : Segment → WorldState
 alone image = record { processes = Running (start image.origin image.words []) ∷ []; kernel = empty_kernel 1 }
 
--- the same after 100,000 steps
-unfoldable pub last_world : Segment → WorldState
-last_world image = run (alone image) (replicate 100000 0)
+-- the same after n steps
+unfoldable pub world_after : ℕ → Segment → WorldState
+world_after n image = run (alone image) (replicate n 0)
 
--- its report
+-- the report after 100,000 steps
 abbrev pub report_of : Segment → List ℕ
-report_of image = report_text (last_world image)
+report_of image = report_text (world_after 100000 image)

@@ -6,12 +6,15 @@ use crate::debugging::debug_programs;
 use crate::fault::CliFault;
 use crate::line::{Request, read_words};
 use crate::run::hex_run;
+use crate::running::run_programs;
 use crate::stepping::step_programs;
 use crate::translating::{assemble_file, disassemble_file};
 use lab_io::{Input, Output};
 use std::alloc::Global;
 use std::io::{Read, Write};
 use std::rt::Files;
+use std::sync::Wait;
+use std::thread::Threads;
 
 /// The program did what its words ask for.
 pub const SUCCESS: u8 = 0;
@@ -24,7 +27,7 @@ pub const USAGE: u8 = 2;
 
 /// Does what the words after the program's name ask for, and answers the exit status. Without words it reads an image
 /// as hexadecimal words and writes the report of its run. A fault goes to `errors`, on one line.
-pub fn command<T: Files, R: Read, W: Write, E: Write>(
+pub fn command<T: Files + Threads + Wait + Sync, R: Read, W: Write, E: Write>(
     rt: &T,
     alloc: Global,
     words: &[String],
@@ -58,7 +61,7 @@ fn complaint(fault: CliFault) -> Complaint<'static> {
 }
 
 /// Does what a request asks for.
-fn perform<'a, T: Files, R: Read, W: Write>(
+fn perform<'a, T: Files + Threads + Wait + Sync, R: Read, W: Write>(
     rt: &T,
     alloc: Global,
     request: &Request<'a>,
@@ -78,6 +81,10 @@ fn perform<'a, T: Files, R: Read, W: Write>(
         Request::Step { ref programs } => {
             step_programs(rt, alloc, programs.as_slice(), input, output)
         }
+        Request::Run {
+            ref programs,
+            limit,
+        } => run_programs(rt, alloc, programs.as_slice(), limit, output),
         Request::Debug { ref programs } => {
             debug_programs(rt, alloc, programs.as_slice(), input, output)
         }

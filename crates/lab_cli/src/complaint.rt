@@ -2,6 +2,7 @@
 use crate::fault::CliFault;
 use lab_debug::SessionFault;
 use lab_sched::{RunStop, SchedFault, StepFault};
+use lab_threads::RunFault;
 use lc3_asm::AsmFault;
 use lc3_obj::ObjFault;
 use lc3_table::Fault;
@@ -19,6 +20,8 @@ pub enum Reason {
     TooManySteps { at: usize },
     Count,
     NoProcess { done: u64 },
+    Unvouched,
+    Spawn,
     TooManyLines,
     LineTooLong,
     NotUtf8,
@@ -95,6 +98,16 @@ impl From<RunStop> for Reason {
     }
 }
 
+impl From<RunFault> for Reason {
+    fn from(fault: RunFault) -> Reason {
+        match fault {
+            RunFault::Unvouched => Reason::Unvouched,
+            RunFault::Spawn => Reason::Spawn,
+            RunFault::NoMemory => Reason::NoMemory,
+        }
+    }
+}
+
 impl From<SessionFault> for Reason {
     fn from(fault: SessionFault) -> Reason {
         match fault {
@@ -119,6 +132,8 @@ impl fmt::Display for Reason {
             Reason::TooManySteps { at } => write!(f, "block {at}: TooLong"),
             Reason::Count => write!(f, "Count"),
             Reason::NoProcess { done } => write!(f, "after {done} steps: NoProcess"),
+            Reason::Unvouched => write!(f, "Unvouched"),
+            Reason::Spawn => write!(f, "Spawn"),
             Reason::TooManyLines => write!(f, "TooManyLines"),
             Reason::LineTooLong => write!(f, "LineTooLong"),
             Reason::NotUtf8 => write!(f, "not UTF-8"),

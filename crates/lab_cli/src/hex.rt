@@ -7,6 +7,7 @@ use lc3_word::Image;
 use std::alloc::{AllocError, Global};
 
 /// The image that a text of hexadecimal words says.
+#[tactic(auto, unfolding(crate::specs::Hex::image_of))]
 pub fn read_text(alloc: Global, text: &[u8]) -> Result<Image, CliFault>
     ensures ok { IfOk result (λ image. image_of text.now ≡ Ok image) }
     ensures err { IfErr result (λ e. e ≢ CliFault.NoMemory → image_of text.now ≡ Err e) }

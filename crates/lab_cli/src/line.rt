@@ -1,4 +1,5 @@
 //! The command line.
+use crate::running::MOST_STEPS;
 use clap::{Arg, ArgAction, ArgMatches, Command, Error};
 use std::alloc::{AllocError, Global};
 
@@ -15,6 +16,10 @@ pub enum Request<'a> {
     },
     Step {
         programs: Vec<&'a str>,
+    },
+    Run {
+        programs: Vec<&'a str>,
+        limit: u32,
     },
     Debug {
         programs: Vec<&'a str>,
@@ -45,6 +50,7 @@ fn program<'a>(alloc: Global) -> Result<Command<'a>, AllocError> {
         .subcommand(asm(alloc)?)?
         .subcommand(dis(alloc)?)?
         .subcommand(step(alloc)?)?
+        .subcommand(run(alloc)?)?
         .subcommand(debug(alloc)?)
 }
 
@@ -84,6 +90,20 @@ fn step<'a>(alloc: Global) -> Result<Command<'a>, AllocError> {
         .arg(programs(alloc))
 }
 
+fn run<'a>(alloc: Global) -> Result<Command<'a>, AllocError> {
+    let limit = Arg::new(alloc, "limit")
+        .long("limit")
+        .value_name("N")
+        .value_parser(clap::value_parser!(u32).range(1..=i64::from(MOST_STEPS)))
+        .default_value("100000")
+        .help("The most steps of each process");
+    Command::new(alloc, "run")
+        .about("Runs programs on threads and prints a report and the interleaving that they had")
+        .after_help("Example:\n  lc3lab run producer.obj consumer.obj")
+        .arg(limit)?
+        .arg(programs(alloc))
+}
+
 fn debug<'a>(alloc: Global) -> Result<Command<'a>, AllocError> {
     Command::new(alloc, "debug")
         .about("Runs programs by commands on standard input, which also show them")
@@ -109,6 +129,10 @@ fn request_of<'a>(alloc: Global, matches: &ArgMatches<'a>) -> Result<Request<'a>
         },
         Some(("step", words)) => Request::Step {
             programs: programs_of(alloc, words)?,
+        },
+        Some(("run", words)) => Request::Run {
+            programs: programs_of(alloc, words)?,
+            limit: words.get_one::<u32>("limit").unwrap_or(MOST_STEPS),
         },
         Some(("debug", words)) => Request::Debug {
             programs: programs_of(alloc, words)?,

@@ -11,6 +11,7 @@ mod input;
 mod line;
 mod programs;
 mod run;
+mod running;
 mod stepping;
 mod translating;
 

@@ -1,8 +1,8 @@
 //! The run over hexadecimal words.
-ghost use Rattle.std.specs.Prelude.{◌≡◌, ◌≢◌, ◌≤◌, false, IfOk, IfErr, OnOk, IfSome, IsOkAnd, length};
+ghost use Rattle.std.specs.Prelude.{◌≡◌, ◌≢◌, ◌≤◌, false, Some, string_bytes, IfOk, IfErr, OnOk, IfSome, IsOkAnd, length};
 ghost use Rattle.std.specs.Io.KnownBytes.{Appends};
 ghost use Rattle.lab_cli.specs.Hex.{image_of};
-ghost use Rattle.lab_cli.specs.Run.{last_world, report_of};
+ghost use Rattle.lab_cli.specs.Run.{world_after, report_of};
 ghost use Rattle.lab_cli.specs.Fault.{Explains};
 
 use crate::fault::CliFault;
@@ -19,9 +19,8 @@ use std::io::{Read, Write};
 const STEPS: u32 = 100_000;
 
 /// The world of an image by itself after 100,000 steps.
-#[tactic(auto, unfolding(crate::specs::Run::last_world))]
 pub fn run_alone(alloc: Global, image: Image) -> Result<World, CliFault>
-    ensures world { IfOk result (λ world. world ≡ last_world image) }
+    ensures world { IfOk result (λ world. world ≡ world_after 100000 image) }
     ensures err { IfErr result (λ fault. fault ≡ CliFault.NoMemory) }
 {
     let programs = [Program {
@@ -40,10 +39,22 @@ pub fn run_alone(alloc: Global, image: Image) -> Result<World, CliFault>
     }
 }
 
+/// The report on the run of the image that a text of hexadecimal words says.
+#[tactic(auto, using(crate::proofs::RunLemmas::fault_of_text))]
+fn report_on(alloc: Global, text: &[u8]) -> Result<String, CliFault>
+    ensures report { IfOk result (λ report. IsOkAnd (image_of text.now) (λ image. string_bytes report ≡ report_of image)) }
+    ensures err { IfErr result (λ e. Explains e (Some text.now) false false) }
+{
+    let image = read_text(alloc, text)?;
+    let world = run_alone(alloc, image)?;
+    Ok(report_text(alloc, &world)?)
+}
+
 /// Reads the hexadecimal words of an image to the end of the input, steps it as process 0 until it ends or 100,000
 /// steps are done, and writes the report. The first fault is answered: `Read` or `TooLarge` while the input is read, then
 /// `BadWord`, `Empty` and `TooLong`, and `Write` last; `NoMemory` may come before any of them but `Read` and
 /// `TooLarge` that came earlier. How much was written before `Write` isn't said.
+#[tactic(auto, using(crate::proofs::RunLemmas::explained))]
 pub fn hex_run<R: Read, W: Write>(
     alloc: Global,
     input: &mut Input<R>,
@@ -62,9 +73,7 @@ pub fn hex_run<R: Read, W: Write>(
         (λ e. Explains e (R.remaining input.old.device) input.new.failed output.new.failed) }
 {
     let text = read_whole(alloc, input)?;
-    let image = read_text(alloc, text.as_slice())?;
-    let world = run_alone(alloc, image)?;
-    let report = report_text(alloc, &world)?;
+    let report = report_on(alloc, text.as_slice())?;
     output
         .write_all(report.as_bytes())
         .map_err(|_| CliFault::Write)

@@ -5,6 +5,7 @@ mod course;
 mod course_locks;
 mod course_orders;
 mod interleavings;
+mod row_programs;
 mod rows;
 
 use crate::command::{FAULT, SUCCESS, command};

@@ -9,6 +9,7 @@ use Rattle.lab_sched.specs.declared.schedule.fault.SchedFault.{SchedFault}
 use Rattle.lab_sched.specs.ScheduleTexts.{reading}
 use Rattle.lab_debug.specs.declared.command.Command.{Command}
 use Rattle.lab_debug.specs.declared.command.Command.TheVariants.{Step, Run, Until, Regs, Mem, Dis, Procs, Mqs, Sems, Fds, Out, Quit}
+use Rattle.lab_debug.specs.declared.command.Range.{Range}
 use Rattle.lab_debug.specs.declared.command.Refusal.{Refusal}
 use Rattle.lab_debug.specs.declared.command.Refusal.TheVariants.{UnknownCommand, BadOperands}
 
@@ -67,12 +68,15 @@ until_of ws =
 abbrev pub of_process : (ℕ → Command) → List (List ℕ) → Option Command
 of_process make ws = option_and_then (λ w. option_map make (process_of w)) (one_of ws)
 
--- P ADDR N: a process and a range of memory
-abbrev pub of_range : (ℕ → ℕ → ℕ → Command) → List (List ℕ) → Option Command
-of_range make ws =
+-- P ADDR N: a range of memory of a process
+abbrev pub range_of : List (List ℕ) → Option Range
+range_of ws =
     option_and_then (λ w. option_and_then (λ p. option_and_then (λ a. option_and_then (λ n.
-    if nat_le (a + n) 65536 then Some (make p a n) else None)
+    if nat_le (a + n) 65536 then Some (record { pid = p; address = a; count = n }) else None)
     (number_within 1 256 w.2)) (address_of w.1)) (process_of w.0)) (three_of ws)
+
+abbrev pub of_range : (Range → Command) → List (List ℕ) → Option Command
+of_range make ws = option_map make (range_of ws)
 
 -- nothing
 abbrev pub bare_of : Command → List (List ℕ) → Option Command

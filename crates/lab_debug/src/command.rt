@@ -1,28 +1,45 @@
 //! The commands of a script, as they are written.
-ghost use Rattle.std.specs.Prelude.{◌≡◌, IfOk, IfSome, map, codes};
+ghost use Rattle.std.specs.Prelude.{◌≡◌, ◌≤◌, ◌+◌, IfOk, IfSome, map, codes};
 ghost use Rattle.lab_sched.specs.ScheduleTexts.{reading};
 ghost use Rattle.lab_debug.specs.Effects.{IsCommand};
-ghost use Rattle.lab_debug.specs.Commands.{step_of, until_of, bare_of, of_process, of_range, run_of, after_blanks, is_named, plain_command, command_of};
+ghost use Rattle.lab_debug.specs.Commands.{step_of, until_of, bare_of, of_process, range_of, of_range, run_of, after_blanks, is_named, plain_command, command_of};
 
 use crate::operands::{address_in, count_in, join_words, number_in, one, process_in, three, two};
 use lab_sched::{SchedFault, Schedule};
 use std::alloc::{AllocError, Global};
 
+/// A range of memory of a process: so many words from an address on.
+#[derive(Clone, Copy, Debug, PartialEq, Eq)]
+pub struct Range {
+    pub pid: usize,
+    pub address: u16,
+    pub count: u32,
+}
+
 /// What a line asks for.
 #[derive(Drop)]
 pub enum Command {
     /// So many steps of a process.
-    Step { pid: usize, count: u32 },
+    Step {
+        pid: usize,
+        count: u32,
+    },
     /// The steps of a schedule.
     Run(Schedule),
     /// At most so many steps of a process, up to an address.
-    Until { pid: usize, address: u16, count: u32 },
+    Until {
+        pid: usize,
+        address: u16,
+        count: u32,
+    },
     /// The registers of a process.
-    Regs { pid: usize },
+    Regs {
+        pid: usize,
+    },
     /// A range of memory of a process.
-    Mem { pid: usize, address: u16, count: u32 },
+    Mem(Range),
     /// The same with the text of each word.
-    Dis { pid: usize, address: u16, count: u32 },
+    Dis(Range),
     /// Each status line.
     Procs,
     /// The queues.
@@ -30,9 +47,13 @@ pub enum Command {
     /// The semaphores.
     Sems,
     /// The descriptors and slots of a process.
-    Fds { pid: usize },
+    Fds {
+        pid: usize,
+    },
     /// The output of a process.
-    Out { pid: usize },
+    Out {
+        pid: usize,
+    },
     /// The end of the session.
     Quit,
 }
@@ -104,17 +125,17 @@ fn read_out(operands: &[&[u8]]) -> Option<Command>
     Some(Command::Out { pid })
 }
 
-/// `P ADDR N`, of its memory
-fn read_mem(operands: &[&[u8]]) -> Option<Command>
-    ensures value { result ≡ of_range Mem (map (λ word. word.now) operands.now) }
-    ensures ranges { IfSome result (λ command. IsCommand command) }
+/// `P ADDR N`, a range of its memory
+fn read_range(operands: &[&[u8]]) -> Option<Range>
+    ensures value { result ≡ range_of (map (λ word. word.now) operands.now) }
+    ensures range { IfSome result (λ range. range.address + range.count ≤ 65536) }
 {
     let (pid, address, count) = three(operands)?;
     let pid = process_in(pid)?;
     let address = address_in(address)?;
     let count = number_in(1, 256, count)?;
     if u32::from(address) + count <= 65_536 {
-        Some(Command::Mem {
+        Some(Range {
             pid,
             address,
             count,
@@ -124,24 +145,22 @@ fn read_mem(operands: &[&[u8]]) -> Option<Command>
     }
 }
 
-/// `P ADDR N`, of its memory with the text of each word
+/// `P ADDR N`, of its words
+fn read_mem(operands: &[&[u8]]) -> Option<Command>
+    ensures value { result ≡ of_range Mem (map (λ word. word.now) operands.now) }
+    ensures ranges { IfSome result (λ command. IsCommand command) }
+{
+    let range = read_range(operands)?;
+    Some(Command::Mem(range))
+}
+
+/// `P ADDR N`, of its words with their texts
 fn read_dis(operands: &[&[u8]]) -> Option<Command>
     ensures value { result ≡ of_range Dis (map (λ word. word.now) operands.now) }
     ensures ranges { IfSome result (λ command. IsCommand command) }
 {
-    let (pid, address, count) = three(operands)?;
-    let pid = process_in(pid)?;
-    let address = address_in(address)?;
-    let count = number_in(1, 256, count)?;
-    if u32::from(address) + count <= 65_536 {
-        Some(Command::Dis {
-            pid,
-            address,
-            count,
-        })
-    } else {
-        None
-    }
+    let range = read_range(operands)?;
+    Some(Command::Dis(range))
 }
 
 /// A command without operands

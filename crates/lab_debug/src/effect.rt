@@ -80,12 +80,7 @@ fn is_same(stepped: Stepped) -> bool
 }
 
 /// Takes at most so many steps of a process: up to an address, and only steps that have an effect.
-fn step_until(
-    world: &mut World,
-    pid: usize,
-    address: u16,
-    count: u32,
-) -> Result<(), AllocError>
+fn step_until(world: &mut World, pid: usize, address: u16, count: u32) -> Result<(), AllocError>
     ensures { OnOk result (world.new ≡ until pid address world.old count) }
 {
     for i in 0..count {
@@ -124,10 +119,9 @@ fn are_there(world: &World, command: &Command) -> bool
         Command::Step { pid, .. }
         | Command::Until { pid, .. }
         | Command::Regs { pid }
-        | Command::Mem { pid, .. }
-        | Command::Dis { pid, .. }
         | Command::Fds { pid }
         | Command::Out { pid } => is_there(world, *pid),
+        Command::Mem(range) | Command::Dis(range) => is_there(world, range.pid),
         Command::Run(schedule) => blocks_are_there(world, schedule.blocks()),
         Command::Procs | Command::Mqs | Command::Sems | Command::Quit => true,
     }
@@ -156,16 +150,8 @@ fn carry_out(alloc: Global, world: &mut World, command: Command) -> Result<Reply
             status_text(alloc, world, pid)?
         }
         Command::Regs { pid } => regs_text(alloc, world, pid)?,
-        Command::Mem {
-            pid,
-            address,
-            count,
-        } => mem_text(alloc, world, pid, address, count)?,
-        Command::Dis {
-            pid,
-            address,
-            count,
-        } => dis_text(alloc, world, pid, address, count)?,
+        Command::Mem(range) => mem_text(alloc, world, range.pid, range.address, range.count)?,
+        Command::Dis(range) => dis_text(alloc, world, range.pid, range.address, range.count)?,
         Command::Procs => procs_text(alloc, world)?,
         Command::Mqs => mqs_text(alloc, world)?,
         Command::Sems => sems_text(alloc, world)?,

@@ -12,6 +12,7 @@ use std::alloc::Global;
 use std::io::Read;
 use std::marker::Model;
 
+/// How many bytes are read at once, at most.
 const CHUNK: usize = 4096;
 
 /// Bytes that were read and not yet taken.
@@ -31,6 +32,7 @@ impl Model for Pending {
 }
 
 impl Pending {
+    /// No bytes.
     pub fn new() -> Pending
         ensures { result ≡ [] }
     {

@@ -129,6 +129,7 @@ fresh_is ks ps k so runs k-is some few =
       some = omega (arith, count);
       few = omega (arith, count);
       count = count ∙ sym (ap (λ (x : KernelState). length x.processes) k-is ∙ length-replicate (length ps) closed_process);
+      empty = k-is ∙ ap empty_kernel (sym count);
     }
 
 pub none_taken : (w v : WorldState) (n p : ℕ) → v ≡ run w (replicate n p) → n ≡ 0 → v ≡ w

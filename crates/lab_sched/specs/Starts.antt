@@ -25,9 +25,10 @@ Runs (kept.Running m) = Unit {0}
 Runs (kept.Waiting h c) = ⊥
 Runs (kept.Ended e) = ⊥
 
--- the processes of a laboratory before its first step
+-- the processes of a laboratory before its first step, and its kernel, which is empty
 pub record IsFresh (ps : List Kept) (k : KernelState) : Type 0 where
   pub running : All Runs ps
   pub some : 1 ≤ length ps
   pub few : length ps ≤ 64
   pub count : length ps ≡ length k.processes
+  pub empty : k ≡ empty_kernel (length ps)

@@ -1,5 +1,6 @@
 //! Laboratories before their first step.
 ghost use Rattle.std.specs.Prelude.{◌≡◌, ◌≤◌, ◌↔◌, length, map, All, Err, IfOk};
+ghost use Rattle.ipc_kernel.specs.Kernel.{empty_kernel};
 ghost use Rattle.lab_sched.specs.Starts.{start_of, fresh, IsCount, Runs};
 ghost use Rattle.lab_sched.specs.Held.{seen};
 ghost use Rattle.lab_sched.specs.declared.fresh.FreshFault.TheVariants.{Count, NoMemory};
@@ -94,10 +95,14 @@ impl Fresh {
         Ok(Fresh { processes, kernel })
     }
 
-    /// The processes at their starts, each running.
+    /// The processes at their starts, 1 to 64, each running. The kernel that they were to share is
+    /// empty.
     pub fn processes(self) -> Vec<Process>
         ensures processes { map seen result.items ≡ self.processes }
         ensures running { All Runs result.items }
+        ensures some { 1 ≤ length self.processes }
+        ensures few { length self.processes ≤ 64 }
+        ensures empty { self.kernel ≡ empty_kernel (length self.processes) }
     {
         self.processes
     }

@@ -55,7 +55,7 @@ fn fresh_once(alloc: Global, programs: &[&[u16]]) -> Result<Fresh, FreshFault> {
     Fresh::new(alloc, list.as_slice())
 }
 
-fn fresh(alloc: Global, programs: &[&[u16]]) -> Result<Fresh, FreshFault> {
+pub(crate) fn fresh(alloc: Global, programs: &[&[u16]]) -> Result<Fresh, FreshFault> {
     match fresh_once(alloc, programs) {
         Err(FreshFault::NoMemory) => fresh_once(alloc, programs),
         made => made,

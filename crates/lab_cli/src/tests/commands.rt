@@ -123,6 +123,7 @@ fn helps(rt: HostRuntime) -> Result<(), Fail> {
     assert!(rt; is_helped(&rt, &["dis", "--help"])?);
     assert!(rt; is_helped(&rt, &["help", "dis"])?);
     assert!(rt; is_helped(&rt, &["step", "--help"])?);
+    assert!(rt; is_helped(&rt, &["run", "--help"])?);
     assert!(rt; is_helped(&rt, &["debug", "--help"])?);
     Ok(())
 }
@@ -141,6 +142,10 @@ fn refuses_wrong_words(rt: HostRuntime) -> Result<(), Fail> {
     assert!(rt; is_misused(&rt, &["asm"])?);
     assert!(rt; is_misused(&rt, &["step"])?);
     assert!(rt; is_misused(&rt, &["debug"])?);
+    assert!(rt; is_misused(&rt, &["run"])?);
+    assert!(rt; is_misused(&rt, &["run", "--limit", "0", "hi.obj"])?);
+    assert!(rt; is_misused(&rt, &["run", "--limit", "10000001", "hi.obj"])?);
+    assert!(rt; is_misused(&rt, &["run", "--limit", "x5", "hi.obj"])?);
     assert!(rt; is_misused(&rt, &["asm", "hi.asm"])?);
     assert!(rt; is_misused(&rt, &["dis", "hi.obj", "hi.obj"])?);
     assert!(rt; is_misused(&rt, &["dis", "-missing.obj"])?);

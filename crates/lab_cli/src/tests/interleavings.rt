@@ -1,4 +1,4 @@
-//! The commands `step` and `debug`, on files that the tests write and remove.
+//! The commands `step`, `run` and `debug`, on files that the tests write and remove.
 use crate::command::{FAULT, SUCCESS};
 use crate::tests::{Outcome, perform};
 use std::fs;
@@ -200,6 +200,24 @@ sem 1 0 1
 "
         )
     );
+    Ok(())
+}
+
+/// A run on threads has the report of its programs, and its schedule, given to `step`, the same report.
+#[test]
+fn a_run_is_replayed(rt: HostRuntime) -> Result<(), Fail> {
+    let report = "0 ended x3011 halt\nout 0\n1 ended x3011 halt\nout 1 12345\nverdict ended\n";
+    let outcome = perform_on_two(&rt, "run", PRODUCER, CONSUMER, "")?;
+    assert_eq!(rt; outcome.status, SUCCESS);
+    let Ok(text) = str::from_utf8(outcome.output.as_slice()) else {
+        panic!(rt; "text");
+    };
+    let Some((shown, schedule)) = text.split_once("schedule ") else {
+        panic!(rt; "a schedule");
+    };
+    assert_eq!(rt; shown, report);
+    let again = perform_on_two(&rt, "step", PRODUCER, CONSUMER, schedule)?;
+    assert!(rt; shows(&again, report));
     Ok(())
 }
 

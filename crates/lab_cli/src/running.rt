@@ -1,0 +1,49 @@
+//! The command `run`.
+ghost use Rattle.std.specs.Prelude.{◌≡◌, false};
+
+use crate::complaint::{Complaint, Reason};
+use crate::files::write_text;
+use crate::programs::{laboratory, read_programs};
+use lab_debug::report_text;
+use lab_io::Output;
+use lab_threads::{NoGate, Report, run_threads};
+use std::alloc::{AllocError, Global};
+use std::io::Write;
+use std::rt::Files;
+use std::sync::Wait;
+use std::thread::Threads;
+
+/// The most steps of each process that can be asked for.
+pub const MOST_STEPS: u32 = 10_000_000;
+
+/// Reads the files of the programs, runs them on threads for at most `limit` steps each, and writes the report and the
+/// schedule of the interleaving that the run had.
+pub fn run_programs<'a, T: Files + Threads + Wait + Sync, W: Write>(
+    rt: &T,
+    alloc: Global,
+    programs: &[&'a str],
+    limit: u32,
+    output: &mut Output<W>,
+) -> Result<(), Complaint<'a>>
+    requires output_healthy { output.old.failed ≡ false }
+{
+    let programs = read_programs(rt, alloc, programs)?;
+    let fresh = laboratory(alloc, programs.as_slice())?;
+    let report = run_threads(rt, alloc, fresh, limit.clamp(1, MOST_STEPS), &NoGate)
+        .map_err(|fault| Reason::from(fault).at("run"))?;
+    let text = text_of(alloc, &report).map_err(|_| Reason::NoMemory.at("run"))?;
+    write_text(&text, output)
+}
+
+/// The report on a run, and a line with its schedule.
+fn text_of(alloc: Global, report: &Report) -> Result<String, AllocError> {
+    let mut text = report_text(alloc, &report.world)?;
+    let schedule = report.schedule.text(alloc)?;
+    text.push_str("schedule")?;
+    if !schedule.is_empty() {
+        text.push_str(" ")?;
+        text.push_str(&schedule)?;
+    }
+    text.push_str("\n")?;
+    Ok(text)
+}

@@ -1,0 +1,68 @@
+-- A book after a call.
+use Rattle.std.proofs.Common.{ℕ, zero, suc, ◌≡◌, ◌==◌, ◌<◌, ◌≤◌, ◌++◌, List, [], ◌∷◌, Option, Some, None, true, false, Bool, cond, refl, sym, ap, subst, ◌∙◌, arith, length, slice_get, set, get_or}
+use Rattle.std.proofs.lemmas.List.{length-set, append-nil, length-replicate}
+use Rattle.ipc_kernel.specs.Kernel.{KernelState, empty_kernel}
+use Rattle.ipc_kernel.specs.Processes.{closed_process}
+use Rattle.ipc_kernel.specs.Answer.{answer}
+use Rattle.ipc_kernel.specs.declared.call.Call.{Call}
+use Rattle.ipc_kernel.specs.declared.call.Answer.{Answer}
+use Rattle.ipc_kernel.specs.declared.call.Answer.TheVariants.{Done, Wait}
+use Rattle.ipc_kernel.proofs.LawfulAnswers.{answer_count}
+use Rattle.lab_sched.specs.declared.entry.Entry.{Entry}
+use Rattle.lab_sched.specs.History.{IsLegal, replay, still, waits, waits_after}
+use Rattle.lab_sched.proofs.Histories.{replay-append, legal-append, waits-append}
+use Rattle.lab_sched.proofs.Places.{get-set}
+use Rattle.lab_threads.specs.Kept.{IsKept}
+use Rattle.lab_threads.specs.Pages.{added}
+
+pick : (b : Bool) (x : Option Call) (y : Option (Option Call)) (z : Option Call) → y ≡ Some z → cond b (Some x) y ≡ Some (cond b x z)
+pick true x y z e = refl
+pick false x y z e = e
+
+pub kept_more : (k : KernelState) (h : List Entry) (ws : List (Option Call)) (p : ℕ) (c : Call) (a : Answer)
+    → IsKept k h ws → p < length ws → a ≡ (answer k p c).0
+    → IsKept (answer k p c).1 (h ++ record { pid = p; call = c; answer = a } ∷ []) (set ws p (still c a))
+kept_more k h ws p c a kept within is =
+    let e : Entry = record { pid = p; call = c; answer = a } in
+    let same : length ws ≡ length (set ws p (still c a)) = sym (length-set ws p (still c a)) in
+    let legal : IsLegal (empty_kernel (length ws)) (h ++ e ∷ []) = legal-append (empty_kernel (length ws)) h _ kept.legal (is ∙ ap (λ j. (answer j p c).0) kept.kernel, tt) in
+    let kernel : (answer k p c).1 ≡ replay (empty_kernel (length ws)) (h ++ e ∷ []) = ap (λ j. (answer j p c).1) kept.kernel ∙ sym (replay-append (empty_kernel (length ws)) h _) in
+    record {
+      legal = subst (λ n. IsLegal (empty_kernel n) (h ++ e ∷ [])) same legal;
+      kernel = subst (λ n. (answer k p c).1 ≡ replay (empty_kernel n) (h ++ e ∷ [])) same kernel;
+      calls = λ q below.
+          let old = kept.calls q (omega (arith, same)) in
+          get-set ws p q (still c a) within ∙ pick (p == q) (still c a) (slice_get ws q) (waits h q) old ∙ ap (λ o. Some o) (sym (waits-append None h (e ∷ []) q));
+      count = answer_count k p c ∙ kept.count ∙ same;
+    }
+
+-- the same, of what the code has afterwards
+pub kept_after : {k k' : KernelState} {h h' : List Entry} {ws ws' : List (Option Call)} (p : ℕ) (c : Call) (a : Answer)
+    → IsKept k h ws → p < length ws → a ≡ (answer k p c).0
+    → k' ≡ (answer k p c).1 → h' ≡ h ++ record { pid = p; call = c; answer = a } ∷ [] → ws' ≡ set ws p (still c a)
+    → IsKept k' h' ws'
+kept_after {k} {k'} {h} {h'} {ws} {ws'} p c a kept within is k-is h-is ws-is =
+    rw (k-is, h-is, ws-is) (kept_more k h ws p c a kept within is)
+
+-- a book before its first call
+pub kept_none : {k : KernelState} (ws : List (Option Call)) (n : ℕ) → k ≡ empty_kernel n → length ws ≡ n
+    → ((p : ℕ) → p < length ws → slice_get ws p ≡ Some None) → IsKept k [] ws
+kept_none {k} ws n k-is len none =
+    let k-is' : k ≡ empty_kernel (length ws) = rw len k-is in
+    record {
+      legal = tt;
+      kernel = k-is';
+      calls = none;
+      count = ap (λ (j : KernelState). length j.processes) k-is' ∙ length-replicate (length ws) closed_process;
+    }
+
+pub none_more : (ws : List (Option Call)) → ((p : ℕ) → p < length ws → slice_get ws p ≡ Some None)
+    → (p : ℕ) → p < length (ws ++ None ∷ []) → slice_get (ws ++ None ∷ []) p ≡ Some None
+none_more [] none zero below = refl
+none_more [] none (suc p) below = absurd (omega arith)
+none_more (w ∷ ws) none zero below = none 0 (omega arith)
+none_more (w ∷ ws) none (suc p) below = none_more ws (λ q h. none (suc q) (omega arith)) p (omega arith)
+
+pub none_after : (ws ws' : List (Option Call)) → ws' ≡ ws ++ None ∷ [] → ((p : ℕ) → p < length ws → slice_get ws p ≡ Some None)
+    → (p : ℕ) → p < length ws' → slice_get ws' p ≡ Some None
+none_after ws ws' is none = rw is (none_more ws none)

@@ -1,0 +1,105 @@
+-- The report: the woven steps, and then those of the settling.
+use Rattle.std.proofs.Common.{ℕ, zero, suc, ◌+◌, ◌≡◌, ◌<◌, ◌++◌, List, [], ◌∷◌, Some, refl, sym, ap, subst, ◌∙◌, arith, length, slice_get, get_or, map, inl, inr, ◌⊎◌, All}
+use Rattle.std.specs.Int.{bit_at}
+use Rattle.std.specs.Option.{option_map}
+use Rattle.std.proofs.lemmas.List.{length-map}
+use Rattle.std.proofs.lemmas.Nat.Bits.{bit_at-zero}
+use Rattle.std.proofs.lemmas.List.Elements.{All-map}
+use Rattle.std.proofs.lemmas.Option.{slice_get-map, slice_get-get_or, slice_get_within, get_or_from_slice_get, same_Some}
+use Rattle.ipc_kernel.specs.Kernel.{KernelState, empty_kernel}
+use Rattle.lab_sched.specs.Worlds.{Process, WorldState, turn}
+use Rattle.lab_sched.specs.Course.{count, IsCourse}
+use Rattle.lab_sched.specs.Alone.{steps}
+use Rattle.lab_sched.specs.History.{IsLegal, replay}
+use Rattle.lab_sched.specs.Held.{seen, IsHeld}
+use Rattle.lab_sched.specs.Settled.{IsSettled, HasStopped}
+use Rattle.lab_sched.specs.Starts.{Runs}
+use Rattle.lab_sched.specs.Finished.{IsAtRest, IsFinished}
+use Rattle.lab_sched.specs.declared.entry.Entry.{Entry}
+use Rattle.lab_sched.specs.declared.process.Process.{Process as Kept}
+use Rattle.lab_sched.specs.declared.process.Process.TheVariants as kept
+use Rattle.lab_sched.proofs.Courses.{count-append, course-append}
+use Rattle.lab_sched.proofs.Settles.{report, added_length}
+use Rattle.lab_sched.proofs.Rests.{at_rest}
+use Rattle.lab_threads.specs.declared.walk.Walk.{Walk}
+use Rattle.lab_threads.specs.Walks.{AreWalks}
+use Rattle.lab_threads.specs.Woven.{begun, ended}
+use Rattle.lab_threads.proofs.Weaves.{some_at}
+
+map-map_seen : (walks : List Walk) → map seen (map (λ k. k.process) walks) ≡ map (λ k. seen k.process) walks
+map-map_seen [] = refl
+map-map_seen (k ∷ ks) = ap (λ xs. seen k.process ∷ xs) (map-map_seen ks)
+
+pub joined_is : (w : WorldState) (ps : List Kept) (k : KernelState) (n : ℕ) (walks : List Walk) (history : List Entry)
+    → w.processes ≡ map seen ps → ps ≡ map (λ v. v.process) walks → w.kernel ≡ k → k ≡ replay (empty_kernel n) history → w ≡ ended n walks history
+joined_is w ps k n walks history ps-is ends-is k-is kernel-is =
+    ap (λ xs. record { processes = xs; kernel = w.kernel }) (ps-is ∙ ap (λ xs. map seen xs) ends-is ∙ map-map_seen walks)
+    ∙ ap (λ j. record { processes = map (λ v. seen v.process) walks; kernel = j }) (k-is ∙ kernel-is)
+
+pub reported_course : (b w v u : WorldState) (ss ss' left rest : List ℕ) (h h' : List Entry) → w ≡ u → IsCourse b ss u h
+    → IsSettled (report w ss h) (report v ss' h') left rest → IsCourse b ss' v h'
+reported_course b w v u ss ss' left rest h h' joined woven settled =
+    let added = settled.added in
+    let first : IsCourse b ss w h = subst (λ x. IsCourse b ss x h) (sym joined) woven in
+    let both = course-append first added.course in
+    subst (λ es. IsCourse b ss' v es) (sym added.entries) (subst (λ ps. IsCourse b ps v (h ++ added.told)) (sym added.steps) both)
+
+rested : (v : WorldState) (p : ℕ) (s : Process) (ss' rest : List ℕ) (refused limit : ℕ) → slice_get v.processes p ≡ Some s → refused ≡ 0
+    → count p ss' + get_or rest p 0 ≡ limit → HasStopped v rest refused p → IsAtRest v.kernel p s ⊎ (count p ss' ≡ limit)
+rested v p s ss' rest refused limit at none counts (inl all) = inr (omega (arith, counts, all))
+rested v p s ss' rest refused limit at none counts (inr (inl still)) = inl (at_rest v.kernel p s (ap (λ o. turn v.kernel p o) (sym at) ∙ still))
+rested v p s ss' rest refused limit at none counts (inr (inr is_set)) =
+    let zero_bit : bit_at refused p ≡ 0 = ap (λ n. bit_at n p) none ∙ bit_at-zero p in
+    absurd (omega (arith, zero_bit, is_set))
+
+pub reported_finished : (w v : WorldState) (ss ss' left rest : List ℕ) (h h' : List Entry) (starts : List Kept) (walks : List Walk) (limit refused : ℕ)
+    → AreWalks limit starts walks → w.processes ≡ map (λ k. seen k.process) walks → ((p : ℕ) (k : Walk) → slice_get walks p ≡ Some k → count p ss ≡ steps k.trace)
+    → left ≡ map (λ k. k.left) walks → IsSettled (report w ss h) (report v ss' h') left rest → refused ≡ 0
+    → ((p : ℕ) → p < length rest → HasStopped v rest refused p) → IsFinished v ss' limit
+reported_finished w v ss ss' left rest h h' starts walks limit refused are joined counted left-is settled none stopped p s at =
+    let lengths : length v.processes ≡ length walks = added_length settled.added ∙ ap length joined ∙ length-map walks (λ k. seen k.process) in
+    let below : p < length walks = subst (λ n. p < n) lengths (slice_get_within v.processes p s at) in
+    let k = some_at walks p below in
+    let start = some_at starts p (subst (λ n. p < n) are.len below) in
+    let walk = are.each p start.0 k.0 start.1 k.1 in
+    let lefts : length left ≡ length walks = ap length left-is ∙ length-map walks (λ k. k.left) in
+    let mine : get_or left p 0 ≡ k.0.left =
+    get_or_from_slice_get left p k.0.left 0 (ap (λ xs. slice_get xs p) left-is ∙ slice_get-map (λ k. k.left) walks p ∙ ap (λ o. option_map (λ k. k.left) o) k.1) in
+    let taken = settled.counted p (omega (arith, below, lefts)) in
+    let all : count p ss' ≡ count p ss + count p settled.taken = ap (λ ps. count p ps) settled.added.steps ∙ count-append p ss settled.taken in
+    let counts : count p ss' + get_or rest p 0 ≡ limit = omega (arith, all, taken, mine, counted p k.0 k.1, walk.within) in
+    (omega (arith, counts), rested v p s ss' rest refused limit at none counts (stopped p (omega (arith, below, lefts, settled.len))))
+
+runs_held : (s : Kept) → Runs s → IsHeld s
+runs_held (kept.Running m) runs = tt
+runs_held (kept.Waiting h c) runs = absurd runs
+runs_held (kept.Ended e) runs = absurd runs
+
+-- a laboratory's own start
+pub begun_is : (starts : List Kept) (w : WorldState) → map seen starts ≡ w.processes → w.kernel ≡ empty_kernel (length w.processes) → begun starts ≡ w
+begun_is starts w ps-is k-is =
+    let len : length starts ≡ length w.processes = sym (length-map starts seen) ∙ ap length ps-is in
+    ap (λ xs. record { processes = xs; kernel = empty_kernel (length starts) }) ps-is
+    ∙ ap (λ k. record { processes = w.processes; kernel = k }) (ap empty_kernel len ∙ sym k-is)
+
+-- what `weave` says, of the lists that its slices show
+pub from_course : (ss : List ℕ) (walks walks' : List Walk) (h h' : List Entry) → walks' ≡ walks → h' ≡ h
+    → ((starts : List Kept) (limit : ℕ) → AreWalks limit starts walks' → IsLegal (empty_kernel (length starts)) h' → IsCourse (begun starts) ss (ended (length starts) walks' h') h')
+    → (starts : List Kept) (limit : ℕ) → AreWalks limit starts walks → IsLegal (empty_kernel (length starts)) h → IsCourse (begun starts) ss (ended (length starts) walks h) h
+from_course ss walks walks' h h' walks-is h-is all =
+    let P : List Walk → List Entry → Type 0 = λ v e. (starts : List Kept) (limit : ℕ) → AreWalks limit starts v → IsLegal (empty_kernel (length starts)) e → IsCourse (begun starts) ss (ended (length starts) v e) e in
+    subst (λ v. P v h) walks-is (subst (λ e. P walks' e) h-is all)
+
+pub from_counts : (ss : List ℕ) (walks walks' : List Walk) → walks' ≡ walks → ((p : ℕ) (k : Walk) → slice_get walks' p ≡ Some k → count p ss ≡ steps k.trace)
+    → (p : ℕ) (k : Walk) → slice_get walks p ≡ Some k → count p ss ≡ steps k.trace
+from_counts ss walks walks' walks-is all = subst (λ v. (p : ℕ) (k : Walk) → slice_get v p ≡ Some k → count p ss ≡ steps k.trace) walks-is all
+
+-- where the walks of running processes end is ready for replies
+pub walks_held : (limit : ℕ) (starts : List Kept) (walks : List Walk) → AreWalks limit starts walks → All Runs starts → All IsHeld (map (λ k. k.process) walks)
+walks_held limit starts walks are runs =
+    All-map IsHeld (λ (k : Walk). k.process) walks
+    (λ p d below.
+    let within : p < length starts = subst (λ n. p < n) are.len below in
+    let start = some_at starts p within in
+    let is : get_or starts p start.0 ≡ start.0 = get_or_from_slice_get starts p start.0 start.0 start.1 in
+    (are.each p start.0 (get_or walks p d) start.1 (slice_get-get_or walks p d below)).held (runs_held start.0 (subst Runs is (runs p start.0 within))))

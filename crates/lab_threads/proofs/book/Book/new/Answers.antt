@@ -1,0 +1,14 @@
+use Rattle.std.proofs.Common.{◌≡◌, length, arith, ap, rules, ◌∙◌, length-append}
+use Rattle.lab_threads.proofs.Books.{kept_none, none_after}
+use Rattle.lab_threads.proofs.book.Book.new.Goals as goal
+
+pub invariant_of-result : goal.invariant_of-result
+invariant_of-result c =
+    let len : length c.loop.waiting.items ≡ c.args.count = omega (arith, c.loop.invariant.len) in
+    rw c.new-2.ensures.items (kept_none c.loop.waiting.items c.args.count c.in_ok-kernel.ensures.empty len c.loop.invariant.none)
+
+pub loop-preserved : goal.loop-preserved
+loop-preserved c = record {
+  len = search rules;
+  none = none_after c.loop.waiting.items c.push.new.self.items (search rules) c.loop.invariant.none;
+}

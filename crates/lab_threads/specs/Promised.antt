@@ -1,0 +1,14 @@
+-- What the handles of the workers promise.
+use Rattle.std.specs.Prelude.{ℕ}
+use Rattle.std.specs.declared.thread.PromisedHandle.{PromisedHandle}
+use Rattle.lab_sched.specs.declared.process.Process.{Process}
+use Rattle.lab_threads.specs.declared.walk.Walk.{Walk}
+use Rattle.lab_threads.specs.declared.walk.Walks.{Walks}
+
+-- where the worker began, and how many steps it may take
+abbrev pub promised : PromisedHandle Walk Walks → Process × ℕ
+promised h = (h.promise.start.value, h.promise.limit)
+
+-- a start, with the limit
+abbrev pub due : ℕ → Process → Process × ℕ
+due limit s = (s, limit)

@@ -1,0 +1,177 @@
+//! Books: the kernel that processes share, with the history of their calls.
+ghost use Rattle.std.specs.Prelude.{◌≡◌, ◌<◌, ◌≤◌, ◌++◌, ◌∷◌, ◌↔◌, [], length, IfOk, OnErr, IsTrue, true, false};
+ghost use Rattle.std.specs.Option.{option_copied};
+ghost use Rattle.ipc_kernel.specs.Limits.{process_max};
+ghost use Rattle.ipc_kernel.specs.Kernel.{empty_kernel};
+ghost use Rattle.ipc_kernel.specs.Answer.{answer};
+ghost use Rattle.ipc_kernel.specs.Replies.{IsAnswerTo};
+ghost use Rattle.ipc_kernel.specs.declared.call.Call.{Call as CallValue};
+ghost use Rattle.ipc_kernel.specs.declared.call.Answer.TheVariants.{Wait};
+ghost use Rattle.lab_sched.specs.History.{IsLegal, replay, waits, still};
+ghost use Rattle.lab_threads.specs.Pages.{added, MayCall};
+
+use ipc_kernel::{Answer, Call, Kernel};
+use lab_sched::Entry;
+use std::alloc::{AllocError, Global};
+use std::marker::Model;
+
+/// The kernel that processes share, with the history of all their calls, and the call that each
+/// process waits for.
+#[derive(Drop)]
+pub struct Book {
+    kernel: Kernel,
+    history: Vec<Entry>,
+    waiting: Vec<Option<Call>>,
+}
+
+impl Model for Book {
+    ghost use Rattle.std.specs.Prelude.{length};
+    ghost use Rattle.lab_threads.specs.Pages.{Pages};
+    ghost use Rattle.lab_threads.specs.Kept.{IsKept};
+
+    ghost Value = { Pages };
+
+    ghost view = { λ b. record { count = length b.waiting.items; history = b.history.items } };
+
+    ghost invariant = { λ b. IsKept b.kernel b.history.items b.waiting.items };
+}
+
+/// The entry of a call with its answer.
+fn entry_of(alloc: Global, pid: usize, call: &Call, answer: &Answer) -> Result<Entry, AllocError>
+    ensures { IfOk result (λ e. e ≡ record { pid = pid; call = call.now; answer = answer.now }) }
+{
+    Ok(Entry {
+        pid,
+        call: call.copy(alloc)?,
+        answer: answer.copy(alloc)?,
+    })
+}
+
+/// The call that waits after this answer.
+fn still(alloc: Global, call: &Call, answer: &Answer) -> Result<Option<Call>, AllocError>
+    ensures { IfOk result (λ o. o ≡ still call.now answer.now) }
+{
+    match answer {
+        Answer::Wait => Ok(Some(call.copy(alloc)?)),
+        Answer::Done(_) => Ok(None),
+    }
+}
+
+impl Book {
+    /// The book of `count` processes that have made no call, over an empty kernel.
+    pub fn new(alloc: Global, count: usize) -> Result<Book, AllocError>
+        requires at_least { 1 ≤ count }
+        requires at_most { count ≤ process_max }
+        ensures count { IfOk result (λ b. b.count ≡ count) }
+        ensures history { IfOk result (λ b. b.history ≡ []) }
+    {
+        let kernel = Kernel::new(alloc, count)?;
+        let mut waiting = Vec::new(alloc);
+        for _ in 0..count {
+            waiting.push(None)?;
+        }
+        Ok(Book {
+            kernel,
+            history: Vec::new(alloc),
+            waiting,
+        })
+    }
+
+    /// The number of processes.
+    pub fn count(&self) -> usize
+        ensures count { result ≡ self.now.count }
+    {
+        self.waiting.len()
+    }
+
+    /// The kernel after all calls of the history.
+    pub fn kernel(&self) -> &Kernel
+        ensures replay { result.now ≡ replay (empty_kernel self.now.count) self.now.history }
+        ensures count { length result.now.processes ≡ self.now.count }
+    {
+        &self.kernel
+    }
+
+    /// The calls so far in their order, each with its answer.
+    pub fn history(&self) -> &[Entry]
+        ensures history { result.now ≡ self.now.history }
+        ensures legal { IsLegal (empty_kernel self.now.count) self.now.history }
+    {
+        self.history.as_slice()
+    }
+
+    /// The call that a process waits for, if it waits.
+    pub fn waits(&self, pid: usize) -> Option<&Call>
+        requires process { pid < self.now.count }
+        ensures waits { option_copied result ≡ waits self.now.history pid }
+    {
+        self.waiting[pid].as_ref()
+    }
+
+    /// Whether there is such a process, and it may make this call: one that waits may make the call
+    /// that it waits for again, and no other.
+    pub fn fits(&self, pid: usize, call: &Call) -> bool
+        ensures fits { IsTrue result ↔ ((pid < self.now.count) × MayCall (waits self.now.history pid) call.now) }
+    {
+        if pid >= self.count() {
+            return false;
+        }
+        match self.waits(pid) {
+            None => true,
+            Some(waits) => waits.is_same(call),
+        }
+    }
+
+    /// Whether a call of a process with this answer has an entry. The try of a process that waits
+    /// and must still wait has none.
+    fn has_entry(&self, pid: usize, answer: &Answer) -> bool
+        requires { pid < self.now.count }
+        ensures yes { result ≡ true → (c : CallValue) → added (waits self.now.history pid) pid c answer.now ≡ record { pid = pid; call = c; answer = answer.now } ∷ [] }
+        ensures no { result ≡ false → (answer.now ≡ Wait) × ((c : CallValue) → added (waits self.now.history pid) pid c Wait ≡ []) }
+    {
+        match answer {
+            Answer::Done(_) => true,
+            Answer::Wait => self.waits(pid).is_none(),
+        }
+    }
+
+    /// Answers a call of a process, and adds its entry to the history. Where the process waits for
+    /// the answer of this call and must still wait, nothing changes. An error is want of memory:
+    /// nothing has changed then.
+    pub fn call(&mut self, alloc: Global, pid: usize, call: &Call) -> Result<Answer, AllocError>
+        requires process { pid < self.old.count }
+        requires call { MayCall (waits self.old.history pid) call.now }
+        ensures answer { IfOk result (λ a. a ≡ (answer (replay (empty_kernel self.old.count) self.old.history) pid call.now).0) }
+        ensures form { IfOk result (λ a. IsAnswerTo call.now a) }
+        ensures history { IfOk result (λ a. self.new.history ≡ self.old.history ++ added (waits self.old.history pid) pid call.now a) }
+        ensures count { self.new.count ≡ self.old.count }
+        ensures err { OnErr result (self.new ≡ self.old) }
+    {
+        let preview = self.kernel.answer(alloc, pid, call)?;
+        if !self.has_entry(pid, &preview) {
+            return Ok(Answer::Wait);
+        }
+        let entry = entry_of(alloc, pid, call, &preview)?;
+        let waits = still(alloc, call, &preview)?;
+        self.history.reserve(1)?;
+        let answer = self.kernel.call(pid, call)?;
+        self.waiting[pid] = waits;
+        self.history.push_reserved(entry);
+        Ok(answer)
+    }
+
+    /// The kernel and the history.
+    pub fn into_parts(self) -> (Kernel, Vec<Entry>)
+        ensures kernel { result.0 ≡ replay (empty_kernel self.count) self.history }
+        ensures count { length result.0.processes ≡ self.count }
+        ensures history { result.1.items ≡ self.history }
+        ensures legal { IsLegal (empty_kernel self.count) self.history }
+    {
+        let Book {
+            kernel,
+            history,
+            waiting: _,
+        } = self;
+        (kernel, history)
+    }
+}

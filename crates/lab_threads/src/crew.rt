@@ -1,0 +1,95 @@
+//! Crews: a worker for each process, on threads of their own.
+ghost use Rattle.std.specs.Prelude.{◌≡◌, ℕ, List, map, IfOk};
+ghost use Rattle.lab_sched.specs.declared.process.Process.{Process as Kept};
+ghost use Rattle.lab_threads.specs.Promised.{promised, due};
+ghost use Rattle.lab_threads.specs.Walks.{AreWalks};
+
+use crate::desk::Office;
+use crate::walk::{Walk, Walks};
+use crate::worker::work;
+use crate::{Gate, RunFault};
+use lab_sched::Process;
+use std::alloc::Global;
+use std::snapshot::Snapshot;
+use std::sync::Wait;
+use std::thread;
+use std::thread::{PromisedHandle, Scope, Threads};
+
+/// Starts a worker for each process. Where one can't be started, those that were not started count
+/// as stopped.
+fn spawn_all<'s, E, R: Threads + Wait + Sync, G: Gate>(
+    scope: &Scope<'s, E>,
+    rt: &'s R,
+    alloc: Global,
+    office: &'s Office,
+    gate: &'s G,
+    starts: Vec<Process>,
+    limit: u32,
+) -> Result<Vec<PromisedHandle<Walk, Walks>>, RunFault>
+    ensures { IfOk result (λ hs. map promised hs.items ≡ map (due limit) starts.items) }
+{
+    let count = starts.len();
+    let mut starts = starts;
+    let Ok(mut handles) = Vec::with_capacity(alloc, count) else {
+        return Err(RunFault::NoMemory);
+    };
+    let mut pid = 0;
+    while !starts.is_empty() {
+        let start = starts.remove(0);
+        let promise = Walks {
+            start: Snapshot::of(&start),
+            limit,
+        };
+        let worker = move || work(rt, alloc, office, gate, pid, start, limit);
+        let Ok(handle) = scope.spawn_with(promise, worker) else {
+            stop_rest(rt, office, count - pid);
+            return Err(RunFault::Spawn);
+        };
+        handles.push_reserved(handle);
+        pid += 1;
+    }
+    Ok(handles)
+}
+
+/// Counts so many workers as stopped.
+fn stop_rest<R: Wait>(rt: &R, office: &Office, count: usize) {
+    for _ in 0..count {
+        office.stop(rt);
+    }
+}
+
+/// What the workers bring back, each of which keeps its promise.
+fn joined<R: Threads>(
+    rt: &R,
+    handles: Vec<PromisedHandle<Walk, Walks>>,
+) -> Result<Vec<Walk>, RunFault>
+    ensures { IfOk result (λ ws. (starts : List Kept) (limit : ℕ) → map promised handles.items ≡ map (due limit) starts → AreWalks limit starts ws.items) }
+{
+    match thread::join_promised(rt, handles) {
+        Ok(walks) => Ok(walks),
+        Err(_) => Err(RunFault::NoMemory),
+    }
+}
+
+/// Runs a worker for each process, and joins them all.
+pub(crate) fn walk_all<R: Threads + Wait + Sync, G: Gate>(
+    rt: &R,
+    alloc: Global,
+    office: &Office,
+    gate: &G,
+    starts: Vec<Process>,
+    limit: u32,
+) -> Result<Vec<Walk>, RunFault>
+    ensures { IfOk result (λ ws. AreWalks limit starts.items ws.items) }
+{
+    thread::scope(
+        thread::scope_env(),
+        rt,
+        |scope| -> Result<Vec<Walk>, RunFault>
+            ensures { IfOk result (λ ws. AreWalks limit starts.items ws.items) }
+        {
+            let handles = spawn_all(scope, rt, alloc, office, gate, starts, limit)?;
+            joined(rt, handles)
+        },
+    )
+}

@@ -1,0 +1,161 @@
+//! Runs on threads, and what they report.
+ghost use Rattle.std.specs.Prelude.{◌≡◌, ◌≤◌, ◌+◌, ℕ, List, All, true, IfOk, map, length, sum};
+ghost use Rattle.ipc_kernel.specs.Kernel.{KernelState, empty_kernel};
+ghost use Rattle.lab_sched.specs.Worlds.{run, entries};
+ghost use Rattle.lab_sched.specs.Course.{AreEffective, IsCourse};
+ghost use Rattle.lab_sched.specs.Finished.{IsFinished};
+ghost use Rattle.lab_sched.specs.Held.{IsHeld};
+ghost use Rattle.lab_sched.specs.History.{IsLegal, replay};
+ghost use Rattle.lab_sched.specs.Schedules.{steps_of, total_of};
+ghost use Rattle.lab_sched.specs.Starts.{Runs};
+ghost use Rattle.lab_sched.specs.Verdicts.{IsVerdict};
+ghost use Rattle.lab_sched.specs.declared.process.Process.{Process as Kept};
+ghost use Rattle.lab_sched.specs.declared.schedule.block.TheConstants.{MOST_STEPS};
+ghost use Rattle.lab_threads.specs.Walks.{AreWalks};
+ghost use Rattle.lab_threads.specs.Woven.{begun};
+
+use crate::crew::walk_all;
+use crate::desk::Office;
+use crate::walk::Walk;
+use crate::weaving::weave;
+use crate::{Book, Gate, RunFault};
+use ipc_kernel::Kernel;
+use lab_sched::{Entry, Fresh, MOST_STEPS, Process, Schedule, Verdict, World};
+use std::alloc::{AllocError, Global};
+use std::sync::Wait;
+use std::thread::Threads;
+
+/// One interleaving of the steps of all processes, the history of its calls, the world that it
+/// leads to, and how that world stands.
+#[derive(Drop)]
+pub struct Report {
+    pub world: World,
+    pub schedule: Schedule,
+    pub history: Vec<Entry>,
+    pub verdict: Verdict,
+}
+
+/// The steps that each walk has left.
+fn lefts(alloc: Global, walks: &[Walk]) -> Result<Vec<u32>, AllocError>
+    ensures { IfOk result (λ v. v.items ≡ map (λ k. k.left) walks.now) }
+{
+    let mut left = Vec::with_capacity(alloc, walks.len())?;
+    for walk in walks {
+        left.push(walk.left)?;
+    }
+    Ok(left)
+}
+
+/// The process where each walk ends.
+fn ends(alloc: Global, walks: Vec<Walk>) -> Result<Vec<Process>, AllocError>
+    ensures { IfOk result (λ v. v.items ≡ map (λ k. k.process) walks.items) }
+{
+    walks.into_iter().map(|walk| walk.process).collect(alloc)
+}
+
+/// Whether a schedule has room for all steps that are left.
+fn has_room(schedule: &Schedule, left: &[u32]) -> bool
+    ensures { result ≡ true → total_of schedule.now + sum left.now ≤ MOST_STEPS }
+{
+    let mut room = MOST_STEPS - schedule.total();
+    for steps in left {
+        if *steps > room {
+            return false;
+        }
+        room -= *steps;
+    }
+    true
+}
+
+/// Whether each walk's calls fitted the book.
+fn all_fit(walks: &[Walk]) -> bool {
+    walks.iter().all(|walk| walk.fits)
+}
+
+/// Weaves the walks along the history, and goes on from there until all is finished.
+fn reported(
+    alloc: Global,
+    walks: Vec<Walk>,
+    kernel: Kernel,
+    mut history: Vec<Entry>,
+    limit: u32,
+) -> Result<Report, RunFault>
+    requires legal { IsLegal (empty_kernel (length kernel.processes)) history.items }
+    requires kernel { kernel ≡ replay (empty_kernel (length kernel.processes)) history.items }
+    requires held { All IsHeld (map (λ k. k.process) walks.items) }
+    requires some { 1 ≤ length walks.items }
+    requires few { length walks.items ≤ 64 }
+    ensures course { IfOk result (λ r. (starts : List Kept) → AreWalks limit starts walks.items → IsCourse (begun starts) (steps_of r.schedule) r.world r.history.items) }
+    ensures finished { IfOk result (λ r. (starts : List Kept) → AreWalks limit starts walks.items → IsFinished r.world (steps_of r.schedule) limit) }
+    ensures verdict { IfOk result (λ r. IsVerdict r.world r.verdict) }
+{
+    if kernel.count() != walks.len() || !all_fit(&walks) {
+        return Err(RunFault::Unvouched);
+    }
+    let Some(mut schedule) = weave(alloc, &walks, &history)? else {
+        return Err(RunFault::Unvouched);
+    };
+    let mut left = lefts(alloc, &walks)?;
+    if !has_room(&schedule, &left) {
+        return Err(RunFault::Unvouched);
+    }
+    let mut world = World::join(ends(alloc, walks)?, kernel);
+    let refused = world.settle(&mut left, &mut schedule, &mut history);
+    if refused != 0 {
+        return Err(RunFault::NoMemory);
+    }
+    let verdict = world.verdict();
+    Ok(Report {
+        world,
+        schedule,
+        history,
+        verdict,
+    })
+}
+
+/// Runs processes on threads over an empty kernel.
+fn run_starts<R: Threads + Wait + Sync, G: Gate>(
+    rt: &R,
+    alloc: Global,
+    starts: Vec<Process>,
+    limit: u32,
+    gate: &G,
+) -> Result<Report, RunFault>
+    requires runs { All Runs starts.items }
+    requires some { 1 ≤ length starts.items }
+    requires few { length starts.items ≤ 64 }
+    ensures course { IfOk result (λ r. IsCourse (begun starts.items) (steps_of r.schedule) r.world r.history.items) }
+    ensures legal { IfOk result (λ r. IsLegal (empty_kernel (length starts.items)) r.history.items) }
+    ensures kernel { IfOk result (λ r. r.world.kernel ≡ replay (empty_kernel (length starts.items)) r.history.items) }
+    ensures finished { IfOk result (λ r. IsFinished r.world (steps_of r.schedule) limit) }
+    ensures verdict { IfOk result (λ r. IsVerdict r.world r.verdict) }
+{
+    let office = Office::new(Book::new(alloc, starts.len())?);
+    let walks = walk_all(rt, alloc, &office, gate, starts, limit)?;
+    let (kernel, history) = office.into_book().into_parts();
+    reported(alloc, walks, kernel, history, limit)
+}
+
+/// Runs each process of a laboratory on a thread of its own, for at most `limit` steps, over one
+/// kernel under a lock, and reports one interleaving that the run had: each step of the schedule is
+/// effective, they lead from the laboratory's start to the world with the history's entries, and no
+/// process could go on but those that have taken `limit` steps.
+pub fn run_threads<R: Threads + Wait + Sync, G: Gate>(
+    rt: &R,
+    alloc: Global,
+    fresh: Fresh,
+    limit: u32,
+    gate: &G,
+) -> Result<Report, RunFault>
+    requires at_least { 1 ≤ limit }
+    requires at_most { limit ≤ 10000000 }
+    ensures effective { IfOk result (λ r. AreEffective fresh (steps_of r.schedule)) }
+    ensures world { IfOk result (λ r. run fresh (steps_of r.schedule) ≡ r.world) }
+    ensures history { IfOk result (λ r. entries fresh (steps_of r.schedule) ≡ r.history.items) }
+    ensures legal { IfOk result (λ r. IsLegal (empty_kernel (length fresh.processes)) r.history.items) }
+    ensures kernel { IfOk result (λ r. r.world.kernel ≡ replay (empty_kernel (length fresh.processes)) r.history.items) }
+    ensures finished { IfOk result (λ r. IsFinished r.world (steps_of r.schedule) limit) }
+    ensures verdict { IfOk result (λ r. IsVerdict r.world r.verdict) }
+{
+    run_starts(rt, alloc, fresh.processes(), limit, gate)
+}

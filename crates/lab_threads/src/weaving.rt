@@ -1,0 +1,164 @@
+//! One list of steps for all walks, in which the calls stand as in the history.
+ghost use Rattle.std.specs.Prelude.{◌≡◌, ◌+◌, ◌++◌, ◌^◌, ◌<◌, ◌≤◌, [], ℕ, List, Some, true, IfOk, IfSome, slice_get, slice_index, length, replicate, IsTrue};
+ghost use Rattle.ipc_kernel.specs.Kernel.{empty_kernel};
+ghost use Rattle.lab_sched.specs.Alone.{steps};
+ghost use Rattle.lab_sched.specs.Course.{IsCourse, count};
+ghost use Rattle.lab_sched.specs.History.{IsLegal};
+ghost use Rattle.lab_sched.specs.Schedules.{steps_of};
+ghost use Rattle.lab_sched.specs.declared.entry.Entry.{Entry as EntryValue};
+ghost use Rattle.lab_sched.specs.declared.process.Process.{Process as Kept};
+ghost use Rattle.lab_threads.specs.declared.walk.Walk.{Walk as WalkValue};
+ghost use Rattle.lab_threads.specs.Walks.{AreWalks};
+ghost use Rattle.lab_threads.specs.Woven.{begun, ended, IsFound, IsItem, IsWoven, AreCounted};
+
+use crate::walk::Walk;
+use ipc_kernel::{Answer, Reply};
+use lab_sched::{Entry, MOST_STEPS, Schedule, Told};
+use std::alloc::{AllocError, Global};
+
+/// Whether two replies are the same.
+fn is_same_reply(reply: &Reply, other: &Reply) -> bool
+    ensures same { IsTrue result → reply.now ≡ other.now }
+{
+    match (reply, other) {
+        (Reply::Plain(word), Reply::Plain(other)) => word == other,
+        (
+            Reply::Message { words, prio },
+            Reply::Message {
+                words: other_words,
+                prio: other_prio,
+            },
+        ) => words.as_slice() == other_words.as_slice() && prio == other_prio,
+        (Reply::Attr(words), Reply::Attr(other)) => words == other,
+        (Reply::Value(word), Reply::Value(other)) => word == other,
+        _ => false,
+    }
+}
+
+/// Whether two answers are the same.
+fn is_same_answer(answer: &Answer, other: &Answer) -> bool
+    ensures same { IsTrue result → answer.now ≡ other.now }
+{
+    match (answer, other) {
+        (Answer::Done(reply), Answer::Done(other)) => is_same_reply(reply, other),
+        (Answer::Wait, Answer::Wait) => true,
+        _ => false,
+    }
+}
+
+/// The number of local steps before the call that stands there, if it is the entry's.
+fn find(calls: &[Told], at: usize, entry: &Entry) -> Option<u32>
+    ensures found { IfSome result (λ n. IsFound calls.now at entry.now n) }
+    ensures within { IfSome result (λ n. at < length calls.now) }
+    ensures few { IfSome result (λ n. n + 1 < 2 ^ 32) }
+{
+    if at >= calls.len() {
+        return None;
+    }
+    let told = &calls[at];
+    if told.before < u32::MAX
+        && told.call.is_same(&entry.call)
+        && is_same_answer(&told.answer, &entry.answer)
+    {
+        Some(told.before)
+    } else {
+        None
+    }
+}
+
+/// The number of local steps before the next call of the entry's process, if that call is the
+/// entry's.
+fn item(walks: &[Walk], next: &[usize], entry: &Entry) -> Option<u32>
+    requires { length next.now ≡ length walks.now }
+    ensures item { IfSome result (λ n. IsItem walks.now next.now entry.now n) }
+    ensures few { IfSome result (λ n. n + 1 < 2 ^ 32) }
+    ensures within { IfSome result (λ n. entry.now.pid < length next.now) }
+    ensures fits { IfSome result (λ n. slice_index next.now entry.now.pid + 1 < 2 ^ 64) }
+{
+    if entry.pid >= walks.len() {
+        return None;
+    }
+    let calls = walks[entry.pid].trace.calls.as_slice();
+    find(calls, next[entry.pid], entry)
+}
+
+/// Adds steps of a process to a schedule; false where it has no room for them.
+fn add(schedule: &mut Schedule, pid: usize, n: u32) -> Result<bool, AllocError>
+    requires process { pid < 64 }
+    ensures steps { IfOk result (λ added. added ≡ true → steps_of schedule.new ≡ steps_of schedule.old ++ replicate n pid) }
+{
+    if n == 0 {
+        return Ok(true);
+    }
+    if n > MOST_STEPS - schedule.total() {
+        return Ok(false);
+    }
+    schedule.push(pid, n)?;
+    Ok(true)
+}
+
+/// A schedule, and the number of calls of each process in it.
+struct Braid {
+    schedule: Schedule,
+    next: Vec<usize>,
+}
+
+/// The calls of a history with the local steps before each, as long as they are the walks'.
+fn weave_calls(
+    alloc: Global,
+    walks: &[Walk],
+    history: &[Entry],
+) -> Result<Option<Braid>, AllocError>
+    requires few { length walks.now ≤ 64 }
+    ensures woven { IfOk result (λ o. IfSome o (λ b. (starts : List Kept) (limit : ℕ) → AreWalks limit starts walks.now → IsLegal (empty_kernel (length starts)) history.now → IsWoven starts walks.now b.next.items (steps_of b.schedule) history.now [])) }
+    ensures counted { IfOk result (λ o. IfSome o (λ b. AreCounted walks.now b.next.items (steps_of b.schedule))) }
+    ensures len { IfOk result (λ o. IfSome o (λ b. length b.next.items ≡ length walks.now)) }
+{
+    let mut schedule = Schedule::new(alloc);
+    let mut next: Vec<usize> = vec![in alloc; 0; walks.len()]?;
+    for entry in history {
+        let Some(before) = item(walks, &next, entry) else {
+            return Ok(None);
+        };
+        if !add(&mut schedule, entry.pid, before + 1)? {
+            return Ok(None);
+        }
+        next[entry.pid] += 1;
+    }
+    Ok(Some(Braid { schedule, next }))
+}
+
+/// Adds the local steps after the last call of each walk, where no walk has a call left.
+fn weave_ends(walks: &[Walk], braid: Braid) -> Result<Option<Schedule>, AllocError>
+    requires few { length walks.now ≤ 64 }
+    requires len { length braid.next.items ≡ length walks.now }
+    ensures course { IfOk result (λ o. IfSome o (λ s. (starts : List Kept) (history : List EntryValue) → IsWoven starts walks.now braid.next.items (steps_of braid.schedule) history [] → IsCourse (begun starts) (steps_of s) (ended (length starts) walks.now history) history)) }
+    ensures counts { IfOk result (λ o. IfSome o (λ s. AreCounted walks.now braid.next.items (steps_of braid.schedule) → (p : ℕ) (k : WalkValue) → slice_get walks.now p ≡ Some k → count p (steps_of s) ≡ steps k.trace)) }
+{
+    let Braid { mut schedule, next } = braid;
+    for pid in 0..walks.len() {
+        let trace = &walks[pid].trace;
+        if next[pid] != trace.calls.len() || !add(&mut schedule, pid, trace.after)? {
+            return Ok(None);
+        }
+    }
+    Ok(Some(schedule))
+}
+
+/// One list of steps for all walks, in which the calls stand as in the history. There is none where
+/// the history's calls and answers aren't the walks', or where the steps are too many for a
+/// schedule.
+pub(crate) fn weave(
+    alloc: Global,
+    walks: &[Walk],
+    history: &[Entry],
+) -> Result<Option<Schedule>, AllocError>
+    requires few { length walks.now ≤ 64 }
+    ensures course { IfOk result (λ o. IfSome o (λ s. (starts : List Kept) (limit : ℕ) → AreWalks limit starts walks.now → IsLegal (empty_kernel (length starts)) history.now → IsCourse (begun starts) (steps_of s) (ended (length starts) walks.now history.now) history.now)) }
+    ensures counts { IfOk result (λ o. IfSome o (λ s. (p : ℕ) (k : WalkValue) → slice_get walks.now p ≡ Some k → count p (steps_of s) ≡ steps k.trace)) }
+{
+    match weave_calls(alloc, walks, history)? {
+        None => Ok(None),
+        Some(braid) => weave_ends(walks, braid),
+    }
+}
