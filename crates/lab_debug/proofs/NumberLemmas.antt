@@ -1,5 +1,5 @@
 -- Numbers in a range.
-use Rattle.std.proofs.Common.{◌≡◌, ℕ, ◌<◌, ◌≤◌, ℤ, pos, negsuc, List, Option, Some, None, option_map, option_and_then, min, Bool, true, false, ◌&&◌, if◌then◌else◌, nat_le, refl, ap, sym, ◌∙◌, arith}
+use Rattle.std.proofs.Common.{◌≡◌, ℕ, ◌<◌, ◌≤◌, ℤ, pos, negsuc, List, Option, Some, None, option_map, option_and_then, min, Bool, true, false, ◌&&◌, if◌then◌else◌, nat_le, refl, sym, ◌∙◌, arith}
 use Rattle.std.proofs.Math.Nat.{min-eq_left, min-eq_right}
 use Rattle.std.proofs.lemmas.Bool.Decides.{nat_tests}
 use Rattle.lc3_word.specs.Numbers.{number, capped}

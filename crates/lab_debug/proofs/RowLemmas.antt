@@ -1,5 +1,5 @@
 -- Texts in a row.
-use Rattle.std.proofs.Common.{◌≡◌, ℕ, ◌+◌, [], ◌∷◌, List, ◌++◌, Some, flat_map, take, get_or, slice_get, refl, ap, sym, ◌∙◌, append_assoc, append-nil, add-one}
+use Rattle.std.proofs.Common.{◌≡◌, ℕ, ◌+◌, [], ◌∷◌, List, ◌++◌, Some, flat_map, take, slice_get, ap, sym, ◌∙◌, append_assoc, append-nil, add-one}
 use Rattle.std.proofs.lemmas.Option.{slice_get_within, get_or_from_slice_get}
 use Rattle.std.proofs.lemmas.List.{flat_map_more, take_more}
 use Rattle.lab_debug.specs.Rows.{each}

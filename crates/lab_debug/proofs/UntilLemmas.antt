@@ -1,5 +1,5 @@
 -- Steps of a process up to an address.
-use Rattle.std.proofs.Common.{◌≡◌, ℕ, suc, ◌+◌, ◌-◌, ◌<◌, ◌≤◌, ◌||◌, Bool, true, false, slice_get, refl, ap, sym, ◌∙◌, arith}
+use Rattle.std.proofs.Common.{◌≡◌, ℕ, suc, ◌+◌, ◌-◌, ◌<◌, ◌≤◌, ◌||◌, Bool, true, false, slice_get, refl, arith}
 use Rattle.lab_sched.specs.Worlds.{WorldState, Turn, nothing, local_step, kernel_step, turn_in, step, after}
 use Rattle.lab_sched.specs.Held.{told_of}
 use Rattle.ipc_kernel.specs.declared.call.Answer.TheVariants.{Done, Wait}

@@ -1,7 +1,7 @@
 -- The verdict that is worked out is the world's.
-use Rattle.std.proofs.Common.{◌≡◌, ℕ, zero, suc, ◌+◌, ◌<◌, ◌≤◌, Bool, true, false, not, ◌&&◌, ◌||◌, List, [], ◌∷◌, Option, Some, None, length, get_or, slice_get, refl, sym, ap, subst, ◌∙◌, arith}
+use Rattle.std.proofs.Common.{◌≡◌, ℕ, zero, suc, ◌+◌, ◌<◌, Bool, true, false, not, ◌&&◌, ◌||◌, List, [], ◌∷◌, Option, Some, None, length, slice_get, refl, ap, subst, ◌∙◌, arith}
 use Rattle.std.specs.List.{list_all, list_any, range_with_len}
-use Rattle.std.proofs.lemmas.Option.{slice_get_within, slice_get_past}
+use Rattle.std.proofs.lemmas.Option.{slice_get_within}
 use Rattle.lab_sched.specs.Worlds.{Process, Running, Waiting, Ended, WorldState, Turn, nothing, local_step, kernel_step, turn, turn_in, IsEffective}
 use Rattle.lab_sched.specs.declared.verdict.Verdict.{Verdict}
 use Rattle.lab_sched.specs.declared.verdict.Verdict.TheVariants as verdict

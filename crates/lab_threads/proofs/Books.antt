@@ -7,13 +7,13 @@ use Rattle.ipc_kernel.specs.Answer.{answer}
 use Rattle.ipc_kernel.specs.declared.call.Call.{Call}
 use Rattle.ipc_kernel.specs.declared.call.Answer.{Answer}
 use Rattle.ipc_kernel.specs.declared.call.Answer.TheVariants.{Done, Wait}
-use Rattle.ipc_kernel.proofs.LawfulAnswers.{answer_count}
+use Rattle.ipc_kernel.proofs.LawfulAnswers.{answer_count, answer_wait}
 use Rattle.lab_sched.specs.declared.entry.Entry.{Entry}
 use Rattle.lab_sched.specs.History.{IsLegal, replay, still, waits, waits_after}
 use Rattle.lab_sched.proofs.Histories.{replay-append, legal-append, waits-append}
 use Rattle.lab_sched.proofs.Places.{get-set}
 use Rattle.lab_threads.specs.Kept.{IsKept}
-use Rattle.lab_threads.specs.Pages.{added}
+use Rattle.lab_threads.specs.Pages.{Pages}
 
 pick : (b : Bool) (x : Option Call) (y : Option (Option Call)) (z : Option Call) → y ≡ Some z → cond b (Some x) y ≡ Some (cond b x z)
 pick true x y z e = refl
@@ -66,3 +66,21 @@ none_more (w ∷ ws) none (suc p) below = none_more ws (λ q h. none (suc q) (om
 pub none_after : (ws ws' : List (Option Call)) → ws' ≡ ws ++ None ∷ [] → ((p : ℕ) → p < length ws → slice_get ws p ≡ Some None)
     → (p : ℕ) → p < length ws' → slice_get ws' p ≡ Some None
 none_after ws ws' is none = rw is (none_more ws none)
+
+-- the kernel of a book in which a process must still wait
+pub kernel_still : (k : KernelState) (h : List Entry) (ws : List (Option Call)) (p : ℕ) (c : Call) (a : Answer) (b : Pages) → IsKept k h ws
+    → record { count = length ws; history = h } ≡ b → a ≡ (answer k p c).0 → a ≡ Wait
+    → replay (empty_kernel b.count) b.history ≡ (answer (replay (empty_kernel b.count) b.history) p c).1
+kernel_still k h ws p c a b kept b-is answered waits =
+    let same : (answer k p c).1 ≡ k = answer_wait k p c (sym answered ∙ waits) in
+    let at : replay (empty_kernel (length ws)) h ≡ (answer (replay (empty_kernel (length ws)) h) p c).1 =
+    sym kept.kernel ∙ sym same ∙ ap (λ j. (answer j p c).1) kept.kernel in
+    subst (λ (x : Pages). replay (empty_kernel x.count) x.history ≡ (answer (replay (empty_kernel x.count) x.history) p c).1) b-is at
+
+-- the kernel of a book after a call that has an entry
+pub kernel_after : (k k' : KernelState) (h h' : List Entry) (ws ws' : List (Option Call)) (p : ℕ) (c : Call) (b : Pages) → IsKept k h ws → IsKept k' h' ws'
+    → record { count = length ws; history = h } ≡ b → k' ≡ (answer k p c).1
+    → replay (empty_kernel (length ws')) h' ≡ (answer (replay (empty_kernel b.count) b.history) p c).1
+kernel_after k k' h h' ws ws' p c b kept kept' b-is k-is =
+    subst (λ (x : Pages). replay (empty_kernel (length ws')) h' ≡ (answer (replay (empty_kernel x.count) x.history) p c).1) b-is
+    (sym kept'.kernel ∙ k-is ∙ ap (λ j. (answer j p c).1) kept.kernel)

@@ -1,5 +1,5 @@
 //! Books: the kernel that processes share, with the history of their calls.
-ghost use Rattle.std.specs.Prelude.{◌≡◌, ◌<◌, ◌≤◌, ◌++◌, ◌∷◌, ◌↔◌, [], length, IfOk, OnErr, IsTrue, true, false};
+ghost use Rattle.std.specs.Prelude.{◌≡◌, ◌<◌, ◌≤◌, ◌++◌, ◌∷◌, ◌↔◌, [], length, IfOk, OnOk, OnErr, IsTrue, true, false};
 ghost use Rattle.std.specs.Option.{option_copied};
 ghost use Rattle.ipc_kernel.specs.Limits.{process_max};
 ghost use Rattle.ipc_kernel.specs.Kernel.{empty_kernel};
@@ -144,6 +144,7 @@ impl Book {
         ensures answer { IfOk result (λ a. a ≡ (answer (replay (empty_kernel self.old.count) self.old.history) pid call.now).0) }
         ensures form { IfOk result (λ a. IsAnswerTo call.now a) }
         ensures history { IfOk result (λ a. self.new.history ≡ self.old.history ++ added (waits self.old.history pid) pid call.now a) }
+        ensures kernel { OnOk result (replay (empty_kernel self.new.count) self.new.history ≡ (answer (replay (empty_kernel self.old.count) self.old.history) pid call.now).1) }
         ensures count { self.new.count ≡ self.old.count }
         ensures err { OnErr result (self.new ≡ self.old) }
     {

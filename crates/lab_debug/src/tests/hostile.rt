@@ -1,4 +1,6 @@
 //! Scripts that are refused, cut or too long, and devices that fail.
+ghost use Rattle.std.specs.Prelude.{◌≤◌};
+
 use super::{DEADLOCK, DEADLOCKED, FIRST, HELLO, Outcome, SECOND, perform, world, writes};
 use crate::{SessionFault, session};
 use lab_io::{Input, Output, SlowIn, SlowOut};
@@ -160,7 +162,9 @@ fn write_once(
     room: &mut [u8],
     most: usize,
     before: usize,
-) -> Result<Option<SessionFault>, FreshFault> {
+) -> Result<Option<SessionFault>, FreshFault>
+    requires { 1 ≤ most }
+{
     let world = world(alloc, &[FIRST, SECOND])?;
     let end = session(
         alloc,

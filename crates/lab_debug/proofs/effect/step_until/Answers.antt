@@ -1,4 +1,4 @@
-use Rattle.std.proofs.Common.{sym, ap, ◌∙◌, ◌-◌, ◌+◌, slice_get}
+use Rattle.std.proofs.Common.{sym, ap, ◌∙◌, ◌-◌, ◌+◌}
 use Rattle.lab_debug.specs.Effects.{until}
 use Rattle.lab_debug.proofs.UntilLemmas.{until-halted, until-more, until-done, halted-at, halted-same, step-same, goes-on}
 use Rattle.lab_debug.proofs.effect.step_until.Goals as goal
