@@ -160,7 +160,7 @@ step slow-one-by-one main add-slow add-slow
 step slow-lost main add-slow add-slow
 debug look main add add
 run 100000 "one-by-one lost" main add add
-run 100000 "slow-one-by-one slow-lost" main add-slow add-slow
+run 10000000 "slow-one-by-one slow-lost" main add-slow add-slow
 run 100000 locked main add-locked add-locked
 
 exercise 4-lost-message
@@ -179,7 +179,7 @@ step slow-one-by-one slow-a slow-b
 step slow-deadlock slow-a slow-b
 debug look first-a first-b
 run 100000 "one-by-one deadlock" first-a first-b
-run 100000 "slow-one-by-one slow-deadlock" slow-a slow-b
+run 10000000 "slow-one-by-one slow-deadlock" slow-a slow-b
 run 100000 same-order first-a first-a
 
 exercise 6-philosophers

@@ -11,8 +11,10 @@
           ADD  R5,R0,#0       ; R5 = slot of the semaphore
           JSR  TAKE           ; read the counter: take the message
           JSR  PUT            ;   and put it back
-          LD   R1,WORK        ; work for 2 * WORK steps
-WAIT      ADD  R1,R1,#-1
+          LD   R6,WORK        ; work for WORK rounds of 131,074 steps
+WAIT      ADD  R3,R3,#-1      ; 65,536 times, for 0 less 1 is xFFFF
+          BRnp WAIT
+          ADD  R6,R6,#-1
           BRp  WAIT
           LD   R6,NUMBER
           ADD  R6,R6,#1       ; R6 = counter + 1
@@ -41,7 +43,7 @@ COUNTER   .STRINGZ "/counter"
 FINISHED  .STRINGZ "/finished"
 FLAGS     .FILL x0042         ; O_CREAT x40 + O_RDWR 2
 LENGTH    .FILL 16
-WORK      .FILL 20000
+WORK      .FILL 20
 RETURN    .BLKW 1
 NUMBER    .BLKW 16
           .END
