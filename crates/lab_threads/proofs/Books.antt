@@ -1,15 +1,15 @@
 -- A book after a call.
-use Rattle.std.proofs.Common.{ℕ, zero, suc, ◌≡◌, ◌==◌, ◌<◌, ◌≤◌, ◌++◌, List, [], ◌∷◌, Option, Some, None, true, false, Bool, cond, refl, sym, ap, subst, ◌∙◌, arith, length, slice_get, set, get_or}
-use Rattle.std.proofs.lemmas.List.{length-set, append-nil, length-replicate}
+use Rattle.std.proofs.Common.{ℕ, zero, suc, ◌≡◌, ◌==◌, ◌<◌, ◌++◌, List, [], ◌∷◌, Option, Some, None, true, false, Bool, cond, refl, sym, ap, subst, ◌∙◌, arith, length, slice_get, set}
+use Rattle.std.proofs.lemmas.List.{length-set, length-replicate}
 use Rattle.ipc_kernel.specs.Kernel.{KernelState, empty_kernel}
 use Rattle.ipc_kernel.specs.Processes.{closed_process}
 use Rattle.ipc_kernel.specs.Answer.{answer}
 use Rattle.ipc_kernel.specs.declared.call.Call.{Call}
 use Rattle.ipc_kernel.specs.declared.call.Answer.{Answer}
-use Rattle.ipc_kernel.specs.declared.call.Answer.TheVariants.{Done, Wait}
+use Rattle.ipc_kernel.specs.declared.call.Answer.TheVariants.{Wait}
 use Rattle.ipc_kernel.proofs.LawfulAnswers.{answer_count, answer_wait}
 use Rattle.lab_sched.specs.declared.entry.Entry.{Entry}
-use Rattle.lab_sched.specs.History.{IsLegal, replay, still, waits, waits_after}
+use Rattle.lab_sched.specs.History.{IsLegal, replay, still, waits}
 use Rattle.lab_sched.proofs.Histories.{replay-append, legal-append, waits-append}
 use Rattle.lab_sched.proofs.Places.{get-set}
 use Rattle.lab_threads.specs.Kept.{IsKept}

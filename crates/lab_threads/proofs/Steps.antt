@@ -1,7 +1,6 @@
 -- What a worker does with its process, as a trace tells it.
-use Rattle.std.proofs.Common.{ℕ, ◌≡◌, ◌-◌, refl, sym, ap, ◌∙◌, subst}
+use Rattle.std.proofs.Common.{◌≡◌, ◌-◌, refl, sym, ap, ◌∙◌, subst}
 use Rattle.lc3_machine.specs.Process.{Process as Machine, EndedProcess, Stops}
-use Rattle.lc3_machine.specs.declared.want.How.{How}
 use Rattle.lc3_machine.specs.declared.want.Want.TheVariants.{End}
 use Rattle.lc3_machine.specs.Effects.{next_step}
 use Rattle.lc3_machine.specs.Reply.{ended}

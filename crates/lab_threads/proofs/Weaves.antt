@@ -1,11 +1,11 @@
 -- Walks that are woven along a history.
-use Rattle.std.proofs.Common.{ℕ, zero, suc, ◌+◌, ◌≡◌, ◌==◌, ◌<◌, ◌≤◌, ◌++◌, List, [], ◌∷◌, Some, refl, sym, ap, subst, ◌∙◌, arith, length, set, slice_get, get_or, drop, map, replicate, ◌≢◌, inl, inr}
+use Rattle.std.proofs.Common.{ℕ, zero, suc, ◌+◌, ◌≡◌, ◌<◌, ◌≤◌, ◌++◌, List, [], ◌∷◌, Some, refl, sym, ap, subst, ◌∙◌, arith, length, set, slice_get, get_or, drop, map, replicate, ◌≢◌, inl, inr}
 use Rattle.std.specs.Option.{option_map}
 use Rattle.std.specs.Prelude.{Result, Ok, Err, IfOk}
 use Rattle.std.proofs.lemmas.List.{length-set, length-map, append-nil, get_or-set_same, get_or-set_other, drop_more, drop_all, get_or_read}
 use Rattle.std.proofs.lemmas.Option.{slice_get-get_or, slice_get_within, slice_get-map, get_or_from_slice_get, same_Some}
 use Rattle.std.proofs.lemmas.Bool.Decides.{eqb_tells}
-use Rattle.ipc_kernel.specs.Kernel.{KernelState, empty_kernel}
+use Rattle.ipc_kernel.specs.Kernel.{empty_kernel}
 use Rattle.ipc_kernel.specs.Answer.{answer}
 use Rattle.lab_sched.specs.Worlds.{Process, WorldState}
 use Rattle.lab_sched.specs.Course.{count, IsCourse}

@@ -1,5 +1,5 @@
 -- What may come of a call that a worker makes.
-use Rattle.std.specs.Prelude.{Bool, false, ◌≡◌, IsTrue}
+use Rattle.std.specs.Prelude.{Bool, ◌≡◌, IsTrue}
 use Rattle.ipc_kernel.specs.declared.call.Call.{Call}
 use Rattle.ipc_kernel.specs.Replies.{IsReplyTo}
 use Rattle.lab_threads.specs.declared.desk.Came.{Came}

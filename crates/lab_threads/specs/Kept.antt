@@ -1,5 +1,5 @@
 -- What every book keeps.
-use Rattle.std.specs.Prelude.{ℕ, ◌≡◌, ◌<◌, ◌≤◌, List, Option, Some, slice_get, length}
+use Rattle.std.specs.Prelude.{ℕ, ◌≡◌, ◌<◌, List, Option, Some, slice_get, length}
 use Rattle.ipc_kernel.specs.Kernel.{KernelState, empty_kernel}
 use Rattle.ipc_kernel.specs.declared.call.Call.{Call}
 use Rattle.lab_sched.specs.declared.entry.Entry.{Entry}

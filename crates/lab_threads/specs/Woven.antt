@@ -1,6 +1,6 @@
 -- The world that walks and a history begin in, the one that they lead to, and how walks are woven along a history.
 use Rattle.std.specs.Prelude.{ℕ, ◌≡◌, ◌+◌, List, Some, map, length, slice_get, slice_index, drop}
-use Rattle.ipc_kernel.specs.Kernel.{KernelState, empty_kernel}
+use Rattle.ipc_kernel.specs.Kernel.{empty_kernel}
 use Rattle.lab_sched.specs.Worlds.{Process, WorldState}
 use Rattle.lab_sched.specs.Course.{IsCourse, count}
 use Rattle.lab_sched.specs.Alone.{Leads, weight, steps}

@@ -1,4 +1,4 @@
-use Rattle.std.proofs.Common.{◌≡◌, refl, arith, rules}
+use Rattle.std.proofs.Common.{refl, arith}
 use Rattle.std.proofs.lemmas.Option.{IfSome_then}
 use Rattle.lab_threads.proofs.Weaves.{item_found}
 use Rattle.lab_threads.proofs.weaving.item.Goals as goal

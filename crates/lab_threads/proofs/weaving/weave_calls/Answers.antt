@@ -1,4 +1,4 @@
-use Rattle.std.proofs.Common.{ℕ, ◌≡◌, ◌≤◌, ◌+◌, ◌∷◌, ◌++◌, [], List, take, get_or, subst, ap, sym, ◌∙◌, arith, rules, length, drop, true}
+use Rattle.std.proofs.Common.{ℕ, ◌≡◌, ◌≤◌, ◌+◌, ◌∷◌, ◌++◌, [], List, take, get_or, subst, ap, sym, ◌∙◌, arith, rules, length, drop}
 use Rattle.std.proofs.lemmas.List.{length-set, take_all, take_more, drop_more, drop_all}
 use Rattle.lab_sched.specs.Schedules.{steps_of}
 use Rattle.lab_sched.specs.declared.entry.Entry.{Entry}

@@ -1,8 +1,8 @@
-use Rattle.std.proofs.Common.{◌≡◌, ◌<◌, subst, arith, rules, length, Some, slice_get, get_or, true}
+use Rattle.std.proofs.Common.{◌≡◌, ◌<◌, subst, arith, rules, length, Some, slice_get, get_or}
 use Rattle.std.proofs.lemmas.List.{get_or_read}
 use Rattle.std.proofs.lemmas.Option.{slice_get-get_or, slice_get_within}
 use Rattle.lab_sched.specs.Schedules.{steps_of}
-use Rattle.lab_threads.proofs.Weaves.{IsEnding, AreEnded, ending_none, ending_step, ending_all, ended_none, ended_step}
+use Rattle.lab_threads.proofs.Weaves.{IsEnding, ending_step, ending_all, ended_step}
 use Rattle.lab_threads.proofs.weaving.weave_ends.Goals as goal
 
 pub loop-pid-preserved : goal.loop-pid-preserved

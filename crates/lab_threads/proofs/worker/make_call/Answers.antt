@@ -1,4 +1,4 @@
-use Rattle.std.proofs.Common.{◌≡◌, ap, ◌∙◌, rules, refl}
+use Rattle.std.proofs.Common.{ap, ◌∙◌, rules, refl}
 use Rattle.ipc_traps.specs.Asked.{asked}
 use Rattle.ipc_traps.proofs.Laws.{room_prepared}
 use Rattle.lab_sched.specs.Worlds.{Running, Waiting}

@@ -1,4 +1,4 @@
-use Rattle.std.proofs.Common.{◌≡◌, ap, sym, ◌∙◌}
+use Rattle.std.proofs.Common.{ap, sym, ◌∙◌}
 use Rattle.lab_sched.specs.Worlds.{moves}
 use Rattle.lab_threads.proofs.Steps.{refused_local}
 use Rattle.lab_threads.proofs.worker.step_trap.Goals as goal

@@ -1,4 +1,4 @@
-use Rattle.std.proofs.Common.{◌≡◌, length, arith, ap, rules, ◌∙◌, length-append}
+use Rattle.std.proofs.Common.{◌≡◌, length, arith, rules}
 use Rattle.lab_threads.proofs.Books.{kept_none, none_after}
 use Rattle.lab_threads.proofs.book.Book.new.Goals as goal
 
