@@ -1,11 +1,15 @@
 -- Runs of worlds: what lists of steps do one after another.
-use Rattle.std.proofs.Common.{ℕ, zero, suc, ◌+◌, ◌≡◌, ◌<◌, ◌++◌, List, [], ◌∷◌, Option, Some, None, refl, sym, ap, ◌∙◌, length, slice_get, set, replicate, option_and_then}
+use Rattle.std.proofs.Common.{ℕ, zero, suc, ◌+◌, ◌≡◌, ◌<◌, ◌++◌, List, [], ◌∷◌, Option, Some, None, refl, sym, ap, ◌∙◌, length, slice_get, set, replicate, option_and_then, subst}
 use Rattle.std.proofs.lemmas.List.{length-set, set-set, replicate-append-replicate}
 use Rattle.lc3_machine.specs.Process.{Process as Machine, Outcome, GoesOn, Stops}
 use Rattle.lc3_machine.specs.Effects.{next_step}
 use Rattle.lc3_machine.specs.Steps.{after as machine_after, process_of}
 use Rattle.ipc_traps.specs.Asked.{asked}
 use Rattle.lab_sched.specs.Worlds.{Running, WorldState, Turn, nothing, local_step, kernel_step, turn, turn_in, told, after, step, act, run}
+use Rattle.ipc_kernel.specs.declared.call.Answer.TheVariants.{Done, Wait}
+use Rattle.lab_sched.specs.Held.{told_of}
+use Rattle.lab_sched.specs.declared.stepped.Stepped.{Stepped}
+use Rattle.lab_sched.specs.declared.stepped.Stepped.TheVariants as stepped
 use Rattle.lab_sched.proofs.Places.{get-set_same, set_same}
 
 pub run-append : (w : WorldState) (xs ys : List ℕ) → run w (xs ++ ys) ≡ run (run w xs) ys
@@ -76,3 +80,26 @@ pub run_on : (w v u : WorldState) (a b c p : ℕ) → v ≡ run w (replicate a p
 run_on w v u a b c p v-is u-is parts =
     u-is ∙ ap (λ x. run x (replicate b p)) v-is ∙ sym (run-append w (replicate a p) (replicate b p))
     ∙ ap (run w) (replicate-append-replicate a b p ∙ ap (λ n. replicate n p) (sym parts))
+
+-- where the step of a process does nothing, so do n of them
+run_rests : (n : ℕ) (w : WorldState) (p : ℕ) → turn_in w p ≡ nothing → run w (replicate n p) ≡ w
+unfolding run
+run_rests zero w p rests = refl
+run_rests (suc n) w p rests =
+    let same : step w p ≡ w = ap (λ t. after w p t) rests in
+    ap (λ v. run v (replicate n p)) same ∙ run_rests n w p rests
+
+-- a step, and the steps that it stands for
+pub run_told : (w : WorldState) (p k : ℕ) (s : Stepped) → s ≡ told_of (turn_in w p) → ((s ≡ stepped.Same → ⊥) → k ≡ 1) → step w p ≡ run w (replicate k p)
+run_told w p k s is one = by (turn_in w p) refl
+  where
+    other : (t : Turn) → turn_in w p ≡ t → (told_of t ≡ stepped.Same → ⊥) → step w p ≡ run w (replicate k p)
+    other t at ne =
+        let single : k ≡ 1 = one (λ e. ne (ap told_of (sym at) ∙ sym is ∙ e)) in
+        subst (λ m. step w p ≡ run w (replicate m p)) (sym single) (sym (run-one w p))
+
+    by : (t : Turn) → turn_in w p ≡ t → step w p ≡ run w (replicate k p)
+    by nothing at = ap (λ t. after w p t) at ∙ sym (run_rests k w p at)
+    by (local_step m) at = other (local_step m) at (λ e. cc)
+    by (kernel_step m c (Done r)) at = other (kernel_step m c (Done r)) at (λ e. cc)
+    by (kernel_step m c Wait) at = other (kernel_step m c Wait) at (λ e. cc)

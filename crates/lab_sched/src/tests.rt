@@ -132,6 +132,15 @@ fn one_process_to_its_end(rt: HostRuntime) -> Result<(), Fail> {
     Ok(())
 }
 
+/// The steps that a process takes after its end are told at once.
+#[test]
+fn a_long_schedule_of_a_short_program(rt: HostRuntime) -> Result<(), Fail> {
+    let (world, end) = run(rt.alloc(), &[HELLO], "0*999999999")?;
+    assert_eq!(rt; end, Ok(()));
+    assert_eq!(rt; world.verdict(), Verdict::Ended);
+    Ok(())
+}
+
 #[test]
 fn steps_of_a_process_that_waits(rt: HostRuntime) -> Result<(), Fail> {
     let mut world = World::from(fresh(rt.alloc(), &[WAITER, HALT])?);

@@ -4,10 +4,11 @@ ghost use Rattle.lab_sched.specs.Schedules.{steps_of};
 ghost use Rattle.lab_sched.specs.Worlds.{run};
 ghost use Rattle.lab_sched.specs.Held.{seen, IsHeld};
 ghost use Rattle.lab_sched.specs.Segments.{IsAfterLocal};
+ghost use Rattle.lab_sched.specs.declared.stepped.Stepped.TheVariants.{Same};
 ghost use Rattle.lab_sched.specs.declared.world.StepFault.TheVariants.{NoProcess};
 
 use super::{StepFault, World, put_back};
-use crate::{Process, Schedule};
+use crate::{Process, Schedule, Stepped};
 use lc3_machine::Local;
 
 /// Where a run stopped: the number of steps that were taken, those without effect too, and why the
@@ -38,9 +39,23 @@ fn local_steps(process: Process, most: u32) -> (Process, u32)
     }
 }
 
+/// How many steps were done by one that was told so: a step without effect stands for all of `most`.
+fn steps_done(stepped: Stepped, most: u32) -> u32
+    requires some { 1 ≤ most }
+    ensures same { stepped ≡ Same → result ≡ most }
+    ensures other { (stepped ≡ Same → ⊥) → result ≡ 1 }
+    ensures some { 1 ≤ result }
+    ensures within { result ≤ most }
+{
+    match stepped {
+        Stepped::Same => most,
+        Stepped::Moved | Stepped::Called | Stepped::Waits => 1,
+    }
+}
+
 impl World {
     /// Takes local steps of a process up to its next call, at most `most`, or one step of another
-    /// kind; with how many were taken.
+    /// kind, or `most` steps without effect; with how many were taken.
     fn advance(&mut self, pid: usize, most: u32) -> Result<u32, StepFault>
         requires some { 1 ≤ most }
         ensures world { IfOk result (λ taken. self.new ≡ run self.old (replicate taken pid)) }
@@ -57,7 +72,7 @@ impl World {
             return Ok(taken);
         }
         match self.step(pid) {
-            Ok(_) => Ok(1),
+            Ok(stepped) => Ok(steps_done(stepped, most)),
             Err(fault) => Err(fault),
         }
     }

@@ -1,13 +1,15 @@
 use Rattle.std.proofs.Common.{ap, ◌∙◌, sym, arith, Err}
 use Rattle.lab_sched.specs.Worlds.{step}
 use Rattle.lab_sched.proofs.WorldLemmas.{none_taken, seen_length}
-use Rattle.lab_sched.proofs.Runs.{run-one}
+use Rattle.lab_sched.proofs.Runs.{run_told}
 use Rattle.lab_sched.proofs.world.World.advance.Goals as goal
 
 pub returns-in-Ok-clause-world : goal.returns-in-Ok-clause-world
 returns-in-Ok-clause-world c =
     let same = none_taken c.args.self.now c.advance_locally-taken.new.self c.advance_locally-taken.result c.args.pid c.advance_locally-taken.ensures.world (omega arith) in
-    c.in-Ok.ensures.world ∙ ap (λ w. step w c.args.pid) same ∙ sym (run-one c.args.self.now c.args.pid)
+    let told = rw same at c.in-Ok.ensures.told in
+    c.in-Ok.ensures.world ∙ ap (λ w. step w c.args.pid) same
+    ∙ run_told c.args.self.now c.args.pid c.steps_done.result c.in-Ok.stepped told c.steps_done.ensures.other
 
 pub returns-in-Err-clause-err : goal.returns-in-Err-clause-err
 returns-in-Err-clause-err c =
