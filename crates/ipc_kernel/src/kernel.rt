@@ -19,6 +19,7 @@ use ipc_objects::Queue;
 use std::alloc::{AllocError, Global};
 use std::marker::Model;
 
+mod copies;
 mod preview;
 mod queues;
 mod semaphores;

@@ -7,6 +7,8 @@ ghost use Rattle.ipc_objects.specs.declared.queue.Message.{Message};
 ghost use Rattle.ipc_kernel.specs.Limits.{sem_value_max, mq_prio_max};
 ghost use Rattle.ipc_kernel.specs.declared.place.Place.TheVariants.{Empty};
 
+mod copies;
+
 use ipc_names::Name;
 use ipc_objects::{Queue, Semaphore};
 use std::alloc::AllocError;

@@ -7,7 +7,7 @@ ghost use Rattle.ipc_kernel.specs.Processes.{slot_refers, with_descriptor, with_
 pub(crate) const OPEN_MAX: usize = 16;
 
 /// An open message queue: the object place of the queue, and how this descriptor opened it.
-#[derive(Clone, Copy)]
+#[derive(Clone, Copy, PartialEq, Eq)]
 pub struct Descriptor {
     /// The object place, 0 to 63.
     pub place: u8,
@@ -18,7 +18,7 @@ pub struct Descriptor {
 }
 
 /// An open semaphore: its object place, and how often the process has it open.
-#[derive(Clone, Copy)]
+#[derive(Clone, Copy, PartialEq, Eq)]
 pub struct Slot {
     /// The object place, 0 to 63.
     pub place: u8,
@@ -27,7 +27,7 @@ pub struct Slot {
 }
 
 /// The descriptors and slots of one process, each open or free.
-#[derive(Clone, Copy)]
+#[derive(Clone, Copy, PartialEq, Eq)]
 pub struct Process {
     pub descriptors: [Option<Descriptor>; OPEN_MAX],
     pub slots: [Option<Slot>; OPEN_MAX],

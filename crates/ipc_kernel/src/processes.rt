@@ -4,6 +4,8 @@ ghost use Rattle.ipc_kernel.specs.Counts.{indicator};
 ghost use Rattle.ipc_kernel.specs.Limits.{object_places, open_max, process_max};
 ghost use Rattle.ipc_kernel.specs.Processes.{slot_refers, descriptor_refers, is_referred, with_descriptor, with_slot};
 
+mod copies;
+
 use crate::places::PLACES;
 use crate::process::{
     Descriptor, OPEN_MAX, Process, Slot, descriptor_at, first_free_descriptor, first_free_slot,

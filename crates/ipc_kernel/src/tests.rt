@@ -10,6 +10,7 @@ use std::alloc::Global;
 use std::process::Abort;
 
 mod attributes;
+mod copies;
 mod limits;
 mod memory;
 mod queues;

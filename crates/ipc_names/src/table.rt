@@ -1,10 +1,10 @@
 //! Tables from names to places.
-ghost use Rattle.std.specs.Prelude.{◌≡◌, None, IfErr, OnOk, OnErr};
+ghost use Rattle.std.specs.Prelude.{◌≡◌, None, IfOk, IfErr, OnOk, OnErr};
 ghost use Rattle.std.specs.FinMap as fin;
 
 use crate::Name;
 use indexmap::IndexMap;
-use std::alloc::Global;
+use std::alloc::{AllocError, Global};
 use std::marker::Model;
 
 /// A finite map from names to the numbers of places.
@@ -64,5 +64,13 @@ impl NameTable {
         ensures removed { self.new ≡ fin.remove self.old name.now }
     {
         self.places.swap_remove(name.text())
+    }
+
+    /// An equal table.
+    pub fn copy(&self) -> Result<NameTable, AllocError>
+        ensures equal { IfOk result (λ copy. copy ≡ self.now) }
+    {
+        let places = self.places.clone()?;
+        Ok(NameTable { places })
     }
 }

@@ -176,3 +176,20 @@ fn names_of_all_places(rt: HostRuntime) {
         assert_eq!(rt; table.find(&key), Some(place));
     }
 }
+
+#[test]
+fn a_copy_of_a_table(rt: HostRuntime) {
+    let alloc = rt.alloc();
+    let mut table = NameTable::new(alloc);
+    let q = name(&rt, alloc, &[0x2f, 0x71]);
+    assert!(rt; table.find(&q).is_none(), "not there yet");
+    let key = copy(&rt, alloc, &q);
+    put(&rt, &mut table, key, "/q", 3);
+    let mut other = match table.copy() {
+        Ok(copy) => copy,
+        Err(_) => table.copy().expect(&rt, "memory"),
+    };
+    assert_eq!(rt; other.find(&q), Some(3));
+    assert_eq!(rt; other.take(&q), Some(3));
+    assert_eq!(rt; table.find(&q), Some(3));
+}

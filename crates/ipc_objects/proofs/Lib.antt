@@ -3,3 +3,4 @@ pub mod PlainLemmas
 pub mod ByPriority
 pub mod BitLemmas
 pub mod BucketLemmas
+pub mod QueueCopies

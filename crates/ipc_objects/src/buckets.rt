@@ -1,11 +1,12 @@
 //! Buckets of messages, one for each priority.
-ghost use Rattle.std.specs.Prelude.{◌≡◌, ◌<◌, [], ◌∷◌, ◌++◌, length, drop, slice_get, slice_set, IfErr, OnOk, OnErr, ◌==◌};
+ghost use Rattle.std.specs.Prelude.{◌≡◌, ◌<◌, [], ◌∷◌, ◌++◌, length, drop, slice_get, slice_set, IfOk, IfErr, OnOk, OnErr, ◌==◌};
 ghost use Rattle.std.specs.Option.{option_copied};
 ghost use Rattle.ipc_objects.specs.Buckets.{joined, bucket_at};
 
 use crate::{Message, Words};
-use std::alloc::Global;
+use std::alloc::{AllocError, Global};
 use std::collections::VecDeque;
+use std::hash::FoldHasher;
 use std::marker::Model;
 
 /// The messages of one priority, in the order of arrival.
@@ -67,6 +68,25 @@ impl Bucket {
     {
         self.messages.pop_front().unwrap()
     }
+
+    /// An equal bucket.
+    fn copy(&self, alloc: Global) -> Result<Bucket, AllocError>
+        ensures equal { IfOk result (λ copy. copy ≡ self.now) }
+    {
+        let mut messages = VecDeque::new(alloc);
+        for i in 0..self.messages.len() {
+            let message = &self.messages[i];
+            messages.push_back(message.copy(alloc)?)?;
+        }
+        Ok(Bucket { messages })
+    }
+
+    /// Adds the messages to a digest.
+    pub(crate) fn feed(&self, hasher: &mut FoldHasher) {
+        for message in &self.messages {
+            message.feed(hasher);
+        }
+    }
 }
 
 /// Adds a message behind those of bucket `i`. Where memory is refused its words are handed back.
@@ -117,4 +137,15 @@ pub(crate) fn nth_of(buckets: &[Bucket], n: usize) -> Option<&Message>
         left -= count;
     }
     None
+}
+
+/// Equal buckets.
+pub(crate) fn copies_of(alloc: Global, buckets: &[Bucket]) -> Result<Vec<Bucket>, AllocError>
+    ensures equal { IfOk result (λ copies. copies.items ≡ buckets.now) }
+{
+    let mut copies = Vec::with_capacity(alloc, buckets.len())?;
+    for bucket in buckets {
+        copies.push(bucket.copy(alloc)?)?;
+    }
+    Ok(copies)
 }

@@ -2,6 +2,8 @@
 ghost use Rattle.std.specs.Prelude.{◌≡◌, ◌<◌, ◌≤◌, [], ◌∷◌, length, drop, slice_get, IfOk, IfErr, OnOk, OnErr};
 ghost use Rattle.std.specs.Option.{option_map};
 
+mod copies;
+
 use crate::Words;
 use crate::bits::{first_bit, with_bit, without_bit};
 use crate::buckets::{Bucket, is_empty_at, nth_of, pop_at, push_at};

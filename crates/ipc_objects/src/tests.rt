@@ -144,6 +144,67 @@ fn a_copy_of_words(rt: HostRuntime) {
     );
 }
 
+/// A queue for 4 messages of 2 words with these messages, whose words are one each.
+fn filled(rt: &impl Abort, alloc: Global, messages: &[(u16, u16)]) -> Queue {
+    let mut queue = queue_of(rt, alloc, 4, 2);
+    for (priority, word) in messages {
+        send(rt, alloc, &mut queue, *priority, &[*word]);
+    }
+    queue
+}
+
+fn copy(rt: &impl Abort, alloc: Global, queue: &Queue) -> Queue {
+    match queue.copy(alloc) {
+        Ok(copy) => copy,
+        Err(_) => queue.copy(alloc).expect(rt, "memory"),
+    }
+}
+
+/// Neither of two queues is the other, and their digests differ.
+fn differ(rt: &impl Abort, one: &Queue, other: &Queue) {
+    assert!(rt; !one.is_same(other) && !other.is_same(one), "not the same");
+    assert!(rt; one.digest() != other.digest(), "the digests");
+}
+
+#[test]
+fn a_copy_of_a_queue(rt: HostRuntime) {
+    let alloc = rt.alloc();
+    let mut queue = filled(&rt, alloc, &[(0, 7), (31, 8), (0, 9)]);
+    let copy = copy(&rt, alloc, &queue);
+    assert!(rt; queue.is_same(&copy) && copy.is_same(&queue), "the same");
+    assert_eq!(rt; queue.digest(), copy.digest());
+    receives(&rt, &mut queue, 31, &[8]);
+    differ(&rt, &queue, &copy);
+    send(&rt, alloc, &mut queue, 31, &[8]);
+    assert!(rt; queue.is_same(&copy), "the same again");
+    assert_eq!(rt; queue.digest(), copy.digest());
+}
+
+#[test]
+fn queues_that_differ(rt: HostRuntime) {
+    let alloc = rt.alloc();
+    let queue = filled(&rt, alloc, &[(1, 7), (1, 8)]);
+    // The order, a priority, a word, the number of messages and the length of one.
+    differ(&rt, &queue, &filled(&rt, alloc, &[(1, 8), (1, 7)]));
+    differ(&rt, &queue, &filled(&rt, alloc, &[(1, 7), (0, 8)]));
+    differ(&rt, &queue, &filled(&rt, alloc, &[(1, 7), (1, 9)]));
+    differ(&rt, &queue, &filled(&rt, alloc, &[(1, 7)]));
+    let mut longer = filled(&rt, alloc, &[(1, 7)]);
+    send(&rt, alloc, &mut longer, 1, &[8, 0]);
+    differ(&rt, &queue, &longer);
+    // The attributes.
+    differ(
+        &rt,
+        &queue_of(&rt, alloc, 4, 2),
+        &queue_of(&rt, alloc, 5, 2),
+    );
+    differ(
+        &rt,
+        &queue_of(&rt, alloc, 4, 2),
+        &queue_of(&rt, alloc, 4, 3),
+    );
+}
+
 /// Sends to both queues, if they have room.
 fn send_both(
     rt: &impl Abort,

@@ -17,6 +17,7 @@ pub use fresh::{Fresh, FreshFault, Program};
 pub use process::Process;
 pub use schedule::{Block, MOST_STEPS, PROCESSES, SchedFault, Schedule};
 pub use stepped::Stepped;
+pub use stepping::take_step;
 pub use trace::{Told, Trace};
 pub use verdict::Verdict;
 pub use world::{RunStop, StepFault, World};

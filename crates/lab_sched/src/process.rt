@@ -1,6 +1,9 @@
 //! Processes of a laboratory.
+ghost use Rattle.std.specs.Prelude.{◌≡◌, ◌↔◌, IfOk, IsTrue};
+
 use ipc_kernel::Call;
 use lc3_machine::{Ended, Running, Waiting};
+use std::alloc::{AllocError, Global};
 
 /// A process by its status. A waiting one is kept with the call that it asks for.
 #[derive(Drop)]
@@ -8,4 +11,47 @@ pub enum Process {
     Running(Running),
     Waiting(Waiting, Call),
     Ended(Ended),
+}
+
+impl Process {
+    ghost use Rattle.lab_sched.specs.Held.{seen};
+
+    /// An equal process, of which the same can be written without taking memory.
+    pub fn copy(&self, alloc: Global) -> Result<Process, AllocError>
+        ensures equal { IfOk result (λ copy. copy ≡ self.now) }
+    {
+        Ok(match self {
+            Process::Running(running) => Process::Running(running.copy(alloc)?),
+            Process::Waiting(waiting, call) => {
+                let waiting = waiting.copy(alloc)?;
+                let call = call.copy(alloc)?;
+                Process::Waiting(waiting, call)
+            }
+            Process::Ended(ended) => Process::Ended(ended.copy(alloc)?),
+        })
+    }
+
+    /// Whether two processes are the same, whatever of them can be written without taking memory.
+    pub fn is_same(&self, other: &Process) -> bool
+        ensures same { IsTrue result ↔ (seen self.now ≡ seen other.now) }
+    {
+        match (self, other) {
+            (Process::Running(running), Process::Running(other)) => running.is_same(other),
+            (Process::Waiting(waiting, call), Process::Waiting(other, other_call)) => {
+                waiting.is_same(other) && call.is_same(other_call)
+            }
+            (Process::Ended(ended), Process::Ended(other)) => ended.is_same(other),
+            _ => false,
+        }
+    }
+
+    /// A number that is the same for equal processes of a world and, as a rule, another for others. A process that
+    /// waits asks for its call, so that the call adds nothing.
+    pub fn digest(&self) -> u64 {
+        match self {
+            Process::Running(running) => running.digest(),
+            Process::Waiting(waiting, _) => !waiting.digest(),
+            Process::Ended(ended) => ended.digest(),
+        }
+    }
 }

@@ -15,7 +15,7 @@ use std::alloc::{AllocError, Global};
 
 /// Takes a step of process `pid`, or hands the process back where memory was refused.
 #[tactic(auto, using(ipc_traps::proofs::Laws::asked_local, ipc_traps::proofs::Laws::room_prepared), unfolding(crate::specs::Worlds::act, crate::specs::Worlds::told))]
-pub(crate) fn take_step(
+pub fn take_step(
     alloc: Global,
     process: Process,
     kernel: &mut Kernel,

@@ -6,6 +6,7 @@ use crate::{
 use ipc_kernel::Call;
 use lc3_word::Image;
 use std::alloc::{AllocError, Global};
+use std::process::Abort;
 use std::test::Fail;
 
 /// LEA R0,#5; LD R1,#7; AND R2,R2,#0; TRAP x50; TRAP x53; HALT; "/s"; x40: makes a semaphore with the value 0 and waits
@@ -201,5 +202,59 @@ fn numbers_of_programs(rt: HostRuntime) -> Result<(), Fail> {
     assert_eq!(rt; world.count(), 64);
     let more = [HALT; 65];
     assert!(rt; matches!(fresh(alloc, more.as_slice()), Err(FreshFault::Count)));
+    Ok(())
+}
+
+/// An equal process; once more, where memory is refused.
+fn copy(alloc: Global, process: &Process) -> Result<Process, AllocError> {
+    match process.copy(alloc) {
+        Ok(copy) => Ok(copy),
+        Err(_) => process.copy(alloc),
+    }
+}
+
+fn process<'a>(rt: &impl Abort, world: &'a World, pid: usize) -> &'a Process {
+    match world.process(pid) {
+        Some(process) => process,
+        None => panic!(rt; "a process"),
+    }
+}
+
+/// A copy is the same, and so is its digest.
+fn is_copied(rt: &impl Abort, alloc: Global, process: &Process) -> Result<(), AllocError> {
+    let copy = copy(alloc, process)?;
+    assert!(rt; process.is_same(&copy));
+    assert_eq!(rt; process.digest(), copy.digest());
+    Ok(())
+}
+
+/// Two processes aren't the same, nor are their digests.
+fn differ(rt: &impl Abort, one: &Process, other: &Process) {
+    assert!(rt; !one.is_same(other));
+    assert!(rt; one.digest() != other.digest());
+}
+
+#[test]
+fn copies_of_processes(rt: HostRuntime) -> Result<(), Fail> {
+    let alloc = rt.alloc();
+    let mut world = World::from(fresh(alloc, &[WAITER, HALT])?);
+    steps(&mut world, 0, 4)?;
+    let before = copy(alloc, process(&rt, &world, 0))?;
+    steps(&mut world, 0, 1)?;
+    // Before its trap and waiting at it, the machine is the same.
+    differ(&rt, &before, process(&rt, &world, 0));
+    is_copied(&rt, alloc, &before)?;
+    is_copied(&rt, alloc, process(&rt, &world, 0))?;
+    Ok(())
+}
+
+#[test]
+fn a_copy_of_an_ended_process(rt: HostRuntime) -> Result<(), Fail> {
+    let alloc = rt.alloc();
+    let mut world = World::from(fresh(alloc, &[HALT])?);
+    let before = copy(alloc, process(&rt, &world, 0))?;
+    steps(&mut world, 0, 1)?;
+    differ(&rt, &before, process(&rt, &world, 0));
+    is_copied(&rt, alloc, process(&rt, &world, 0))?;
     Ok(())
 }

@@ -5,6 +5,7 @@ ghost use Rattle.lc3_machine.specs.Memory.{IsWritable, StaysReady};
 ghost use Rattle.lc3_machine.specs.Reply.{CanTake, answered, ended};
 
 mod console;
+mod copies;
 mod execute;
 
 use crate::effect::Effect;

@@ -5,6 +5,7 @@ ghost use Rattle.lc3_machine.specs.Console.{words_from, string_at};
 
 use crate::page::{PAGE, Page};
 use std::alloc::{AllocError, Global};
+use std::hash::{FoldHasher, Hasher};
 use std::marker::Model;
 
 /// The number of pages of memory.
@@ -137,5 +138,39 @@ impl Memory {
             }
         }
         None
+    }
+
+    /// Equal memory, of which the same is ready.
+    pub(crate) fn copy(&self, alloc: Global) -> Result<Memory, AllocError>
+        ensures equal { IfOk result (λ copy. copy ≡ self.now) }
+    {
+        let mut pages = Vec::with_capacity(alloc, PAGES)?;
+        for page in &self.pages {
+            pages.push(page.copy(alloc)?)?;
+        }
+        Ok(Memory { pages })
+    }
+
+    /// Whether two memories have the same words.
+    pub(crate) fn has_same_words(&self, other: &Memory) -> bool
+        ensures same { IsTrue result ↔ (self.now.words ≡ other.now.words) }
+    {
+        for i in 0..PAGES {
+            let page = &self.pages[i];
+            if !page.has_same_words(&other.pages[i]) {
+                return false;
+            }
+        }
+        true
+    }
+
+    /// Adds the words to a digest. A page of zeros adds nothing, whether it is made or not.
+    pub(crate) fn feed(&self, hasher: &mut FoldHasher) {
+        for (i, page) in self.pages.iter().enumerate() {
+            if !page.is_zero() {
+                hasher.write_usize(i);
+                page.feed(hasher);
+            }
+        }
     }
 }

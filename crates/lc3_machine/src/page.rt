@@ -1,7 +1,9 @@
-ghost use Rattle.std.specs.Prelude.{◌≡◌, ℕ, ◌<◌, true, false, length, slice_index, slice_set, OnOk, OnErr, IsOk, IsTrue, ◌↔◌};
+ghost use Rattle.std.specs.Prelude.{◌≡◌, ℕ, ◌<◌, true, false, All, length, slice_index, slice_set, IfOk, OnOk, OnErr, IsOk, IsTrue, ◌↔◌};
 ghost use Rattle.lc3_machine.specs.Pages.{absent};
+ghost use Rattle.lc3_machine.specs.Process.{zeros};
 
 use std::alloc::{AllocError, Global};
+use std::hash::{FoldHasher, Hasher};
 use std::marker::Model;
 
 /// How many words a page has.
@@ -11,6 +13,12 @@ pub(crate) const PAGE: usize = 256;
 #[derive(Drop)]
 pub(crate) struct Page {
     words: Vec<u16>,
+}
+
+fn are_zero(words: &[u16]) -> bool
+    ensures { IsTrue result ↔ All (λ word. word ≡ 0) words.now }
+{
+    words.iter().all(|word| *word == 0)
 }
 
 impl Model for Page {
@@ -79,5 +87,40 @@ impl Page {
         self.make()?;
         self.words[place] = word;
         Ok(())
+    }
+
+    /// An equal page, made where this one is.
+    pub(crate) fn copy(&self, alloc: Global) -> Result<Page, AllocError>
+        ensures equal { IfOk result (λ copy. copy ≡ self.now) }
+    {
+        let words = Vec::from_slice(alloc, self.words.as_slice())?;
+        Ok(Page { words })
+    }
+
+    /// Whether each word is zero.
+    pub(crate) fn is_zero(&self) -> bool
+        ensures zero { IsTrue result ↔ (self.now.words ≡ zeros 256) }
+    {
+        are_zero(self.words.as_slice())
+    }
+
+    /// Whether two pages have the same words. A page that isn't made has zeros.
+    pub(crate) fn has_same_words(&self, other: &Page) -> bool
+        ensures same { IsTrue result ↔ (self.now.words ≡ other.now.words) }
+    {
+        if self.words.is_empty() {
+            other.is_zero()
+        } else if other.words.is_empty() {
+            self.is_zero()
+        } else {
+            self.words.as_slice() == other.words.as_slice()
+        }
+    }
+
+    /// Adds the words to a digest.
+    pub(crate) fn feed(&self, hasher: &mut FoldHasher) {
+        for word in &self.words {
+            hasher.write_u16(*word);
+        }
     }
 }

@@ -1,5 +1,6 @@
-ghost use Rattle.std.specs.Prelude.{◌≡◌, ℕ, ◌<◌, length, replicate, slice_index, slice_set};
+ghost use Rattle.std.specs.Prelude.{◌≡◌, ◌↔◌, ℕ, ◌<◌, IsTrue, length, replicate, slice_index, slice_set};
 
+use std::hash::{FoldHasher, Hasher};
 use std::marker::Model;
 
 /// The eight registers.
@@ -38,5 +39,26 @@ impl Registers {
         ensures word { self.new ≡ slice_set self.old number word }
     {
         self.words[number as usize] = word;
+    }
+
+    /// Equal registers.
+    pub(crate) fn copy(&self) -> Registers
+        ensures equal { result ≡ self.now }
+    {
+        Registers { words: self.words }
+    }
+
+    /// Whether all registers hold the same.
+    pub(crate) fn is_same(&self, other: &Registers) -> bool
+        ensures same { IsTrue result ↔ (self.now ≡ other.now) }
+    {
+        self.words == other.words
+    }
+
+    /// Adds the registers to a digest.
+    pub(crate) fn feed(&self, hasher: &mut FoldHasher) {
+        for word in &self.words {
+            hasher.write_u16(*word);
+        }
     }
 }

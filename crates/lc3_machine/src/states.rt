@@ -1,6 +1,7 @@
 //! The states of a process, a type each.
 
 mod call;
+mod copies;
 mod end;
 mod run;
 mod wait;

@@ -1,5 +1,6 @@
 mod calls;
 mod console;
+mod copies;
 mod instructions;
 mod memory;
 

@@ -1,0 +1,98 @@
+//! Copies of places, and whether two places are the same.
+ghost use Rattle.std.specs.Prelude.{◌≡◌, ◌↔◌, IfOk, IsTrue};
+
+use super::Place;
+use ipc_names::Name;
+use ipc_objects::Semaphore;
+use std::alloc::{AllocError, Global};
+use std::hash::{FoldHasher, Hasher};
+
+fn copy_of_name(alloc: Global, name: &Option<Name>) -> Result<Option<Name>, AllocError>
+    ensures { IfOk result (λ copy. copy ≡ name.now) }
+{
+    match name {
+        Some(name) => Ok(Some(name.copy(alloc)?)),
+        None => Ok(None),
+    }
+}
+
+fn is_same_name(name: &Option<Name>, other: &Option<Name>) -> bool
+    ensures { IsTrue result ↔ (name.now ≡ other.now) }
+{
+    match (name, other) {
+        (Some(name), Some(other)) => name.text() == other.text(),
+        (None, None) => true,
+        _ => false,
+    }
+}
+
+/// Adds a name to a digest.
+fn feed_name(name: &Option<Name>, hasher: &mut FoldHasher) {
+    if let Some(name) = name {
+        let text = name.text().as_bytes();
+        hasher.write_usize(text.len());
+        hasher.write(text);
+    }
+}
+
+impl Place {
+    /// An equal place.
+    pub(crate) fn copy(&self, alloc: Global) -> Result<Place, AllocError>
+        ensures equal { IfOk result (λ copy. copy ≡ self.now) }
+    {
+        Ok(match self {
+            Place::Empty => Place::Empty,
+            Place::Mq { name, queue } => {
+                let name = copy_of_name(alloc, name)?;
+                let queue = queue.copy(alloc)?;
+                Place::Mq { name, queue }
+            }
+            Place::Sem { name, semaphore } => {
+                let name = copy_of_name(alloc, name)?;
+                let semaphore = Semaphore::new(semaphore.value());
+                Place::Sem { name, semaphore }
+            }
+        })
+    }
+
+    /// Whether two places hold the same, with the same name.
+    pub(crate) fn is_same(&self, other: &Place) -> bool
+        ensures same { IsTrue result ↔ (self.now ≡ other.now) }
+    {
+        match (self, other) {
+            (Place::Empty, Place::Empty) => true,
+            (
+                Place::Mq { name, queue },
+                Place::Mq {
+                    name: other_name,
+                    queue: other_queue,
+                },
+            ) => is_same_name(name, other_name) && queue.is_same(other_queue),
+            (
+                Place::Sem { name, semaphore },
+                Place::Sem {
+                    name: other_name,
+                    semaphore: other_semaphore,
+                },
+            ) => is_same_name(name, other_name) && semaphore.value() == other_semaphore.value(),
+            _ => false,
+        }
+    }
+
+    /// Adds what the place holds to a digest.
+    pub(crate) fn feed(&self, hasher: &mut FoldHasher) {
+        match self {
+            Place::Empty => hasher.write_u8(0),
+            Place::Mq { name, queue } => {
+                hasher.write_u8(1);
+                feed_name(name, hasher);
+                hasher.write_u64(queue.digest());
+            }
+            Place::Sem { name, semaphore } => {
+                hasher.write_u8(2);
+                feed_name(name, hasher);
+                hasher.write_u16(semaphore.value());
+            }
+        }
+    }
+}

@@ -1,0 +1,62 @@
+//! Copies of the places, and whether they hold the same.
+ghost use Rattle.std.specs.Prelude.{◌≡◌, ◌↔◌, IfOk, IsTrue};
+
+use super::Places;
+use crate::place::Place;
+use std::alloc::{AllocError, Global};
+use std::hash::FoldHasher;
+
+fn copies_of(alloc: Global, places: &[Place]) -> Result<Vec<Place>, AllocError>
+    ensures { IfOk result (λ copies. copies.items ≡ places.now) }
+{
+    let mut copies = Vec::with_capacity(alloc, places.len())?;
+    for place in places {
+        copies.push(place.copy(alloc)?)?;
+    }
+    Ok(copies)
+}
+
+fn are_same(places: &[Place], others: &[Place]) -> bool
+    ensures { IsTrue result ↔ (places.now ≡ others.now) }
+{
+    if places.len() != others.len() {
+        return false;
+    }
+    for (i, place) in places.iter().enumerate() {
+        if !place.is_same(&others[i]) {
+            return false;
+        }
+    }
+    true
+}
+
+impl Places {
+    /// Equal places.
+    pub(crate) fn copy(&self, alloc: Global) -> Result<Places, AllocError>
+        ensures equal { IfOk result (λ copy. copy ≡ self.now) }
+    {
+        let places = copies_of(alloc, self.places.as_slice())?;
+        let queue_names = self.queue_names.copy()?;
+        let semaphore_names = self.semaphore_names.copy()?;
+        Ok(Places {
+            places,
+            queue_names,
+            semaphore_names,
+            alloc,
+        })
+    }
+
+    /// Whether each place holds the same.
+    pub(crate) fn is_same(&self, other: &Places) -> bool
+        ensures same { IsTrue result ↔ (self.now ≡ other.now) }
+    {
+        are_same(self.places.as_slice(), other.places.as_slice())
+    }
+
+    /// Adds what the places hold to a digest.
+    pub(crate) fn feed(&self, hasher: &mut FoldHasher) {
+        for place in &self.places {
+            place.feed(hasher);
+        }
+    }
+}

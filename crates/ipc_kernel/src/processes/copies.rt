@@ -1,0 +1,54 @@
+//! Copies of the tables of processes, and whether they are the same.
+ghost use Rattle.std.specs.Prelude.{◌≡◌, ◌↔◌, IfOk, IsTrue};
+
+use super::Processes;
+use crate::process::Process;
+use std::alloc::{AllocError, Global};
+use std::hash::{FoldHasher, Hasher};
+
+/// Adds the open descriptors and slots of a process to a digest.
+fn feed_process(process: &Process, hasher: &mut FoldHasher) {
+    for (i, descriptor) in process.descriptors.iter().enumerate() {
+        if let Some(descriptor) = descriptor {
+            hasher.write_usize(i);
+            hasher.write_u8(descriptor.place);
+            hasher.write_u8(descriptor.access);
+            hasher.write_u8(descriptor.nonblock as u8);
+        }
+    }
+    for (i, slot) in process.slots.iter().enumerate() {
+        if let Some(slot) = slot {
+            hasher.write_usize(i);
+            hasher.write_u8(slot.place);
+            hasher.write_u8(slot.opens);
+        }
+    }
+}
+
+impl Processes {
+    /// Equal tables.
+    pub(crate) fn copy(&self, alloc: Global) -> Result<Processes, AllocError>
+        ensures equal { IfOk result (λ copy. copy ≡ self.now) }
+    {
+        let tables = Vec::from_slice(alloc, self.tables.as_slice())?;
+        Ok(Processes {
+            tables,
+            counts: self.counts,
+        })
+    }
+
+    /// Whether the tables are the same.
+    pub(crate) fn is_same(&self, other: &Processes) -> bool
+        ensures same { IsTrue result ↔ (self.now ≡ other.now) }
+    {
+        self.tables.as_slice() == other.tables.as_slice()
+    }
+
+    /// Adds the tables to a digest.
+    pub(crate) fn feed(&self, hasher: &mut FoldHasher) {
+        for process in &self.tables {
+            hasher.write_u8(0);
+            feed_process(process, hasher);
+        }
+    }
+}

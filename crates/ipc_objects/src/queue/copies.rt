@@ -1,0 +1,86 @@
+//! Copies of queues, and whether two queues are the same.
+ghost use Rattle.std.specs.Prelude.{◌≡◌, ◌↔◌, IfOk, IsTrue, slice_get};
+
+use super::{Message, Queue};
+use crate::buckets::copies_of;
+use std::alloc::{AllocError, Global};
+use std::hash::{FoldHasher, Hasher};
+
+impl Message {
+    /// An equal message.
+    pub(crate) fn copy(&self, alloc: Global) -> Result<Message, AllocError>
+        ensures equal { IfOk result (λ copy. copy ≡ self.now) }
+    {
+        let words = self.words.copy(alloc)?;
+        Ok(Message {
+            priority: self.priority,
+            words,
+        })
+    }
+
+    /// Adds the message to a digest.
+    pub(crate) fn feed(&self, hasher: &mut FoldHasher) {
+        hasher.write_u16(self.priority);
+        hasher.write_usize(self.words.len());
+        for word in self.words.as_slice() {
+            hasher.write_u16(*word);
+        }
+    }
+}
+
+impl Queue {
+    /// An equal queue.
+    pub fn copy(&self, alloc: Global) -> Result<Queue, AllocError>
+        ensures equal { IfOk result (λ copy. copy ≡ self.now) }
+    {
+        let buckets = copies_of(alloc, self.buckets.as_slice())?;
+        Ok(Queue {
+            max_messages: self.max_messages,
+            message_size: self.message_size,
+            count: self.count,
+            buckets,
+            filled: self.filled,
+        })
+    }
+
+    /// Whether the messages that would be received after `i` others are the same.
+    fn has_same_entry(&self, other: &Queue, i: usize) -> bool
+        ensures same { IsTrue result ↔ (slice_get self.now.messages i ≡ slice_get other.now.messages i) }
+    {
+        match (self.entry(i), other.entry(i)) {
+            (Some((priority, words)), Some((other_priority, other_words))) => {
+                priority == other_priority && words == other_words
+            }
+            (None, None) => true,
+            _ => false,
+        }
+    }
+
+    /// Whether two queues have the same attributes, and the same messages in the same order of receive.
+    pub fn is_same(&self, other: &Queue) -> bool
+        ensures same { IsTrue result ↔ (self.now ≡ other.now) }
+    {
+        let (max_messages, message_size, count) = self.attr();
+        if other.attr() != (max_messages, message_size, count) {
+            return false;
+        }
+        for i in 0..count as usize {
+            if !self.has_same_entry(other, i) {
+                return false;
+            }
+        }
+        true
+    }
+
+    /// A number that is the same for equal queues and, as a rule, another for others.
+    pub fn digest(&self) -> u64 {
+        let mut hasher = FoldHasher::default();
+        hasher.write_u16(self.max_messages);
+        hasher.write_u16(self.message_size);
+        hasher.write_u16(self.count);
+        for bucket in &self.buckets {
+            bucket.feed(&mut hasher);
+        }
+        hasher.finish()
+    }
+}

@@ -1,0 +1,65 @@
+-- Pages that read the same, and memory that is made up of them.
+use Rattle.std.proofs.Common.{◌≡◌, ℕ, ◌+◌, ◌-◌, ◌*◌, ◌<◌, ◌≤◌, All, List, [], ◌++◌, length, get_or, take, flat_map, replicate, ap, sym, ◌∙◌, arith}
+use Rattle.std.proofs.lemmas.List.{ext_get_or, take_more, take_all, flat_map_more, get_or_append_left, get_or-replicate, get_or_default, replicate-append-replicate, length-replicate, append-nil}
+use Rattle.lc3_machine.specs.Process.{zeros}
+use Rattle.lc3_machine.specs.Pages.{PageWords, AreWhole, joined, padded_page}
+use Rattle.lc3_machine.proofs.PageLemmas.{AreOf, get_or-parts}
+
+-- where the wholes are equal, so is each part
+same-part : {X : Type 0} (f : X → List ℕ) (n : ℕ) (xs ys : List X) (i : ℕ) (x y : X) → AreOf f n xs → AreOf f n ys → i < length xs → i < length ys → flat_map f xs ≡ flat_map f ys → f (get_or xs i x) ≡ f (get_or ys i y)
+same-part f n xs ys i x y all all' h h' same =
+    let len = all i x h in
+    let len' = all' i y h' in
+    ext_get_or 0 (f (get_or xs i x)) (f (get_or ys i y)) (len ∙ sym len')
+    (λ j inside.
+    let hj : j < n = omega arith in
+    sym (get_or-parts f n xs i j x all h hj) ∙ ap (λ ws. get_or ws (i * n + j) 0) same ∙ get_or-parts f n ys i j y all' h' hj)
+
+-- where memories have the same words, so have their pages
+pub same-page : (ps qs : List PageWords) (i : ℕ) (p q : PageWords) → AreWhole ps → AreWhole qs → i < length ps → i < length qs → p ≡ get_or ps i p → q ≡ get_or qs i q → (joined ps).words ≡ (joined qs).words → p.words ≡ q.words
+same-page ps qs i p q whole whole' h h' is is' same =
+    ap (λ x. x.words) is ∙ same-part (λ x. x.words) 256 ps qs i p q whole whole' h h' same ∙ ap (λ x. x.words) (sym is')
+
+-- the words of one page more
+words-more : (ps : List PageWords) (i : ℕ) (p : PageWords) → i < length ps → p ≡ get_or ps i p → (joined (take (i + 1) ps)).words ≡ (joined (take i ps)).words ++ p.words
+words-more ps i p h is =
+    ap (λ qs. (joined qs).words) (take_more ps i p h) ∙ sym (flat_map_more (λ x. x.words) [] (take i ps) (get_or ps i p)) ∙ ap (λ x. (joined (take i ps)).words ++ x.words) (sym is)
+
+-- the same words in one page more
+pub same-more : (ps qs : List PageWords) (i : ℕ) (p q : PageWords) → i < length ps → i < length qs → p ≡ get_or ps i p → q ≡ get_or qs i q → p.words ≡ q.words → (joined (take i ps)).words ≡ (joined (take i qs)).words → (joined (take (i + 1) ps)).words ≡ (joined (take (i + 1) qs)).words
+same-more ps qs i p q h h' is is' same so_far =
+    let a = words-more ps i p h is in
+    let b = words-more qs i q h' is' in
+    a ∙ ap (λ ws. ws ++ p.words) so_far ∙ ap (λ ws. (joined (take i qs)).words ++ ws) same ∙ sym b
+
+-- the same words in all pages
+pub same-all : (ps qs : List PageWords) (n : ℕ) → length ps ≤ n → length qs ≤ n → (joined (take n ps)).words ≡ (joined (take n qs)).words → (joined ps).words ≡ (joined qs).words
+same-all ps qs n h h' same =
+    sym (ap (λ xs. (joined xs).words) (take_all n ps h)) ∙ same ∙ ap (λ xs. (joined xs).words) (take_all n qs h')
+
+-- a list of zeros
+zeros-all : (ws : List ℕ) → All (λ w. w ≡ 0) ws → ws ≡ replicate (length ws) 0
+zeros-all ws all = ext_get_or 0 ws (replicate (length ws) 0) (sym (length-replicate (length ws) 0)) (λ i h. all i 0 h ∙ sym (get_or-replicate (length ws) i 0 0 h))
+
+-- a page is zero exactly where its kept words are
+pub padded-zero : (ws : List ℕ) → length ws ≤ 256 → All (λ w. w ≡ 0) ws → (padded_page ws).words ≡ zeros 256
+unfolding zeros
+padded-zero ws h all =
+    let e : length ws + (256 - length ws) ≡ 256 = omega arith in
+    ap (λ xs. xs ++ replicate (256 - length ws) 0) (zeros-all ws all) ∙ replicate-append-replicate (length ws) (256 - length ws) 0 ∙ ap (λ n. replicate n 0) e
+
+pub zero-padded : (ws : List ℕ) → length ws ≤ 256 → (padded_page ws).words ≡ zeros 256 → All (λ w. w ≡ 0) ws
+unfolding zeros
+zero-padded ws h same = λ k d inside.
+    let here = get_or_append_left ws (replicate (256 - length ws) 0) 0 k inside in
+    get_or_default ws k d 0 inside ∙ sym here ∙ ap (λ xs. get_or xs k 0) same ∙ get_or-replicate 256 k 0 0 (omega arith)
+
+-- a page that isn't made reads as zeros
+pub padded-none : (ws : List ℕ) → length ws ≡ 0 → (padded_page ws).words ≡ zeros 256
+padded-none ws none = padded-zero ws (omega arith) (λ k d h. absurd (omega arith))
+
+-- a page that is made reads as it is kept
+pub padded-full : (ws : List ℕ) → length ws ≡ 256 → (padded_page ws).words ≡ ws
+padded-full ws full =
+    let e : 256 - length ws ≡ 0 = omega arith in
+    ap (λ n. ws ++ replicate n 0) e ∙ append-nil ws

@@ -1,0 +1,61 @@
+//! Copies of a machine, and whether two machines are the same.
+
+ghost use Rattle.std.specs.Prelude.{◌≡◌, ◌↔◌, IfOk, IsTrue};
+
+use super::Machine;
+use crate::input::Input;
+use lc3_word::Cc;
+use std::alloc::{AllocError, Global};
+use std::hash::{FoldHasher, Hasher};
+
+impl Machine {
+    /// An equal machine, with the same pages ready.
+    pub(crate) fn copy(&self, alloc: Global) -> Result<Machine, AllocError>
+        ensures equal { IfOk result (λ copy. copy ≡ self.now) }
+    {
+        Ok(Machine {
+            regs: self.regs.copy(),
+            pc: self.pc,
+            cc: self.cc,
+            memory: self.memory.copy(alloc)?,
+            input: Input::new(alloc, self.input.left())?,
+            output: Vec::from_slice(alloc, self.output.as_slice())?,
+        })
+    }
+
+    /// Whether two machines are the same process, whatever pages are ready.
+    pub(crate) fn is_same(&self, other: &Machine) -> bool
+        ensures same { IsTrue result ↔ (self.now.process ≡ other.now.process) }
+    {
+        self.pc == other.pc
+            && self.cc == other.cc
+            && self.regs.is_same(&other.regs)
+            && self.input.left() == other.input.left()
+            && self.output.as_slice() == other.output.as_slice()
+            && self.memory.has_same_words(&other.memory)
+    }
+
+    /// Adds the process to a digest.
+    pub(crate) fn feed(&self, hasher: &mut FoldHasher) {
+        hasher.write_u16(self.pc);
+        hasher.write_u8(match self.cc {
+            Cc::N => 0,
+            Cc::Z => 1,
+            Cc::P => 2,
+        });
+        self.regs.feed(hasher);
+        let left = self.input.left();
+        hasher.write_usize(left.len());
+        hasher.write(left);
+        hasher.write_usize(self.output.len());
+        hasher.write(self.output.as_slice());
+        self.memory.feed(hasher);
+    }
+
+    /// A number that tells processes apart as a rule. It is the same for equal processes.
+    pub(crate) fn digest(&self) -> u64 {
+        let mut hasher = FoldHasher::default();
+        self.feed(&mut hasher);
+        hasher.finish()
+    }
+}
