@@ -3,6 +3,7 @@ ghost use Rattle.std.specs.Prelude.{◌≡◌, false};
 
 use crate::complaint::{Complaint, Reason};
 use crate::debugging::debug_programs;
+use crate::exploring::explore_programs;
 use crate::fault::CliFault;
 use crate::line::{Request, read_words};
 use crate::run::hex_run;
@@ -85,6 +86,10 @@ fn perform<'a, T: Files + Threads + Wait + Sync, R: Read, W: Write>(
             ref programs,
             limit,
         } => run_programs(rt, alloc, programs.as_slice(), limit, output),
+        Request::Explore {
+            ref programs,
+            limits,
+        } => explore_programs(rt, alloc, programs.as_slice(), limits, output),
         Request::Debug { ref programs } => {
             debug_programs(rt, alloc, programs.as_slice(), input, output)
         }

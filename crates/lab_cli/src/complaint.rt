@@ -1,6 +1,7 @@
 //! What the program says of a fault.
 use crate::fault::CliFault;
 use lab_debug::SessionFault;
+use lab_explore::ExploreFault;
 use lab_sched::{RunStop, SchedFault, StepFault};
 use lab_threads::RunFault;
 use lc3_asm::AsmFault;
@@ -51,6 +52,15 @@ impl From<CliFault> for Reason {
             CliFault::Read => Reason::CannotRead,
             CliFault::Write => Reason::CannotWrite,
             CliFault::NoMemory => Reason::NoMemory,
+        }
+    }
+}
+
+impl From<ExploreFault> for Reason {
+    fn from(fault: ExploreFault) -> Reason {
+        match fault {
+            ExploreFault::NoMemory => Reason::NoMemory,
+            ExploreFault::Unvouched => Reason::Unvouched,
         }
     }
 }

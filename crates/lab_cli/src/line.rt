@@ -1,6 +1,8 @@
 //! The command line.
+use crate::exploring::MOST_WORLDS;
 use crate::running::MOST_STEPS;
 use clap::{Arg, ArgAction, ArgMatches, Command, Error};
+use lab_explore::Limits;
 use std::alloc::{AllocError, Global};
 
 /// What the words of a command line ask for.
@@ -20,6 +22,10 @@ pub enum Request<'a> {
     Run {
         programs: Vec<&'a str>,
         limit: u32,
+    },
+    Explore {
+        programs: Vec<&'a str>,
+        limits: Limits,
     },
     Debug {
         programs: Vec<&'a str>,
@@ -51,6 +57,7 @@ fn program<'a>(alloc: Global) -> Result<Command<'a>, AllocError> {
         .subcommand(dis(alloc)?)?
         .subcommand(step(alloc)?)?
         .subcommand(run(alloc)?)?
+        .subcommand(explore(alloc)?)?
         .subcommand(debug(alloc)?)
 }
 
@@ -104,6 +111,27 @@ fn run<'a>(alloc: Global) -> Result<Command<'a>, AllocError> {
         .arg(programs(alloc))
 }
 
+fn explore<'a>(alloc: Global) -> Result<Command<'a>, AllocError> {
+    let worlds = Arg::new(alloc, "worlds")
+        .long("worlds")
+        .value_name("N")
+        .value_parser(clap::value_parser!(u32).range(1..=i64::from(MOST_WORLDS)))
+        .default_value("100000")
+        .help("The most worlds to visit");
+    let steps = Arg::new(alloc, "steps")
+        .long("steps")
+        .value_name("N")
+        .value_parser(clap::value_parser!(u32).range(1..=i64::from(MOST_STEPS)))
+        .default_value("100000")
+        .help("The most steps of a process between two calls");
+    Command::new(alloc, "explore")
+        .about("Visits every interleaving of programs and prints the ends that they can have")
+        .after_help("Example:\n  lc3lab explore one.obj two.obj")
+        .arg(worlds)?
+        .arg(steps)?
+        .arg(programs(alloc))
+}
+
 fn debug<'a>(alloc: Global) -> Result<Command<'a>, AllocError> {
     Command::new(alloc, "debug")
         .about("Runs programs by commands on standard input, which also show them")
@@ -132,6 +160,13 @@ fn request_of<'a>(alloc: Global, matches: &ArgMatches<'a>) -> Result<Request<'a>
         Some(("run", words)) => Request::Run {
             programs: programs_of(alloc, words)?,
             limit: words.get_one::<u32>("limit").unwrap_or(MOST_STEPS),
+        },
+        Some(("explore", words)) => Request::Explore {
+            programs: programs_of(alloc, words)?,
+            limits: Limits {
+                worlds: words.get_one::<u32>("worlds").unwrap_or(MOST_WORLDS),
+                steps: words.get_one::<u32>("steps").unwrap_or(MOST_STEPS),
+            },
         },
         Some(("debug", words)) => Request::Debug {
             programs: programs_of(alloc, words)?,

@@ -4,6 +4,7 @@
 mod command;
 mod complaint;
 mod debugging;
+mod exploring;
 mod fault;
 mod files;
 mod hex;

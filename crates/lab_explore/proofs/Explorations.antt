@@ -1,0 +1,91 @@
+-- Explorations: what the parts of one say together.
+use Rattle.std.proofs.Common.{ℕ, ◌≡◌, ◌≤◌, ◌++◌, [], ◌∷◌, slice_get, List, refl, sym, ap, subst, ◌∙◌, All, length, map, inl, inr}
+use Rattle.std.proofs.lemmas.List.{length-map, length-replicate}
+use Rattle.std.proofs.lemmas.List.Elements.{All-weaker}
+use Rattle.ipc_kernel.specs.Kernel.{KernelState, empty_kernel}
+use Rattle.lab_sched.specs.declared.process.Process.{Process as Kept}
+use Rattle.lab_sched.specs.declared.process.Process.TheVariants as kept
+use Rattle.ipc_kernel.specs.Processes.{closed_process}
+use Rattle.lab_sched.specs.Worlds.{Process, Running, Waiting, Ended, WorldState, turn, turn_in, run}
+use Rattle.lab_sched.specs.Finished.{IsAtRest}
+use Rattle.lab_sched.specs.Verdicts.{IsVerdict, HasEnded}
+use Rattle.lab_sched.specs.declared.verdict.Verdict.{Verdict}
+use Rattle.lab_sched.specs.declared.verdict.Verdict.TheVariants as verdict
+use Rattle.lab_sched.proofs.WorldLemmas.{fresh_world}
+use Rattle.lab_sched.proofs.Rests.{at_rest}
+use Rattle.lab_sched.specs.Held.{seen, IsHeld, IsWorld}
+use Rattle.lab_sched.specs.Starts.{Runs}
+use Rattle.lab_explore.specs.declared.store.Store.{Store}
+use Rattle.lab_explore.specs.declared.ends.End.{End}
+use Rattle.lab_explore.specs.declared.ends.Walk.{Walk}
+use Rattle.lab_explore.specs.Closed.{IsClosed, AreAtRest}
+use Rattle.lab_explore.specs.Stored.{IsAt, Holds, Each, Keeps}
+use Rattle.lab_explore.specs.Ends.{IsWalk, IsEnd, HasEnd, HaveAllEnds}
+use Rattle.lab_explore.proofs.Pushes.{get_pushed}
+use Rattle.lab_explore.proofs.Begins.{at_unique}
+use Rattle.lab_explore.proofs.Simulates.{has_every_end, idle}
+
+runs_held : (s : Kept) → Runs s → IsHeld s
+runs_held (kept.Running m) runs = tt
+runs_held (kept.Waiting h c) runs = absurd runs
+runs_held (kept.Ended e) runs = absurd runs
+
+-- processes that run wait for nothing
+pub all_held : (ps : List Kept) → All Runs ps → All IsHeld ps
+all_held ps runs = All-weaker Runs IsHeld runs_held ps runs
+
+-- the start of a laboratory, by its processes
+pub started : (w : WorldState) (ps : List Kept) (k : KernelState) (n : ℕ) → map seen ps ≡ w.processes → w.kernel ≡ empty_kernel (length w.processes) → n ≡ length ps → k ≡ empty_kernel n
+    → w ≡ record { processes = map seen ps; kernel = k }
+started w ps k n processes kernel count is =
+    let lengths : length w.processes ≡ n = ap length (sym processes) ∙ length-map ps seen ∙ sym count in
+    let same : w.kernel ≡ k = kernel ∙ ap empty_kernel lengths ∙ sym is in
+    ap (λ xs. record { processes = xs; kernel = w.kernel }) (sym processes) ∙ ap (λ x. record { processes = map seen ps; kernel = x }) same
+
+pub lengths : (w : WorldState) (ps : List Kept) → map seen ps ≡ w.processes → length w.processes ≡ length ps
+lengths w ps processes = ap length (sym processes) ∙ length-map ps seen
+
+-- all ends, where the worlds of a store are closed, and each of them that is at rest has its end
+pub all_ends : (fresh start : WorldState) (t : Store) (ends : List End) → fresh ≡ start → IsClosed start (Holds t) → ((i : ℕ) (w : WorldState) → IsAt t i w → AreAtRest w → HasEnd ends w)
+    → HaveAllEnds fresh ends
+all_ends fresh start t ends same closed all =
+    subst (λ s. HaveAllEnds s ends) (sym same)
+    (λ ps rest. let held = has_every_end start (Holds t) closed ps rest in all held.0 (run start ps) held.1 rest)
+
+pub same_ends : (fresh start : WorldState) (ends : List End) → fresh ≡ start → Each (IsEnd start) ends → Each (IsEnd fresh) ends
+same_ends fresh start ends same each = subst (λ s. Each (IsEnd s) ends) (sym same) each
+
+-- copies of processes over the empty kernel
+pub copies_world : (ps cs : List Kept) (k : KernelState) → cs ≡ ps → All Runs ps → 1 ≤ length ps → length ps ≤ 64 → k ≡ empty_kernel (length ps) → IsWorld cs k
+copies_world ps cs k same runs some few empty =
+    let count : length ps ≡ length k.processes = sym (ap (λ (x : KernelState). length x.processes) empty ∙ length-replicate (length ps) closed_process) in
+    subst (λ xs. IsWorld xs k) (sym same) (fresh_world ps k (record { running = runs; some = some; few = few; count = count; empty = empty }))
+
+ended_rests : (k : KernelState) (p : ℕ) (s : Process) → HasEnded s → IsAtRest k p s
+ended_rests k p (Running m) h = h
+ended_rests k p (Waiting m c) h = absurd h
+ended_rests k p (Ended e) h = h
+
+-- a world that isn't open is at rest
+pub verdict_rests : (w : WorldState) (v : Verdict) → IsVerdict w v → (v ≡ verdict.Open → ⊥) → AreAtRest w
+verdict_rests w verdict.Ended h n p s at = ended_rests w.kernel p s (h p s at)
+verdict_rests w verdict.Stuck h n p s at =
+    elim (idle (turn_in w p)) [
+      | inl none ↦ at_rest w.kernel p s (ap (λ o. turn w.kernel p o) (sym at) ∙ none)
+      | inr effective ↦ absurd (h.none_moves p effective)
+    ]
+verdict_rests w verdict.Open h n p s at = absurd (n refl)
+
+-- the end of a walk
+pub walk_end : (start : WorldState) (walk : Walk) (v : Verdict) (e : End) → IsWalk start walk → IsVerdict walk.world v → (v ≡ verdict.Open → ⊥) → e ≡ record { world = walk.world; schedule = walk.schedule; verdict = v } → IsEnd start e
+walk_end start walk v e h stands closed same =
+    subst (IsEnd start) (sym same) (record { effective = h.effective; leads = h.leads; rests = verdict_rests walk.world v stands closed; verdict = stands; closed = closed })
+
+-- ends that were found stay found
+pub end_kept : (xs ys : List End) (w : WorldState) → Keeps xs ys → HasEnd xs w → HasEnd ys w
+end_kept xs ys w keeps h = (h.0, h.1, keeps h.0 h.1 h.2, h.3)
+
+-- the end of a row that was pushed
+pub end_pushed : (t : Store) (i : ℕ) (w : WorldState) (e : End) (xs ys : List End) → ys ≡ xs ++ e ∷ [] → IsAt t i e.world → IsAt t i w → HasEnd ys w
+end_pushed t i w e xs ys is here there =
+    (length xs, e, ap (λ zs. slice_get zs (length xs)) is ∙ get_pushed xs e, at_unique t i e.world w here there)

@@ -1,0 +1,140 @@
+-- Stores that grow.
+use Rattle.std.proofs.Common.{ℕ, ◌≡◌, List, [], ◌∷◌, ◌++◌, Option, Some, None, refl, sym, ap, subst, ◌∙◌, slice_get, length}
+use Rattle.std.specs.Option.{option_map}
+use Rattle.ipc_kernel.specs.Kernel.{KernelState}
+use Rattle.lab_sched.specs.declared.process.Process.{Process as Kept}
+use Rattle.lab_sched.specs.Worlds.{Process, WorldState, step}
+use Rattle.lab_sched.specs.Held.{seen}
+use Rattle.lab_explore.specs.declared.store.Row.{Row}
+use Rattle.lab_explore.specs.declared.store.Store.{Store}
+use Rattle.lab_explore.specs.declared.store.Next.{Next}
+use Rattle.lab_explore.specs.declared.store.Next.TheVariants.{Nothing, Limit, To}
+use Rattle.lab_explore.specs.declared.known.Moves.{Moves}
+use Rattle.lab_explore.specs.Known.{AreKnown}
+use Rattle.lab_explore.specs.Calls.{Alongside}
+use Rattle.lab_explore.specs.Closed.{HasAdvance}
+use Rattle.lab_explore.specs.Stored.{Each, IsState, IsRow, IsAt, Holds, IsReady, IsStore, Grows, IsNext, IsMove, IsTried, IsExpanded}
+use Rattle.lab_explore.proofs.Pushes.{both_weaker, keeps_push, each_push, get_pushed}
+
+pub grows_none : (t : Store) → Grows t t
+grows_none t = record { kernels = λ i x e. e; states = λ i x e. e; rows = λ i x e. e }
+
+pub grows_more : (t u v : Store) → Grows t u → Grows u v → Grows t v
+grows_more t u v g h = record {
+  kernels = λ i x e. h.kernels i x (g.kernels i x e);
+  states = λ i x e. h.states i x (g.states i x e);
+  rows = λ i x e. h.rows i x (g.rows i x e);
+}
+
+kept_at : (o : Option Kept) (s : Process) → option_map seen o ≡ Some s → (k : Kept) × (o ≡ Some k) × (seen k ≡ s)
+kept_at None s e = absurd (cc)
+kept_at (Some k) s e = let same : seen k ≡ s = cc in (k, refl, same)
+
+-- the state that is kept at a place
+pub state_kept : (t : Store) (i : ℕ) (s : Process) → IsState t i s → (k : Kept) × (slice_get t.states.items i ≡ Some k) × (seen k ≡ s)
+state_kept t i s h = kept_at (slice_get t.states.items i) s h
+
+pub state_grows : (t u : Store) (i : ℕ) (s : Process) → Grows t u → IsState t i s → IsState u i s
+state_grows t u i s g h =
+    let k = state_kept t i s h in
+    ap (λ o. option_map seen o) (g.states i k.0 k.1) ∙ ap (λ x. Some x) k.2
+
+pub row_grows : (t u : Store) (r : Row) (w : WorldState) → Grows t u → IsRow t r w → IsRow u r w
+row_grows t u r w g h = record {
+  kernel = g.kernels r.kernel w.kernel h.kernel;
+  states = λ p. both_weaker (IsState t) (IsState u) (λ i s. state_grows t u i s g) (slice_get r.states.items p) (slice_get w.processes p) (h.states p);
+}
+
+pub at_grows : (t u : Store) (i : ℕ) (w : WorldState) → Grows t u → IsAt t i w → IsAt u i w
+at_grows t u i w g h = (h.0, g.rows i h.0 h.1, row_grows t u h.0 w g h.2)
+
+pub holds_grows : (t u : Store) (w : WorldState) → Grows t u → Holds t w → Holds u w
+holds_grows t u w g h = (h.0, at_grows t u h.0 w g h.1)
+
+pub advance_grows : (t u : Store) (w : WorldState) → Grows t u → HasAdvance (Holds t) w → HasAdvance (Holds u) w
+advance_grows t u w g h = (h.0, holds_grows t u h.0 g h.1, h.2)
+
+pub next_grows : (t u : Store) (k : KernelState) (p : ℕ) (s : Process) (n : Next) → Grows t u → IsNext t k p s n → IsNext u k p s n
+next_grows t u k p s Nothing g h = h
+next_grows t u k p s Limit g h = h
+next_grows t u k p s (To kernel state taken) g h = (h.0, g.kernels kernel _ h.1, state_grows t u state h.0 g h.2, h.3)
+
+pub move_grows : (t u : Store) (kernel p state : ℕ) (n : Next) → Grows t u → IsMove t kernel p state n → IsMove u kernel p state n
+move_grows t u kernel p state n g h = (h.0, h.1, g.kernels kernel h.0 h.2, state_grows t u state h.1 g h.3, next_grows t u h.0 p h.1 n g h.4)
+
+pub tried_grows : (t u : Store) (w : WorldState) (p : ℕ) → Grows t u → IsTried t w p → IsTried u w p
+tried_grows t u w p g h e = advance_grows t u (step w p) g (h e)
+
+pub expanded_grows : (t u : Store) (i : ℕ) → Grows t u → IsExpanded t i → IsExpanded u i
+expanded_grows t u i g h = (h.0, at_grows t u i h.0 g h.1, λ p. tried_grows t u h.0 p g (h.2 p))
+
+-- a store that has more kernels, or more states
+pub store_grows : (t u : Store) → IsStore t → Grows t u → Each IsReady u.states.items → u.rows.items ≡ t.rows.items → IsStore u
+store_grows t u s g ready same = record {
+  states = ready;
+  rows = λ i r e. let h = s.rows i r (subst (λ xs. slice_get xs i ≡ Some r) same e) in (h.0, row_grows t u r h.0 g h.1);
+}
+
+-- one state more
+pub states_pushed : (t u : Store) (k : Kept) → IsStore t → IsReady k → u.states.items ≡ t.states.items ++ k ∷ [] → u.kernels.items ≡ t.kernels.items → u.rows.items ≡ t.rows.items
+    → Grows t u × IsStore u
+states_pushed t u k s ready states kernels rows =
+    let g : Grows t u = record {
+      kernels = λ i x e. subst (λ xs. slice_get xs i ≡ Some x) (sym kernels) e;
+      states = λ i x e. subst (λ xs. slice_get xs i ≡ Some x) (sym states) (keeps_push t.states.items k i x e);
+      rows = λ i x e. subst (λ xs. slice_get xs i ≡ Some x) (sym rows) e;
+    } in
+    (g, store_grows t u s g (subst (λ xs. Each IsReady xs) (sym states) (each_push IsReady t.states.items k s.states ready)) rows)
+
+pub state_pushed : (xs ys : List Kept) (k : Kept) (i : ℕ) → ys ≡ xs ++ k ∷ [] → i ≡ length xs → option_map seen (slice_get ys i) ≡ Some (seen k)
+state_pushed xs ys k i states is =
+    ap (λ zs. option_map seen (slice_get zs i)) states ∙ ap (λ n. option_map seen (slice_get (xs ++ k ∷ []) n)) is
+    ∙ ap (λ o. option_map seen o) (get_pushed xs k)
+
+-- one kernel more
+pub kernels_pushed : (t u : Store) (k : KernelState) → IsStore t → u.kernels.items ≡ t.kernels.items ++ k ∷ [] → u.states.items ≡ t.states.items → u.rows.items ≡ t.rows.items
+    → Grows t u × IsStore u
+kernels_pushed t u k s kernels states rows =
+    let g : Grows t u = record {
+      kernels = λ i x e. subst (λ xs. slice_get xs i ≡ Some x) (sym kernels) (keeps_push t.kernels.items k i x e);
+      states = λ i x e. subst (λ xs. slice_get xs i ≡ Some x) (sym states) e;
+      rows = λ i x e. subst (λ xs. slice_get xs i ≡ Some x) (sym rows) e;
+    } in
+    (g, store_grows t u s g (subst (λ xs. Each IsReady xs) (sym states) s.states) rows)
+
+pub kernel_pushed : (xs ys : List KernelState) (k : KernelState) (i : ℕ) → ys ≡ xs ++ k ∷ [] → i ≡ length xs → slice_get ys i ≡ Some k
+kernel_pushed xs ys k i kernels is =
+    ap (λ zs. slice_get zs i) kernels ∙ ap (λ n. slice_get (xs ++ k ∷ []) n) is ∙ get_pushed xs k
+
+-- one row more
+pub rows_pushed : (t u : Store) (r : Row) → IsStore t → ((w : WorldState) × IsRow t r w) → u.rows.items ≡ t.rows.items ++ r ∷ [] → u.kernels.items ≡ t.kernels.items → u.states.items ≡ t.states.items
+    → Grows t u × IsStore u
+rows_pushed t u r s stands rows kernels states =
+    let g : Grows t u = record {
+      kernels = λ i x e. subst (λ xs. slice_get xs i ≡ Some x) (sym kernels) e;
+      states = λ i x e. subst (λ xs. slice_get xs i ≡ Some x) (sym states) e;
+      rows = λ i x e. subst (λ xs. slice_get xs i ≡ Some x) (sym rows) (keeps_push t.rows.items r i x e);
+    } in
+    let here : (w : WorldState) × IsRow u r w = (stands.0, row_grows t u r stands.0 g stands.1) in
+    let old : Each (λ q. (w : WorldState) × IsRow u q w) t.rows.items = λ i q e. let h = s.rows i q e in (h.0, row_grows t u q h.0 g h.1) in (
+      g,
+      record {
+        states = subst (λ xs. Each IsReady xs) (sym states) s.states;
+        rows = subst (λ xs. Each (λ q. (w : WorldState) × IsRow u q w) xs) (sym rows) (each_push (λ q. (w : WorldState) × IsRow u q w) t.rows.items r old here);
+      },
+    )
+
+pub row_pushed : (t u : Store) (r : Row) (w : WorldState) → Grows t u → u.rows.items ≡ t.rows.items ++ r ∷ [] → IsRow t r w → Holds u w
+row_pushed t u r w g rows h =
+    (length t.rows.items, (r, ap (λ xs. slice_get xs (length t.rows.items)) rows ∙ get_pushed t.rows.items r, row_grows t u r w g h))
+
+-- rows of the same places stand for the same world
+pub same_row : (t : Store) (a b : Row) (w : WorldState) → a.kernel ≡ b.kernel → a.states.items ≡ b.states.items → IsRow t b w → IsRow t a w
+same_row t a b w kernel states h = record {
+  kernel = ap (λ n. slice_get t.kernels.items n) kernel ∙ h.kernel;
+  states = subst (λ xs. Alongside (IsState t) xs w.processes) (sym states) h.states;
+}
+
+-- moves that are known stay so
+pub known_grows : (t u : Store) (ms : Moves) → Grows t u → AreKnown t ms → AreKnown u ms
+known_grows t u ms g h i m e = move_grows t u m.kernel m.pid m.state m.next g (h i m e)

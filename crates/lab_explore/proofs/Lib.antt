@@ -1,0 +1,9 @@
+mod Ahead
+mod Simulates
+mod Advances
+mod Pushes
+mod Growths
+mod Nexts
+mod Begins
+mod Walks
+mod Explorations

@@ -1,0 +1,172 @@
+-- What a step makes of a world that a row stands for.
+use Rattle.std.proofs.Common.{ℕ, zero, ◌≡◌, ◌<◌, ◌≤◌, length, arith, inl, inr, Option, Some, None, refl, sym, ap, subst, ◌∙◌, slice_get, set}
+use Rattle.std.specs.Option.{option_map}
+use Rattle.std.proofs.lemmas.Bool.{cases_lt}
+use Rattle.std.proofs.lemmas.Option.{slice_get_past}
+use Rattle.ipc_kernel.specs.Kernel.{KernelState}
+use Rattle.lab_sched.specs.Worlds.{Process, WorldState, Turn, nothing, local_step, kernel_step, turn, turn_in, after, step, IsEffective}
+use Rattle.lab_sched.specs.Held.{seen, process_after, kernel_after, told_of, Taken, step_of}
+use Rattle.lab_sched.specs.declared.stepped.Stepped.{Stepped}
+use Rattle.lab_sched.specs.declared.stepped.Stepped.TheVariants as stepped
+use Rattle.lab_explore.specs.declared.trying.Made.{Made}
+use Rattle.ipc_kernel.specs.declared.call.Answer.TheVariants.{Done, Wait}
+use Rattle.lab_sched.proofs.Places.{set_same}
+use Rattle.lab_explore.specs.declared.store.Row.{Row}
+use Rattle.lab_explore.specs.declared.store.Store.{Store}
+use Rattle.lab_explore.specs.declared.store.Next.{Next}
+use Rattle.lab_explore.specs.declared.store.Next.TheVariants.{Nothing, To}
+use Rattle.lab_explore.specs.Calls.{IsAtCall, IsAhead, Both, Alongside, IsAdvance}
+use Rattle.lab_explore.specs.Stored.{IsState, IsRow, IsAt, IsStore, Grows, IsNext, IsMove, IsTried, IsExpanded, IsRun}
+use Rattle.lab_explore.proofs.Pushes.{alongside_set}
+use Rattle.lab_explore.proofs.Growths.{state_kept, at_grows, row_grows}
+
+pub both_left : {A B : Type 0} (R : A → B → Type 0) (x : A) (o : Option B) → Both R (Some x) o → (y : B) × (o ≡ Some y) × R x y
+both_left R x None h = absurd h
+both_left R x (Some y) h = (y, refl, h)
+
+-- the state of a process of a world that a row stands for
+pub process_at : (t : Store) (r : Row) (w : WorldState) (p i : ℕ) → IsRow t r w → slice_get r.states.items p ≡ Some i
+    → (s : Process) × (slice_get w.processes p ≡ Some s) × IsState t i s
+process_at t r w p i row e = both_left (IsState t) i (slice_get w.processes p) (subst (λ o. Both (IsState t) o (slice_get w.processes p)) e (row.states p))
+
+pub same_some : {A : Type 0} (x y : A) (o : Option A) → o ≡ Some x → o ≡ Some y → x ≡ y
+same_some x y o a b = cc
+
+step_after : (w : WorldState) (p : ℕ) (s : Process) (t : Turn) → slice_get w.processes p ≡ Some s
+    → after w p t ≡ record { processes = set w.processes p (process_after s t); kernel = kernel_after w.kernel p t }
+step_after w p s nothing at = ap (λ ps. record { processes = ps; kernel = w.kernel }) (sym (set_same w.processes p s at))
+step_after w p s (local_step n) at = refl
+step_after w p s (kernel_step m c a) at = refl
+
+own_at : (t : Store) → IsStore t → (a : Option ℕ) (b : Option Process) → Both (IsState t) a b → Both IsAhead b b
+own_at t is None None h = tt
+own_at t is None (Some y) h = absurd h
+own_at t is (Some i) None h = absurd h
+own_at t is (Some i) (Some s) h =
+    let k = state_kept t i s h in
+    record { taken = zero; local = refl; at_call = subst IsAtCall k.2 (is.states i k.0 k.1).1 }
+
+-- a world that a row stands for is its own advance
+pub own_advance : (t : Store) (r : Row) (w : WorldState) → IsStore t → IsRow t r w → Alongside IsAhead w.processes w.processes
+own_advance t r w is row p = own_at t is (slice_get r.states.items p) (slice_get w.processes p) (row.states p)
+
+-- what a move says, for a world
+next_of : (t : Store) (r : Row) (w : WorldState) (p i : ℕ) (n : Next) (s : Process) → IsRow t r w → IsState t i s → IsMove t r.kernel p i n → IsNext t w.kernel p s n
+next_of t r w p i n s row state m =
+    let k-is : m.0 ≡ w.kernel = same_some m.0 w.kernel (slice_get t.kernels.items r.kernel) m.2 row.kernel in
+    let s-is : m.1 ≡ s = same_some m.1 s (option_map seen (slice_get t.states.items i)) m.3 state in
+    subst (λ k. IsNext t k p s n) k-is (subst (λ x. IsNext t m.0 p x n) s-is m.4)
+
+pub moved : (t : Store) (r r' : Row) (w : WorldState) (p i kernel state taken : ℕ) → IsStore t → IsRow t r w → slice_get r.states.items p ≡ Some i
+    → IsMove t r.kernel p i (To kernel state taken) → r'.kernel ≡ kernel → r'.states.items ≡ set r.states.items p state
+    → (v : WorldState) × IsRow t r' v × IsAdvance (step w p) v
+moved t r r' w p i kernel state taken is row e m kernel-is states-is = (v, to, ahead)
+  where
+    s : Process
+    s = (process_at t r w p i row e).0
+
+    here : slice_get w.processes p ≡ Some s
+    here = (process_at t r w p i row e).1
+
+    turns : Turn
+    turns = turn w.kernel p (Some s)
+
+    next : IsNext t w.kernel p s (To kernel state taken)
+    next = next_of t r w p i (To kernel state taken) s row (process_at t r w p i row e).2 m
+
+    v : WorldState
+    v = record { processes = set w.processes p next.0; kernel = kernel_after w.kernel p turns }
+
+    to : IsRow t r' v
+    to = record {
+      kernel = ap (λ n. slice_get t.kernels.items n) kernel-is ∙ next.1;
+      states = subst (λ xs. Alongside (IsState t) xs v.processes) (sym states-is) (alongside_set (IsState t) r.states.items w.processes p i state s next.0 e here row.states next.2);
+    }
+
+    stepped_is : step w p ≡ record { processes = set w.processes p (process_after s turns); kernel = kernel_after w.kernel p turns }
+    stepped_is = ap (λ o. after w p (turn w.kernel p o)) here ∙ step_after w p s turns here
+
+    ahead : IsAdvance (step w p) v
+    ahead = subst (λ x. IsAdvance x v) (sym stepped_is) (record {
+      kernel = refl;
+      processes = alongside_set IsAhead w.processes w.processes p s (process_after s turns) s next.0 here here (own_advance t r w is row) next.3;
+    })
+
+-- a process that does nothing
+pub idles : (t : Store) (r : Row) (w : WorldState) (p i : ℕ) → IsRow t r w → slice_get r.states.items p ≡ Some i → IsMove t r.kernel p i Nothing → IsTried t w p
+idles t r w p i row e m effective =
+    let s = process_at t r w p i row e in
+    let none : turn_in w p ≡ nothing = ap (λ o. turn w.kernel p o) s.1 ∙ next_of t r w p i Nothing s.0 row s.2 m in
+    absurd (subst IsEffective none effective)
+
+-- a process that isn't there does nothing
+pub absent : (t : Store) (r : Row) (w : WorldState) (p : ℕ) → IsRow t r w → slice_get r.states.items p ≡ None → IsTried t w p
+absent t r w p row e effective =
+    let gone : slice_get w.processes p ≡ None = left (slice_get w.processes p) (subst (λ o. Both (IsState t) o (slice_get w.processes p)) e (row.states p)) in
+    absurd (subst (λ o. IsEffective (turn w.kernel p o)) gone effective)
+  where
+    left : (o : Option Process) → Both (IsState t) None o → o ≡ None
+    left None h = refl
+    left (Some y) h = absurd h
+
+-- a step that is told to have changed nothing
+pub told_same : (t : Turn) → stepped.Same ≡ told_of t → t ≡ nothing
+told_same nothing e = refl
+told_same (local_step n) e = absurd (cc)
+told_same (kernel_step m c (Done r)) e = absurd (cc)
+told_same (kernel_step m c Wait) e = absurd (cc)
+
+-- a run after a step
+pub run_stepped : (k j : KernelState) (p : ℕ) (s u : Process) (told : Stepped) (made : Option Made) → record { process = u; kernel = j; told = told } ≡ step_of k p s → IsRun j u made
+    → IsRun (kernel_after k p (turn k p (Some s))) (process_after s (turn k p (Some s))) made
+run_stepped k j p s u told made is h =
+    let kernel-is : j ≡ kernel_after k p (turn k p (Some s)) = ap (λ (x : Taken). x.kernel) is in
+    let process-is : u ≡ process_after s (turn k p (Some s)) = ap (λ (x : Taken). x.process) is in
+    subst (λ x. IsRun x (process_after s (turn k p (Some s))) made) kernel-is (subst (λ x. IsRun j x made) process-is h)
+
+-- the kernel and the state of process p in row number `at`
+abbrev pub IsPlaced : Store → ℕ → ℕ → ℕ → ℕ → Type 0
+IsPlaced t at p kernel i = (r : Row) × (slice_get t.rows.items at ≡ Some r) × (r.kernel ≡ kernel) × (slice_get r.states.items p ≡ Some i)
+
+pub placed_grows : (t u : Store) (at p kernel i : ℕ) → Grows t u → IsPlaced t at p kernel i → IsPlaced u at p kernel i
+placed_grows t u at p kernel i g h = (h.0, g.rows at h.0 h.1, h.2, h.3)
+
+-- the world after a step, by its row
+pub moved_at : (t : Store) (w : WorldState) (at p i old kernel state taken : ℕ) (next : Next) (r' : Row) → IsStore t → IsAt t at w → IsPlaced t at p old i → IsMove t old p i next
+    → next ≡ To kernel state taken → r'.kernel ≡ kernel → ((r : Row) × (slice_get t.rows.items at ≡ Some r) × (r'.states.items ≡ set r.states.items p state))
+    → (v : WorldState) × IsRow t r' v × IsAdvance (step w p) v
+moved_at t w at p i old kernel state taken next r' is here placed m next-is kernel-is states =
+    let r = here.0 in
+    let first : placed.0 ≡ r = same_some placed.0 r (slice_get t.rows.items at) placed.1 here.1 in
+    let second : states.0 ≡ r = same_some states.0 r (slice_get t.rows.items at) states.1 here.1 in
+    let old-is : old ≡ r.kernel = sym placed.2 ∙ ap (λ (x : Row). x.kernel) first in
+    let state-is : slice_get r.states.items p ≡ Some i = subst (λ (x : Row). slice_get x.states.items p ≡ Some i) first placed.3 in
+    let move : IsMove t r.kernel p i (To kernel state taken) = subst (λ k. IsMove t k p i (To kernel state taken)) old-is (subst (λ n. IsMove t old p i n) next-is m) in
+    moved t r r' w p i kernel state taken is here.2 state-is move kernel-is (states.2 ∙ ap (λ (x : Row). set x.states.items p state) second)
+
+-- a process that does nothing in the world of a row
+pub idles_at : (t : Store) (w : WorldState) (at p i old : ℕ) (next : Next) → IsAt t at w → IsPlaced t at p old i → IsMove t old p i next → next ≡ Nothing → IsTried t w p
+idles_at t w at p i old next here placed m next-is =
+    let r = here.0 in
+    let first : placed.0 ≡ r = same_some placed.0 r (slice_get t.rows.items at) placed.1 here.1 in
+    let old-is : old ≡ r.kernel = sym placed.2 ∙ ap (λ (x : Row). x.kernel) first in
+    let state-is : slice_get r.states.items p ≡ Some i = subst (λ (x : Row). slice_get x.states.items p ≡ Some i) first placed.3 in
+    let move : IsMove t r.kernel p i Nothing = subst (λ k. IsMove t k p i Nothing) old-is (subst (λ n. IsMove t old p i n) next-is m) in
+    idles t r w p i here.2 state-is move
+
+-- each process of a world was tried
+pub all_tried : (t u : Store) (at count pid : ℕ) → IsStore t → Grows t u → ((r : Row) × (slice_get t.rows.items at ≡ Some r) × (count ≡ length r.states.items)) → count ≤ pid
+    → ((w : WorldState) → IsAt t at w → (p : ℕ) → p < pid → IsTried u w p) → IsExpanded u at
+all_tried t u at count pid is g row all tried =
+    let w = is.rows at row.0 row.1 in
+    let here : IsAt t at w.0 = (row.0, row.1, w.1) in
+    let there = at_grows t u at w.0 g here in (
+      w.0,
+      there,
+      λ p. elim (cases_lt p pid) [
+        | inl below ↦ tried w.0 here p below
+        | inr above ↦
+            let past : length row.0.states.items ≤ p = let count-is = row.2 in omega arith in
+            absent u row.0 w.0 p (row_grows t u row.0 w.0 g w.1) (slice_get_past row.0.states.items p past)
+      ],
+    )

@@ -1,0 +1,49 @@
+-- Walks from the start, and worlds that are compared with rows.
+use Rattle.std.proofs.Common.{ℕ, ◌≡◌, ◌<◌, ◌≤◌, ◌++◌, List, [], ◌∷◌, None, refl, sym, ap, subst, ◌∙◌, arith, slice_get, length, replicate, inl, inr}
+use Rattle.std.proofs.lemmas.Bool.{cases_lt}
+use Rattle.std.proofs.lemmas.Option.{slice_get_past}
+use Rattle.lab_sched.specs.declared.schedule.block.Block.{Block}
+use Rattle.lab_sched.specs.declared.stepped.Stepped.{Stepped}
+use Rattle.lab_sched.specs.declared.stepped.Stepped.TheVariants as stepped
+use Rattle.lab_sched.specs.Worlds.{WorldState, Turn, nothing, local_step, kernel_step, turn_in, step, run, IsEffective}
+use Rattle.lab_sched.specs.Held.{told_of}
+use Rattle.lab_sched.specs.Course.{AreEffective}
+use Rattle.lab_sched.specs.Schedules.{steps_of}
+use Rattle.lab_sched.proofs.Runs.{run-append, run-one}
+use Rattle.lab_sched.proofs.Courses.{effective-append}
+use Rattle.lab_explore.specs.declared.ends.Walk.{Walk}
+use Rattle.lab_explore.specs.Calls.{Both, Alongside}
+use Rattle.lab_explore.specs.Ends.{IsWalk}
+
+told_effective : (t : Turn) → (told_of t ≡ stepped.Same → ⊥) → IsEffective t
+told_effective nothing h = absurd (h refl)
+told_effective (local_step n) h = tt
+told_effective (kernel_step m c a) h = tt
+
+-- one step more
+pub walk_more : (start : WorldState) (old new : Walk) (p : ℕ) (told : Stepped) → IsWalk start old → new.world ≡ step old.world p → told ≡ told_of (turn_in old.world p)
+    → (told ≡ stepped.Same → ⊥) → steps_of new.schedule ≡ steps_of old.schedule ++ replicate 1 p → IsWalk start new
+walk_more start old new p told h world-is told-is moved steps-is =
+    let one : IsEffective (turn_in old.world p) = told_effective (turn_in old.world p) (λ e. moved (told-is ∙ e)) in
+    let there : AreEffective (run start (steps_of old.schedule)) (p ∷ []) = subst (λ w. AreEffective w (p ∷ [])) (sym h.leads) (one, tt) in
+    record {
+      effective = subst (AreEffective start) (sym steps-is) (effective-append start (steps_of old.schedule) (p ∷ []) h.effective there);
+      leads = ap (run start) steps-is ∙ run-append start (steps_of old.schedule) (p ∷ []) ∙ ap (λ w. run w (p ∷ [])) h.leads ∙ run-one old.world p ∙ sym world-is;
+    }
+
+-- lists that are as long, place by place
+pub by_places : {A B : Type 0} (R : A → B → Type 0) (xs : List A) (ys : List B) (n : ℕ) → length xs ≤ n → length xs ≡ length ys
+    → ((p : ℕ) → p < n → Both R (slice_get xs p) (slice_get ys p)) → Alongside R xs ys
+by_places R xs ys n long same below p = elim (cases_lt p n) [
+  | inl within ↦ below p within
+  | inr past ↦
+      let first : slice_get xs p ≡ None = slice_get_past xs p (omega arith) in
+      let second : slice_get ys p ≡ None = slice_get_past ys p (omega arith) in
+      subst (λ o. Both R o (slice_get ys p)) (sym first) (subst (λ o. Both R None o) (sym second) tt)
+]
+
+-- no step yet
+pub walk_none : (start w : WorldState) (bs : List Block) → bs ≡ [] → w ≡ start → IsWalk start (record { world = w; schedule = bs })
+unfolding steps_of run
+walk_none start w bs none same =
+    subst (λ cs. IsWalk start (record { world = w; schedule = cs })) (sym none) (record { effective = tt; leads = sym same })

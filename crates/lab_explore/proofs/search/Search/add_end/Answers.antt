@@ -1,0 +1,18 @@
+use Rattle.std.proofs.Common.{subst, sym}
+use Rattle.lab_explore.specs.Stored.{Each, Keeps}
+use Rattle.lab_explore.specs.Ends.{first_world, IsEnd}
+use Rattle.lab_explore.proofs.Pushes.{each_push, keeps_push}
+use Rattle.lab_explore.proofs.Explorations.{end_pushed}
+use Rattle.lab_explore.proofs.search.Search.add_end.Goals as goal
+
+pub returns-clause-each : goal.returns-clause-each
+returns-clause-each c old =
+    let start = first_world c.args.processes.now in
+    subst (λ xs. Each (IsEnd start) xs) (sym c.in_ok-push.ensures.items) (each_push (IsEnd start) c.args.ends.now.items c.in_ok-end.end old c.in_ok-end.ensures.end)
+
+pub returns-clause-keeps : goal.returns-clause-keeps
+returns-clause-keeps c = subst (λ xs. Keeps c.args.ends.now.items xs) (sym c.in_ok-push.ensures.items) (keeps_push c.args.ends.now.items c.in_ok-end.end)
+
+pub returns-clause-here : goal.returns-clause-here
+returns-clause-here c w there rest =
+    end_pushed c.args.self.now.store c.args.at w c.in_ok-end.end c.args.ends.now.items c.push.new.self.items c.in_ok-push.ensures.items c.in_ok-end.ensures.row there

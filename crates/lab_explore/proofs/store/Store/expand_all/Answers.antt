@@ -1,0 +1,18 @@
+use Rattle.std.proofs.Common.{below_more}
+use Rattle.lab_explore.specs.Stored.{IsExpanded}
+use Rattle.lab_explore.proofs.Growths.{grows_more, expanded_grows}
+use Rattle.lab_explore.proofs.store.Store.expand_all.Goals as goal
+
+pub loop-at-preserved : goal.loop-at-preserved
+loop-at-preserved c =
+    let t = c.loop-at.self in
+    let u = c.expand.new.self in
+    let g = c.in_ok-expanded.ensures.grows in
+    record {
+      store = c.in_ok-expanded.ensures.store;
+      known = c.in_ok-expanded.ensures.known;
+      grows = grows_more c.args.self.now t u c.loop-at.invariant.grows g;
+      all = λ is. below_more (λ i. IsExpanded u i) c.loop-at.at
+          (λ i below. expanded_grows t u i g (c.loop-at.invariant.all (c.both-whole.ensures.first is) i below))
+          (c.in_ok-expanded.ensures.expanded (c.both-whole.ensures.second is));
+    }

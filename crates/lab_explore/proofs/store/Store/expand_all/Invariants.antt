@@ -1,0 +1,12 @@
+use Rattle.std.proofs.Common.{ℕ, ◌<◌, IsTrue}
+use Rattle.lab_explore.specs.Known.{AreKnown}
+use Rattle.lab_explore.specs.Stored.{IsStore, Grows, IsExpanded}
+use Rattle.lab_explore.proofs.store.Store.expand_all.Given as goal
+
+abbrev pub invariant-loop-at : goal.invariant-loop-at
+invariant-loop-at l = record {
+  store : IsStore l.self;
+  known : AreKnown l.self l.moves;
+  grows : Grows l.fn.self l.self;
+  all : IsTrue l.whole → (i : ℕ) → i < l.at → IsExpanded l.self i;
+}

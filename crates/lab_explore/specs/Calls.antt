@@ -1,0 +1,33 @@
+-- Worlds at calls: where the local steps of their processes lead them.
+use Rattle.std.specs.Prelude.{ℕ, ◌≡◌, List, Option, Some, None, slice_get}
+use Rattle.ipc_kernel.specs.declared.call.Call.{Call}
+use Rattle.lab_sched.specs.Worlds.{Process, Running, Waiting, Ended, WorldState, calls, act}
+use Rattle.lab_sched.specs.Alone.{AreLocal}
+
+-- the process asks for a call, or waits, or has ended
+abbrev pub IsAtCall : Process → Type 0
+IsAtCall (Running m) = (c : Call) × (act m ≡ calls c)
+IsAtCall (Waiting m c) = Unit {0}
+IsAtCall (Ended e) = Unit {0}
+
+-- u is s after all its local steps
+pub record IsAhead (s u : Process) : Type 0 where
+  pub taken : ℕ
+  pub local : AreLocal taken s u
+  pub at_call : IsAtCall u
+
+-- R holds of both, or there is neither
+abbrev pub Both : {A B : Type 0} → (A → B → Type 0) → Option A → Option B → Type 0
+Both R None None = Unit {0}
+Both R (Some x) (Some y) = R x y
+Both R None (Some y) = ⊥
+Both R (Some x) None = ⊥
+
+-- R holds at each place of two lists, which are as long
+abbrev pub Alongside : {A B : Type 0} → (A → B → Type 0) → List A → List B → Type 0
+Alongside R xs ys = (p : ℕ) → Both R (slice_get xs p) (slice_get ys p)
+
+-- v is w after all local steps of its processes
+pub record IsAdvance (w v : WorldState) : Type 0 where
+  pub kernel : v.kernel ≡ w.kernel
+  pub processes : Alongside IsAhead w.processes v.processes

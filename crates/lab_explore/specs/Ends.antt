@@ -1,0 +1,38 @@
+-- The ends of an exploration.
+use Rattle.std.specs.Prelude.{ℕ, ◌≡◌, List, Some, length, map, slice_get}
+use Rattle.ipc_kernel.specs.Kernel.{empty_kernel}
+use Rattle.lab_sched.specs.declared.process.Process.{Process as Kept}
+use Rattle.lab_sched.specs.Held.{seen}
+use Rattle.lab_sched.specs.Worlds.{WorldState, run}
+use Rattle.lab_sched.specs.Course.{AreEffective}
+use Rattle.lab_sched.specs.Schedules.{steps_of}
+use Rattle.lab_sched.specs.Verdicts.{IsVerdict}
+use Rattle.lab_sched.specs.declared.verdict.Verdict.TheVariants.{Open}
+use Rattle.lab_explore.specs.declared.ends.End.{End}
+use Rattle.lab_explore.specs.declared.ends.Walk.{Walk}
+use Rattle.lab_explore.specs.Closed.{AreAtRest}
+
+-- processes before their first step, over the empty kernel
+abbrev pub first_world : List Kept → WorldState
+first_world ps = record { processes = map seen ps; kernel = empty_kernel (length ps) }
+
+-- effective steps lead from the start to the world
+pub record IsWalk (start : WorldState) (w : Walk) : Type 0 where
+  pub effective : AreEffective start (steps_of w.schedule)
+  pub leads : run start (steps_of w.schedule) ≡ w.world
+
+-- the effective steps of the schedule lead from the start to the world, which is at rest, and ended or stuck
+pub record IsEnd (start : WorldState) (e : End) : Type 0 where
+  pub effective : AreEffective start (steps_of e.schedule)
+  pub leads : run start (steps_of e.schedule) ≡ e.world
+  pub rests : AreAtRest e.world
+  pub verdict : IsVerdict e.world e.verdict
+  pub closed : e.verdict ≡ Open → ⊥
+
+-- one of the ends is in the world
+abbrev pub HasEnd : List End → WorldState → Type 0
+HasEnd ends w = (i : ℕ) × (e : End) × (slice_get ends i ≡ Some e) × (e.world ≡ w)
+
+-- whatever steps are taken from the start, effective or not: if the world after them is at rest, one of the ends is in it
+abbrev pub HaveAllEnds : WorldState → List End → Type 0
+HaveAllEnds start ends = (ps : List ℕ) → AreAtRest (run start ps) → HasEnd ends (run start ps)

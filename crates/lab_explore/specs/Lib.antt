@@ -1,0 +1,5 @@
+pub mod Calls
+pub mod Closed
+pub mod Stored
+pub mod Ends
+pub mod Known

@@ -1,0 +1,97 @@
+-- What a search keeps: kernels, states of processes, and worlds as places among these.
+use Rattle.std.specs.Prelude.{ℕ, ◌≡◌, List, Option, Some, None, slice_get}
+use Rattle.std.specs.Option.{option_map}
+use Rattle.ipc_kernel.specs.Kernel.{KernelState}
+use Rattle.lab_sched.specs.declared.process.Process.{Process as Kept}
+use Rattle.lab_sched.specs.Worlds.{Process, WorldState, nothing, turn, turn_in, step, IsEffective}
+use Rattle.lab_sched.specs.Held.{seen, IsHeld, process_after, kernel_after}
+use Rattle.lab_explore.specs.declared.store.Row.{Row}
+use Rattle.lab_explore.specs.declared.store.Store.{Store}
+use Rattle.lab_explore.specs.declared.store.Next.{Next}
+use Rattle.lab_explore.specs.declared.store.Next.TheVariants.{Nothing, Limit, To}
+use Rattle.lab_explore.specs.declared.trying.Made.{Made}
+use Rattle.lab_explore.specs.declared.trying.Tried.{Tried}
+use Rattle.lab_explore.specs.declared.trying.Tried.TheVariants.{Still, Runs, Came}
+use Rattle.lab_explore.specs.Calls.{IsAtCall, IsAhead, Alongside}
+use Rattle.lab_explore.specs.Closed.{HasAdvance}
+
+-- P holds of each element
+abbrev pub Each : {A : Type 0} → (A → Type 0) → List A → Type 0
+Each {A} P xs = (i : ℕ) (x : A) → slice_get xs i ≡ Some x → P x
+
+-- what stands at a place of the one stands there in the other
+abbrev pub Keeps : {A : Type 0} → List A → List A → Type 0
+Keeps {A} xs ys = (i : ℕ) (x : A) → slice_get xs i ≡ Some x → slice_get ys i ≡ Some x
+
+-- the state at a place
+abbrev pub IsState : Store → ℕ → Process → Type 0
+IsState t i s = option_map seen (slice_get t.states.items i) ≡ Some s
+
+-- a row stands for the world with the kernel at its place, and the states at theirs
+pub record IsRow (t : Store) (r : Row) (w : WorldState) : Type 0 where
+  pub kernel : slice_get t.kernels.items r.kernel ≡ Some w.kernel
+  pub states : Alongside (IsState t) r.states.items w.processes
+
+-- row number i stands for the world
+abbrev pub IsAt : Store → ℕ → WorldState → Type 0
+IsAt t i w = (r : Row) × (slice_get t.rows.items i ≡ Some r) × IsRow t r w
+
+-- some row stands for the world
+abbrev pub Holds : Store → WorldState → Type 0
+Holds t w = (i : ℕ) × IsAt t i w
+
+-- a state that is kept is at a call, and ready for the reply to it
+abbrev pub IsReady : Kept → Type 0
+IsReady s = IsHeld s × IsAtCall (seen s)
+
+-- each row stands for a world
+pub record IsStore (t : Store) : Type 0 where
+  pub states : Each IsReady t.states.items
+  pub rows : Each (λ r. (w : WorldState) × IsRow t r w) t.rows.items
+
+-- nothing is lost
+pub record Grows (t u : Store) : Type 0 where
+  pub kernels : Keeps t.kernels.items u.kernels.items
+  pub states : Keeps t.states.items u.states.items
+  pub rows : Keeps t.rows.items u.rows.items
+
+-- what a step of process p makes of it and of the kernel, and of it then all its local steps
+abbrev pub IsNext : Store → KernelState → ℕ → Process → Next → Type 0
+IsNext t k p s Nothing = turn k p (Some s) ≡ nothing
+IsNext t k p s Limit = Unit {0}
+IsNext t k p s (To kernel state taken) =
+    (u : Process) × (slice_get t.kernels.items kernel ≡ Some (kernel_after k p (turn k p (Some s)))) × IsState t state u
+    × IsAhead (process_after s (turn k p (Some s))) u
+
+-- the same where the kernel and the process are given by their places
+abbrev pub IsMove : Store → ℕ → ℕ → ℕ → Next → Type 0
+IsMove t kernel p state next =
+    (k : KernelState) × (s : Process) × (slice_get t.kernels.items kernel ≡ Some k) × IsState t state s × IsNext t k p s next
+
+-- what process p does next from the world is held
+abbrev pub IsTried : Store → WorldState → ℕ → Type 0
+IsTried t w p = IsEffective (turn_in w p) → HasAdvance (Holds t) (step w p)
+
+-- row number i stands for a world from which each step is held
+abbrev pub IsExpanded : Store → ℕ → Type 0
+IsExpanded t i = (w : WorldState) × IsAt t i w × ((p : ℕ) → IsTried t w p)
+
+-- what a step of process p makes of it and of the kernel, and of it then all its local steps, as they are
+abbrev pub IsStepped : KernelState → ℕ → Process → Tried → Type 0
+IsStepped k p s Still = turn k p (Some s) ≡ nothing
+IsStepped k p s Runs = Unit {0}
+IsStepped k p s (Came made) =
+    (made.kernel ≡ kernel_after k p (turn k p (Some s))) × IsReady made.process × IsAhead (process_after s (turn k p (Some s))) (seen made.process)
+
+-- all local steps of a process, if it may take so many
+abbrev pub IsRun : KernelState → Process → Option Made → Type 0
+IsRun k s None = Unit {0}
+IsRun k s (Some made) = (made.kernel ≡ k) × IsReady made.process × IsAhead s (seen made.process)
+
+-- the state at a place is the process after all its local steps
+abbrev pub IsCome : Store → ℕ → Process → Type 0
+IsCome t i s = (u : Process) × IsState t i u × IsAhead s u
+
+-- the same of each process
+abbrev pub IsBegun : Store → List ℕ → List Process → Type 0
+IsBegun t is ss = Alongside (IsCome t) is ss

@@ -1,0 +1,296 @@
+//! The ends among the worlds of a search, each reached again from the start.
+ghost use Rattle.std.specs.Prelude.{◌≡◌, ◌<◌, ◌≤◌, ℕ, All, Some, IsTrue, false, length, IfOk, IfSome, OnOk};
+ghost use Rattle.lab_sched.specs.Worlds.{WorldState};
+ghost use Rattle.lab_sched.specs.Held.{seen};
+ghost use Rattle.lab_sched.specs.Starts.{Runs};
+ghost use Rattle.lab_sched.specs.declared.verdict.Verdict.TheVariants.{Open};
+ghost use Rattle.lab_sched.specs.declared.stepped.Stepped.TheVariants.{Same};
+ghost use Rattle.lab_sched.specs.Finished.{IsAtRest};
+ghost use Rattle.lab_explore.specs.Closed.{AreAtRest};
+ghost use Rattle.lab_explore.specs.Stored.{IsState, IsAt, Each, Keeps};
+ghost use Rattle.lab_explore.specs.Ends.{first_world, IsWalk, IsEnd, HasEnd};
+
+use crate::ExploreFault;
+use crate::search::Search;
+use crate::store::Store;
+use crate::trying::discard;
+use ipc_kernel::Kernel;
+use lab_sched::{MOST_STEPS, PROCESSES, Process, Schedule, Stepped, Verdict, World};
+use std::alloc::{AllocError, Global};
+
+/// A world at rest, how it stands, and a schedule that leads to it.
+#[derive(Drop)]
+pub struct End {
+    pub world: World,
+    pub schedule: Schedule,
+    pub verdict: Verdict,
+}
+
+/// A world, and the steps that led to it.
+#[derive(Drop)]
+struct Walk {
+    world: World,
+    schedule: Schedule,
+}
+
+/// Whether a process has ended, or waits and must still wait.
+fn is_at_rest(process: &Process, kernel: &Kernel, pid: usize) -> bool
+    requires process { pid < length kernel.now.processes }
+    ensures no { result ≡ false → IsAtRest kernel.now pid (seen process.now) → ⊥ }
+{
+    match process {
+        Process::Running(_) => false,
+        Process::Waiting(_, call) => !kernel.can_go(pid, call),
+        Process::Ended(_) => true,
+    }
+}
+
+/// Whether a step that was told so is effective.
+fn changes(stepped: Stepped) -> bool
+    ensures { IsTrue result → stepped ≡ Same → ⊥ }
+{
+    !matches!(stepped, Stepped::Same)
+}
+
+/// Takes a step, which must be effective.
+fn go(walk: &mut Walk, pid: usize) -> Result<(), ExploreFault>
+    ensures walk { OnOk result ((start : WorldState) → IsWalk start walk.old → IsWalk start walk.new) }
+{
+    if pid >= PROCESSES || walk.schedule.total() >= MOST_STEPS {
+        return Err(ExploreFault::Unvouched);
+    }
+    let Ok(stepped) = walk.world.step(pid) else {
+        return Err(ExploreFault::NoMemory);
+    };
+    if !changes(stepped) {
+        return Err(ExploreFault::Unvouched);
+    }
+    walk.schedule.push(pid, 1)?;
+    Ok(())
+}
+
+/// Takes so many steps, each of which must be effective.
+fn go_on(walk: &mut Walk, pid: usize, count: u32) -> Result<(), ExploreFault>
+    ensures walk { OnOk result ((start : WorldState) → IsWalk start walk.old → IsWalk start walk.new) }
+{
+    for _ in 0..count {
+        go(walk, pid)?;
+    }
+    Ok(())
+}
+
+impl Store {
+    /// Whether the world of a row may be at rest.
+    fn may_rest(&self, at: usize) -> Result<bool, ExploreFault>
+        ensures no { IfOk result (λ rests. rests ≡ false → (w : WorldState) → IsAt self.now at w → AreAtRest w → ⊥) }
+    {
+        let Some(row) = self.rows.get(at) else {
+            return Err(ExploreFault::Unvouched);
+        };
+        let Some(kernel) = self.kernels.get(row.kernel) else {
+            return Err(ExploreFault::Unvouched);
+        };
+        for (pid, state) in row.states.iter().enumerate() {
+            let Some(process) = self.states.get(*state) else {
+                return Err(ExploreFault::Unvouched);
+            };
+            if pid >= kernel.count() {
+                return Err(ExploreFault::Unvouched);
+            }
+            if !is_at_rest(process, kernel, pid) {
+                return Ok(false);
+            }
+        }
+        Ok(true)
+    }
+
+    /// Whether a state is that of a process.
+    fn is_state(&self, state: usize, process: &Process) -> bool
+        ensures same { IsTrue result → IsState self.now state (seen process.now) }
+    {
+        match self.states.get(state) {
+            Some(kept) => kept.is_same(process),
+            None => false,
+        }
+    }
+
+    /// Whether a row stands for a world.
+    fn is_row(&self, at: usize, world: &World) -> bool
+        ensures same { IsTrue result → IsAt self.now at world.now }
+    {
+        let Some(row) = self.rows.get(at) else {
+            return false;
+        };
+        let Some(kernel) = self.kernels.get(row.kernel) else {
+            return false;
+        };
+        if row.states.len() != world.count() || !kernel.is_same(world.kernel()) {
+            return false;
+        }
+        for (pid, state) in row.states.iter().enumerate() {
+            let Some(process) = world.process(pid) else {
+                return false;
+            };
+            if !self.is_state(*state, process) {
+                return false;
+            }
+        }
+        true
+    }
+
+    /// The processes that moved on the way to a row, with their local steps after that, the last
+    /// first.
+    fn way(&self, alloc: Global, at: usize) -> Result<Vec<(usize, u32)>, AllocError> {
+        let mut way = Vec::new(alloc);
+        let mut now = at;
+        for _ in 0..self.rows.len() {
+            if now == 0 {
+                break;
+            }
+            let Some(row) = self.rows.get(now) else {
+                break;
+            };
+            way.push((row.pid, row.taken))?;
+            now = row.before;
+        }
+        Ok(way)
+    }
+}
+
+/// Whether a world that stands so isn't at rest.
+fn is_open(verdict: Verdict) -> bool
+    ensures { result ≡ false → verdict ≡ Open → ⊥ }
+{
+    matches!(verdict, Verdict::Open)
+}
+
+/// Copies of processes.
+fn copies(alloc: Global, processes: &[Process]) -> Result<Vec<Process>, AllocError>
+    ensures copies { IfOk result (λ v. v.items ≡ processes.now) }
+{
+    let mut copies = Vec::with_capacity(alloc, processes.len())?;
+    for process in processes {
+        let copy = process.copy(alloc)?;
+        copies.push(copy)?;
+    }
+    Ok(copies)
+}
+
+/// The world of processes before their first steps.
+fn world_of(alloc: Global, processes: &[Process]) -> Result<World, ExploreFault>
+    requires running { All Runs processes.now }
+    requires some { 1 ≤ length processes.now }
+    requires few { length processes.now ≤ 64 }
+    ensures world { IfOk result (λ w. w ≡ first_world processes.now) }
+{
+    let kernel = Kernel::new(alloc, processes.len())?;
+    match copies(alloc, processes) {
+        Ok(copies) => Ok(World::join(copies, kernel)),
+        Err(_) => {
+            discard(kernel);
+            Err(ExploreFault::NoMemory)
+        }
+    }
+}
+
+impl Search {
+    /// Goes the way to a row.
+    fn go_to(&self, alloc: Global, at: usize, walk: &mut Walk) -> Result<(), ExploreFault>
+        ensures walk { OnOk result ((start : WorldState) → IsWalk start walk.old → IsWalk start walk.new) }
+    {
+        let way = self.store.way(alloc, at)?;
+        for (pid, count) in self.firsts.iter().enumerate() {
+            go_on(walk, pid, *count)?;
+        }
+        for (pid, taken) in way.iter().rev() {
+            go(walk, *pid)?;
+            go_on(walk, *pid, *taken)?;
+        }
+        Ok(())
+    }
+
+    /// The end that a walk came to, which must be that of a row.
+    fn end_of(&self, at: usize, walk: Walk) -> Result<End, ExploreFault>
+        ensures end { IfOk result (λ e. (start : WorldState) → IsWalk start walk → IsEnd start e) }
+        ensures row { IfOk result (λ e. IsAt self.now.store at e.world) }
+    {
+        let Walk { world, schedule } = walk;
+        let verdict = world.verdict();
+        if is_open(verdict) || !self.store.is_row(at, &world) {
+            discard(world);
+            discard(schedule);
+            return Err(ExploreFault::Unvouched);
+        }
+        Ok(End {
+            world,
+            schedule,
+            verdict,
+        })
+    }
+
+    /// The end of a row, reached again.
+    fn vouched(&self, alloc: Global, processes: &[Process], at: usize) -> Result<End, ExploreFault>
+        requires running { All Runs processes.now }
+        requires some { 1 ≤ length processes.now }
+        requires few { length processes.now ≤ 64 }
+        ensures end { IfOk result (λ e. IsEnd (first_world processes.now) e) }
+        ensures row { IfOk result (λ e. IsAt self.now.store at e.world) }
+    {
+        let mut walk = Walk {
+            world: world_of(alloc, processes)?,
+            schedule: Schedule::new(alloc),
+        };
+        match self.go_to(alloc, at, &mut walk) {
+            Ok(()) => {
+                let end = self.end_of(at, walk)?;
+                Ok(end)
+            }
+            Err(fault) => {
+                discard(walk);
+                Err(fault)
+            }
+        }
+    }
+
+    /// Adds the end of a row to others, if its world is at rest.
+    fn add_end(
+        &self,
+        alloc: Global,
+        processes: &[Process],
+        at: usize,
+        ends: &mut Vec<End>,
+    ) -> Result<(), ExploreFault>
+        requires running { All Runs processes.now }
+        requires some { 1 ≤ length processes.now }
+        requires few { length processes.now ≤ 64 }
+        ensures each { OnOk result (Each (IsEnd (first_world processes.now)) ends.old.items → Each (IsEnd (first_world processes.now)) ends.new.items) }
+        ensures keeps { OnOk result (Keeps ends.old.items ends.new.items) }
+        ensures here { OnOk result ((w : WorldState) → IsAt self.now.store at w → AreAtRest w → HasEnd ends.new.items w) }
+    {
+        if !self.store.may_rest(at)? {
+            return Ok(());
+        }
+        let end = self.vouched(alloc, processes, at)?;
+        ends.push(end)?;
+        Ok(())
+    }
+
+    /// The ends, each reached again.
+    pub(crate) fn ends(
+        &self,
+        alloc: Global,
+        processes: &[Process],
+    ) -> Result<Vec<End>, ExploreFault>
+        requires running { All Runs processes.now }
+        requires some { 1 ≤ length processes.now }
+        requires few { length processes.now ≤ 64 }
+        ensures ends { IfOk result (λ ends. Each (IsEnd (first_world processes.now)) ends.items) }
+        ensures all { IfOk result (λ ends. (i : ℕ) (w : WorldState) → IsAt self.now.store i w → AreAtRest w → HasEnd ends.items w) }
+    {
+        let mut ends = Vec::new(alloc);
+        for at in 0..self.store.rows.len() {
+            self.add_end(alloc, processes, at, &mut ends)?;
+        }
+        Ok(ends)
+    }
+}

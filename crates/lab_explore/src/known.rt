@@ -1,0 +1,83 @@
+//! The moves that a search has made.
+ghost use Rattle.std.specs.Prelude.{◌≡◌, [], IfOk, IfSome, OnOk};
+ghost use Rattle.lab_explore.specs.declared.store.Store.{Store as Kept};
+ghost use Rattle.lab_explore.specs.Stored.{IsMove};
+ghost use Rattle.lab_explore.specs.Known.{AreKnown};
+
+use crate::index::Index;
+use crate::store::Next;
+use std::alloc::{AllocError, Global};
+
+/// What process `pid` does next in this state, over this kernel.
+#[derive(Clone, Copy, Drop)]
+pub(crate) struct Move {
+    pub kernel: usize,
+    pub pid: usize,
+    pub state: usize,
+    pub next: Next,
+}
+
+/// Moves, each of which is made once.
+#[derive(Drop)]
+pub(crate) struct Moves {
+    pub made: Vec<Move>,
+    index: Index,
+}
+
+/// A number for the places of a move.
+fn move_digest(kernel: usize, pid: usize, state: usize) -> u64 {
+    let mut hash = (kernel as u64).wrapping_mul(0x9E37_79B9_7F4A_7C15);
+    hash = (hash ^ (state as u64)).wrapping_mul(0xBF58_476D_1CE4_E5B9);
+    hash ^= hash >> 31;
+    hash.wrapping_add(pid as u64)
+        .wrapping_mul(0x94D0_49BB_1331_11EB)
+}
+
+impl Moves {
+    /// No move.
+    pub(crate) fn new(alloc: Global) -> Result<Moves, AllocError>
+        ensures none { IfOk result (λ moves. moves.made.items ≡ []) }
+    {
+        Ok(Moves {
+            made: Vec::new(alloc),
+            index: Index::new(alloc)?,
+        })
+    }
+
+    /// The move from these places, if it was made.
+    pub(crate) fn find(&self, kernel: usize, pid: usize, state: usize) -> Option<Next>
+        ensures known { (t : Kept) → AreKnown t self.now → IfSome result (λ next. IsMove t kernel pid state next) }
+    {
+        let mut number = self.index.newest(move_digest(kernel, pid, state));
+        while number > 0 {
+            let at = number - 1;
+            if let Some(made) = self.made.get(at) {
+                if made.kernel == kernel && made.pid == pid && made.state == state {
+                    return Some(made.next);
+                }
+            }
+            number = self.index.older(number);
+        }
+        None
+    }
+
+    /// Keeps a move.
+    pub(crate) fn keep(
+        &mut self,
+        kernel: usize,
+        pid: usize,
+        state: usize,
+        next: Next,
+    ) -> Result<(), AllocError>
+        ensures known { OnOk result ((t : Kept) → AreKnown t self.old → IsMove t kernel pid state next → AreKnown t self.new) }
+    {
+        self.index.add(move_digest(kernel, pid, state))?;
+        self.made.push(Move {
+            kernel,
+            pid,
+            state,
+            next,
+        })?;
+        Ok(())
+    }
+}

@@ -1,0 +1,24 @@
+//! The search of every interleaving of some programs, and what it rests on.
+#![tactic(auto)]
+
+mod advance;
+mod ends;
+mod exploring;
+mod fault;
+mod index;
+mod known;
+pub mod laws;
+mod limits;
+mod moves;
+mod rows;
+mod search;
+mod store;
+mod trying;
+
+pub use ends::End;
+pub use exploring::{Exploration, explore};
+pub use fault::ExploreFault;
+pub use limits::Limits;
+
+#[cfg(test)]
+mod tests;

@@ -1,0 +1,190 @@
+//! What each process does next.
+ghost use Rattle.std.specs.Prelude.{◌≡◌, ◌<◌, ℕ, Some, IsTrue, true, length, slice_get, IfOk, OnOk};
+ghost use Rattle.ipc_kernel.specs.Kernel.{KernelState};
+ghost use Rattle.lab_sched.specs.Worlds.{Process as Seen, WorldState};
+ghost use Rattle.lab_explore.specs.declared.trying.Tried.TheVariants.{Came};
+ghost use Rattle.lab_explore.specs.Known.{AreKnown};
+ghost use Rattle.lab_explore.specs.Stored.{IsState, IsReady, IsStore, Grows, IsNext, IsMove, IsStepped, IsAt, IsTried, IsExpanded};
+
+use crate::known::Moves;
+use crate::store::{Next, Store};
+use crate::trying::{Made, Tried, discard, try_step};
+use crate::{ExploreFault, Limits};
+use std::alloc::Global;
+
+/// Whether both are so.
+pub(crate) fn both(first: bool, second: bool) -> bool
+    ensures first { IsTrue result → IsTrue first }
+    ensures second { IsTrue result → IsTrue second }
+{
+    first && second
+}
+
+impl Store {
+    /// What comes of a step of process `pid` in a state that is kept, over a kernel that is kept.
+    fn try_next(
+        &self,
+        alloc: Global,
+        kernel: usize,
+        pid: usize,
+        state: usize,
+        most: u32,
+    ) -> Result<Tried, ExploreFault>
+        requires store { IsStore self.now }
+        ensures tried { IfOk result (λ tried. (k : KernelState) × (s : Seen) × (slice_get self.now.kernels.items kernel ≡ Some k)
+            × IsState self.now state s × IsStepped k pid s tried) }
+    {
+        let Some(kernel) = self.kernels.get(kernel) else {
+            return Err(ExploreFault::Unvouched);
+        };
+        let Some(process) = self.states.get(state) else {
+            return Err(ExploreFault::Unvouched);
+        };
+        try_step(alloc, kernel, process, pid, most)
+    }
+
+    /// Keeps the kernel and the state that came of a step.
+    fn keep_made(&mut self, made: Made) -> Result<Next, ExploreFault>
+        requires store { IsStore self.old }
+        requires ready { IsReady made.process }
+        ensures store { OnOk result (IsStore self.new) }
+        ensures grows { OnOk result (Grows self.old self.new) }
+        ensures next { IfOk result (λ next. (k : KernelState) (p : ℕ) (s : Seen) → IsStepped k p s (Came made) → IsNext self.new k p s next) }
+    {
+        let Made {
+            kernel,
+            process,
+            taken,
+        } = made;
+        match self.keep_kernel(kernel) {
+            Err(_) => {
+                discard(process);
+                Err(ExploreFault::NoMemory)
+            }
+            Ok(kernel) => {
+                let state = self.keep_state(process)?;
+                Ok(Next::To {
+                    kernel,
+                    state,
+                    taken,
+                })
+            }
+        }
+    }
+
+    /// What process `pid` does next in a state that is kept, over a kernel that is kept.
+    fn make_next(
+        &mut self,
+        alloc: Global,
+        kernel: usize,
+        pid: usize,
+        state: usize,
+        most: u32,
+    ) -> Result<Next, ExploreFault>
+        requires store { IsStore self.old }
+        ensures store { OnOk result (IsStore self.new) }
+        ensures grows { OnOk result (Grows self.old self.new) }
+        ensures next { IfOk result (λ next. IsMove self.new kernel pid state next) }
+    {
+        match self.try_next(alloc, kernel, pid, state, most) {
+            Ok(Tried::Still) => Ok(Next::Nothing),
+            Ok(Tried::Runs) => Ok(Next::Limit),
+            Ok(Tried::Came(made)) => {
+                let next = self.keep_made(made)?;
+                Ok(next)
+            }
+            Err(fault) => Err(fault),
+        }
+    }
+}
+
+impl Store {
+    /// What process `pid` does next in a state that is kept, over a kernel that is kept. Each such
+    /// move is made once.
+    fn next(
+        &mut self,
+        alloc: Global,
+        moves: &mut Moves,
+        kernel: usize,
+        pid: usize,
+        state: usize,
+        most: u32,
+    ) -> Result<Next, ExploreFault>
+        requires store { IsStore self.old }
+        requires known { AreKnown self.old moves.old }
+        ensures store { OnOk result (IsStore self.new) }
+        ensures known { OnOk result (AreKnown self.new moves.new) }
+        ensures grows { OnOk result (Grows self.old self.new) }
+        ensures next { IfOk result (λ next. IsMove self.new kernel pid state next) }
+    {
+        if let Some(next) = moves.find(kernel, pid, state) {
+            return Ok(next);
+        }
+        let next = self.make_next(alloc, kernel, pid, state, most)?;
+        moves.keep(kernel, pid, state, next)?;
+        Ok(next)
+    }
+}
+
+impl Store {
+    /// Tries process `pid` from the world of a row, and keeps the world where it comes; with whether
+    /// that could be done.
+    pub(crate) fn try_process(
+        &mut self,
+        alloc: Global,
+        moves: &mut Moves,
+        at: usize,
+        pid: usize,
+        limits: Limits,
+    ) -> Result<bool, ExploreFault>
+        requires store { IsStore self.old }
+        requires known { AreKnown self.old moves.old }
+        ensures store { OnOk result (IsStore self.new) }
+        ensures known { OnOk result (AreKnown self.new moves.new) }
+        ensures grows { OnOk result (Grows self.old self.new) }
+        ensures tried { IfOk result (λ whole. IsTrue whole → (w : WorldState) → IsAt self.old at w → IsTried self.new w pid) }
+    {
+        let Some((kernel, state)) = self.places(at, pid) else {
+            return Err(ExploreFault::Unvouched);
+        };
+        match self.next(alloc, moves, kernel, pid, state, limits.steps)? {
+            Next::Nothing => Ok(true),
+            Next::Limit => Ok(false),
+            Next::To {
+                kernel,
+                state,
+                taken,
+            } => {
+                let row = self.row_after(alloc, at, pid, kernel, state, taken)?;
+                let kept = self.keep_row(row, limits.worlds)?;
+                Ok(kept)
+            }
+        }
+    }
+
+    /// Tries each process from the world of a row; with whether that could be done.
+    pub(crate) fn expand(
+        &mut self,
+        alloc: Global,
+        moves: &mut Moves,
+        at: usize,
+        limits: Limits,
+    ) -> Result<bool, ExploreFault>
+        requires store { IsStore self.old }
+        requires known { AreKnown self.old moves.old }
+        ensures store { OnOk result (IsStore self.new) }
+        ensures known { OnOk result (AreKnown self.new moves.new) }
+        ensures grows { OnOk result (Grows self.old self.new) }
+        ensures expanded { IfOk result (λ whole. IsTrue whole → IsExpanded self.new at) }
+    {
+        let Some(count) = self.width(at) else {
+            return Err(ExploreFault::Unvouched);
+        };
+        let mut whole = true;
+        for pid in 0..count {
+            let tried = self.try_process(alloc, moves, at, pid, limits)?;
+            whole = both(whole, tried);
+        }
+        Ok(whole)
+    }
+}

@@ -1,0 +1,115 @@
+//! The worlds that a search keeps.
+ghost use Rattle.std.specs.Prelude.{◌≡◌, ◌<◌, ℕ, Some, IsTrue, true, length, slice_get, slice_set, IfOk, IfSome, OnOk};
+ghost use Rattle.lab_sched.specs.Worlds.{WorldState};
+ghost use Rattle.lab_explore.specs.declared.store.Row.{Row};
+ghost use Rattle.lab_explore.specs.Stored.{IsRow, Holds, IsStore, Grows};
+
+use crate::ExploreFault;
+use crate::store::{Row, Store};
+use std::alloc::{AllocError, Global};
+
+/// Whether two rows stand for the same world.
+fn is_same_row(row: &Row, other: &Row) -> bool
+    ensures kernel { IsTrue result → row.now.kernel ≡ other.now.kernel }
+    ensures states { IsTrue result → row.now.states.items ≡ other.now.states.items }
+{
+    row.kernel == other.kernel && row.states.as_slice() == other.states.as_slice()
+}
+
+/// A number that depends on the world of a row alone.
+fn row_digest(row: &Row) -> u64 {
+    let mut hash = (row.kernel as u64).wrapping_mul(0x9E37_79B9_7F4A_7C15);
+    for state in &row.states {
+        hash = (hash ^ (*state as u64)).wrapping_mul(0x0000_0100_0000_01B3);
+        hash ^= hash >> 29;
+    }
+    hash
+}
+
+impl Store {
+    /// Whether a row of the same world is kept.
+    fn has_row(&self, row: &Row, hash: u64) -> bool
+        ensures found { IsTrue result → (w : WorldState) → IsRow self.now row.now w → Holds self.now w }
+    {
+        let mut number = self.row_index.newest(hash);
+        while number > 0 {
+            let at = number - 1;
+            if let Some(kept) = self.rows.get(at) {
+                if is_same_row(kept, row) {
+                    return true;
+                }
+            }
+            number = self.row_index.older(number);
+        }
+        false
+    }
+
+    /// Keeps the world of a row, if there are fewer than `most`; with whether it is kept now.
+    pub(crate) fn keep_row(&mut self, row: Row, most: u32) -> Result<bool, AllocError>
+        requires store { IsStore self.old }
+        requires row { (w : WorldState) × IsRow self.old row w }
+        ensures store { OnOk result (IsStore self.new) }
+        ensures grows { OnOk result (Grows self.old self.new) }
+        ensures kept { IfOk result (λ kept. IsTrue kept → (w : WorldState) → IsRow self.old row w → Holds self.new w) }
+    {
+        let hash = row_digest(&row);
+        if self.has_row(&row, hash) {
+            return Ok(true);
+        }
+        if self.rows.len() >= most as usize {
+            return Ok(false);
+        }
+        self.row_index.add(hash)?;
+        self.rows.push(row)?;
+        Ok(true)
+    }
+
+    /// The places of the kernel and of the state of process `pid` in a row.
+    pub(crate) fn places(&self, at: usize, pid: usize) -> Option<(usize, usize)>
+        ensures places { IfSome result (λ x. (r : Row) × (slice_get self.now.rows.items at ≡ Some r) × (r.kernel ≡ x.0)
+            × (slice_get r.states.items pid ≡ Some x.1)) }
+    {
+        let row = self.rows.get(at)?;
+        let state = row.states.get(pid)?;
+        Some((row.kernel, *state))
+    }
+
+    /// The number of processes of a row.
+    pub(crate) fn width(&self, at: usize) -> Option<usize>
+        ensures width { IfSome result (λ n. (r : Row) × (slice_get self.now.rows.items at ≡ Some r) × (n ≡ length r.states.items)) }
+    {
+        let row = self.rows.get(at)?;
+        Some(row.states.len())
+    }
+
+    /// The row with this kernel and this state of process `pid`, and else as a row that is kept.
+    pub(crate) fn row_after(
+        &self,
+        alloc: Global,
+        at: usize,
+        pid: usize,
+        kernel: usize,
+        state: usize,
+        taken: u32,
+    ) -> Result<Row, ExploreFault>
+        ensures kernel { IfOk result (λ row. row.kernel ≡ kernel) }
+        ensures states { IfOk result (λ row. (r : Row) × (slice_get self.now.rows.items at ≡ Some r)
+            × (row.states.items ≡ slice_set r.states.items pid state)) }
+    {
+        let Some(row) = self.rows.get(at) else {
+            return Err(ExploreFault::Unvouched);
+        };
+        let mut states = Vec::from_slice(alloc, row.states.as_slice())?;
+        if pid >= states.len() {
+            return Err(ExploreFault::Unvouched);
+        }
+        states[pid] = state;
+        Ok(Row {
+            kernel,
+            states,
+            before: at,
+            pid,
+            taken,
+        })
+    }
+}

@@ -1,0 +1,196 @@
+//! The search of every world.
+ghost use Rattle.std.specs.Prelude.{◌≡◌, ◌<◌, ℕ, All, IsTrue, length, map, IfOk, IfSome, OnOk};
+ghost use Rattle.lab_sched.specs.Worlds.{Process as Seen};
+ghost use Rattle.lab_sched.specs.Held.{seen, IsHeld};
+ghost use Rattle.lab_explore.specs.Closed.{IsClosed, HasAdvance};
+ghost use Rattle.lab_explore.specs.Known.{AreKnown};
+ghost use Rattle.lab_explore.specs.Stored.{IsState, IsReady, IsStore, Grows, IsExpanded, Holds, IsCome, IsBegun};
+
+use crate::advance::{Ahead, advance};
+use crate::known::Moves;
+use crate::moves::both;
+use crate::store::{Row, Store};
+use crate::trying::discard;
+use crate::{ExploreFault, Limits};
+use ipc_kernel::Kernel;
+use lab_sched::Process;
+use std::alloc::Global;
+
+/// The state that a process comes to by so many local steps, by its place.
+#[derive(Clone, Copy, Drop)]
+pub(crate) struct Come {
+    pub state: usize,
+    pub taken: u32,
+}
+
+/// The states that processes begin with, at their first calls, and the local steps to them.
+#[derive(Drop)]
+pub(crate) struct Begun {
+    pub states: Vec<usize>,
+    pub firsts: Vec<u32>,
+}
+
+/// What a search found: the worlds, the local steps of each process before them, and whether these
+/// are all.
+#[derive(Drop)]
+pub(crate) struct Search {
+    pub store: Store,
+    pub firsts: Vec<u32>,
+    pub complete: bool,
+}
+
+impl Store {
+    /// Keeps the state of a process that stands at its call, if it does.
+    fn keep_ahead(&mut self, ahead: Ahead) -> Result<Option<Come>, ExploreFault>
+        requires store { IsStore self.old }
+        requires held { IsHeld ahead.process }
+        requires at_call { IsTrue ahead.at_call → IsReady ahead.process }
+        ensures store { OnOk result (IsStore self.new) }
+        ensures grows { OnOk result (Grows self.old self.new) }
+        ensures kept { IfOk result (λ come. IfSome come (λ x. IsTrue ahead.at_call × IsState self.new x.state (seen ahead.process))) }
+    {
+        let Ahead {
+            process,
+            taken,
+            at_call,
+        } = ahead;
+        if !at_call {
+            discard(process);
+            return Ok(None);
+        }
+        let state = self.keep_state(process)?;
+        Ok(Some(Come { state, taken }))
+    }
+
+    /// Keeps the state that a process comes to by all its local steps, if it may take so many.
+    fn keep_first(
+        &mut self,
+        alloc: Global,
+        process: &Process,
+        most: u32,
+    ) -> Result<Option<Come>, ExploreFault>
+        requires store { IsStore self.old }
+        requires held { IsHeld process.now }
+        ensures store { OnOk result (IsStore self.new) }
+        ensures grows { OnOk result (Grows self.old self.new) }
+        ensures come { IfOk result (λ come. IfSome come (λ x. IsCome self.new x.state (seen process.now))) }
+    {
+        let process = process.copy(alloc)?;
+        let ahead = advance(alloc, process, most)?;
+        let come = self.keep_ahead(ahead)?;
+        Ok(come)
+    }
+
+    /// Keeps the states that processes come to by all their local steps, if they may take so many.
+    fn begin(
+        &mut self,
+        alloc: Global,
+        processes: &[Process],
+        most: u32,
+    ) -> Result<Option<Begun>, ExploreFault>
+        requires store { IsStore self.old }
+        requires held { All IsHeld processes.now }
+        ensures store { OnOk result (IsStore self.new) }
+        ensures grows { OnOk result (Grows self.old self.new) }
+        ensures begun { IfOk result (λ begun. IfSome begun (λ x. IsBegun self.new x.states.items (map seen processes.now))) }
+    {
+        let mut states = Vec::new(alloc);
+        let mut firsts = Vec::new(alloc);
+        for process in processes {
+            let Some(come) = self.keep_first(alloc, process, most)? else {
+                return Ok(None);
+            };
+            states.push(come.state)?;
+            firsts.push(come.taken)?;
+        }
+        Ok(Some(Begun { states, firsts }))
+    }
+
+    /// Tries each process from each world; with whether that could be done.
+    fn expand_all(
+        &mut self,
+        alloc: Global,
+        moves: &mut Moves,
+        limits: Limits,
+    ) -> Result<bool, ExploreFault>
+        requires store { IsStore self.old }
+        requires known { AreKnown self.old moves.old }
+        ensures store { OnOk result (IsStore self.new) }
+        ensures grows { OnOk result (Grows self.old self.new) }
+        ensures all { IfOk result (λ whole. IsTrue whole → (i : ℕ) → i < length self.new.rows.items → IsExpanded self.new i) }
+    {
+        let most = limits.worlds as usize;
+        let mut whole = true;
+        for at in 0..most {
+            if at >= self.rows.len() {
+                return Ok(whole);
+            }
+            let expanded = self.expand(alloc, moves, at, limits)?;
+            whole = both(whole, expanded);
+        }
+        Ok(both(whole, self.rows.len() <= most))
+    }
+}
+
+/// Keeps every world that processes over a kernel can come to, as far as the limits allow; with the
+/// local steps of each process before its first call, and whether these worlds are all.
+fn fill(
+    store: &mut Store,
+    alloc: Global,
+    processes: &[Process],
+    kernel: Kernel,
+    limits: Limits,
+) -> Result<(Vec<u32>, bool), ExploreFault>
+    requires store { IsStore store.old }
+    requires held { All IsHeld processes.now }
+    ensures complete { IfOk result (λ r. IsTrue r.1 →
+        IsClosed (record { processes = map seen processes.now; kernel = kernel }) (Holds store.new)) }
+{
+    let kernel = store.keep_kernel(kernel)?;
+    let Some(begun) = store.begin(alloc, processes, limits.steps)? else {
+        return Ok((Vec::new(alloc), false));
+    };
+    let Begun { states, firsts } = begun;
+    let first = Row {
+        kernel,
+        states,
+        before: 0,
+        pid: 0,
+        taken: 0,
+    };
+    let kept = store.keep_row(first, limits.worlds)?;
+    let mut moves = Moves::new(alloc)?;
+    let whole = store.expand_all(alloc, &mut moves, limits)?;
+    Ok((firsts, both(kept, whole)))
+}
+
+/// Searches every world that processes over a kernel can come to, as far as the limits allow.
+pub(crate) fn search_all(
+    alloc: Global,
+    processes: &[Process],
+    kernel: Kernel,
+    limits: Limits,
+) -> Result<Search, ExploreFault>
+    requires held { All IsHeld processes.now }
+    ensures complete { IfOk result (λ s. IsTrue s.complete →
+        IsClosed (record { processes = map seen processes.now; kernel = kernel }) (Holds s.store)) }
+{
+    let mut store = match Store::new(alloc) {
+        Ok(store) => store,
+        Err(_) => {
+            discard(kernel);
+            return Err(ExploreFault::NoMemory);
+        }
+    };
+    match fill(&mut store, alloc, processes, kernel, limits) {
+        Ok((firsts, complete)) => Ok(Search {
+            store,
+            firsts,
+            complete,
+        }),
+        Err(fault) => {
+            discard(store);
+            Err(fault)
+        }
+    }
+}

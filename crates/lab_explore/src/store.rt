@@ -1,0 +1,134 @@
+//! What a search keeps.
+ghost use Rattle.std.specs.Prelude.{◌≡◌, ◌<◌, ℕ, Some, IsTrue, true, length, slice_get, IfOk, IfSome, OnOk};
+ghost use Rattle.std.specs.Option.{option_map};
+ghost use Rattle.lab_sched.specs.Worlds.{WorldState};
+ghost use Rattle.lab_sched.specs.Held.{seen, IsHeld};
+ghost use Rattle.lab_explore.specs.Stored.{IsState, IsRow, IsAt, Holds, IsReady, IsStore, Grows, IsMove, IsTried, IsExpanded};
+
+use crate::index::Index;
+use ipc_kernel::Kernel;
+use lab_sched::Process;
+use std::alloc::{AllocError, Global};
+
+/// A world: the places of its kernel and of the states of its processes. It was reached from the
+/// row before by the process `pid`, which then took so many local steps.
+#[derive(Drop)]
+pub(crate) struct Row {
+    pub kernel: usize,
+    pub states: Vec<usize>,
+    pub before: usize,
+    pub pid: usize,
+    pub taken: u32,
+}
+
+/// What a process does next.
+#[derive(Clone, Copy, Drop)]
+pub(crate) enum Next {
+    /// Nothing: it has ended, or must still wait.
+    Nothing,
+    /// More local steps than it may take.
+    Limit,
+    /// A step of the kernel, and then so many local steps; the places of the kernel and of its state
+    /// then.
+    To {
+        kernel: usize,
+        state: usize,
+        taken: u32,
+    },
+}
+
+/// Kernels, states of processes at calls, and worlds, each of which is kept once.
+#[derive(Drop)]
+pub(crate) struct Store {
+    pub kernels: Vec<Kernel>,
+    pub states: Vec<Process>,
+    pub rows: Vec<Row>,
+    kernel_index: Index,
+    state_index: Index,
+    pub row_index: Index,
+}
+
+impl Store {
+    /// Nothing.
+    pub(crate) fn new(alloc: Global) -> Result<Store, AllocError>
+        ensures store { IfOk result (λ store. IsStore store) }
+    {
+        Ok(Store {
+            kernels: Vec::new(alloc),
+            states: Vec::new(alloc),
+            rows: Vec::new(alloc),
+            kernel_index: Index::new(alloc)?,
+            state_index: Index::new(alloc)?,
+            row_index: Index::new(alloc)?,
+        })
+    }
+
+    /// The place of a state, if it is kept.
+    fn find_state(&self, process: &Process, hash: u64) -> Option<usize>
+        ensures found { IfSome result (λ i. IsState self.now i (seen process.now)) }
+    {
+        let mut number = self.state_index.newest(hash);
+        while number > 0 {
+            let at = number - 1;
+            if let Some(state) = self.states.get(at) {
+                if state.is_same(process) {
+                    return Some(at);
+                }
+            }
+            number = self.state_index.older(number);
+        }
+        None
+    }
+
+    /// The place of a kernel, if it is kept.
+    fn find_kernel(&self, kernel: &Kernel, hash: u64) -> Option<usize>
+        ensures found { IfSome result (λ i. slice_get self.now.kernels.items i ≡ Some kernel.now) }
+    {
+        let mut number = self.kernel_index.newest(hash);
+        while number > 0 {
+            let at = number - 1;
+            if let Some(kept) = self.kernels.get(at) {
+                if kept.is_same(kernel) {
+                    return Some(at);
+                }
+            }
+            number = self.kernel_index.older(number);
+        }
+        None
+    }
+
+    /// Keeps the state of a process at a call; with its place.
+    pub(crate) fn keep_state(&mut self, process: Process) -> Result<usize, AllocError>
+        requires store { IsStore self.old }
+        requires ready { IsReady process }
+        ensures store { OnOk result (IsStore self.new) }
+        ensures grows { OnOk result (Grows self.old self.new) }
+        ensures state { IfOk result (λ i. IsState self.new i (seen process)) }
+    {
+        let hash = process.digest();
+        if let Some(at) = self.find_state(&process, hash) {
+            return Ok(at);
+        }
+        self.state_index.add(hash)?;
+        let at = self.states.len();
+        self.states.push(process)?;
+        Ok(at)
+    }
+
+    /// Keeps a kernel; with its place.
+    pub(crate) fn keep_kernel(&mut self, kernel: Kernel) -> Result<usize, AllocError>
+        requires store { IsStore self.old }
+        ensures store { OnOk result (IsStore self.new) }
+        ensures grows { OnOk result (Grows self.old self.new) }
+        ensures kernel { IfOk result (λ i. slice_get self.new.kernels.items i ≡ Some kernel) }
+    {
+        let hash = kernel.digest();
+        if let Some(at) = self.find_kernel(&kernel, hash) {
+            return Ok(at);
+        }
+        self.kernel_index.add(hash)?;
+        let at = self.kernels.len();
+        self.kernels.push(kernel)?;
+        Ok(at)
+    }
+}

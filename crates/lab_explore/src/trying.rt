@@ -1,0 +1,140 @@
+//! Steps that are tried on copies.
+ghost use Rattle.std.specs.Prelude.{◌≡◌, ◌<◌, ℕ, Some, IsTrue, length, IfOk};
+ghost use Rattle.ipc_kernel.specs.Kernel.{KernelState};
+ghost use Rattle.lab_sched.specs.Worlds.{Process as Seen, turn};
+ghost use Rattle.lab_sched.specs.Held.{seen, IsHeld, process_after, kernel_after};
+ghost use Rattle.lab_sched.specs.Alone.{AreLocal};
+ghost use Rattle.lab_explore.specs.Calls.{IsAtCall};
+ghost use Rattle.lab_explore.specs.Stored.{IsStepped, IsRun};
+
+use crate::ExploreFault;
+use crate::advance::{Ahead, advance};
+use ipc_kernel::Kernel;
+use lab_sched::{Process, Stepped, take_step};
+use std::alloc::Global;
+
+/// A kernel and a process after a step of it, and so many local steps.
+#[derive(Drop)]
+pub(crate) struct Made {
+    pub kernel: Kernel,
+    pub process: Process,
+    pub taken: u32,
+}
+
+/// What came of a step.
+#[derive(Drop)]
+pub(crate) enum Tried {
+    /// Nothing: the process has ended, or must still wait.
+    Still,
+    /// More local steps than the process may take.
+    Runs,
+    /// The process at its next call.
+    Came(Made),
+}
+
+/// Lets a value go. A function that calls it at each of its ends is proved faster than one whose
+/// ends let go of large values.
+pub(crate) fn discard<T: Drop>(_value: T) {}
+
+/// The process at its call, with its kernel, if it came there.
+fn made_of(kernel: Kernel, ahead: Ahead) -> Option<Made>
+    requires held { IsHeld ahead.process }
+    requires at_call { IsTrue ahead.at_call → IsAtCall (seen ahead.process) }
+    ensures made { (s : Seen) → AreLocal ahead.taken s (seen ahead.process) → IsRun kernel s result }
+{
+    let Ahead {
+        process,
+        taken,
+        at_call,
+    } = ahead;
+    if at_call {
+        return Some(Made {
+            kernel,
+            process,
+            taken,
+        });
+    }
+    discard(kernel);
+    discard(process);
+    None
+}
+
+/// Takes the local steps of a process after its step, if it may take so many.
+fn run_on(
+    alloc: Global,
+    kernel: Kernel,
+    process: Process,
+    most: u32,
+) -> Result<Option<Made>, ExploreFault>
+    requires held { IsHeld process }
+    ensures run { IfOk result (λ made. IsRun kernel (seen process) made) }
+{
+    match advance(alloc, process, most) {
+        Ok(ahead) => Ok(made_of(kernel, ahead)),
+        Err(_) => {
+            discard(kernel);
+            Err(ExploreFault::NoMemory)
+        }
+    }
+}
+
+/// What came of a step, where the process then made its local steps.
+fn came(made: Option<Made>) -> Tried
+    ensures came { (k : KernelState) (p : ℕ) (s : Seen) → IsRun (kernel_after k p (turn k p (Some s))) (process_after s (turn k p (Some s))) made → IsStepped k p s result }
+{
+    match made {
+        Some(made) => Tried::Came(made),
+        None => Tried::Runs,
+    }
+}
+
+/// Takes a step of a process, and its local steps after it.
+fn step_on(
+    alloc: Global,
+    mut kernel: Kernel,
+    process: Process,
+    pid: usize,
+    most: u32,
+) -> Result<Tried, ExploreFault>
+    requires process { pid < length kernel.processes }
+    requires held { IsHeld process }
+    ensures stepped { IfOk result (λ tried. IsStepped kernel pid (seen process) tried) }
+{
+    match take_step(alloc, process, &mut kernel, pid) {
+        Ok((process, Stepped::Same)) => {
+            discard(process);
+            discard(kernel);
+            Ok(Tried::Still)
+        }
+        Ok((process, _)) => Ok(came(run_on(alloc, kernel, process, most)?)),
+        Err(process) => {
+            discard(process);
+            discard(kernel);
+            Err(ExploreFault::NoMemory)
+        }
+    }
+}
+
+/// Takes a step of a copy of a process, and its local steps after it, over a copy of a kernel.
+pub(crate) fn try_step(
+    alloc: Global,
+    kernel: &Kernel,
+    process: &Process,
+    pid: usize,
+    most: u32,
+) -> Result<Tried, ExploreFault>
+    requires held { IsHeld process.now }
+    ensures stepped { IfOk result (λ tried. IsStepped kernel.now pid (seen process.now) tried) }
+{
+    if pid >= kernel.count() {
+        return Err(ExploreFault::Unvouched);
+    }
+    let kernel = kernel.copy(alloc)?;
+    match process.copy(alloc) {
+        Ok(process) => step_on(alloc, kernel, process, pid, most),
+        Err(_) => {
+            discard(kernel);
+            Err(ExploreFault::NoMemory)
+        }
+    }
+}
