@@ -1,76 +1,33 @@
--- The end of a call that is answered.
-use Rattle.std.proofs.Common.{◌≡◌, ℕ, ◌==◌, ◌<◌, ◌≤◌, nat_lt, nat_le, false, List, ◌∷◌, length, Option, Some, None, refl, sym, ap, subst, ◌∙◌, arith, option_and_then, slice_set, drop, All}
-use Rattle.std.specs.Option.{option_map}
-use Rattle.std.proofs.lemmas.Bool.Decides.{nat_tests}
+-- The message that mq_receive takes.
+use Rattle.std.proofs.Common.{◌≡◌, ℕ, ◌≤◌, List, [], ◌∷◌, length, Some, refl, arith, slice_set, drop, All, IsSomeAnd}
 use Rattle.ipc_objects.specs.declared.queue.Message.{Message}
-use Rattle.ipc_objects.specs.Queue.{QueueState, IsQueue, sent}
+use Rattle.ipc_objects.specs.Queue.{QueueState, IsQueue}
 use Rattle.std.proofs.lemmas.List.Elements.{All-head}
 use Rattle.ipc_kernel.specs.declared.place.Place.{Place}
-use Rattle.ipc_kernel.specs.declared.process.Descriptor.{Descriptor}
-use Rattle.ipc_kernel.specs.declared.call.Reply.{Reply}
-use Rattle.ipc_kernel.specs.declared.call.Reply.TheVariants.{Plain, Message as received}
+use Rattle.ipc_kernel.specs.declared.call.Reply.TheVariants.{Message as received}
 use Rattle.ipc_kernel.specs.declared.call.Answer.TheVariants.{Done}
-use Rattle.ipc_kernel.specs.Processes.{descriptor_of}
-use Rattle.ipc_kernel.specs.Places.{place_at, queue_in, with_queue}
-use Rattle.ipc_kernel.specs.Kernel.{KernelState, IsSettled}
-use Rattle.ipc_kernel.specs.Outcomes.{completion, open_queue, with_queue_at}
-use Rattle.ipc_kernel.specs.Queues.{mq_send, mq_receive}
+use Rattle.ipc_kernel.specs.Places.{place_at, queue_in, with_queue, without_first, HasMessage, emptied}
+use Rattle.ipc_kernel.specs.Decisions.{queue_at, first_of, given}
+use Rattle.ipc_kernel.specs.declared.kernel.decision.Decision.TheVariants.{Receives}
+use Rattle.ipc_kernel.specs.Replies.{message_length}
+use Rattle.ipc_kernel.proofs.IndexLemmas.{some_of}
+use Rattle.ipc_kernel.specs.Kernel.{KernelState}
+use Rattle.ipc_kernel.specs.Outcomes.{completion, with_queue_at}
 
--- the queue of an open descriptor is in its place
-pub open_queue_in : (k : KernelState) (p m : ℕ) (held : Descriptor × QueueState) → open_queue k p m ≡ Some held → queue_in (place_at k.places held.0.place) ≡ Some held.1
-open_queue_in k p m held e = go (descriptor_of k.processes p m) e
+-- the message that is taken, and what is left, where the first message is known
+pub received_first : (k : KernelState) (place : ℕ) (first : Message) (new after : List Place) → IsSomeAnd (queue_in (place_at k.places place)) HasMessage → ((q : QueueState) → queue_in (place_at k.places place) ≡ Some q → q.messages ≡ first ∷ drop 1 q.messages)
+    → ((q : QueueState) → queue_in (place_at k.places place) ≡ Some q → new ≡ slice_set k.places place (with_queue (without_first q) (place_at k.places place))) → after ≡ emptied k.processes new
+    → (Done (received first.words first.priority), record k { places = after }) ≡ completion (with_queue_at k place (without_first (queue_at k place))) (first_of (queue_at k place).messages)
+received_first k place first new after some head rest is = let found = some_of (queue_in (place_at k.places place)) HasMessage some in known found.0 found.1 (head found.0 found.1) (rest found.0 found.1)
   where
-    known : (d : Descriptor) (r : Option QueueState) → queue_in (place_at k.places d.place) ≡ r → option_map (λ q. (d, q)) r ≡ Some held → queue_in (place_at k.places held.0.place) ≡ Some held.1
-    known d None f e = cc
-    known d (Some q) f e = let same : (d, q) ≡ held = cc in subst (λ (h : Descriptor × QueueState). queue_in (place_at k.places h.0.place) ≡ Some h.1) same f
+    known : (q : QueueState) → queue_in (place_at k.places place) ≡ Some q → q.messages ≡ first ∷ drop 1 q.messages → new ≡ slice_set k.places place (with_queue (without_first q) (place_at k.places place))
+        → (Done (received first.words first.priority), record k { places = after }) ≡ completion (with_queue_at k place (without_first (queue_at k place))) (first_of (queue_at k place).messages)
+    known q e h r = rw (is, r, e, h) refl
 
-    go : (o : Option Descriptor) → option_and_then (λ h. option_map (λ q. (h, q)) (queue_in (place_at k.places h.place))) o ≡ Some held → queue_in (place_at k.places held.0.place) ≡ Some held.1
-    go None e = cc
-    go (Some d) e = known d (queue_in (place_at k.places d.place)) refl e
-
--- a settled kernel stays as it is
-pub done_settled : (k : KernelState) (r : Reply) → IsSettled k → completion k r ≡ (Done r, k)
-done_settled k r s = ap (λ ps. (Done r, record k { places = ps })) s
-
--- mq_receive of a message that is there
-pub mq_received-message : (k : KernelState) (len : ℕ) (d : Descriptor) (q : QueueState) (m : Message) (rest : List Message) → (d.access == 1) ≡ false → nat_lt len q.message_size ≡ false → q.messages ≡ m ∷ rest
-    → mq_receive k len (Some (d, q)) ≡ completion (with_queue_at k d.place (record q { messages = rest })) (received m.words m.priority)
-mq_received-message k len d q m rest access fits first = rw (access, fits, first) refl
-
--- mq_send to a queue with room
-pub mq_sent-message : (k : KernelState) (priority : ℕ) (words : List ℕ) (d : Descriptor) (q : QueueState) → (d.access == 0) ≡ false → nat_le 32 priority ≡ false → nat_lt q.message_size (length words) ≡ false → nat_le q.max_messages (length q.messages) ≡ false
-    → mq_send k priority words (Some (d, q)) ≡ completion (with_queue_at k d.place (record q { messages = sent (record { priority = priority; words = words }) q.messages })) (Plain 0)
-mq_sent-message k priority words d q access range fits room = rw (access, range, fits, room) refl
-
-differs : (a b : ℕ) → (a ≡ b → ⊥) → (a == b) ≡ false
-differs a b h = grind (arith, nat_tests)
-
-not_below : (a b : ℕ) → b ≤ a → nat_lt a b ≡ false
-not_below a b h = grind (arith, nat_tests)
-
-not_at_most : (a b : ℕ) → b < a → nat_le a b ≡ false
-not_at_most a b h = grind (arith, nat_tests)
-
--- what mq_receive answers, and leaves, where there is a message
-pub received_ok : (k : KernelState) (p m len : ℕ) (d : Descriptor) (q : QueueState) (first : Message) (new : List Place) → open_queue k p m ≡ Some (d, q) → (d.access ≡ 1 → ⊥) → q.message_size ≤ len → q.messages ≡ first ∷ drop 1 q.messages
-    → new ≡ slice_set k.places d.place (with_queue (record q { messages = drop 1 q.messages }) (place_at k.places d.place)) → IsSettled (record k { places = new })
-    → (Done (received first.words first.priority), record k { places = new }) ≡ mq_receive k len (open_queue k p m)
-received_ok k p m len d q first new found access fits head is settled =
-    sym (ap (mq_receive k len) found
-    ∙ mq_received-message k len d q first (drop 1 q.messages) (differs d.access 1 access) (not_below len q.message_size fits) head
-    ∙ ap (λ ps. completion (record k { places = ps }) (received first.words first.priority)) (sym is)
-    ∙ done_settled (record k { places = new }) (received first.words first.priority) settled)
-
--- what mq_send answers, and leaves, where there is room
-pub sent_ok : (k : KernelState) (p m priority : ℕ) (words : List ℕ) (d : Descriptor) (q : QueueState) (new : List Place) → open_queue k p m ≡ Some (d, q) → (d.access ≡ 0 → ⊥) → priority < 32 → length words ≤ q.message_size → length q.messages < q.max_messages
-    → new ≡ slice_set k.places d.place (with_queue (record q { messages = sent (record { priority = priority; words = words }) q.messages }) (place_at k.places d.place)) → IsSettled (record k { places = new })
-    → (Done (Plain 0), record k { places = new }) ≡ mq_send k priority words (open_queue k p m)
-sent_ok k p m priority words d q new found access range fits room is settled =
-    sym (ap (mq_send k priority words) found
-    ∙ mq_sent-message k priority words d q (differs d.access 0 access) (not_at_most 32 priority range) (not_below q.message_size (length words) fits) (not_at_most q.max_messages (length q.messages) room)
-    ∙ ap (λ ps. completion (record k { places = ps }) (Plain 0)) (sym is)
-    ∙ done_settled (record k { places = new }) (Plain 0) settled)
+shorter : (q : QueueState) (ms : List Message) (len : ℕ) → All (λ m. length m.words ≤ q.message_size) ms → q.message_size ≤ len → message_length (Done (first_of ms)) ≤ len
+shorter q [] len all fits = omega arith
+shorter q (m ∷ rest) len all fits = omega (arith, All-head (λ x. length x.words ≤ q.message_size) m rest all)
 
 -- the first message of a queue is no longer than the queue allows
-pub received_short : (q : QueueState) (m : Message) → q.messages ≡ m ∷ drop 1 q.messages → IsQueue q → length m.words ≤ q.message_size
-received_short q m first ranges = All-head (λ x. length x.words ≤ q.message_size) m (drop 1 q.messages) (subst (λ ms. All (λ x. length x.words ≤ q.message_size) ms) first ranges.sizes)
+pub first_short : (k : KernelState) (p place len : ℕ) (q : QueueState) → queue_in (place_at k.places place) ≡ Some q → IsQueue q → q.message_size ≤ len → message_length (given k p (Receives place)).0 ≤ len
+first_short k p place len q e ranges fits = rw e (shorter q q.messages len ranges.sizes fits)

@@ -1,5 +1,5 @@
 -- What holds of every answer, whatever the kernel and the call.
-use Rattle.std.proofs.Common.{◌≡◌, ℕ, ◌&&◌, Bool, true, false, cond, not, nat_lt, nat_le, ◌==◌, List, [], ◌∷◌, length, Option, Some, None, Result, Ok, Err, IfOk, IsTrue, ◌≤◌, refl, sym, subst, ap, length-set, position}
+use Rattle.std.proofs.Common.{◌≡◌, ℕ, ◌&&◌, Bool, true, false, cond, not, nat_lt, nat_le, ◌==◌, List, [], ◌∷◌, length, Option, Some, None, Result, Ok, Err, IfOk, IsTrue, ◌≤◌, ◌<◌, refl, sym, subst, arith, IsSomeAnd, unwrap_or, length-set, position}
 use Rattle.ipc_names.specs.declared.errno.Errno.{Errno}
 use Rattle.ipc_names.specs.declared.flags.Flags.{Flags}
 use Rattle.ipc_names.specs.Flags.{flags_read}
@@ -12,18 +12,21 @@ use Rattle.ipc_kernel.specs.declared.process.Descriptor.{Descriptor}
 use Rattle.ipc_kernel.specs.declared.call.Call.{Call}
 use Rattle.ipc_kernel.specs.declared.call.Call.TheVariants.{MqOpen, MqClose, MqUnlink, MqSend, MqReceive, MqGetattr, MqSetattr, SemOpen, SemClose, SemUnlink, SemWait, SemTrywait, SemPost, SemGetvalue, Exit}
 use Rattle.ipc_kernel.specs.declared.call.Reply.{Reply}
-use Rattle.ipc_kernel.specs.declared.call.Reply.TheVariants.{Plain}
+use Rattle.ipc_kernel.specs.declared.call.Reply.TheVariants.{Plain, Message as received}
 use Rattle.ipc_kernel.specs.declared.call.Answer.{Answer}
 use Rattle.ipc_kernel.specs.declared.call.Answer.TheVariants.{Done, Wait}
 use Rattle.ipc_kernel.specs.Kernel.{KernelState}
 use Rattle.ipc_kernel.specs.Processes.{descriptor_of, slot_of, slot_for, free_descriptor_of, free_slot_of}
-use Rattle.ipc_kernel.specs.Places.{is_empty, are_sizes, queue_named, semaphore_named}
+use Rattle.ipc_kernel.specs.Places.{is_empty, are_sizes, queue_named, semaphore_named, queue_in, place_at, empty_queue, HasMessage}
+use Rattle.ipc_kernel.specs.Decisions.{given, first_of, is_received, IsPossible}
+use Rattle.ipc_kernel.specs.declared.kernel.decision.Decision.{Decision}
+use Rattle.ipc_kernel.specs.declared.kernel.decision.Decision.TheVariants.{Refused, Waits, Receives, Answered}
 use Rattle.ipc_kernel.specs.Outcomes.{Outcome, waiting, blocked, open_queue, open_semaphore, unlink}
 use Rattle.ipc_kernel.specs.Queues.{mq_send, take_first, mq_receive, mq_getattr, mq_setattr, mq_close, sizes_asked, new_descriptor, mq_create_at, mq_create, mq_look_up, mq_open}
 use Rattle.ipc_kernel.specs.Semaphores.{sem_getvalue, sem_post, sem_wait, sem_trywait, sem_close, new_slot, one_more_open, sem_open_place, sem_create_at, sem_create, sem_look_up, sem_open}
 use Rattle.ipc_names.specs.Flags.{has_flag}
 use Rattle.ipc_kernel.specs.Replies.{IsReplyTo, IsAnswerTo, message_length}
-use Rattle.ipc_kernel.specs.Answer.{answer, may_wait}
+use Rattle.ipc_kernel.specs.Answer.{answer, may_wait, is_receive}
 
 -- a message that a receive answers is no longer than what was asked for, and than a message can be
 abbrev pub IsShort : Call → Answer → Type 0
@@ -35,6 +38,9 @@ record IsLawful (call : Call) (k : KernelState) (o : Outcome) : Type 0 where
   waits : o.0 ≡ Wait → IsTrue (may_wait call)
   unchanged : o.0 ≡ Wait → o.1 ≡ k
   count : length o.1.processes ≡ length k.processes
+
+not_true : false ≡ true → ⊥
+not_true h = cc
 
 reply_is_no_wait : (r : Reply) → Done r ≡ Wait → ⊥
 reply_is_no_wait r e = cc
@@ -190,13 +196,50 @@ answer_wait k p c = (lawful k p c).unchanged
 pub answer_count : (k : KernelState) (p : ℕ) (c : Call) → length (answer k p c).1.processes ≡ length k.processes
 answer_count k p c = (lawful k p c).count
 
--- an answer that was given is one of its call, where a message is short
-pub given_form : {E : Type 0} (r : Result Answer E) (k : KernelState) (p : ℕ) (c : Call) → IfOk r (λ a. a ≡ (answer k p c).0)
-    → ((d len : ℕ) → c ≡ MqReceive d len → IfOk r (λ a. message_length a ≤ len)) → ((d len : ℕ) → c ≡ MqReceive d len → IfOk r (λ a. message_length a ≤ 256)) → IfOk r (λ a. IsAnswerTo c a)
-given_form (Err e) k p c same size limit = tt
-given_form (Ok a) k p c same size limit = subst (λ x. IsAnswerTo c x) (sym same) (answer_form k p c (subst (λ x. IsShort c x) same (λ d len e. (size d len e, limit d len e))))
+-- what a decision gives is an answer of its call, where a message is short
+pub decided_form : (k : KernelState) (p : ℕ) (c : Call) (d : Decision) → given k p d ≡ answer k p c
+    → ((m len : ℕ) → c ≡ MqReceive m len → message_length (answer k p c).0 ≤ len) → ((m len : ℕ) → c ≡ MqReceive m len → message_length (answer k p c).0 ≤ 256) → IsAnswerTo c (given k p d).0
+decided_form k p c d same size limit = subst (λ (o : Outcome). IsAnswerTo c o.0) (sym same) (answer_form k p c (λ m len e. (size m len e, limit m len e)))
 
--- the answer alone, of an answer and a kernel
-pub answer_given : {E : Type 0} (r : Result Answer E) (k new : KernelState) (p : ℕ) (c : Call) → IfOk r (λ a. (a, new) ≡ answer k p c) → IfOk r (λ a. a ≡ (answer k p c).0)
-answer_given (Err e) k new p c h = tt
-answer_given (Ok a) k new p c h = ap (λ (o : Outcome). o.0) h
+pub previewed_form : {E : Type 0} (r : Result Answer E) (k : KernelState) (p : ℕ) (c : Call) (d : Decision) → given k p d ≡ answer k p c
+    → ((m len : ℕ) → c ≡ MqReceive m len → message_length (answer k p c).0 ≤ len) → ((m len : ℕ) → c ≡ MqReceive m len → message_length (answer k p c).0 ≤ 256) → IfOk r (λ a. a ≡ (given k p d).0) → IfOk r (λ a. IsAnswerTo c a)
+previewed_form (Err e) k p c d same size limit is = tt
+previewed_form (Ok a) k p c d same size limit is = subst (λ x. IsAnswerTo c x) (sym is) (decided_form k p c d same size limit)
+
+pub carried_form : {E : Type 0} (r : Result Answer E) (k new : KernelState) (p : ℕ) (c : Call) (d : Decision) → given k p d ≡ answer k p c
+    → ((m len : ℕ) → c ≡ MqReceive m len → message_length (answer k p c).0 ≤ len) → ((m len : ℕ) → c ≡ MqReceive m len → message_length (answer k p c).0 ≤ 256) → IfOk r (λ a. (a, new) ≡ given k p d) → IfOk r (λ a. IsAnswerTo c a)
+carried_form (Err e) k new p c d same size limit is = tt
+carried_form (Ok a) k new p c d same size limit is = subst (λ (o : Outcome). IsAnswerTo c o.0) (sym is) (decided_form k p c d same size limit)
+
+-- a message answers mq_receive alone
+message_received : (c : Call) (words : List ℕ) (priority : ℕ) → IsReplyTo c (received words priority) → IsTrue (is_receive c)
+message_received (MqOpen name flags attr) words priority h = absurd h
+message_received (MqClose d) words priority h = absurd h
+message_received (MqUnlink name) words priority h = absurd h
+message_received (MqSend d sent prio) words priority h = absurd h
+message_received (MqReceive d len) words priority h = refl
+message_received (MqGetattr d) words priority h = absurd h
+message_received (MqSetattr d flags) words priority h = absurd h
+message_received (SemOpen name flags value) words priority h = absurd h
+message_received (SemClose s) words priority h = absurd h
+message_received (SemUnlink name) words priority h = absurd h
+message_received (SemWait s) words priority h = absurd h
+message_received (SemTrywait s) words priority h = absurd h
+message_received (SemPost s) words priority h = absurd h
+message_received (SemGetvalue s) words priority h = absurd h
+message_received Exit words priority h = absurd h
+
+first_received : (c : Call) (ms : List Message) → 0 < length ms → IsReplyTo c (first_of ms) → IsTrue (is_receive c)
+first_received c [] some h = absurd (omega (arith, some))
+first_received c (m ∷ rest) some h = message_received c m.words m.priority h
+
+-- a decision to take a message is one of mq_receive alone
+pub received_alone : (k : KernelState) (p : ℕ) (c : Call) (d : Decision) → IsPossible k d → IsAnswerTo c (given k p d).0 → IsTrue (is_received d) → IsTrue (is_receive c)
+received_alone k p c (Refused e) possible form is = absurd (not_true is)
+received_alone k p c Waits possible form is = absurd (not_true is)
+received_alone k p c (Answered reply change) possible form is = absurd (not_true is)
+received_alone k p c (Receives place) possible form is = known (queue_in (place_at k.places place)) possible form
+  where
+    known : (o : Option QueueState) → IsSomeAnd o HasMessage → IsReplyTo c (first_of (unwrap_or o (empty_queue (0, 0))).messages) → IsTrue (is_receive c)
+    known None some h = absurd some
+    known (Some q) some h = first_received c q.messages some h

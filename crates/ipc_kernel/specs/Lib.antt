@@ -6,6 +6,7 @@ pub mod Outcomes
 pub mod Queues
 pub mod Semaphores
 pub mod Answer
+pub mod Decisions
 pub mod Replies
 pub mod Counts
 pub mod Index

@@ -1,11 +1,11 @@
 //! The kernel, and how it answers calls.
-ghost use Rattle.std.specs.Prelude.{◌≡◌, ℕ, ◌<◌, ◌≤◌, ◌-◌, length, IfSome, IfOk, OnErr, IsErr, IsTrue};
+ghost use Rattle.std.specs.Prelude.{◌≡◌, ℕ, ◌<◌, ◌≤◌, ◌-◌, length, Some, IfSome, IfOk, OnErr, IsErr, IsTrue};
 ghost use Rattle.std.specs.Option.{option_map, option_copied};
 ghost use Rattle.ipc_names.specs.Errno.{number_of};
 ghost use Rattle.ipc_kernel.specs.Limits.{object_places, open_max, process_max, sem_value_max, mq_msgsize_max};
 ghost use Rattle.ipc_kernel.specs.Kernel.{KernelState};
-ghost use Rattle.ipc_kernel.specs.Outcomes.{blocked};
-ghost use Rattle.ipc_kernel.specs.Places.{place_at, queue_and_name, value_and_name};
+ghost use Rattle.ipc_kernel.specs.Decisions.{given, IsPossible, takes_memory};
+ghost use Rattle.ipc_kernel.specs.Places.{place_at, queue_in, queue_and_name, semaphore_value, value_and_name};
 ghost use Rattle.ipc_kernel.specs.Replies.{message_length};
 ghost use Rattle.ipc_kernel.specs.declared.call.Answer.TheVariants.{Done};
 ghost use Rattle.ipc_kernel.specs.declared.call.Reply.TheVariants.{Plain};
@@ -14,13 +14,15 @@ ghost use Rattle.ipc_kernel.specs.declared.call.Call.TheVariants.{MqReceive};
 use crate::places::Places;
 use crate::processes::Processes;
 use crate::{Answer, Call, Descriptor, Reply, Slot};
+use decision::{Change, Decision};
 use ipc_names::{Errno, Name};
 use ipc_objects::Queue;
 use std::alloc::{AllocError, Global};
 use std::marker::Model;
 
+mod changes;
 mod copies;
-mod preview;
+mod decision;
 mod queues;
 mod semaphores;
 
@@ -29,7 +31,6 @@ mod semaphores;
 pub struct Kernel {
     places: Places,
     processes: Processes,
-    alloc: Global,
 }
 
 impl Model for Kernel {
@@ -49,27 +50,8 @@ fn refusal(errno: Errno) -> Answer
     Answer::Done(Reply::Plain(errno.reply()))
 }
 
-/// The reply of a call that tells nothing.
-fn zero() -> Answer
-    ensures { result ≡ Done (Plain 0) }
-{
-    Answer::Done(Reply::Plain(0))
-}
-
-/// What a full or an empty queue answers.
-fn block(descriptor: Descriptor) -> Answer
-    ensures answered { (k : KernelState) → (result, k) ≡ blocked k descriptor }
-    ensures length { message_length result ≡ 0 }
-{
-    if descriptor.nonblock {
-        refusal(Errno::Again)
-    } else {
-        Answer::Wait
-    }
-}
-
 impl Kernel {
-    ghost use Rattle.ipc_kernel.specs.Answer.{answer, exit, is_done, may_grow};
+    ghost use Rattle.ipc_kernel.specs.Answer.{answer, is_done, is_receive, may_grow};
     ghost use Rattle.ipc_kernel.specs.Kernel.{empty_kernel, IsSettled};
     ghost use Rattle.ipc_kernel.specs.Outcomes.{open_queue, open_semaphore};
     ghost use Rattle.ipc_kernel.specs.Processes.{descriptor_of, slot_of};
@@ -84,11 +66,7 @@ impl Kernel {
     {
         let places = Places::new(alloc)?;
         let processes = Processes::new(alloc, count)?;
-        Ok(Kernel {
-            places,
-            processes,
-            alloc,
-        })
+        Ok(Kernel { places, processes })
     }
 
     /// The number of processes, 1 to 64.
@@ -146,70 +124,63 @@ impl Kernel {
         ensures count { length self.new.processes ≡ length self.old.processes }
         ensures settled { IsSettled self.new }
     {
-        let answer = self.dispatch(pid, call);
+        let decision = self.decide(pid, call);
+        let answer = self.carry_out(pid, decision);
         let _ = &self.places;
         answer
     }
 
     /// Whether a call would be answered without a wait.
-    #[tactic(auto, unfolding(crate::specs::Answer::answer))]
     pub fn can_go(&self, pid: usize, call: &Call) -> bool
         requires process { pid < length self.now.processes }
         ensures answered { result ≡ is_done (answer self.now pid call.now).0 }
     {
-        match call {
-            Call::SemWait { slot } => !matches!(self.open_semaphore(pid, *slot), Some((_, 0))),
-            Call::MqSend { mqd, words, prio } => {
-                !matches!(self.preview_send(pid, *mqd, words, *prio), Answer::Wait)
-            }
-            Call::MqReceive { mqd, len } => {
-                !matches!(self.first_message(pid, *mqd, *len), Err(Answer::Wait))
-            }
-            _ => true,
-        }
+        !matches!(self.decide(pid, call), Decision::Waits)
     }
 
+    /// The answer that a call would be given now; nothing changes. A message that would be received
+    /// is copied, and only that takes memory.
+    pub fn answer(&self, alloc: Global, pid: usize, call: &Call) -> Result<Answer, AllocError>
+        requires process { pid < length self.now.processes }
+        ensures answered { IfOk result (λ a. a ≡ (answer self.now pid call.now).0) }
+        ensures form { IfOk result (λ a. IsAnswerTo call.now a) }
+        ensures memory { IsErr result → IsTrue (is_receive call.now) }
+    {
+        let decision = self.decide(pid, call);
+        self.preview(alloc, decision)
+    }
+
+    /// What becomes of a call now.
     #[tactic(auto, unfolding(crate::specs::Answer::answer))]
-    fn dispatch(&mut self, pid: usize, call: &Call) -> Result<Answer, AllocError>
-        requires { pid < length self.old.processes }
-        ensures answered { IfOk result (λ a. (a, self.new) ≡ answer self.old pid call.now) }
-        ensures err { OnErr result (self.new ≡ self.old) }
-        ensures memory { IsErr result → IsTrue (may_grow call.now) }
-        ensures count { length self.new.processes ≡ length self.old.processes }
+    fn decide<'a>(&self, pid: usize, call: &'a Call) -> Decision<'a>
+        requires { pid < length self.now.processes }
+        ensures given { given self.now pid result ≡ answer self.now pid call.now }
+        ensures possible { IsPossible self.now result }
+        ensures memory { IsTrue (takes_memory result) → IsTrue (may_grow call.now) }
         ensures size { (d len : ℕ) → call.now ≡ MqReceive d len →
-            IfOk result (λ a. message_length a ≤ len) }
+            message_length (answer self.now pid call.now).0 ≤ len }
         ensures limit { (d len : ℕ) → call.now ≡ MqReceive d len →
-            IfOk result (λ a. message_length a ≤ mq_msgsize_max) }
+            message_length (answer self.now pid call.now).0 ≤ mq_msgsize_max }
     {
         match call {
-            Call::MqOpen { name, flags, attr } => self.mq_open(pid, name, *flags, *attr),
-            Call::MqClose { mqd } => Ok(self.mq_close(pid, *mqd)),
-            Call::MqUnlink { name } => Ok(self.mq_unlink(name)),
-            Call::MqSend { mqd, words, prio } => self.mq_send(pid, *mqd, words, *prio),
-            Call::MqReceive { mqd, len } => Ok(self.mq_receive(pid, *mqd, *len)),
-            Call::MqGetattr { mqd } => Ok(self.mq_getattr(pid, *mqd)),
-            Call::MqSetattr { mqd, flags } => Ok(self.mq_setattr(pid, *mqd, *flags)),
-            Call::SemOpen { name, flags, value } => self.sem_open(pid, name, *flags, *value),
-            Call::SemClose { slot } => Ok(self.sem_close(pid, *slot)),
-            Call::SemUnlink { name } => Ok(self.sem_unlink(name)),
-            Call::SemWait { slot } => Ok(self.sem_wait(pid, *slot)),
-            Call::SemTrywait { slot } => Ok(self.sem_trywait(pid, *slot)),
-            Call::SemPost { slot } => Ok(self.sem_post(pid, *slot)),
-            Call::SemGetvalue { slot } => Ok(self.sem_getvalue(pid, *slot)),
-            Call::Exit => Ok(self.exit(pid)),
+            Call::MqOpen { name, flags, attr } => self.decide_open(pid, name, *flags, *attr),
+            Call::MqClose { mqd } => self.decide_close(pid, *mqd),
+            Call::MqUnlink { name } => self.decide_unlink(name),
+            Call::MqSend { mqd, words, prio } => self.decide_send(pid, *mqd, words, *prio),
+            Call::MqReceive { mqd, len } => self.decide_receive(pid, *mqd, *len),
+            Call::MqGetattr { mqd } => self.decide_getattr(pid, *mqd),
+            Call::MqSetattr { mqd, flags } => self.decide_setattr(pid, *mqd, *flags),
+            Call::SemOpen { name, flags, value } => {
+                self.decide_sem_open(pid, name, *flags, *value)
+            }
+            Call::SemClose { slot } => self.decide_sem_close(pid, *slot),
+            Call::SemUnlink { name } => self.decide_sem_unlink(name),
+            Call::SemWait { slot } => self.decide_wait(pid, *slot),
+            Call::SemTrywait { slot } => self.decide_trywait(pid, *slot),
+            Call::SemPost { slot } => self.decide_post(pid, *slot),
+            Call::SemGetvalue { slot } => self.decide_getvalue(pid, *slot),
+            Call::Exit => Decision::Answered(Reply::Plain(0), Change::CloseAll),
         }
-    }
-
-    /// Closes all descriptors and slots of a process.
-    #[tactic(auto, using(crate::proofs::KernelLemmas::settled_after))]
-    fn exit(&mut self, pid: usize) -> Answer
-        requires { pid < length self.old.processes }
-        ensures answered { (result, self.new) ≡ exit self.old pid }
-        ensures count { length self.new.processes ≡ length self.old.processes }
-    {
-        self.processes.close_all(pid);
-        self.places.empty_unused(&self.processes);
-        zero()
     }
 
     /// An open descriptor, with its queue.
@@ -218,6 +189,7 @@ impl Kernel {
         ensures found { option_map (λ r. (r.0, r.1.now)) result ≡ open_queue self.now pid mqd }
         ensures range { IfSome result (λ _. mqd < open_max) }
         ensures place { IfSome result (λ held. held.0.place < object_places) }
+        ensures there { IfSome result (λ held. queue_in (place_at self.now.places held.0.place) ≡ Some held.1.now) }
     {
         match self.processes.descriptor(pid, mqd) {
             None => None,
@@ -233,6 +205,7 @@ impl Kernel {
         requires { pid < length self.now.processes }
         ensures found { result ≡ open_semaphore self.now pid slot }
         ensures bound { IfSome result (λ held. held.1 ≤ sem_value_max) }
+        ensures there { IfSome result (λ held. semaphore_value (place_at self.now.places held.0.place) ≡ Some held.1) }
     {
         match self.processes.slot(pid, slot) {
             None => None,

@@ -15,7 +15,7 @@ mod copies;
 use crate::place::Place;
 use crate::processes::Processes;
 use ipc_names::{Name, NameTable};
-use ipc_objects::{Queue, Semaphore};
+use ipc_objects::{Queue, Semaphore, Words};
 use std::alloc::{AllocError, Global};
 use std::marker::Model;
 
@@ -39,21 +39,24 @@ fn empty_unused_in(places: &mut [Place], processes: &Processes)
     }
 }
 
+/// Adds a copy of a message to the queue in a place.
 #[tactic(auto, using(crate::proofs::PlaceLemmas::queue_in_range, crate::proofs::PlaceLemmas::place_at_read))]
 fn send_at(
     places: &mut Vec<Place>,
+    alloc: Global,
     place: u8,
     priority: u16,
-    words: Vec<u16>,
+    words: &Words,
 ) -> Result<(), AllocError>
-    requires queue { IsSomeAnd (queue_in (place_at places.old.items place)) (HasRoomFor words.items) }
+    requires queue { IsSomeAnd (queue_in (place_at places.old.items place)) (HasRoomFor words.now) }
     requires priority { priority < mq_prio_max }
     ensures ok { OnOk result ((q : QueueState) → queue_in (place_at places.old.items place) ≡ Some q →
-        places.new.items ≡ slice_set places.old.items place (with_queue (with_message priority words.items q) (place_at places.old.items place))) }
+        places.new.items ≡ slice_set places.old.items place (with_queue (with_message priority words.now q) (place_at places.old.items place))) }
     ensures err { OnErr result (places.new.items ≡ places.old.items) }
 {
+    let words = words.copy(alloc)?;
     let place = &mut places[place as usize];
-    place.send(priority, words)
+    place.send(priority, words.into_vec())
 }
 
 #[tactic(auto, using(crate::proofs::PlaceLemmas::queue_in_range, crate::proofs::PlaceLemmas::place_at_read))]
@@ -255,20 +258,15 @@ impl Places {
         }
     }
 
-    /// Adds a message to the queue in a place.
-    pub(crate) fn send(
-        &mut self,
-        place: u8,
-        priority: u16,
-        words: Vec<u16>,
-    ) -> Result<(), AllocError>
-        requires queue { IsSomeAnd (queue_in (place_at self.old place)) (HasRoomFor words.items) }
+    /// Adds a copy of a message to the queue in a place.
+    pub(crate) fn send(&mut self, place: u8, priority: u16, words: &Words) -> Result<(), AllocError>
+        requires queue { IsSomeAnd (queue_in (place_at self.old place)) (HasRoomFor words.now) }
         requires priority { priority < mq_prio_max }
         ensures ok { OnOk result ((q : QueueState) → queue_in (place_at self.old place) ≡ Some q →
-            self.new ≡ slice_set self.old place (with_queue (with_message priority words.items q) (place_at self.old place))) }
+            self.new ≡ slice_set self.old place (with_queue (with_message priority words.now q) (place_at self.old place))) }
         ensures err { OnErr result (self.new ≡ self.old) }
     {
-        send_at(&mut self.places, place, priority, words)
+        send_at(&mut self.places, self.alloc, place, priority, words)
     }
 
     /// Takes the first message from the queue in a place.

@@ -12,11 +12,7 @@ impl Kernel {
     {
         let places = self.places.copy(alloc)?;
         let processes = self.processes.copy(alloc)?;
-        Ok(Kernel {
-            places,
-            processes,
-            alloc,
-        })
+        Ok(Kernel { places, processes })
     }
 
     /// Whether two kernels hold the same: each place, and the descriptors and slots of each process.

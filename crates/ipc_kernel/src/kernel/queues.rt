@@ -1,27 +1,28 @@
-//! The calls on message queues.
-ghost use Rattle.std.specs.Prelude.{◌≡◌, ◌<◌, ◌≤◌, None, length, IfOk, OnErr, IsTrue};
+//! The rules of the calls on message queues.
+ghost use Rattle.std.specs.Prelude.{◌≡◌, ℕ, ◌<◌, ◌≤◌, false, None, length, IsTrue};
 ghost use Rattle.ipc_names.specs.Flags.{flags_read};
 ghost use Rattle.ipc_kernel.specs.Limits.{object_places, mq_msgsize_max};
+ghost use Rattle.ipc_kernel.specs.Decisions.{given, IsPossible, takes_memory};
 ghost use Rattle.ipc_kernel.specs.Outcomes.{open_queue, unlink};
 ghost use Rattle.ipc_kernel.specs.Places.{are_sizes, queue_named};
 ghost use Rattle.ipc_kernel.specs.Processes.{descriptor_of, free_descriptor_of};
 ghost use Rattle.ipc_kernel.specs.Queues.{attributes, descriptor_for, sizes_asked};
 ghost use Rattle.ipc_kernel.specs.Replies.{message_length};
 
-use super::{Kernel, block, refusal, zero};
-use crate::{Answer, Descriptor, Reply};
+use super::Kernel;
+use super::decision::{Change, Decision, NewQueue, block};
+use crate::{Descriptor, Reply};
 use ipc_names::{Errno, Flags, Name};
 use ipc_objects::{Queue, Words};
-use std::alloc::AllocError;
 
 /// Priorities are below this.
-pub(super) const PRIORITY_COUNT: u16 = 32;
+const PRIORITY_COUNT: u16 = 32;
 
 /// The flag of a descriptor whose calls do not wait.
-pub(super) const NONBLOCK: u16 = 0x800;
+const NONBLOCK: u16 = 0x800;
 
 /// The greatest numbers of messages and of words of a message that mq_open asks for.
-pub(super) fn sizes_asked(attr: Option<[u16; 4]>) -> (u16, u16)
+fn sizes_asked(attr: Option<[u16; 4]>) -> (u16, u16)
     ensures { result ≡ sizes_asked attr }
 {
     match attr {
@@ -30,14 +31,14 @@ pub(super) fn sizes_asked(attr: Option<[u16; 4]>) -> (u16, u16)
     }
 }
 
-pub(super) fn are_sizes(max_messages: u16, message_size: u16) -> bool
+fn are_sizes(max_messages: u16, message_size: u16) -> bool
     ensures { result ≡ are_sizes (max_messages, message_size) }
 {
     max_messages >= 1 && max_messages <= 64 && message_size >= 1 && message_size <= 256
 }
 
 /// The attributes of an open queue.
-pub(super) fn attributes(descriptor: Descriptor, queue: &Queue) -> [u16; 4]
+fn attributes(descriptor: Descriptor, queue: &Queue) -> [u16; 4]
     ensures { result ≡ attributes descriptor queue.now }
 {
     let (max, size, count) = queue.attr();
@@ -58,235 +59,230 @@ fn descriptor_for(place: u8, flags: Flags) -> Descriptor
 impl Kernel {
     ghost use Rattle.ipc_kernel.specs.Queues.{new_descriptor, mq_create, mq_look_up, mq_open, mq_close, mq_send, mq_receive, mq_getattr, mq_setattr};
 
-    pub(super) fn mq_open(
-        &mut self,
+    pub(super) fn decide_open<'a>(
+        &self,
         pid: usize,
-        name: &Name,
+        name: &'a Name,
         flags: u16,
         attr: Option<[u16; 4]>,
-    ) -> Result<Answer, AllocError>
-        requires { pid < length self.old.processes }
-        ensures ok { IfOk result (λ a. (a, self.new) ≡ mq_open self.old pid name.now (sizes_asked attr) (flags_read flags)) }
-        ensures count { length self.new.processes ≡ length self.old.processes }
-        ensures err { OnErr result (self.new ≡ self.old) }
+    ) -> Decision<'a>
+        requires { pid < length self.now.processes }
+        ensures given { given self.now pid result ≡ mq_open self.now pid name.now (sizes_asked attr) (flags_read flags) }
+        ensures possible { IsPossible self.now result }
     {
         let flags = match Flags::read(flags) {
             Ok(flags) => flags,
-            Err(errno) => return Ok(refusal(errno)),
+            Err(errno) => return Decision::Refused(errno),
         };
         let (max_messages, message_size) = sizes_asked(attr);
         if flags.create && !are_sizes(max_messages, message_size) {
-            return Ok(refusal(Errno::Invalid));
+            return Decision::Refused(Errno::Invalid);
         }
-        self.mq_look_up(pid, name, max_messages, message_size, flags)
+        self.decide_look_up(pid, name, max_messages, message_size, flags)
     }
 
     /// Opens a queue by whether its name is found.
-    fn mq_look_up(
-        &mut self,
+    fn decide_look_up<'a>(
+        &self,
         pid: usize,
-        name: &Name,
+        name: &'a Name,
         max_messages: u16,
         message_size: u16,
         flags: Flags,
-    ) -> Result<Answer, AllocError>
-        requires process { pid < length self.old.processes }
+    ) -> Decision<'a>
+        requires process { pid < length self.now.processes }
         requires sizes { IsTrue flags.create → IsTrue (are_sizes (max_messages, message_size)) }
-        ensures ok { IfOk result (λ a. (a, self.new) ≡
-            mq_look_up self.old pid name.now (max_messages, message_size) flags (queue_named self.old.places name.now)) }
-        ensures count { length self.new.processes ≡ length self.old.processes }
-        ensures err { OnErr result (self.new ≡ self.old) }
+        ensures given { given self.now pid result ≡
+            mq_look_up self.now pid name.now (max_messages, message_size) flags (queue_named self.now.places name.now) }
+        ensures possible { IsPossible self.now result }
     {
         match self.places.find_queue(name) {
             Some(place) => {
                 if flags.create && flags.excl {
-                    return Ok(refusal(Errno::Exists));
+                    return Decision::Refused(Errno::Exists);
                 }
-                Ok(self.new_descriptor(pid, place, flags))
+                self.decide_new_descriptor(pid, place, flags)
             }
             None => {
                 if !flags.create {
-                    return Ok(refusal(Errno::NoEntry));
+                    return Decision::Refused(Errno::NoEntry);
                 }
-                self.mq_create(pid, name, max_messages, message_size, flags)
+                self.decide_create(pid, name, max_messages, message_size, flags)
             }
         }
     }
 
     /// Makes a queue with a name that is free.
-    #[tactic(auto, using(crate::proofs::KernelLemmas::settled_made_queue, crate::proofs::PlaceLemmas::first_empty_place))]
-    fn mq_create(
-        &mut self,
+    #[tactic(auto, using(crate::proofs::PlaceLemmas::first_empty_place))]
+    fn decide_create<'a>(
+        &self,
         pid: usize,
-        name: &Name,
+        name: &'a Name,
         max_messages: u16,
         message_size: u16,
         flags: Flags,
-    ) -> Result<Answer, AllocError>
-        requires process { pid < length self.old.processes }
+    ) -> Decision<'a>
+        requires process { pid < length self.now.processes }
         requires sizes { IsTrue (are_sizes (max_messages, message_size)) }
-        requires absent { queue_named self.old.places name.now ≡ None }
-        ensures ok { IfOk result (λ a. (a, self.new) ≡
-            mq_create self.old pid name.now (max_messages, message_size) flags (free_descriptor_of self.old.processes pid)) }
-        ensures count { length self.new.processes ≡ length self.old.processes }
-        ensures err { OnErr result (self.new ≡ self.old) }
+        requires absent { queue_named self.now.places name.now ≡ None }
+        ensures given { given self.now pid result ≡
+            mq_create self.now pid name.now (max_messages, message_size) flags (free_descriptor_of self.now.processes pid) }
+        ensures possible { IsPossible self.now result }
     {
         let Some(mqd) = self.processes.free_descriptor(pid) else {
-            return Ok(refusal(Errno::TooManyOpen));
+            return Decision::Refused(Errno::TooManyOpen);
         };
         let Some(place) = self.places.first_empty() else {
-            return Ok(refusal(Errno::NoSpace));
+            return Decision::Refused(Errno::NoSpace);
         };
-        self.places
-            .put_queue(place, name, max_messages, message_size)?;
-        self.processes
-            .set_descriptor(pid, mqd, Some(descriptor_for(place, flags)));
-        Ok(Answer::Done(Reply::Plain(mqd as u16)))
+        let new = NewQueue {
+            name,
+            max_messages,
+            message_size,
+            mqd,
+            held: descriptor_for(place, flags),
+        };
+        Decision::Answered(Reply::Plain(mqd as u16), Change::MakeQueue(new))
     }
 
     /// Opens the queue in a place on a new descriptor.
-    #[tactic(auto, using(crate::proofs::KernelLemmas::settled_new_descriptor))]
-    fn new_descriptor(&mut self, pid: usize, place: u8, flags: Flags) -> Answer
-        requires process { pid < length self.old.processes }
+    fn decide_new_descriptor<'a>(&self, pid: usize, place: u8, flags: Flags) -> Decision<'a>
+        requires process { pid < length self.now.processes }
         requires place { place < object_places }
-        ensures answered { (result, self.new) ≡
-            new_descriptor self.old pid place flags (free_descriptor_of self.old.processes pid) }
-        ensures count { length self.new.processes ≡ length self.old.processes }
+        ensures given { given self.now pid result ≡
+            new_descriptor self.now pid place flags (free_descriptor_of self.now.processes pid) }
+        ensures possible { IsPossible self.now result }
     {
         match self.processes.free_descriptor(pid) {
-            None => refusal(Errno::TooManyOpen),
+            None => Decision::Refused(Errno::TooManyOpen),
             Some(mqd) => {
-                self.processes
-                    .set_descriptor(pid, mqd, Some(descriptor_for(place, flags)));
-                Answer::Done(Reply::Plain(mqd as u16))
+                let held = Some(descriptor_for(place, flags));
+                Decision::Answered(
+                    Reply::Plain(mqd as u16),
+                    Change::HoldDescriptor { mqd, held },
+                )
             }
         }
     }
 
-    #[tactic(auto, using(crate::proofs::KernelLemmas::settled_after))]
-    pub(super) fn mq_close(&mut self, pid: usize, mqd: u16) -> Answer
-        requires { pid < length self.old.processes }
-        ensures answered { (result, self.new) ≡ mq_close self.old pid mqd (descriptor_of self.old.processes pid mqd) }
-        ensures count { length self.new.processes ≡ length self.old.processes }
+    pub(super) fn decide_close<'a>(&self, pid: usize, mqd: u16) -> Decision<'a>
+        requires { pid < length self.now.processes }
+        ensures given { given self.now pid result ≡ mq_close self.now pid mqd (descriptor_of self.now.processes pid mqd) }
+        ensures possible { IsPossible self.now result }
+        ensures memory { takes_memory result ≡ false }
     {
         match self.processes.descriptor(pid, mqd) {
-            None => refusal(Errno::BadDescriptor),
+            None => Decision::Refused(Errno::BadDescriptor),
             Some(_) => {
-                self.processes.set_descriptor(pid, mqd as usize, None);
-                self.places.empty_unused(&self.processes);
-                zero()
+                let mqd = mqd as usize;
+                Decision::Answered(Reply::Plain(0), Change::HoldDescriptor { mqd, held: None })
             }
         }
     }
 
-    #[tactic(auto, using(crate::proofs::KernelLemmas::settled_after))]
-    pub(super) fn mq_unlink(&mut self, name: &Name) -> Answer
-        ensures answered { (result, self.new) ≡ unlink self.old (queue_named self.old.places name.now) }
-        ensures count { length self.new.processes ≡ length self.old.processes }
+    pub(super) fn decide_unlink<'a>(&self, name: &'a Name) -> Decision<'a>
+        ensures given { (p : ℕ) → given self.now p result ≡ unlink self.now (queue_named self.now.places name.now) }
+        ensures possible { IsPossible self.now result }
+        ensures memory { takes_memory result ≡ false }
     {
-        match self.places.unname_queue(name) {
-            None => refusal(Errno::NoEntry),
-            Some(_) => {
-                self.places.empty_unused(&self.processes);
-                zero()
+        match self.places.find_queue(name) {
+            None => Decision::Refused(Errno::NoEntry),
+            Some(place) => {
+                Decision::Answered(Reply::Plain(0), Change::UnnameQueue { place, name })
             }
         }
     }
 
-    #[tactic(auto, using(crate::proofs::KernelLemmas::settled_with_queue))]
-    pub(super) fn mq_send(
-        &mut self,
+    pub(super) fn decide_send<'a>(
+        &self,
         pid: usize,
         mqd: u16,
-        words: &Words,
+        words: &'a Words,
         prio: u16,
-    ) -> Result<Answer, AllocError>
-        requires { pid < length self.old.processes }
-        ensures ok { IfOk result (λ a. (a, self.new) ≡ mq_send self.old prio words.now (open_queue self.old pid mqd)) }
-        ensures count { length self.new.processes ≡ length self.old.processes }
-        ensures err { OnErr result (self.new ≡ self.old) }
+    ) -> Decision<'a>
+        requires { pid < length self.now.processes }
+        ensures given { given self.now pid result ≡ mq_send self.now prio words.now (open_queue self.now pid mqd) }
+        ensures possible { IsPossible self.now result }
     {
         let Some((descriptor, queue)) = self.open_queue(pid, mqd) else {
-            return Ok(refusal(Errno::BadDescriptor));
+            return Decision::Refused(Errno::BadDescriptor);
         };
         let (max, size, count) = queue.attr();
         if descriptor.access == 0 {
-            return Ok(refusal(Errno::BadDescriptor));
+            return Decision::Refused(Errno::BadDescriptor);
         }
         if prio >= PRIORITY_COUNT {
-            return Ok(refusal(Errno::Invalid));
+            return Decision::Refused(Errno::Invalid);
         }
         if words.len() > size as usize {
-            return Ok(refusal(Errno::MessageSize));
+            return Decision::Refused(Errno::MessageSize);
         }
         if count >= max {
-            return Ok(block(descriptor));
+            return block(descriptor);
         }
-        let copy = words.copy(self.alloc)?;
-        self.places.send(descriptor.place, prio, copy.into_vec())?;
-        Ok(zero())
+        let place = descriptor.place;
+        Decision::Answered(Reply::Plain(0), Change::Send { place, words, prio })
     }
 
-    #[tactic(auto, using(crate::proofs::KernelLemmas::settled_with_queue))]
-    pub(super) fn mq_receive(&mut self, pid: usize, mqd: u16, len: u16) -> Answer
-        requires { pid < length self.old.processes }
-        ensures answered { (result, self.new) ≡ mq_receive self.old len (open_queue self.old pid mqd) }
-        ensures count { length self.new.processes ≡ length self.old.processes }
-        ensures size { message_length result ≤ len }
-        ensures limit { message_length result ≤ mq_msgsize_max }
+    #[tactic(auto, using(crate::proofs::AnswerLemmas::first_short))]
+    pub(super) fn decide_receive<'a>(&self, pid: usize, mqd: u16, len: u16) -> Decision<'a>
+        requires { pid < length self.now.processes }
+        ensures given { given self.now pid result ≡ mq_receive self.now len (open_queue self.now pid mqd) }
+        ensures possible { IsPossible self.now result }
+        ensures memory { takes_memory result ≡ false }
+        ensures size { message_length (given self.now pid result).0 ≤ len }
+        ensures limit { message_length (given self.now pid result).0 ≤ mq_msgsize_max }
     {
         let Some((descriptor, queue)) = self.open_queue(pid, mqd) else {
-            return refusal(Errno::BadDescriptor);
+            return Decision::Refused(Errno::BadDescriptor);
         };
         let (_, size, count) = queue.attr();
         if descriptor.access == 1 {
-            return refusal(Errno::BadDescriptor);
+            return Decision::Refused(Errno::BadDescriptor);
         }
         if len < size {
-            return refusal(Errno::MessageSize);
+            return Decision::Refused(Errno::MessageSize);
         }
         if count == 0 {
             return block(descriptor);
         }
-        let (prio, words) = self.places.receive(descriptor.place);
-        Answer::Done(Reply::Message {
-            words: Words::from_vec(words),
-            prio,
-        })
+        Decision::Receives(descriptor.place)
     }
 
-    pub(super) fn mq_getattr(&self, pid: usize, mqd: u16) -> Answer
+    pub(super) fn decide_getattr<'a>(&self, pid: usize, mqd: u16) -> Decision<'a>
         requires { pid < length self.now.processes }
-        ensures answered { (result, self.now) ≡ mq_getattr self.now (open_queue self.now pid mqd) }
+        ensures given { given self.now pid result ≡ mq_getattr self.now (open_queue self.now pid mqd) }
+        ensures possible { IsPossible self.now result }
+        ensures memory { takes_memory result ≡ false }
     {
-        let _ = &self.places;
         match self.open_queue(pid, mqd) {
-            None => refusal(Errno::BadDescriptor),
+            None => Decision::Refused(Errno::BadDescriptor),
             Some((descriptor, queue)) => {
-                Answer::Done(Reply::Attr(attributes(descriptor, queue)))
+                Decision::Answered(Reply::Attr(attributes(descriptor, queue)), Change::Nothing)
             }
         }
     }
 
-    #[tactic(auto, using(crate::proofs::KernelLemmas::settled_other_flag))]
-    pub(super) fn mq_setattr(&mut self, pid: usize, mqd: u16, flags: u16) -> Answer
-        requires { pid < length self.old.processes }
-        ensures answered { (result, self.new) ≡ mq_setattr self.old pid mqd flags (open_queue self.old pid mqd) }
-        ensures count { length self.new.processes ≡ length self.old.processes }
+    pub(super) fn decide_setattr<'a>(&self, pid: usize, mqd: u16, flags: u16) -> Decision<'a>
+        requires { pid < length self.now.processes }
+        ensures given { given self.now pid result ≡ mq_setattr self.now pid mqd flags (open_queue self.now pid mqd) }
+        ensures possible { IsPossible self.now result }
+        ensures memory { takes_memory result ≡ false }
     {
         let Some((descriptor, queue)) = self.open_queue(pid, mqd) else {
-            return refusal(Errno::BadDescriptor);
+            return Decision::Refused(Errno::BadDescriptor);
         };
         if flags & !NONBLOCK != 0 {
-            return refusal(Errno::Invalid);
+            return Decision::Refused(Errno::Invalid);
         }
-        let attributes = attributes(descriptor, queue);
-        let changed = Descriptor {
+        let held = Some(Descriptor {
             nonblock: flags & NONBLOCK != 0,
             ..descriptor
-        };
-        self.processes
-            .set_descriptor(pid, mqd as usize, Some(changed));
-        Answer::Done(Reply::Attr(attributes))
+        });
+        let mqd = mqd as usize;
+        Decision::Answered(
+            Reply::Attr(attributes(descriptor, queue)),
+            Change::HoldDescriptor { mqd, held },
+        )
     }
 }

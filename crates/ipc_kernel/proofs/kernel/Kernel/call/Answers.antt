@@ -1,8 +1,7 @@
-use Rattle.ipc_kernel.proofs.LawfulAnswers.{given_form, answer_given}
+use Rattle.ipc_kernel.proofs.LawfulAnswers.{carried_form}
 use Rattle.ipc_kernel.proofs.kernel.Kernel.call.Goals as goal
 
 pub returns-clause-form : goal.returns-clause-form
 returns-clause-form c =
-    given_form c.dispatch-answer.result c.args.self.now c.args.pid c.args.call.now
-    (answer_given c.dispatch-answer.result c.args.self.now c.dispatch-answer.new.self c.args.pid c.args.call.now c.dispatch-answer.ensures.answered)
-    c.dispatch-answer.ensures.size c.dispatch-answer.ensures.limit
+    carried_form c.carry_out-answer.result c.args.self.now c.carry_out-answer.new.self c.args.pid c.args.call.now c.decide-decision.result
+    c.decide-decision.ensures.given c.decide-decision.ensures.size c.decide-decision.ensures.limit c.carry_out-answer.ensures.given

@@ -6,6 +6,6 @@ use Rattle.ipc_kernel.proofs.places.Places.send.Goals as goal
 pub invariant_of-self : goal.invariant_of-self
 invariant_of-self c =
     indexed_sent c.send_at.result c.self.inside.places.items _ c.self.inside.queue_names c.self.inside.semaphore_names c.args.place
-    (λ q. (length q.messages < q.max_messages) × (length c.args.words.items ≤ q.message_size))
-    (λ q. record q { messages = sent (record { priority = c.args.priority; words = c.args.words.items }) q.messages })
+    (λ q. (length q.messages < q.max_messages) × (length c.args.words.now ≤ q.message_size))
+    (λ q. record q { messages = sent (record { priority = c.args.priority; words = c.args.words.now }) q.messages })
     c.self.invariant (rw (← c.self.view_is) at c.requires.queue) c.send_at.ensures.ok c.send_at.ensures.err

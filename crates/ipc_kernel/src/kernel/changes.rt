@@ -1,0 +1,148 @@
+//! How a decision is carried out, and what it would be answered.
+ghost use Rattle.std.specs.Prelude.{◌≡◌, ℕ, ◌<◌, length, IfOk, OnOk, OnErr, IsErr, IsSomeAnd, IsTrue};
+ghost use Rattle.ipc_kernel.specs.Decisions.{given, changed, CanChange, IsPossible, grows, takes_memory, is_received, queue_at, first_of};
+ghost use Rattle.ipc_kernel.specs.Outcomes.{completion};
+ghost use Rattle.ipc_kernel.specs.Places.{place_at, queue_in, HasMessage};
+ghost use Rattle.ipc_kernel.specs.declared.kernel.decision.Decision.TheVariants.{Receives};
+ghost use Rattle.ipc_kernel.specs.declared.call.Reply.{Reply};
+ghost use Rattle.ipc_kernel.specs.declared.call.Answer.TheVariants.{Done};
+
+use super::decision::{Change, Decision};
+use super::{Kernel, refusal};
+use crate::places::Places;
+use crate::processes::Processes;
+use crate::{Answer, Reply, Slot};
+use ipc_objects::Words;
+use std::alloc::{AllocError, Global};
+
+/// Makes a change by a process. Where memory is refused nothing has changed.
+fn make(
+    places: &mut Places,
+    processes: &mut Processes,
+    pid: usize,
+    change: Change<'_>,
+) -> Result<(), AllocError>
+    requires process { pid < length processes.old }
+    requires possible { CanChange (record { places = places.old; processes = processes.old }) change }
+    ensures ok { OnOk result (record { places = places.new; processes = processes.new } ≡
+        changed (record { places = places.old; processes = processes.old }) pid change.entry) }
+    ensures same_places { OnErr result (places.new ≡ places.old) }
+    ensures same_processes { OnErr result (processes.new ≡ processes.old) }
+    ensures memory { IsErr result → IsTrue (grows change.entry) }
+    ensures count { length processes.new ≡ length processes.old }
+{
+    match change {
+        Change::Nothing => {}
+        Change::HoldDescriptor { mqd, held } => processes.set_descriptor(pid, mqd, held),
+        Change::HoldSlot { slot, held } => processes.set_slot(pid, slot, held),
+        Change::MakeQueue(new) => {
+            places.put_queue(new.held.place, new.name, new.max_messages, new.message_size)?;
+            processes.set_descriptor(pid, new.mqd, Some(new.held));
+        }
+        Change::MakeSemaphore(new) => {
+            let place = new.place;
+            places.put_semaphore(place, new.name, new.value)?;
+            processes.set_slot(pid, new.slot, Some(Slot { place, opens: 1 }));
+        }
+        Change::UnnameQueue { name, .. } => {
+            places.unname_queue(name);
+        }
+        Change::UnnameSemaphore { name, .. } => {
+            places.unname_semaphore(name);
+        }
+        Change::Send { place, words, prio } => places.send(place, prio, words)?,
+        Change::Take { place, value } => places.take(place, value),
+        Change::Post { place, value } => places.post(place, value),
+        Change::CloseAll => processes.close_all(pid),
+    }
+    Ok(())
+}
+
+impl Kernel {
+    /// Carries out a decision. Where memory is refused nothing has changed.
+    pub(super) fn carry_out(
+        &mut self,
+        pid: usize,
+        decision: Decision<'_>,
+    ) -> Result<Answer, AllocError>
+        requires process { pid < length self.old.processes }
+        requires possible { IsPossible self.old decision }
+        ensures given { IfOk result (λ a. (a, self.new) ≡ given self.old pid decision.entry) }
+        ensures err { OnErr result (self.new ≡ self.old) }
+        ensures memory { IsErr result → IsTrue (takes_memory decision.entry) }
+        ensures count { length self.new.processes ≡ length self.old.processes }
+    {
+        match decision {
+            Decision::Refused(errno) => Ok(refusal(errno)),
+            Decision::Waits => Ok(Answer::Wait),
+            Decision::Receives(place) => Ok(Answer::Done(self.receive(place))),
+            Decision::Answered(reply, change) => {
+                self.change(pid, change)?;
+                Ok(Answer::Done(reply))
+            }
+        }
+    }
+
+    /// Makes a change by a process, and empties each place that nothing keeps.
+    #[tactic(auto, using(crate::proofs::KernelLemmas::settled_after))]
+    fn change(&mut self, pid: usize, change: Change<'_>) -> Result<(), AllocError>
+        requires process { pid < length self.old.processes }
+        requires possible { CanChange self.old change }
+        ensures ok { (r : Reply) → OnOk result ((Done r, self.new) ≡ completion (changed self.old pid change.entry) r) }
+        ensures err { OnErr result (self.new ≡ self.old) }
+        ensures memory { IsErr result → IsTrue (grows change.entry) }
+        ensures count { length self.new.processes ≡ length self.old.processes }
+    {
+        make(&mut self.places, &mut self.processes, pid, change)?;
+        self.places.empty_unused(&self.processes);
+        Ok(())
+    }
+
+    /// Takes the first message from the queue in a place.
+    #[tactic(auto, using(crate::proofs::KernelLemmas::settled_after, crate::proofs::AnswerLemmas::received_first))]
+    fn receive(&mut self, place: u8) -> Reply
+        requires { IsSomeAnd (queue_in (place_at self.old.places place)) HasMessage }
+        ensures given { (p : ℕ) → (Done result, self.new) ≡ given self.old p (Receives place) }
+        ensures count { length self.new.processes ≡ length self.old.processes }
+    {
+        let (prio, words) = self.places.receive(place);
+        self.places.empty_unused(&self.processes);
+        Reply::Message {
+            words: Words::from_vec(words),
+            prio,
+        }
+    }
+
+    /// What a decision answers. Only the copy of a message takes memory.
+    pub(super) fn preview(
+        &self,
+        alloc: Global,
+        decision: Decision<'_>,
+    ) -> Result<Answer, AllocError>
+        requires { IsPossible self.now decision }
+        ensures given { (p : ℕ) → IfOk result (λ a. a ≡ (given self.now p decision.entry).0) }
+        ensures memory { IsErr result → IsTrue (is_received decision.entry) }
+    {
+        match decision {
+            Decision::Refused(errno) => Ok(refusal(errno)),
+            Decision::Waits => Ok(Answer::Wait),
+            Decision::Receives(place) => Ok(Answer::Done(self.first_message(alloc, place)?)),
+            Decision::Answered(reply, _) => Ok(Answer::Done(reply)),
+        }
+    }
+
+    /// A copy of the first message of the queue in a place.
+    fn first_message(&self, alloc: Global, place: u8) -> Result<Reply, AllocError>
+        requires { IsSomeAnd (queue_in (place_at self.now.places place)) HasMessage }
+        ensures { IfOk result (λ r. r ≡ first_of (queue_at self.now place).messages) }
+    {
+        let Some(queue) = self.places.queue(place) else {
+            unreachable!();
+        };
+        let Some((prio, words)) = queue.entry(0) else {
+            unreachable!();
+        };
+        let words = Words::from_vec(Vec::from_slice(alloc, words)?);
+        Ok(Reply::Message { words, prio })
+    }
+}

@@ -1,0 +1,104 @@
+//! What a call is answered now, and what that changes.
+ghost use Rattle.std.specs.Prelude.{◌≡◌, ℕ, false};
+ghost use Rattle.ipc_kernel.specs.Kernel.{KernelState};
+ghost use Rattle.ipc_kernel.specs.Outcomes.{blocked};
+ghost use Rattle.ipc_kernel.specs.Decisions.{given, IsPossible, takes_memory};
+ghost use Rattle.ipc_kernel.specs.Replies.{message_length};
+
+use crate::{Descriptor, Reply, Slot};
+use ipc_names::{Errno, Name};
+use ipc_objects::Words;
+
+/// A new queue, with the descriptor on which it is open.
+#[derive(Clone, Copy)]
+pub(super) struct NewQueue<'a> {
+    pub(super) name: &'a Name,
+    pub(super) max_messages: u16,
+    pub(super) message_size: u16,
+    pub(super) mqd: usize,
+    pub(super) held: Descriptor,
+}
+
+/// A new semaphore, with the slot on which it is open.
+#[derive(Clone, Copy)]
+pub(super) struct NewSemaphore<'a> {
+    pub(super) name: &'a Name,
+    pub(super) value: u16,
+    pub(super) slot: usize,
+    pub(super) place: u8,
+}
+
+/// What an answered call changes.
+#[derive(Clone, Copy)]
+pub(super) enum Change<'a> {
+    Nothing,
+    /// Another state of a descriptor of the process.
+    HoldDescriptor {
+        mqd: usize,
+        held: Option<Descriptor>,
+    },
+    /// Another state of a slot of the process.
+    HoldSlot {
+        slot: usize,
+        held: Option<Slot>,
+    },
+    /// A new queue, open on a descriptor.
+    MakeQueue(NewQueue<'a>),
+    /// A new semaphore, open on a slot.
+    MakeSemaphore(NewSemaphore<'a>),
+    /// The queue in a place loses its name.
+    UnnameQueue {
+        place: u8,
+        name: &'a Name,
+    },
+    /// The semaphore in a place loses its name.
+    UnnameSemaphore {
+        place: u8,
+        name: &'a Name,
+    },
+    /// A message more in the queue in a place.
+    Send {
+        place: u8,
+        words: &'a Words,
+        prio: u16,
+    },
+    /// One less than this value of the semaphore in a place.
+    Take {
+        place: u8,
+        value: u16,
+    },
+    /// One more than this value of the semaphore in a place.
+    Post {
+        place: u8,
+        value: u16,
+    },
+    /// The process has nothing open.
+    CloseAll,
+}
+
+/// What becomes of a call.
+#[derive(Drop)]
+pub(super) enum Decision<'a> {
+    /// It is refused, and nothing changes.
+    Refused(Errno),
+    /// It must wait, and nothing changes.
+    Waits,
+    /// It takes the first message of the queue in a place.
+    Receives(u8),
+    /// It is answered, with a change.
+    Answered(Reply, Change<'a>),
+}
+
+/// What becomes of a call that finds its queue full or empty.
+pub(super) fn block<'a>(descriptor: Descriptor) -> Decision<'a>
+    ensures given { (k : KernelState) (p : ℕ) → given k p result ≡ blocked k descriptor }
+    ensures possible { (k : KernelState) → IsPossible k result }
+    ensures memory { takes_memory result ≡ false }
+    ensures length { (k : KernelState) (p : ℕ) → message_length (given k p result).0 ≡ 0 }
+{
+    if descriptor.nonblock {
+        Decision::Refused(Errno::Again)
+    } else {
+        Decision::Waits
+    }
+}
