@@ -21,6 +21,7 @@ const O_CREAT: u16 = 0x40;
 /// What a process asks of the kernel by the trap that it stands before, or the refusal; a process at its end asks for
 /// `Exit`. The arguments are as they stand in the registers and in memory, not yet tested. An error is want of memory.
 #[tactic(auto, unfolding(crate::specs::Asked::asked))]
+#[inline(always)]
 pub fn read_call(alloc: Global, call: &AtCall) -> Result<Asked, AllocError>
     ensures asked { IfOk result (λ a. IsAsked (asked call.now.process) a) }
     ensures trap { AsksTrap call.now.process → IfOk result (λ a. asked call.now.process ≡ request_of a) }
@@ -33,6 +34,7 @@ pub fn read_call(alloc: Global, call: &AtCall) -> Result<Asked, AllocError>
 
 /// What the trap with this vector asks for.
 #[tactic(auto, unfolding(crate::specs::Asked::trap_asks))]
+#[inline(always)]
 fn read_trap(alloc: Global, call: &AtCall, vector: u8) -> Result<Asked, AllocError>
     ensures { IfOk result (λ a. request_of a ≡ trap_asks vector call.now.process) }
 {

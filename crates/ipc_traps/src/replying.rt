@@ -34,6 +34,7 @@ fn four_words_go(call: &AtCall) -> Option<u16>
 
 /// What a reply does to the process that made the call: `finish` with this effect is the reply.
 #[tactic(auto, unfolding(crate::specs::Reply::replied, crate::specs::Reply::HasRoom))]
+#[inline(always)]
 pub fn effect_of(call: &AtCall, reply: Reply) -> Effect
     ensures effect { answered call.now.process result ≡ replied call.now.process reply }
     ensures room { HasRoom call.now reply → CanTake call.now.ready result }
@@ -60,6 +61,7 @@ pub fn effect_of(call: &AtCall, reply: Reply) -> Effect
 /// Makes writable each word that a reply to the call may write, of a buffer for a message the first 256 words at most.
 /// An error is want of memory: some of the words may be writable then.
 #[tactic(auto, unfolding(crate::specs::Reply::IsPrepared, crate::specs::Reply::HasRoom, crate::specs::Asked::asked, crate::specs::Asked::trap_asks))]
+#[inline(always)]
 pub fn prepare(call: &mut AtCall) -> Result<(), AllocError>
     ensures process { call.new.process ≡ call.old.process }
     ensures ready { StaysReady call.old.ready call.new.ready }

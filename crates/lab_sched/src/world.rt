@@ -49,6 +49,7 @@ impl Model for World {
 }
 
 /// Puts a process back into a list from which one was taken.
+#[inline(always)]
 fn put_back(processes: &mut Vec<Process>, pid: usize, process: Process)
     requires within { pid ≤ length processes.old.items }
     requires room { vec_len processes.old < vec_capacity processes.old }

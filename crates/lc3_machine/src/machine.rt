@@ -13,7 +13,7 @@ use crate::input::Input;
 use crate::memory::Memory;
 use crate::registers::Registers;
 use crate::want::{How, Want};
-use lc3_word::{Cc, Reg, add};
+use lc3_word::{Cc, Reg, add, cc_of};
 use std::alloc::{AllocError, Global};
 use std::marker::Model;
 
@@ -22,7 +22,8 @@ use std::marker::Model;
 pub(crate) struct Machine {
     regs: Registers,
     pc: u16,
-    cc: Cc,
+    /// The word that the condition code is set from.
+    result: u16,
     memory: Memory,
     input: Input,
     output: Vec<u8>,
@@ -39,6 +40,7 @@ impl Model for Machine {
 }
 
 /// What a local step did.
+#[derive(Clone, Copy)]
 pub(crate) enum Progress {
     /// The instruction is done.
     Moved,
@@ -50,6 +52,7 @@ pub(crate) enum Progress {
 
 impl Machine {
     /// A process at its start.
+    #[tactic(auto, unfolding(crate::specs::Process::cc_of))]
     pub(crate) fn load(
         alloc: Global,
         origin: u16,
@@ -62,7 +65,7 @@ impl Machine {
         Ok(Machine {
             regs: Registers::new(),
             pc: origin,
-            cc: Cc::Z,
+            result: 0,
             memory: Memory::load(alloc, origin, words)?,
             input: Input::new(alloc, input)?,
             output: Vec::new(alloc),
@@ -70,6 +73,7 @@ impl Machine {
     }
 
     /// What a register holds.
+    #[inline(always)]
     pub(crate) fn reg(&self, r: Reg) -> u16
         ensures value { result ≡ reg self.now.process r }
     {
@@ -84,10 +88,12 @@ impl Machine {
     }
 
     /// The condition code that is set.
+    #[inline(always)]
+    #[tactic(auto, unfolding(crate::specs::Process::cc_of))]
     pub(crate) fn cc(&self) -> Cc
         ensures value { result ≡ self.now.process.cc }
     {
-        self.cc
+        cc_of(self.result)
     }
 
     /// The word at an address.
@@ -130,6 +136,7 @@ impl Machine {
     }
 
     /// Answers the call that the process stands before.
+    #[inline(always)]
     pub(crate) fn answer(&mut self, effect: Effect)
         requires room { CanTake self.old.ready effect }
         ensures answered { self.new.process ≡ answered self.old.process effect }
@@ -174,6 +181,7 @@ impl Machine {
     }
 
     /// The incremented program counter.
+    #[inline(always)]
     fn next_pc(&self) -> u16
         ensures { result ≡ next_pc self.now.process }
     {
@@ -181,6 +189,7 @@ impl Machine {
     }
 
     /// The address at an offset from the incremented program counter.
+    #[inline(always)]
     fn target(&self, offset: u16) -> u16
         ensures { result ≡ word_sum (next_pc self.now.process) offset }
     {
@@ -188,6 +197,7 @@ impl Machine {
     }
 
     /// The address at an offset from the one in a register.
+    #[inline(always)]
     fn at(&self, base: Reg, offset: u16) -> u16
         ensures { result ≡ word_sum (reg self.now.process base) offset }
     {
@@ -195,6 +205,7 @@ impl Machine {
     }
 
     /// Goes on at the next instruction.
+    #[inline(always)]
     fn advance(&mut self)
         ensures { self.new.process ≡ advanced self.old.process }
     {
@@ -202,6 +213,7 @@ impl Machine {
     }
 
     /// Goes on after a trap, whose next address stands in R7.
+    #[inline(always)]
     fn return_from_trap(&mut self)
         ensures { self.new.process ≡ returned self.old.process }
     {

@@ -57,6 +57,7 @@ impl Memory {
     }
 
     /// The word at an address.
+    #[inline(always)]
     pub(crate) fn get(&self, address: u16) -> u16
         ensures word { result ≡ slice_index self.now.words address }
         ensures whole { length self.now.words ≡ 65536 }
@@ -66,6 +67,7 @@ impl Memory {
     }
 
     /// Writes the word at an address; where memory is refused nothing has changed.
+    #[inline(always)]
     pub(crate) fn set(&mut self, address: u16, word: u16) -> Result<(), AllocError>
         ensures ok { OnOk result (self.new.words ≡ slice_set self.old.words address word) }
         ensures err { OnErr result (self.new.words ≡ self.old.words) }

@@ -43,6 +43,7 @@ impl Page {
     }
 
     /// The word at a place.
+    #[inline(always)]
     pub(crate) fn get(&self, place: usize) -> u16
         requires place { place < 256 }
         ensures word { result ≡ slice_index self.now.words place }
@@ -63,6 +64,7 @@ impl Page {
     }
 
     /// Makes the page, so that it can be written; what it holds stays the same.
+    #[inline(always)]
     pub(crate) fn make(&mut self) -> Result<(), AllocError>
         ensures words { self.new.words ≡ self.old.words }
         ensures ok { OnOk result (self.new.made ≡ true) }
@@ -77,6 +79,7 @@ impl Page {
     }
 
     /// Writes the word at a place; where memory is refused nothing has changed.
+    #[inline(always)]
     pub(crate) fn set(&mut self, place: usize, word: u16) -> Result<(), AllocError>
         requires place { place < 256 }
         ensures ok { OnOk result (self.new.words ≡ slice_set self.old.words place word) }

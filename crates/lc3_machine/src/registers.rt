@@ -26,6 +26,7 @@ impl Registers {
     }
 
     /// What a register holds.
+    #[inline(always)]
     pub(crate) fn get(&self, number: u8) -> u16
         requires number { number < 8 }
         ensures word { result ≡ slice_index self.now number }
@@ -34,6 +35,7 @@ impl Registers {
     }
 
     /// Writes a register.
+    #[inline(always)]
     pub(crate) fn set(&mut self, number: u8, word: u16)
         requires number { number < 8 }
         ensures word { self.new ≡ slice_set self.old number word }

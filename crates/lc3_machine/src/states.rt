@@ -13,7 +13,7 @@ use std::marker::Model;
 /// A process that runs.
 #[derive(Drop)]
 pub struct Running {
-    machine: Machine,
+    machine: Box<Machine>,
 }
 
 impl Model for Running {
@@ -21,13 +21,13 @@ impl Model for Running {
 
     ghost Value = { Process };
 
-    ghost view = { λ r. r.machine.process };
+    ghost view = { λ r. r.machine.value.process };
 }
 
 /// A process whose next instruction is a trap of the kernel, or its end. Nothing of that instruction is done.
 #[derive(Drop)]
 pub struct AtCall {
-    machine: Machine,
+    machine: Box<Machine>,
     want: Want,
 }
 
@@ -38,9 +38,9 @@ impl Model for AtCall {
 
     ghost Value = { Held };
 
-    ghost view = { λ a. a.machine };
+    ghost view = { λ a. a.machine.value };
 
-    ghost invariant = { λ a. next_step a.machine.process ≡ Stops a.want };
+    ghost invariant = { λ a. next_step a.machine.value.process ≡ Stops a.want };
 }
 
 /// A process that waits for the answer of the trap that it stands before.
@@ -63,7 +63,7 @@ impl Model for Waiting {
 /// A process that has ended.
 #[derive(Drop)]
 pub struct Ended {
-    machine: Machine,
+    machine: Box<Machine>,
     how: How,
 }
 
@@ -72,7 +72,7 @@ impl Model for Ended {
 
     ghost Value = { EndedProcess };
 
-    ghost view = { λ e. record { process = e.machine.process; how = e.how } };
+    ghost view = { λ e. record { process = e.machine.value.process; how = e.how } };
 }
 
 /// What local steps of a process lead to.

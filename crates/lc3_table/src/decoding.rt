@@ -11,6 +11,7 @@ use lc3_word::{Off, Reg};
 
 /// The instruction with this word, if there is one: a word whose fixed bits differ from its row of the instruction
 /// table, one of opcode 1101 among them, is no instruction (Patt and Patel, appendix A.3).
+#[inline(always)]
 pub fn decode(word: u16) -> Option<Instr>
     ensures found { IfSome result (λ i. word_of i ≡ word) }
     ensures in_range { IfSome result (λ i. IsInstruction i) }
@@ -21,6 +22,7 @@ pub fn decode(word: u16) -> Option<Instr>
 }
 
 /// The second operand of ADD and AND in the low six bits.
+#[inline(always)]
 fn operand(word: u16) -> Option<Operand>
     ensures found { IfSome result (λ o. operand_bits o ≡ word % 64) }
     ensures in_range { IfSome result (λ o. IsOperand o) }
@@ -35,6 +37,7 @@ fn operand(word: u16) -> Option<Operand>
     }
 }
 
+#[inline(always)]
 fn branch(word: u16) -> Instr
     requires { word / 4096 ≡ 0 }
     ensures found { word_of result ≡ word }
@@ -49,6 +52,7 @@ fn branch(word: u16) -> Instr
 }
 
 /// JSR or JSRR.
+#[inline(always)]
 fn subroutine(word: u16) -> Option<Instr>
     requires { word / 4096 ≡ 4 }
     ensures found { IfSome result (λ i. word_of i ≡ word) }
@@ -66,6 +70,7 @@ fn subroutine(word: u16) -> Option<Instr>
     }
 }
 
+#[inline(always)]
 fn return_from_interrupt(word: u16) -> Option<Instr>
     requires { word / 4096 ≡ 8 }
     ensures found { IfSome result (λ i. word_of i ≡ word) }
@@ -79,6 +84,7 @@ fn return_from_interrupt(word: u16) -> Option<Instr>
     }
 }
 
+#[inline(always)]
 fn complement(word: u16) -> Option<Instr>
     requires { word / 4096 ≡ 9 }
     ensures found { IfSome result (λ i. word_of i ≡ word) }
@@ -94,6 +100,7 @@ fn complement(word: u16) -> Option<Instr>
     }
 }
 
+#[inline(always)]
 fn jump(word: u16) -> Option<Instr>
     requires { word / 4096 ≡ 12 }
     ensures found { IfSome result (λ i. word_of i ≡ word) }
@@ -108,6 +115,7 @@ fn jump(word: u16) -> Option<Instr>
     }
 }
 
+#[inline(always)]
 fn trap(word: u16) -> Option<Instr>
     requires { word / 4096 ≡ 15 }
     ensures found { IfSome result (λ i. word_of i ≡ word) }
@@ -122,42 +130,67 @@ fn trap(word: u16) -> Option<Instr>
     }
 }
 
+#[inline(always)]
 fn instruction(word: u16) -> Option<Instr>
     ensures found { IfSome result (λ i. word_of i ≡ word) }
     ensures in_range { IfSome result (λ i. IsInstruction i) }
     ensures none { IfNone result ((i : Instr) → IsInstruction i → word_of i ≢ word) }
 {
-    let dr = Reg::of_low_bits(word >> 9);
-    let base = Reg::of_low_bits(word >> 6);
-    let (sr, sr1) = (dr, base);
-    let offset = Off::of_low_bits(word);
     match word >> 12 {
         0 => Some(branch(word)),
         1 => {
+            let dr = Reg::of_low_bits(word >> 9);
+            let sr1 = Reg::of_low_bits(word >> 6);
             let operand = operand(word)?;
             Some(Instr::Add { dr, sr1, operand })
         }
-        2 => Some(Instr::Ld { dr, offset }),
-        3 => Some(Instr::St { sr, offset }),
+        2 => {
+            let dr = Reg::of_low_bits(word >> 9);
+            let offset = Off::of_low_bits(word);
+            Some(Instr::Ld { dr, offset })
+        }
+        3 => {
+            let sr = Reg::of_low_bits(word >> 9);
+            let offset = Off::of_low_bits(word);
+            Some(Instr::St { sr, offset })
+        }
         4 => subroutine(word),
         5 => {
+            let dr = Reg::of_low_bits(word >> 9);
+            let sr1 = Reg::of_low_bits(word >> 6);
             let operand = operand(word)?;
             Some(Instr::And { dr, sr1, operand })
         }
         6 => {
+            let dr = Reg::of_low_bits(word >> 9);
+            let base = Reg::of_low_bits(word >> 6);
             let offset = Off::of_low_bits(word);
             Some(Instr::Ldr { dr, base, offset })
         }
         7 => {
+            let sr = Reg::of_low_bits(word >> 9);
+            let base = Reg::of_low_bits(word >> 6);
             let offset = Off::of_low_bits(word);
             Some(Instr::Str { sr, base, offset })
         }
         8 => return_from_interrupt(word),
         9 => complement(word),
-        10 => Some(Instr::Ldi { dr, offset }),
-        11 => Some(Instr::Sti { sr, offset }),
+        10 => {
+            let dr = Reg::of_low_bits(word >> 9);
+            let offset = Off::of_low_bits(word);
+            Some(Instr::Ldi { dr, offset })
+        }
+        11 => {
+            let sr = Reg::of_low_bits(word >> 9);
+            let offset = Off::of_low_bits(word);
+            Some(Instr::Sti { sr, offset })
+        }
         12 => jump(word),
-        14 => Some(Instr::Lea { dr, offset }),
+        14 => {
+            let dr = Reg::of_low_bits(word >> 9);
+            let offset = Off::of_low_bits(word);
+            Some(Instr::Lea { dr, offset })
+        }
         15 => trap(word),
         _ => None,
     }

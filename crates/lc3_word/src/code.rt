@@ -13,6 +13,7 @@ pub enum Cc {
 }
 
 /// The condition code for a word that was written to a register: negative, zero or positive as its signed value.
+#[inline(always)]
 pub fn cc_of(word: u16) -> Cc
     ensures code { result ≡ code_of (signed_value 16 word) }
 {

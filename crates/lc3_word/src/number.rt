@@ -41,6 +41,7 @@ impl<const B: u32> Off<B> {
     }
 
     /// The number that the low `B` bits of a word stand for in two's complement; the other bits don't matter.
+    #[inline(always)]
     pub fn of_low_bits(word: u16) -> Self
         requires some_bits { 1 ≤ B }
         requires word { B ≤ 16 }
@@ -60,6 +61,7 @@ impl<const B: u32> Off<B> {
     }
 
     /// The number modulo 2^16: the sign-extended word.
+    #[inline(always)]
     pub fn word(self) -> u16
         ensures value { result ≡ low_bits 16 self.entry }
     {
@@ -85,6 +87,7 @@ impl<const B: u32> fmt::Display for Off<B> {
 }
 
 /// The sum of two words modulo 65,536, as the machine adds them.
+#[inline(always)]
 pub fn add(a: u16, b: u16) -> u16
     ensures sum { result ≡ (a + b) % 65536 }
 {
@@ -93,6 +96,7 @@ pub fn add(a: u16, b: u16) -> u16
 
 /// Sign extension (Patt and Patel, section 2.5): the word whose signed value is the number that the low `B` bits
 /// stand for. `B` is 1 to 16.
+#[inline(always)]
 pub fn sext<const B: u32>(word: u16) -> u16
     requires some_bits { 1 ≤ B }
     requires word { B ≤ 16 }

@@ -36,6 +36,7 @@ impl Reg {
     }
 
     /// The register that the low three bits of a word name; the other bits don't matter.
+    #[inline(always)]
     pub fn of_low_bits(word: u16) -> Self
         ensures number { result ≡ word % 8 }
     {
@@ -45,6 +46,7 @@ impl Reg {
     }
 
     /// The register's number, 0 to 7.
+    #[inline(always)]
     pub fn number(self) -> u8
         ensures value { result ≡ self }
         ensures in_range { self < 8 }

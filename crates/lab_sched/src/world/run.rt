@@ -7,9 +7,8 @@ ghost use Rattle.lab_sched.specs.Segments.{IsAfterLocal};
 ghost use Rattle.lab_sched.specs.declared.stepped.Stepped.TheVariants.{Same};
 ghost use Rattle.lab_sched.specs.declared.world.StepFault.TheVariants.{NoProcess};
 
-use super::{StepFault, World, put_back};
+use super::{StepFault, World};
 use crate::{Process, Schedule, Stepped};
-use lc3_machine::Local;
 
 /// Where a run stopped: the number of steps that were taken, those without effect too, and why the
 /// next one wasn't.
@@ -20,22 +19,15 @@ pub struct RunStop {
 }
 
 /// Takes local steps of a process, at most so many; with how many were taken.
-fn local_steps(process: Process, most: u32) -> (Process, u32)
-    requires held { IsHeld process }
-    ensures local { IsAfterLocal (seen process) result.1 (seen result.0) }
-    ensures held { IsHeld result.0 }
-    ensures within { result.1 ≤ most }
+fn local_steps(process: &mut Process, most: u32) -> u32
+    requires held { IsHeld process.old }
+    ensures local { IsAfterLocal (seen process.old) result (seen process.new) }
+    ensures held { IsHeld process.new }
+    ensures within { result ≤ most }
 {
     match process {
-        Process::Running(running) => {
-            let (local, done) = running.run_local(most);
-            match local {
-                Local::Running(next) => (Process::Running(next), done),
-                Local::AtCall(call) => (Process::Running(call.back()), done),
-                Local::Short(same) => (Process::Running(same), done),
-            }
-        }
-        other => (other, 0),
+        Process::Running(running) => running.advance(most),
+        Process::Waiting(_, _) | Process::Ended(_) => 0,
     }
 }
 
@@ -54,8 +46,8 @@ fn steps_done(stepped: Stepped, most: u32) -> u32
 }
 
 impl World {
-    /// Takes local steps of a process up to its next call, at most `most`, or one step of another
-    /// kind, or `most` steps without effect; with how many were taken.
+    /// Takes local steps of a process up to its next call, and then the step of that call, or steps
+    /// without effect, at most `most` in all; with how many were taken.
     fn advance(&mut self, pid: usize, most: u32) -> Result<u32, StepFault>
         requires some { 1 ≤ most }
         ensures world { IfOk result (λ taken. self.new ≡ run self.old (replicate taken pid)) }
@@ -68,12 +60,12 @@ impl World {
             return Err(StepFault::NoProcess);
         }
         let taken = self.advance_locally(pid, most);
-        if taken > 0 {
+        if taken == most {
             return Ok(taken);
         }
         match self.step(pid) {
-            Ok(stepped) => Ok(steps_done(stepped, most)),
-            Err(fault) => Err(fault),
+            Ok(stepped) => Ok(taken + steps_done(stepped, most - taken)),
+            Err(fault) => { if taken > 0 { Ok(taken) } else { Err(fault) } }
         }
     }
 
@@ -83,10 +75,8 @@ impl World {
         ensures world { self.new ≡ run self.old (replicate result pid) }
         ensures within { result ≤ most }
     {
-        let process = self.processes.remove(pid);
-        let (process, taken) = local_steps(process, most);
-        put_back(&mut self.processes, pid, process);
-        taken
+        let process = &mut self.processes[pid];
+        local_steps(process, most)
     }
 
     /// Takes so many steps of a process.

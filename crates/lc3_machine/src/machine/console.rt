@@ -14,6 +14,7 @@ const PROMPT: &[u8] = b"Input a character> ";
 
 impl Machine {
     /// GETC: the next byte of the input into R0.
+    #[inline(never)]
     fn getc(&mut self) -> Progress
         ensures { CarriedOut (getc self.old.process self.old.process.input) self.old.process result self.new.process }
     {
@@ -28,6 +29,7 @@ impl Machine {
     }
 
     /// OUT: the low byte of R0 to the output.
+    #[inline(never)]
     fn out(&mut self) -> Progress
         ensures { CarriedOut (out self.old.process) self.old.process result self.new.process }
     {
@@ -42,6 +44,7 @@ impl Machine {
     }
 
     /// IN: the next byte of the input into R0, with a prompt before it and its echo.
+    #[inline(never)]
     fn ask(&mut self) -> Progress
         ensures { CarriedOut (prompted self.old.process self.old.process.input) self.old.process result self.new.process }
     {
@@ -63,6 +66,7 @@ impl Machine {
     }
 
     /// PUTS: the low bytes of the string whose address is in R0.
+    #[inline(never)]
     fn puts(&mut self) -> Progress
         ensures { CarriedOut (puts self.old.process) self.old.process result self.new.process }
     {
@@ -79,6 +83,7 @@ impl Machine {
     }
 
     /// PUTSP: both bytes of each word of the string whose address is in R0.
+    #[inline(never)]
     fn putsp(&mut self) -> Progress
         ensures { CarriedOut (putsp self.old.process) self.old.process result self.new.process }
     {
@@ -96,6 +101,7 @@ impl Machine {
 
     /// Does a console trap, or stands before a call or an end.
     #[tactic(auto, unfolding(crate::specs::Effects::trapped))]
+    #[inline(always)]
     pub(super) fn trap(&mut self, vector: u8) -> Progress
         ensures { CarriedOut (trapped vector self.old.process) self.old.process result self.new.process }
     {

@@ -16,7 +16,7 @@ impl Machine {
         Ok(Machine {
             regs: self.regs.copy(),
             pc: self.pc,
-            cc: self.cc,
+            result: self.result,
             memory: self.memory.copy(alloc)?,
             input: Input::new(alloc, self.input.left())?,
             output: Vec::from_slice(alloc, self.output.as_slice())?,
@@ -28,7 +28,7 @@ impl Machine {
         ensures same { IsTrue result ↔ (self.now.process ≡ other.now.process) }
     {
         self.pc == other.pc
-            && self.cc == other.cc
+            && self.cc() == other.cc()
             && self.regs.is_same(&other.regs)
             && self.input.left() == other.input.left()
             && self.output.as_slice() == other.output.as_slice()
@@ -38,7 +38,7 @@ impl Machine {
     /// Adds the process to a digest.
     pub(crate) fn feed(&self, hasher: &mut FoldHasher) {
         hasher.write_u16(self.pc);
-        hasher.write_u8(match self.cc {
+        hasher.write_u8(match self.cc() {
             Cc::N => 0,
             Cc::Z => 1,
             Cc::P => 2,

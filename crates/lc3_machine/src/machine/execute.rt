@@ -3,27 +3,28 @@
 ghost use Rattle.std.specs.Prelude.{◌≡◌, ◌<◌, ◌≤◌, ℕ, if◌then◌else◌};
 ghost use Rattle.lc3_machine.specs.Process.{GoesOn, word_sum, next_pc, advanced, jumped, with_reg, with_result, at_word, stored};
 ghost use Rattle.lc3_machine.specs.Effects.{effect, next_step, is_among, operand_value};
-ghost use Rattle.lc3_machine.specs.Steps.{CarriedOut};
+ghost use Rattle.lc3_machine.specs.Steps.{CarriedOut, HasRun};
 
 use super::{Machine, Progress};
 use crate::memory::DEVICES;
 use crate::want::{How, Want};
 use lc3_table::{Instr, Operand, decode};
-use lc3_word::{Cc, Reg, add, cc_of};
+use lc3_word::{Cc, Reg, add};
 
 impl Machine {
     /// Puts a result into a register, sets the code from it, and goes on at the next instruction.
-    #[tactic(auto, unfolding(crate::specs::Process::cc_of))]
+    #[inline(always)]
     fn give(&mut self, dr: Reg, value: u16) -> Progress
         ensures { CarriedOut (GoesOn (advanced (with_result self.old.process dr value))) self.old.process result self.new.process }
     {
         self.regs.set(dr.number(), value);
-        self.cc = cc_of(value);
+        self.result = value;
         self.advance();
         Progress::Moved
     }
 
     /// Goes on elsewhere.
+    #[inline(always)]
     fn jump(&mut self, address: u16) -> Progress
         ensures { CarriedOut (GoesOn (jumped self.old.process address)) self.old.process result self.new.process }
     {
@@ -32,6 +33,7 @@ impl Machine {
     }
 
     /// Goes on elsewhere, with the address of the next instruction in R7.
+    #[inline(always)]
     fn call(&mut self, routine: u16) -> Progress
         ensures { CarriedOut (GoesOn (jumped (with_reg self.old.process 7 (next_pc self.old.process)) routine)) self.old.process result self.new.process }
     {
@@ -42,10 +44,11 @@ impl Machine {
     }
 
     /// Goes on elsewhere if the code that is set is among these, and else at the next instruction.
+    #[inline(always)]
     fn branch(&mut self, n: bool, z: bool, p: bool, address: u16) -> Progress
         ensures { CarriedOut (GoesOn (if is_among self.old.process.cc n z p then jumped self.old.process address else advanced self.old.process)) self.old.process result self.new.process }
     {
-        let taken = match self.cc {
+        let taken = match self.cc() {
             Cc::N => n,
             Cc::Z => z,
             Cc::P => p,
@@ -55,6 +58,7 @@ impl Machine {
     }
 
     /// Puts the word at an address into a register.
+    #[inline(always)]
     fn load_into(&mut self, dr: Reg, address: u16) -> Progress
         ensures { CarriedOut (at_word self.old.process address (λ word. GoesOn (advanced (with_result self.old.process dr word)))) self.old.process result self.new.process }
     {
@@ -66,6 +70,7 @@ impl Machine {
     }
 
     /// Puts the word at the address that stands at an address into a register.
+    #[inline(always)]
     fn load_indirect(&mut self, dr: Reg, address: u16) -> Progress
         ensures { CarriedOut (at_word self.old.process address (λ pointer. at_word self.old.process pointer (λ word. GoesOn (advanced (with_result self.old.process dr word))))) self.old.process result self.new.process }
     {
@@ -77,6 +82,7 @@ impl Machine {
     }
 
     /// Stores a word at an address.
+    #[inline(always)]
     fn store(&mut self, address: u16, word: u16) -> Progress
         ensures { CarriedOut (stored self.old.process address word) self.old.process result self.new.process }
     {
@@ -93,6 +99,7 @@ impl Machine {
     }
 
     /// Stores a word at the address that stands at an address.
+    #[inline(always)]
     fn store_indirect(&mut self, address: u16, word: u16) -> Progress
         ensures { CarriedOut (at_word self.old.process address (λ pointer. stored self.old.process pointer word)) self.old.process result self.new.process }
     {
@@ -104,6 +111,7 @@ impl Machine {
     }
 
     /// The word of the second operand of ADD and AND.
+    #[inline(always)]
     fn operand(&self, operand: Operand) -> u16
         ensures { result ≡ operand_value self.now.process operand }
     {
@@ -115,6 +123,7 @@ impl Machine {
 
     /// Does an instruction, or stands before a call or an end.
     #[tactic(auto, unfolding(crate::specs::Effects::effect))]
+    #[inline(always)]
     fn execute(&mut self, instr: Instr) -> Progress
         ensures { CarriedOut (effect instr self.old.process) self.old.process result self.new.process }
     {
@@ -146,6 +155,7 @@ impl Machine {
 
     /// Does the next step, or stands before a call or an end.
     #[tactic(auto, unfolding(crate::specs::Effects::next_step))]
+    #[inline(always)]
     pub(crate) fn step(&mut self) -> Progress
         ensures step { CarriedOut (next_step self.old.process) self.old.process result self.new.process }
     {
@@ -156,5 +166,20 @@ impl Machine {
             return Progress::Stopped(Want::End(How::Illegal));
         };
         self.execute(instr)
+    }
+
+    /// Does at most this many steps; with how many were done, and what kept the next one from being done, if they are
+    /// fewer.
+    pub(crate) fn run(&mut self, max: u32) -> (u32, Progress)
+        ensures run { HasRun self.old.process max result.1 self.new.process result.0 }
+    {
+        for done in 0..max {
+            match self.step() {
+                Progress::Moved => {}
+                Progress::Stopped(want) => return (done, Progress::Stopped(want)),
+                Progress::Short => return (done, Progress::Short),
+            }
+        }
+        (max, Progress::Moved)
     }
 }

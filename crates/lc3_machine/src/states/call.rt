@@ -15,6 +15,7 @@ use std::alloc::AllocError;
 
 impl AtCall {
     /// The trap or the end that the process stands before.
+    #[inline(always)]
     pub fn want(&self) -> Want
         ensures want { next_step self.now.process ≡ Stops result }
     {
@@ -48,6 +49,7 @@ impl AtCall {
     }
 
     /// Answers the trap: the process goes on behind it, with what the effect writes. It takes no memory.
+    #[inline(always)]
     pub fn finish(self, effect: Effect) -> Running
         requires trap { AsksTrap self.process }
         requires room { CanTake self.ready effect }

@@ -12,7 +12,7 @@ impl Running {
     pub fn copy(&self, alloc: Global) -> Result<Running, AllocError>
         ensures equal { IfOk result (λ copy. copy ≡ self.now) }
     {
-        let machine = self.machine.copy(alloc)?;
+        let machine = Box::new(alloc, self.machine.copy(alloc)?)?;
         Ok(Running { machine })
     }
 
@@ -34,7 +34,7 @@ impl AtCall {
     pub fn copy(&self, alloc: Global) -> Result<AtCall, AllocError>
         ensures equal { IfOk result (λ copy. copy ≡ self.now) }
     {
-        let machine = self.machine.copy(alloc)?;
+        let machine = Box::new(alloc, self.machine.copy(alloc)?)?;
         Ok(AtCall {
             machine,
             want: self.want,
@@ -81,7 +81,7 @@ impl Ended {
     pub fn copy(&self, alloc: Global) -> Result<Ended, AllocError>
         ensures equal { IfOk result (λ copy. copy ≡ self.now) }
     {
-        let machine = self.machine.copy(alloc)?;
+        let machine = Box::new(alloc, self.machine.copy(alloc)?)?;
         Ok(Ended {
             machine,
             how: self.how,

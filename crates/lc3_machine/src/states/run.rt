@@ -1,8 +1,8 @@
 //! A process that runs.
 
-ghost use Rattle.std.specs.Prelude.{◌≡◌, ℕ, ◌+◌, ◌<◌, ◌≤◌, IfOk, length, slice_index};
+ghost use Rattle.std.specs.Prelude.{◌≡◌, ℕ, ◌+◌, ◌<◌, ◌≤◌, IfOk, Some, length, slice_index};
 ghost use Rattle.lc3_machine.specs.Process.{start, reg};
-ghost use Rattle.lc3_machine.specs.Steps.{IsStep, IsRun};
+ghost use Rattle.lc3_machine.specs.Steps.{IsStep, IsRun, after};
 
 use super::{AtCall, Local, Running};
 use crate::machine::{Machine, Progress};
@@ -15,7 +15,10 @@ impl Running {
     pub fn load(alloc: Global, image: &Image, input: &[u8]) -> Result<Running, AllocError>
         ensures start { IfOk result (λ r. r ≡ start image.now.origin image.now.words input.now) }
     {
-        let machine = Machine::load(alloc, image.origin(), image.words(), input)?;
+        let machine = Box::new(
+            alloc,
+            Machine::load(alloc, image.origin(), image.words(), input)?,
+        )?;
         Ok(Running { machine })
     }
 
@@ -37,14 +40,21 @@ impl Running {
         ensures run { IsRun self max result.0 result.1 }
     {
         let Running { mut machine } = self;
-        for done in 0..max {
-            match machine.step() {
-                Progress::Moved => {}
-                Progress::Stopped(want) => return (Local::AtCall(AtCall { machine, want }), done),
-                Progress::Short => return (Local::Short(Running { machine }), done),
-            }
+        let (done, progress) = machine.run(max);
+        match progress {
+            Progress::Moved => (Local::Running(Running { machine }), done),
+            Progress::Stopped(want) => (Local::AtCall(AtCall { machine, want }), done),
+            Progress::Short => (Local::Short(Running { machine }), done),
         }
-        (Local::Running(Running { machine }), max)
+    }
+
+    /// Does at most this many instructions in place, as `run_local` does; with how many were done.
+    pub fn advance(&mut self, max: u32) -> u32
+        ensures run { after result self.old ≡ Some self.new }
+        ensures within { result ≤ max }
+    {
+        let (done, _) = self.machine.run(max);
+        done
     }
 
     /// What a register holds.

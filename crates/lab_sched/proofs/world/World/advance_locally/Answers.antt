@@ -1,19 +1,16 @@
-use Rattle.std.proofs.Common.{ap, ◌∙◌, refl}
-use Rattle.std.specs.List.{insert}
-use Rattle.lab_sched.proofs.WorldLemmas.{insert-remove, ran_locally, seen_within, world_set}
+use Rattle.std.proofs.Common.{refl}
+use Rattle.lab_sched.proofs.WorldLemmas.{ran_locally, seen_within, world_set}
 use Rattle.lab_sched.proofs.world.World.advance_locally.Goals as goal
 
 pub invariant_of-self : goal.invariant_of-self
 invariant_of-self c =
     let ps = c.self.inside.processes.items in
     let within = seen_within ps c.self.inside.kernel c.args.self.now c.args.pid c.self.view_is c.requires.process in
-    let written = c.put_back.ensures ∙ ap (λ xs. insert xs c.args.pid c.local_steps-process.result.0) c.remove-process.ensures.items ∙ insert-remove ps c.args.pid c.local_steps-process.result.0 within in
-    world_set ps _ c.self.inside.kernel c.self.inside.kernel c.args.pid c.local_steps-process.result.0 c.self.invariant within written c.local_steps-process.ensures.held refl
+    world_set ps _ c.self.inside.kernel c.self.inside.kernel c.args.pid c.local_steps.new.process c.self.invariant within refl c.local_steps.ensures.held refl
 
 pub returns-clause-world : goal.returns-clause-world
 returns-clause-world c =
     let ps = c.self.inside.processes.items in
     let within = seen_within ps c.self.inside.kernel c.args.self.now c.args.pid c.self.view_is c.requires.process in
-    let written = c.put_back.ensures ∙ ap (λ xs. insert xs c.args.pid c.local_steps-process.result.0) c.remove-process.ensures.items ∙ insert-remove ps c.args.pid c.local_steps-process.result.0 within in
-    ran_locally ps _ c.self.inside.kernel c.args.self.now c.args.pid c.local_steps-process.result.1 c.remove-process.result c.local_steps-process.result.0
-    c.self.view_is within c.remove-process.ensures.value written c.local_steps-process.ensures.local
+    ran_locally ps _ c.self.inside.kernel c.args.self.now c.args.pid c.local_steps.result c.index_mut-process.result.now c.local_steps.new.process
+    c.self.view_is within c.index_mut-process.ensures.value refl c.local_steps.ensures.local
