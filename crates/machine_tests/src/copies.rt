@@ -1,24 +1,17 @@
 //! Copies, and pairs of processes that differ in one part alone.
 
-use super::{loaded, run, stopped};
-use crate::{AtCall, Ended, Running, Waiting, Want};
+use crate::processes::{loaded, run, stopped};
+use lc3_machine::{AtCall, Ended, Running, Waiting, Want};
 use std::alloc::{AllocError, Global};
 use std::process::Abort;
 use std::test::Fail;
 
-/// An equal process; once more, where memory is refused.
 fn copy(alloc: Global, process: &Running) -> Result<Running, AllocError> {
-    match process.copy(alloc) {
-        Ok(copy) => Ok(copy),
-        Err(_) => process.copy(alloc),
-    }
+    Ok(again!(process.copy(alloc)))
 }
 
 fn copy_of_call(alloc: Global, call: &AtCall) -> Result<AtCall, AllocError> {
-    match call.copy(alloc) {
-        Ok(copy) => Ok(copy),
-        Err(_) => call.copy(alloc),
-    }
+    Ok(again!(call.copy(alloc)))
 }
 
 /// Each of two processes is the other, and their digests are equal.
@@ -97,10 +90,10 @@ fn each_part_counts(rt: HostRuntime) -> Result<(), Fail> {
     Ok(())
 }
 
-/// Makes the page of an address; once more, where memory is refused.
+/// Makes the page of an address.
 fn make_page(call: &mut AtCall, at: u16) -> Result<(), AllocError> {
-    if at < 0xfe00 && call.reserve(at, 1).is_err() {
-        call.reserve(at, 1)?;
+    if at < 0xfe00 {
+        again!(call.reserve(at, 1));
     }
     Ok(())
 }
@@ -132,10 +125,7 @@ fn waiting(rt: &impl Abort, alloc: Global, input: &[u8]) -> Result<Waiting, Allo
 fn a_waiting_process_is_copied(rt: HostRuntime) -> Result<(), Fail> {
     let process = waiting(&rt, rt.alloc(), b"a")?;
     let other = waiting(&rt, rt.alloc(), b"b")?;
-    let copy = match process.copy(rt.alloc()) {
-        Ok(copy) => copy,
-        Err(_) => process.copy(rt.alloc())?,
-    };
+    let copy = again!(process.copy(rt.alloc()));
     assert!(rt; process.is_same(&copy) && !copy.is_same(&other));
     assert_eq!(rt; process.digest(), copy.digest());
     assert!(rt; copy.digest() != other.digest());
@@ -155,10 +145,7 @@ fn ended(rt: &impl Abort, alloc: Global, word: u16) -> Result<Ended, AllocError>
 fn an_ended_process_is_copied(rt: HostRuntime) -> Result<(), Fail> {
     let process = ended(&rt, rt.alloc(), 0xf025)?;
     let other = ended(&rt, rt.alloc(), 0xd000)?;
-    let copy = match process.copy(rt.alloc()) {
-        Ok(copy) => copy,
-        Err(_) => process.copy(rt.alloc())?,
-    };
+    let copy = again!(process.copy(rt.alloc()));
     assert!(rt; copy.how() == process.how());
     assert!(rt; process.is_same(&copy) && !copy.is_same(&other));
     assert_eq!(rt; process.digest(), copy.digest());
