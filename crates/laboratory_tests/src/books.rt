@@ -1,11 +1,9 @@
-//! The calls of two processes on a queue for one message, through a book. A call for which memory is
-//! refused leaves the book as it was, and is made once more.
-ghost use Rattle.std.specs.Prelude.{◌≡◌};
-
-use crate::Book;
+//! The calls of two processes on a queue for one message, through a book. A call for which memory is refused leaves the
+//! book as it was, and is made once more.
 use ipc_kernel::{Answer, Call, Reply};
 use ipc_names::Name;
 use ipc_objects::Words;
+use lab_threads::Book;
 use std::alloc::Global;
 use std::process::Abort;
 
@@ -51,20 +49,22 @@ fn make(rt: &impl Abort, alloc: Global, book: &mut Book, pid: usize, call: &Call
     }
 }
 
-fn is_plain(answer: Answer, word: u16) -> bool {
+fn is_plain(answer: &Answer, word: u16) -> bool {
     match answer {
-        Answer::Done(Reply::Plain(reply)) => reply == word,
+        Answer::Done(Reply::Plain(reply)) => *reply == word,
         _ => false,
     }
 }
 
-fn is_message(answer: Answer, word: u16) -> bool {
+fn is_message(answer: &Answer, word: u16) -> bool {
     match answer {
         Answer::Done(Reply::Message { words, .. }) => words.as_slice() == [word].as_slice(),
         _ => false,
     }
 }
 
+/// Process 0 opens the queue without waiting, sends 7, and is refused a second message (EAGAIN); process 1 opens it, and
+/// waits to send 8 until process 0 has received. Its second try, while it must still wait, has no entry.
 #[test]
 fn a_queue_for_one_message(rt: HostRuntime) {
     let alloc = rt.alloc();
@@ -73,39 +73,32 @@ fn a_queue_for_one_message(rt: HostRuntime) {
         Err(_) => Book::new(alloc, 2).expect(&rt, "memory"),
     };
     let first = open(&rt, alloc, 0x0842, Some([0, 1, 1, 0]));
-    assert!(rt;
-        is_plain(make(&rt, alloc, &mut book, 0, &first), 0),
-        "descriptor 0"
-    );
-    let seven = send(&rt, alloc, 7);
-    assert!(rt; is_plain(make(&rt, alloc, &mut book, 0, &seven), 0), "sent");
-    assert!(rt;
-        is_plain(make(&rt, alloc, &mut book, 0, &seven), 0xfff5),
-        "EAGAIN"
-    );
     let second = open(&rt, alloc, 0x0002, None);
-    assert!(rt;
-        is_plain(make(&rt, alloc, &mut book, 1, &second), 0),
-        "descriptor 0"
-    );
+    let seven = send(&rt, alloc, 7);
     let eight = send(&rt, alloc, 8);
+    let receive = Call::MqReceive { mqd: 0, len: 1 };
+    make(&rt, alloc, &mut book, 0, &first);
+    make(&rt, alloc, &mut book, 0, &seven);
+    make(&rt, alloc, &mut book, 0, &seven);
+    make(&rt, alloc, &mut book, 1, &second);
     for _ in 0..2 {
-        assert!(rt;
-            matches!(make(&rt, alloc, &mut book, 1, &eight), Answer::Wait),
-            "it waits"
-        );
+        let answer = make(&rt, alloc, &mut book, 1, &eight);
+        assert!(rt; matches!(answer, Answer::Wait), "it waits");
         assert_eq!(rt; book.history().len(), 5);
     }
     assert!(rt; !book.fits(1, &seven), "it waits for another call");
-    let receive = Call::MqReceive { mqd: 0, len: 1 };
-    assert!(rt;
-        is_message(make(&rt, alloc, &mut book, 0, &receive), 7),
-        "the message"
-    );
-    assert!(rt; is_plain(make(&rt, alloc, &mut book, 1, &eight), 0), "sent");
+    make(&rt, alloc, &mut book, 0, &receive);
+    make(&rt, alloc, &mut book, 1, &eight);
     let pids: [usize; 7] = [0, 0, 0, 1, 1, 0, 1];
     assert_eq!(rt; book.history().len(), 7);
-    for at in 0..7 {
-        assert_eq!(rt; book.history()[at].pid, pids[at]);
+    for (at, entry) in book.history().iter().enumerate() {
+        assert_eq!(rt; Some(&entry.pid), pids.get(at));
+        let is_right = match at {
+            2 => is_plain(&entry.answer, 0xfff5),
+            4 => matches!(entry.answer, Answer::Wait),
+            5 => is_message(&entry.answer, 7),
+            _ => is_plain(&entry.answer, 0),
+        };
+        assert!(rt; is_right, "answer {at}");
     }
 }
