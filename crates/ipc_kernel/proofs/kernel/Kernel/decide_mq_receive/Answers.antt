@@ -1,6 +1,6 @@
 use Rattle.std.proofs.Common.{arith}
 use Rattle.ipc_kernel.proofs.AnswerLemmas.{first_short}
-use Rattle.ipc_kernel.proofs.kernel.Kernel.decide_receive.Goals as goal
+use Rattle.ipc_kernel.proofs.kernel.Kernel.decide_mq_receive.Goals as goal
 
 pub returns-then-count-eq0-clause-possible : goal.returns-then-count-eq0-clause-possible
 returns-then-count-eq0-clause-possible c = c.block.ensures.possible c.args.self.now
