@@ -1,6 +1,6 @@
 #!/bin/sh
-# Assembles all exercises, runs every command that they name, and compares what it prints with the expected output
-# beside the sources. A threaded run is judged by replaying the schedule that it printed. LC3LAB is the command to try,
+# Tries every command that the exercises name. What they print without threads is compared by the cases of
+# tests/cases/course. A threaded run is judged by replaying the schedule that it printed. LC3LAB is the command to try,
 # where it isn't the launcher of this repository. Files are made in a temporary folder alone, which goes again.
 set -u
 
@@ -21,16 +21,6 @@ fail() {
     echo "FAILED $*"
 }
 
-# same COMMAND EXPECTED: what was printed last is what this file holds.
-same() {
-    if cmp -s "$made/printed" "$2"; then
-        pass
-    else
-        fail "$1"
-        diff "$2" "$made/printed" | head -n 20
-    fi
-}
-
 # Sets `programs` to the object files of these names; a name is PROGRAM or PROGRAM=INPUT.
 name_programs() {
     programs=
@@ -42,44 +32,15 @@ name_programs() {
     done
 }
 
-# exercise FOLDER: assembles its sources and compares their listings.
+# exercise FOLDER: assembles its sources.
 exercise() {
     exercise=$1
     for source in "$here/$exercise"/*.asm; do
-        name=$(basename "$source" .asm)
-        if "$LC3LAB" asm "$source" "$made/$name.obj" --list >"$made/printed"; then
-            same "$exercise: asm $name.asm" "${source%.asm}.listing"
-        else
-            fail "$exercise: asm $name.asm"
-        fi
+        "$LC3LAB" asm "$source" "$made/$(basename "$source" .asm).obj" || fail "$exercise: asm $source"
     done
     for input in "$here/$exercise"/*.in; do
         [ ! -f "$input" ] || cp "$input" "$made"
     done
-}
-
-# step SCHEDULE NAME...: the report of these programs by this schedule.
-step() {
-    schedule=$1
-    shift
-    name_programs "$@"
-    if "$LC3LAB" step $programs <"$here/$exercise/$schedule.schedule" >"$made/printed"; then
-        same "$exercise: step $* < $schedule.schedule" "$here/$exercise/$schedule.out"
-    else
-        fail "$exercise: step $* < $schedule.schedule"
-    fi
-}
-
-# debug SCRIPT NAME...: a debugger session with this script.
-debug() {
-    script=$1
-    shift
-    name_programs "$@"
-    if "$LC3LAB" debug $programs <"$here/$exercise/$script.script" >"$made/printed"; then
-        same "$exercise: debug $* < $script.script" "$here/$exercise/$script.out"
-    else
-        fail "$exercise: debug $* < $script.script"
-    fi
 }
 
 # The report of the last threaded run is one of these, or any where none is named.
@@ -135,81 +96,45 @@ table() {
     done
 }
 
+# The first call of the launcher builds the program, which takes longer than a case may.
+"$LC3LAB" --help >/dev/null || exit 1
+"$here/../../tests/run" "$LC3LAB" course >"$made/cases"
+cat "$made/cases"
+read -r passed _ failed _ <<END
+$(tail -n 1 "$made/cases")
+END
+
 exercise 1-hello
-step stopped hello
-step whole hello
-step two hello hello
-debug look hello
 run 100000 whole hello
 
 exercise 2-producer-consumer
-step producer-first producer consumer
-step consumer-first producer consumer
-step one-full producer-one consumer
-step one-turns producer-one consumer
-debug look-one producer-one consumer
-debug look-maker producer-one consumer
 run 100000 producer-first producer consumer
 run 100000 one-turns producer-one consumer
 
 exercise 3-lost-update
-step one-by-one main add add
-step lost main add add
-step locked main add-locked add-locked
-step slow-one-by-one main add-slow add-slow
-step slow-lost main add-slow add-slow
-debug look main add add
 run 100000 "one-by-one lost" main add add
 run 10000000 "slow-one-by-one slow-lost" main add-slow add-slow
 run 100000 locked main add-locked add-locked
 
 exercise 4-lost-message
-step in-turns sender receiver
-step lost sender receiver
-step blocking sender-blocking receiver
-debug look sender receiver
 run 100000 "in-turns lost" sender receiver
 run 100000 blocking sender-blocking receiver
 
 exercise 5-deadlock
-step one-by-one first-a first-b
-step deadlock first-a first-b
-step same-order first-a first-a
-step slow-one-by-one slow-a slow-b
-step slow-deadlock slow-a slow-b
-debug look first-a first-b
 run 100000 "one-by-one deadlock" first-a first-b
 run 10000000 "slow-one-by-one slow-deadlock" slow-a slow-b
 run 100000 same-order first-a first-a
 
 exercise 6-philosophers
-step one-by-one $(table philosopher)
-step deadlock $(table philosopher)
-step low-first $(table ordered)
-step four-enter $(table room)
-debug look $(table philosopher)
 run 100000 "one-by-one deadlock" $(table philosopher)
 run 100000 low-first $(table ordered)
 run 100000 four-enter $(table room)
 
 exercise 7-barrier
-step together start worker worker worker
-step overtaken start worker worker worker
-step no-overtaking start two-gates two-gates two-gates
-step held-back start two-gates two-gates two-gates
-step hidden start worker worker worker
-debug look start worker worker worker
-debug look-hidden start worker worker worker
 run 100000 "" start worker worker worker
 run 100000 held-back start two-gates two-gates two-gates
 
 exercise 8-priorities
-step calm ordinary urgent server
-step overtake ordinary urgent server
-step starve ordinary urgent server
-step fair ordinary-own urgent server-fair
-step fair-alone ordinary-own server-fair
-debug look ordinary urgent server
 run 500 "" ordinary urgent server
 run 500 "" ordinary-own urgent server-fair
 

@@ -18,7 +18,7 @@ use Rattle.ipc_kernel.specs.declared.call.Answer.TheVariants.{Done, Wait}
 use Rattle.ipc_kernel.specs.Kernel.{KernelState}
 use Rattle.ipc_kernel.specs.Processes.{descriptor_of, slot_of, slot_for, free_descriptor_of, free_slot_of}
 use Rattle.ipc_kernel.specs.Places.{is_empty, are_sizes, queue_named, semaphore_named, queue_in, place_at, empty_queue, HasMessage}
-use Rattle.ipc_kernel.specs.Decisions.{given, first_of, is_received, IsPossible}
+use Rattle.ipc_kernel.specs.Decisions.{outcome_of, reply_with_first, decision_receives, IsPossible}
 use Rattle.ipc_kernel.specs.declared.kernel.decision.Decision.{Decision}
 use Rattle.ipc_kernel.specs.declared.kernel.decision.Decision.TheVariants.{Refused, Waits, Receives, Answered}
 use Rattle.ipc_kernel.specs.Outcomes.{Outcome, waiting, blocked, open_queue, open_semaphore, unlink}
@@ -197,17 +197,17 @@ pub answer_count : (k : KernelState) (p : ℕ) (c : Call) → length (answer k p
 answer_count k p c = (lawful k p c).count
 
 -- what a decision gives is an answer of its call, where a message is short
-pub decided_form : (k : KernelState) (p : ℕ) (c : Call) (d : Decision) → given k p d ≡ answer k p c
-    → ((m len : ℕ) → c ≡ MqReceive m len → message_length (answer k p c).0 ≤ len) → ((m len : ℕ) → c ≡ MqReceive m len → message_length (answer k p c).0 ≤ 256) → IsAnswerTo c (given k p d).0
+pub decided_form : (k : KernelState) (p : ℕ) (c : Call) (d : Decision) → outcome_of k p d ≡ answer k p c
+    → ((m len : ℕ) → c ≡ MqReceive m len → message_length (answer k p c).0 ≤ len) → ((m len : ℕ) → c ≡ MqReceive m len → message_length (answer k p c).0 ≤ 256) → IsAnswerTo c (outcome_of k p d).0
 decided_form k p c d same size limit = subst (λ (o : Outcome). IsAnswerTo c o.0) (sym same) (answer_form k p c (λ m len e. (size m len e, limit m len e)))
 
-pub previewed_form : {E : Type 0} (r : Result Answer E) (k : KernelState) (p : ℕ) (c : Call) (d : Decision) → given k p d ≡ answer k p c
-    → ((m len : ℕ) → c ≡ MqReceive m len → message_length (answer k p c).0 ≤ len) → ((m len : ℕ) → c ≡ MqReceive m len → message_length (answer k p c).0 ≤ 256) → IfOk r (λ a. a ≡ (given k p d).0) → IfOk r (λ a. IsAnswerTo c a)
+pub previewed_form : {E : Type 0} (r : Result Answer E) (k : KernelState) (p : ℕ) (c : Call) (d : Decision) → outcome_of k p d ≡ answer k p c
+    → ((m len : ℕ) → c ≡ MqReceive m len → message_length (answer k p c).0 ≤ len) → ((m len : ℕ) → c ≡ MqReceive m len → message_length (answer k p c).0 ≤ 256) → IfOk r (λ a. a ≡ (outcome_of k p d).0) → IfOk r (λ a. IsAnswerTo c a)
 previewed_form (Err e) k p c d same size limit is = tt
 previewed_form (Ok a) k p c d same size limit is = subst (λ x. IsAnswerTo c x) (sym is) (decided_form k p c d same size limit)
 
-pub carried_form : {E : Type 0} (r : Result Answer E) (k new : KernelState) (p : ℕ) (c : Call) (d : Decision) → given k p d ≡ answer k p c
-    → ((m len : ℕ) → c ≡ MqReceive m len → message_length (answer k p c).0 ≤ len) → ((m len : ℕ) → c ≡ MqReceive m len → message_length (answer k p c).0 ≤ 256) → IfOk r (λ a. (a, new) ≡ given k p d) → IfOk r (λ a. IsAnswerTo c a)
+pub carried_form : {E : Type 0} (r : Result Answer E) (k new : KernelState) (p : ℕ) (c : Call) (d : Decision) → outcome_of k p d ≡ answer k p c
+    → ((m len : ℕ) → c ≡ MqReceive m len → message_length (answer k p c).0 ≤ len) → ((m len : ℕ) → c ≡ MqReceive m len → message_length (answer k p c).0 ≤ 256) → IfOk r (λ a. (a, new) ≡ outcome_of k p d) → IfOk r (λ a. IsAnswerTo c a)
 carried_form (Err e) k new p c d same size limit is = tt
 carried_form (Ok a) k new p c d same size limit is = subst (λ (o : Outcome). IsAnswerTo c o.0) (sym is) (decided_form k p c d same size limit)
 
@@ -229,17 +229,17 @@ message_received (SemPost s) words priority h = absurd h
 message_received (SemGetvalue s) words priority h = absurd h
 message_received Exit words priority h = absurd h
 
-first_received : (c : Call) (ms : List Message) → 0 < length ms → IsReplyTo c (first_of ms) → IsTrue (is_receive c)
+first_received : (c : Call) (ms : List Message) → 0 < length ms → IsReplyTo c (reply_with_first ms) → IsTrue (is_receive c)
 first_received c [] some h = absurd (omega (arith, some))
 first_received c (m ∷ rest) some h = message_received c m.words m.priority h
 
 -- a decision to take a message is one of mq_receive alone
-pub received_alone : (k : KernelState) (p : ℕ) (c : Call) (d : Decision) → IsPossible k d → IsAnswerTo c (given k p d).0 → IsTrue (is_received d) → IsTrue (is_receive c)
+pub received_alone : (k : KernelState) (p : ℕ) (c : Call) (d : Decision) → IsPossible k d → IsAnswerTo c (outcome_of k p d).0 → IsTrue (decision_receives d) → IsTrue (is_receive c)
 received_alone k p c (Refused e) possible form is = absurd (not_true is)
 received_alone k p c Waits possible form is = absurd (not_true is)
 received_alone k p c (Answered reply change) possible form is = absurd (not_true is)
 received_alone k p c (Receives place) possible form is = known (queue_in (place_at k.places place)) possible form
   where
-    known : (o : Option QueueState) → IsSomeAnd o HasMessage → IsReplyTo c (first_of (unwrap_or o (empty_queue (0, 0))).messages) → IsTrue (is_receive c)
+    known : (o : Option QueueState) → IsSomeAnd o HasMessage → IsReplyTo c (reply_with_first (unwrap_or o (empty_queue (0, 0))).messages) → IsTrue (is_receive c)
     known None some h = absurd some
     known (Some q) some h = first_received c q.messages some h

@@ -4,7 +4,7 @@ ghost use Rattle.std.specs.Option.{option_map, option_copied};
 ghost use Rattle.ipc_names.specs.Errno.{number_of};
 ghost use Rattle.ipc_kernel.specs.Limits.{object_places, open_max, process_max, sem_value_max, mq_msgsize_max};
 ghost use Rattle.ipc_kernel.specs.Kernel.{KernelState};
-ghost use Rattle.ipc_kernel.specs.Decisions.{given, IsPossible, takes_memory};
+ghost use Rattle.ipc_kernel.specs.Decisions.{outcome_of, IsPossible, decision_may_grow};
 ghost use Rattle.ipc_kernel.specs.Places.{place_at, queue_in, queue_and_name, semaphore_value, value_and_name};
 ghost use Rattle.ipc_kernel.specs.Replies.{message_length};
 ghost use Rattle.ipc_kernel.specs.declared.call.Answer.TheVariants.{Done};
@@ -126,6 +126,7 @@ impl Kernel {
     {
         let decision = self.decide(pid, call);
         let answer = self.carry_out(pid, decision);
+        // The invariant, which `settled` tells, is known where a field is named.
         let _ = &self.places;
         answer
     }
@@ -154,31 +155,31 @@ impl Kernel {
     #[tactic(auto, unfolding(crate::specs::Answer::answer))]
     fn decide<'a>(&self, pid: usize, call: &'a Call) -> Decision<'a>
         requires { pid < length self.now.processes }
-        ensures given { given self.now pid result ≡ answer self.now pid call.now }
+        ensures outcome { outcome_of self.now pid result ≡ answer self.now pid call.now }
         ensures possible { IsPossible self.now result }
-        ensures memory { IsTrue (takes_memory result) → IsTrue (may_grow call.now) }
+        ensures memory { IsTrue (decision_may_grow result) → IsTrue (may_grow call.now) }
         ensures size { (d len : ℕ) → call.now ≡ MqReceive d len →
             message_length (answer self.now pid call.now).0 ≤ len }
         ensures limit { (d len : ℕ) → call.now ≡ MqReceive d len →
             message_length (answer self.now pid call.now).0 ≤ mq_msgsize_max }
     {
         match call {
-            Call::MqOpen { name, flags, attr } => self.decide_open(pid, name, *flags, *attr),
-            Call::MqClose { mqd } => self.decide_close(pid, *mqd),
-            Call::MqUnlink { name } => self.decide_unlink(name),
-            Call::MqSend { mqd, words, prio } => self.decide_send(pid, *mqd, words, *prio),
-            Call::MqReceive { mqd, len } => self.decide_receive(pid, *mqd, *len),
-            Call::MqGetattr { mqd } => self.decide_getattr(pid, *mqd),
-            Call::MqSetattr { mqd, flags } => self.decide_setattr(pid, *mqd, *flags),
+            Call::MqOpen { name, flags, attr } => self.decide_mq_open(pid, name, *flags, *attr),
+            Call::MqClose { mqd } => self.decide_mq_close(pid, *mqd),
+            Call::MqUnlink { name } => self.decide_mq_unlink(name),
+            Call::MqSend { mqd, words, prio } => self.decide_mq_send(pid, *mqd, words, *prio),
+            Call::MqReceive { mqd, len } => self.decide_mq_receive(pid, *mqd, *len),
+            Call::MqGetattr { mqd } => self.decide_mq_getattr(pid, *mqd),
+            Call::MqSetattr { mqd, flags } => self.decide_mq_setattr(pid, *mqd, *flags),
             Call::SemOpen { name, flags, value } => {
                 self.decide_sem_open(pid, name, *flags, *value)
             }
             Call::SemClose { slot } => self.decide_sem_close(pid, *slot),
             Call::SemUnlink { name } => self.decide_sem_unlink(name),
-            Call::SemWait { slot } => self.decide_wait(pid, *slot),
-            Call::SemTrywait { slot } => self.decide_trywait(pid, *slot),
-            Call::SemPost { slot } => self.decide_post(pid, *slot),
-            Call::SemGetvalue { slot } => self.decide_getvalue(pid, *slot),
+            Call::SemWait { slot } => self.decide_sem_wait(pid, *slot),
+            Call::SemTrywait { slot } => self.decide_sem_trywait(pid, *slot),
+            Call::SemPost { slot } => self.decide_sem_post(pid, *slot),
+            Call::SemGetvalue { slot } => self.decide_sem_getvalue(pid, *slot),
             Call::Exit => Decision::Answered(Reply::Plain(0), Change::CloseAll),
         }
     }

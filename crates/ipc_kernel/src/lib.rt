@@ -13,6 +13,3 @@ pub use call::{Answer, Call, Reply};
 pub use kernel::Kernel;
 pub use place::Place;
 pub use process::{Descriptor, Process, Slot};
-
-#[cfg(test)]
-mod tests;

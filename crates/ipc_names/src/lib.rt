@@ -10,6 +10,3 @@ pub use errno::Errno;
 pub use flags::Flags;
 pub use name::Name;
 pub use table::NameTable;
-
-#[cfg(test)]
-mod tests;

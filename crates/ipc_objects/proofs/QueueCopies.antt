@@ -1,11 +1,14 @@
 -- Queues with the same messages.
-use Rattle.std.proofs.Common.{◌≡◌, ℕ, ◌+◌, ◌<◌, List, length, take, unwrap_or, inl, inr, ap, sym, ◌∙◌}
+use Rattle.std.proofs.Common.{◌≡◌, ℕ, ◌+◌, ◌<◌, List, [], length, take, unwrap_or, inl, inr, ap, sym, ◌∙◌}
 use Rattle.std.specs.List.{slice_get}
 use Rattle.std.proofs.lemmas.Bool.{cases_lt}
 use Rattle.std.proofs.lemmas.List.{take_more_same}
 use Rattle.std.proofs.lemmas.Option.{unwrap_or-slice_get, slice_get-get_or, slice_get_past}
 use Rattle.ipc_objects.specs.declared.queue.Message.{Message}
-use Rattle.ipc_objects.specs.Plain.{no_message}
+
+-- a message that stands for none
+abbrev no_message : Message
+no_message = record { priority = 0; words = [] }
 
 -- a list that has the same message at an index is as long
 reaches : (xs ys : List Message) (i : ℕ) → i < length xs → slice_get xs i ≡ slice_get ys i → i < length ys

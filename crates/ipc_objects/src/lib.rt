@@ -3,15 +3,10 @@
 
 mod bits;
 mod buckets;
-mod plain;
 mod queue;
 mod semaphore;
 mod words;
 
-pub use plain::PlainQueue;
 pub use queue::{Message, Queue};
 pub use semaphore::{Semaphore, VALUE_MAX};
 pub use words::Words;
-
-#[cfg(test)]
-mod tests;

@@ -19,6 +19,3 @@ pub enum Asked {
     /// kernel doesn't see such a call.
     Refused(Errno),
 }
-
-#[cfg(test)]
-mod tests;

@@ -1,22 +1,7 @@
 //! The laboratory's program.
 #![tactic(auto)]
 
-mod command;
-mod complaint;
-mod debugging;
-mod exploring;
-mod fault;
-mod files;
-mod hex;
-mod input;
-mod line;
-mod programs;
-mod run;
-mod running;
-mod stepping;
-mod translating;
-
-use command::{FAULT, USAGE, command as perform_command};
+use lab_commands::{FAULT, USAGE, command};
 use lab_io::{Input, Output};
 use std::env;
 use std::io::ErrorKind;
@@ -42,7 +27,7 @@ fn main(rt: HostRuntime) -> ExitCode {
     };
     let mut input = Input::new(rt.stdin());
     let mut output = Output::new(rt.stdout());
-    ExitCode::from(perform_command(
+    ExitCode::from(command(
         &rt,
         alloc,
         words.as_slice(),
@@ -51,6 +36,3 @@ fn main(rt: HostRuntime) -> ExitCode {
         &mut errors,
     ))
 }
-
-#[cfg(test)]
-mod tests;

@@ -30,6 +30,3 @@ pub const LINE_LIMIT: usize = 65_536;
 
 /// The most lines of a script.
 pub const LINE_COUNT_LIMIT: u32 = 1_000_000;
-
-#[cfg(test)]
-mod tests;

@@ -14,6 +14,3 @@ pub use slow_out::SlowOut;
 /// A device failed, or a writer took none of the bytes that it was given.
 #[derive(Clone, Copy, Debug, PartialEq, Eq)]
 pub struct Failed;
-
-#[cfg(test)]
-mod tests;

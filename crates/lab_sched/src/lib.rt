@@ -21,6 +21,3 @@ pub use stepping::take_step;
 pub use trace::{Told, Trace};
 pub use verdict::Verdict;
 pub use world::{RunStop, StepFault, World};
-
-#[cfg(test)]
-mod tests;

@@ -10,8 +10,6 @@ mod block;
 mod fault;
 mod last;
 mod reading;
-#[cfg(test)]
-mod tests;
 
 pub use block::{Block, MOST_STEPS, PROCESSES};
 pub use fault::SchedFault;

@@ -11,8 +11,6 @@ mod bits;
 mod finding;
 mod run;
 mod settle;
-#[cfg(test)]
-mod tests;
 
 use crate::stepping::take_step;
 use crate::{Process, Stepped};

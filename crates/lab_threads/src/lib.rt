@@ -15,6 +15,3 @@ pub use book::Book;
 pub use fault::RunFault;
 pub use gate::{Gate, NoGate};
 pub use reports::{Report, run_threads};
-
-#[cfg(test)]
-mod tests;

@@ -22,6 +22,3 @@ pub use assembled::{Assembled, Row, listing};
 pub use fault::AsmFault;
 pub use passes::assemble;
 pub use symbols::Symbols;
-
-#[cfg(test)]
-mod tests;

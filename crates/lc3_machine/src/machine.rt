@@ -22,7 +22,7 @@ use std::marker::Model;
 pub(crate) struct Machine {
     regs: Registers,
     pc: u16,
-    /// The word that the condition code is set from.
+    /// The last result: the condition code is that of this word.
     result: u16,
     memory: Memory,
     input: Input,
@@ -39,14 +39,14 @@ impl Model for Machine {
     ghost view = { held };
 }
 
-/// What a local step did.
-#[derive(Clone, Copy)]
-pub(crate) enum Progress {
-    /// The instruction is done.
+/// What local steps came to.
+#[derive(Clone, Copy, Debug, PartialEq, Eq)]
+pub enum Progress {
+    /// All are done.
     Moved,
-    /// Nothing: the instruction is a trap of the kernel or an end.
+    /// The next instruction is a trap of the kernel or an end: it isn't done.
     Stopped(Want),
-    /// Nothing, for want of memory.
+    /// Memory was refused to the next instruction: it isn't done, and may be tried again.
     Short,
 }
 

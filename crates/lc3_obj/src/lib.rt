@@ -8,6 +8,3 @@ mod writing;
 pub use fault::ObjFault;
 pub use reading::read_image;
 pub use writing::write_image;
-
-#[cfg(test)]
-mod tests;

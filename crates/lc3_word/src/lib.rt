@@ -14,6 +14,3 @@ pub use image::Image;
 pub use number::{Off, add, sext};
 pub use reading::{number_of, read_number, unsigned};
 pub use reg::Reg;
-
-#[cfg(test)]
-mod tests;

@@ -1,6 +1,6 @@
 //! How a decision is carried out, and what it would be answered.
 ghost use Rattle.std.specs.Prelude.{◌≡◌, ℕ, ◌<◌, length, IfOk, OnOk, OnErr, IsErr, IsSomeAnd, IsTrue};
-ghost use Rattle.ipc_kernel.specs.Decisions.{given, changed, CanChange, IsPossible, grows, takes_memory, is_received, queue_at, first_of};
+ghost use Rattle.ipc_kernel.specs.Decisions.{outcome_of, after_change, CanChange, IsPossible, change_may_grow, decision_may_grow, decision_receives, keeps_references, queue_at, reply_with_first};
 ghost use Rattle.ipc_kernel.specs.Outcomes.{completion};
 ghost use Rattle.ipc_kernel.specs.Places.{place_at, queue_in, HasMessage};
 ghost use Rattle.ipc_kernel.specs.declared.kernel.decision.Decision.TheVariants.{Receives};
@@ -15,8 +15,8 @@ use crate::{Answer, Reply, Slot};
 use ipc_objects::Words;
 use std::alloc::{AllocError, Global};
 
-/// Makes a change by a process. Where memory is refused nothing has changed.
-fn make(
+/// Makes a change by a process in the places and the tables. Where memory is refused nothing has changed.
+fn apply(
     places: &mut Places,
     processes: &mut Processes,
     pid: usize,
@@ -25,10 +25,10 @@ fn make(
     requires process { pid < length processes.old }
     requires possible { CanChange (record { places = places.old; processes = processes.old }) change }
     ensures ok { OnOk result (record { places = places.new; processes = processes.new } ≡
-        changed (record { places = places.old; processes = processes.old }) pid change.entry) }
+        after_change (record { places = places.old; processes = processes.old }) pid change.entry) }
     ensures same_places { OnErr result (places.new ≡ places.old) }
     ensures same_processes { OnErr result (processes.new ≡ processes.old) }
-    ensures memory { IsErr result → IsTrue (grows change.entry) }
+    ensures memory { IsErr result → IsTrue (change_may_grow change.entry) }
     ensures count { length processes.new ≡ length processes.old }
 {
     match change {
@@ -58,6 +58,16 @@ fn make(
     Ok(())
 }
 
+/// Whether a change leaves each name, and what is open, as they were, so that no place is to be emptied.
+fn keeps_references(change: Change<'_>) -> bool
+    ensures { result ≡ keeps_references change.entry }
+{
+    matches!(
+        change,
+        Change::Nothing | Change::Send { .. } | Change::Take { .. } | Change::Post { .. }
+    )
+}
+
 impl Kernel {
     /// Carries out a decision. Where memory is refused nothing has changed.
     pub(super) fn carry_out(
@@ -67,9 +77,9 @@ impl Kernel {
     ) -> Result<Answer, AllocError>
         requires process { pid < length self.old.processes }
         requires possible { IsPossible self.old decision }
-        ensures given { IfOk result (λ a. (a, self.new) ≡ given self.old pid decision.entry) }
+        ensures outcome { IfOk result (λ a. (a, self.new) ≡ outcome_of self.old pid decision.entry) }
         ensures err { OnErr result (self.new ≡ self.old) }
-        ensures memory { IsErr result → IsTrue (takes_memory decision.entry) }
+        ensures memory { IsErr result → IsTrue (decision_may_grow decision.entry) }
         ensures count { length self.new.processes ≡ length self.old.processes }
     {
         match decision {
@@ -88,25 +98,26 @@ impl Kernel {
     fn change(&mut self, pid: usize, change: Change<'_>) -> Result<(), AllocError>
         requires process { pid < length self.old.processes }
         requires possible { CanChange self.old change }
-        ensures ok { (r : Reply) → OnOk result ((Done r, self.new) ≡ completion (changed self.old pid change.entry) r) }
+        ensures ok { (r : Reply) → OnOk result ((Done r, self.new) ≡ completion (after_change self.old pid change.entry) r) }
         ensures err { OnErr result (self.new ≡ self.old) }
-        ensures memory { IsErr result → IsTrue (grows change.entry) }
+        ensures memory { IsErr result → IsTrue (change_may_grow change.entry) }
         ensures count { length self.new.processes ≡ length self.old.processes }
     {
-        make(&mut self.places, &mut self.processes, pid, change)?;
-        self.places.empty_unused(&self.processes);
+        apply(&mut self.places, &mut self.processes, pid, change)?;
+        if !keeps_references(change) {
+            self.places.empty_unused(&self.processes);
+        }
         Ok(())
     }
 
     /// Takes the first message from the queue in a place.
-    #[tactic(auto, using(crate::proofs::KernelLemmas::settled_after, crate::proofs::AnswerLemmas::received_first))]
+    #[tactic(auto, using(crate::proofs::AnswerLemmas::settled_received, crate::proofs::AnswerLemmas::received_first))]
     fn receive(&mut self, place: u8) -> Reply
         requires { IsSomeAnd (queue_in (place_at self.old.places place)) HasMessage }
-        ensures given { (p : ℕ) → (Done result, self.new) ≡ given self.old p (Receives place) }
+        ensures outcome { (p : ℕ) → (Done result, self.new) ≡ outcome_of self.old p (Receives place) }
         ensures count { length self.new.processes ≡ length self.old.processes }
     {
         let (prio, words) = self.places.receive(place);
-        self.places.empty_unused(&self.processes);
         Reply::Message {
             words: Words::from_vec(words),
             prio,
@@ -120,8 +131,8 @@ impl Kernel {
         decision: Decision<'_>,
     ) -> Result<Answer, AllocError>
         requires { IsPossible self.now decision }
-        ensures given { (p : ℕ) → IfOk result (λ a. a ≡ (given self.now p decision.entry).0) }
-        ensures memory { IsErr result → IsTrue (is_received decision.entry) }
+        ensures outcome { (p : ℕ) → IfOk result (λ a. a ≡ (outcome_of self.now p decision.entry).0) }
+        ensures memory { IsErr result → IsTrue (decision_receives decision.entry) }
     {
         match decision {
             Decision::Refused(errno) => Ok(refusal(errno)),
@@ -134,7 +145,7 @@ impl Kernel {
     /// A copy of the first message of the queue in a place.
     fn first_message(&self, alloc: Global, place: u8) -> Result<Reply, AllocError>
         requires { IsSomeAnd (queue_in (place_at self.now.places place)) HasMessage }
-        ensures { IfOk result (λ r. r ≡ first_of (queue_at self.now place).messages) }
+        ensures { IfOk result (λ r. r ≡ reply_with_first (queue_at self.now place).messages) }
     {
         let Some(queue) = self.places.queue(place) else {
             unreachable!();

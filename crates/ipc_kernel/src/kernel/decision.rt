@@ -2,7 +2,7 @@
 ghost use Rattle.std.specs.Prelude.{◌≡◌, ℕ, false};
 ghost use Rattle.ipc_kernel.specs.Kernel.{KernelState};
 ghost use Rattle.ipc_kernel.specs.Outcomes.{blocked};
-ghost use Rattle.ipc_kernel.specs.Decisions.{given, IsPossible, takes_memory};
+ghost use Rattle.ipc_kernel.specs.Decisions.{outcome_of, IsPossible, decision_may_grow};
 ghost use Rattle.ipc_kernel.specs.Replies.{message_length};
 
 use crate::{Descriptor, Reply, Slot};
@@ -91,10 +91,10 @@ pub(super) enum Decision<'a> {
 
 /// What becomes of a call that finds its queue full or empty.
 pub(super) fn block<'a>(descriptor: Descriptor) -> Decision<'a>
-    ensures given { (k : KernelState) (p : ℕ) → given k p result ≡ blocked k descriptor }
+    ensures outcome { (k : KernelState) (p : ℕ) → outcome_of k p result ≡ blocked k descriptor }
     ensures possible { (k : KernelState) → IsPossible k result }
-    ensures memory { takes_memory result ≡ false }
-    ensures length { (k : KernelState) (p : ℕ) → message_length (given k p result).0 ≡ 0 }
+    ensures memory { decision_may_grow result ≡ false }
+    ensures length { (k : KernelState) (p : ℕ) → message_length (outcome_of k p result).0 ≡ 0 }
 {
     if descriptor.nonblock {
         Decision::Refused(Errno::Again)

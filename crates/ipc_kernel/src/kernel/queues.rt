@@ -2,7 +2,7 @@
 ghost use Rattle.std.specs.Prelude.{◌≡◌, ℕ, ◌<◌, ◌≤◌, false, None, length, IsTrue};
 ghost use Rattle.ipc_names.specs.Flags.{flags_read};
 ghost use Rattle.ipc_kernel.specs.Limits.{object_places, mq_msgsize_max};
-ghost use Rattle.ipc_kernel.specs.Decisions.{given, IsPossible, takes_memory};
+ghost use Rattle.ipc_kernel.specs.Decisions.{outcome_of, IsPossible, decision_may_grow};
 ghost use Rattle.ipc_kernel.specs.Outcomes.{open_queue, unlink};
 ghost use Rattle.ipc_kernel.specs.Places.{are_sizes, queue_named};
 ghost use Rattle.ipc_kernel.specs.Processes.{descriptor_of, free_descriptor_of};
@@ -59,7 +59,7 @@ fn descriptor_for(place: u8, flags: Flags) -> Descriptor
 impl Kernel {
     ghost use Rattle.ipc_kernel.specs.Queues.{new_descriptor, mq_create, mq_look_up, mq_open, mq_close, mq_send, mq_receive, mq_getattr, mq_setattr};
 
-    pub(super) fn decide_open<'a>(
+    pub(super) fn decide_mq_open<'a>(
         &self,
         pid: usize,
         name: &'a Name,
@@ -67,7 +67,7 @@ impl Kernel {
         attr: Option<[u16; 4]>,
     ) -> Decision<'a>
         requires { pid < length self.now.processes }
-        ensures given { given self.now pid result ≡ mq_open self.now pid name.now (sizes_asked attr) (flags_read flags) }
+        ensures outcome { outcome_of self.now pid result ≡ mq_open self.now pid name.now (sizes_asked attr) (flags_read flags) }
         ensures possible { IsPossible self.now result }
     {
         let flags = match Flags::read(flags) {
@@ -78,11 +78,11 @@ impl Kernel {
         if flags.create && !are_sizes(max_messages, message_size) {
             return Decision::Refused(Errno::Invalid);
         }
-        self.decide_look_up(pid, name, max_messages, message_size, flags)
+        self.decide_mq_look_up(pid, name, max_messages, message_size, flags)
     }
 
     /// Opens a queue by whether its name is found.
-    fn decide_look_up<'a>(
+    fn decide_mq_look_up<'a>(
         &self,
         pid: usize,
         name: &'a Name,
@@ -92,7 +92,7 @@ impl Kernel {
     ) -> Decision<'a>
         requires process { pid < length self.now.processes }
         requires sizes { IsTrue flags.create → IsTrue (are_sizes (max_messages, message_size)) }
-        ensures given { given self.now pid result ≡
+        ensures outcome { outcome_of self.now pid result ≡
             mq_look_up self.now pid name.now (max_messages, message_size) flags (queue_named self.now.places name.now) }
         ensures possible { IsPossible self.now result }
     {
@@ -107,14 +107,14 @@ impl Kernel {
                 if !flags.create {
                     return Decision::Refused(Errno::NoEntry);
                 }
-                self.decide_create(pid, name, max_messages, message_size, flags)
+                self.decide_mq_create(pid, name, max_messages, message_size, flags)
             }
         }
     }
 
     /// Makes a queue with a name that is free.
     #[tactic(auto, using(crate::proofs::PlaceLemmas::first_empty_place))]
-    fn decide_create<'a>(
+    fn decide_mq_create<'a>(
         &self,
         pid: usize,
         name: &'a Name,
@@ -125,7 +125,7 @@ impl Kernel {
         requires process { pid < length self.now.processes }
         requires sizes { IsTrue (are_sizes (max_messages, message_size)) }
         requires absent { queue_named self.now.places name.now ≡ None }
-        ensures given { given self.now pid result ≡
+        ensures outcome { outcome_of self.now pid result ≡
             mq_create self.now pid name.now (max_messages, message_size) flags (free_descriptor_of self.now.processes pid) }
         ensures possible { IsPossible self.now result }
     {
@@ -149,7 +149,7 @@ impl Kernel {
     fn decide_new_descriptor<'a>(&self, pid: usize, place: u8, flags: Flags) -> Decision<'a>
         requires process { pid < length self.now.processes }
         requires place { place < object_places }
-        ensures given { given self.now pid result ≡
+        ensures outcome { outcome_of self.now pid result ≡
             new_descriptor self.now pid place flags (free_descriptor_of self.now.processes pid) }
         ensures possible { IsPossible self.now result }
     {
@@ -165,11 +165,11 @@ impl Kernel {
         }
     }
 
-    pub(super) fn decide_close<'a>(&self, pid: usize, mqd: u16) -> Decision<'a>
+    pub(super) fn decide_mq_close<'a>(&self, pid: usize, mqd: u16) -> Decision<'a>
         requires { pid < length self.now.processes }
-        ensures given { given self.now pid result ≡ mq_close self.now pid mqd (descriptor_of self.now.processes pid mqd) }
+        ensures outcome { outcome_of self.now pid result ≡ mq_close self.now pid mqd (descriptor_of self.now.processes pid mqd) }
         ensures possible { IsPossible self.now result }
-        ensures memory { takes_memory result ≡ false }
+        ensures memory { decision_may_grow result ≡ false }
     {
         match self.processes.descriptor(pid, mqd) {
             None => Decision::Refused(Errno::BadDescriptor),
@@ -180,10 +180,10 @@ impl Kernel {
         }
     }
 
-    pub(super) fn decide_unlink<'a>(&self, name: &'a Name) -> Decision<'a>
-        ensures given { (p : ℕ) → given self.now p result ≡ unlink self.now (queue_named self.now.places name.now) }
+    pub(super) fn decide_mq_unlink<'a>(&self, name: &'a Name) -> Decision<'a>
+        ensures outcome { (p : ℕ) → outcome_of self.now p result ≡ unlink self.now (queue_named self.now.places name.now) }
         ensures possible { IsPossible self.now result }
-        ensures memory { takes_memory result ≡ false }
+        ensures memory { decision_may_grow result ≡ false }
     {
         match self.places.find_queue(name) {
             None => Decision::Refused(Errno::NoEntry),
@@ -193,7 +193,7 @@ impl Kernel {
         }
     }
 
-    pub(super) fn decide_send<'a>(
+    pub(super) fn decide_mq_send<'a>(
         &self,
         pid: usize,
         mqd: u16,
@@ -201,7 +201,7 @@ impl Kernel {
         prio: u16,
     ) -> Decision<'a>
         requires { pid < length self.now.processes }
-        ensures given { given self.now pid result ≡ mq_send self.now prio words.now (open_queue self.now pid mqd) }
+        ensures outcome { outcome_of self.now pid result ≡ mq_send self.now prio words.now (open_queue self.now pid mqd) }
         ensures possible { IsPossible self.now result }
     {
         let Some((descriptor, queue)) = self.open_queue(pid, mqd) else {
@@ -225,13 +225,13 @@ impl Kernel {
     }
 
     #[tactic(auto, using(crate::proofs::AnswerLemmas::first_short))]
-    pub(super) fn decide_receive<'a>(&self, pid: usize, mqd: u16, len: u16) -> Decision<'a>
+    pub(super) fn decide_mq_receive<'a>(&self, pid: usize, mqd: u16, len: u16) -> Decision<'a>
         requires { pid < length self.now.processes }
-        ensures given { given self.now pid result ≡ mq_receive self.now len (open_queue self.now pid mqd) }
+        ensures outcome { outcome_of self.now pid result ≡ mq_receive self.now len (open_queue self.now pid mqd) }
         ensures possible { IsPossible self.now result }
-        ensures memory { takes_memory result ≡ false }
-        ensures size { message_length (given self.now pid result).0 ≤ len }
-        ensures limit { message_length (given self.now pid result).0 ≤ mq_msgsize_max }
+        ensures memory { decision_may_grow result ≡ false }
+        ensures size { message_length (outcome_of self.now pid result).0 ≤ len }
+        ensures limit { message_length (outcome_of self.now pid result).0 ≤ mq_msgsize_max }
     {
         let Some((descriptor, queue)) = self.open_queue(pid, mqd) else {
             return Decision::Refused(Errno::BadDescriptor);
@@ -249,11 +249,11 @@ impl Kernel {
         Decision::Receives(descriptor.place)
     }
 
-    pub(super) fn decide_getattr<'a>(&self, pid: usize, mqd: u16) -> Decision<'a>
+    pub(super) fn decide_mq_getattr<'a>(&self, pid: usize, mqd: u16) -> Decision<'a>
         requires { pid < length self.now.processes }
-        ensures given { given self.now pid result ≡ mq_getattr self.now (open_queue self.now pid mqd) }
+        ensures outcome { outcome_of self.now pid result ≡ mq_getattr self.now (open_queue self.now pid mqd) }
         ensures possible { IsPossible self.now result }
-        ensures memory { takes_memory result ≡ false }
+        ensures memory { decision_may_grow result ≡ false }
     {
         match self.open_queue(pid, mqd) {
             None => Decision::Refused(Errno::BadDescriptor),
@@ -263,11 +263,11 @@ impl Kernel {
         }
     }
 
-    pub(super) fn decide_setattr<'a>(&self, pid: usize, mqd: u16, flags: u16) -> Decision<'a>
+    pub(super) fn decide_mq_setattr<'a>(&self, pid: usize, mqd: u16, flags: u16) -> Decision<'a>
         requires { pid < length self.now.processes }
-        ensures given { given self.now pid result ≡ mq_setattr self.now pid mqd flags (open_queue self.now pid mqd) }
+        ensures outcome { outcome_of self.now pid result ≡ mq_setattr self.now pid mqd flags (open_queue self.now pid mqd) }
         ensures possible { IsPossible self.now result }
-        ensures memory { takes_memory result ≡ false }
+        ensures memory { decision_may_grow result ≡ false }
     {
         let Some((descriptor, queue)) = self.open_queue(pid, mqd) else {
             return Decision::Refused(Errno::BadDescriptor);

@@ -1,7 +1,7 @@
 //! The rules of the calls on semaphores.
 ghost use Rattle.std.specs.Prelude.{◌≡◌, ℕ, ◌<◌, ◌≤◌, false, None, length, IsTrue};
 ghost use Rattle.ipc_kernel.specs.Limits.{object_places, open_max, sem_value_max};
-ghost use Rattle.ipc_kernel.specs.Decisions.{given, IsPossible, takes_memory};
+ghost use Rattle.ipc_kernel.specs.Decisions.{outcome_of, IsPossible, decision_may_grow};
 ghost use Rattle.ipc_kernel.specs.Outcomes.{open_semaphore, unlink};
 ghost use Rattle.ipc_kernel.specs.Places.{semaphore_named};
 ghost use Rattle.ipc_kernel.specs.Processes.{slot_of, slot_for, free_slot_of};
@@ -29,7 +29,7 @@ impl Kernel {
         value: u16,
     ) -> Decision<'a>
         requires { pid < length self.now.processes }
-        ensures given { given self.now pid result ≡ sem_open self.now pid name.now flags value }
+        ensures outcome { outcome_of self.now pid result ≡ sem_open self.now pid name.now flags value }
         ensures possible { IsPossible self.now result }
     {
         let create = flags & CREATE != 0;
@@ -51,7 +51,7 @@ impl Kernel {
     ) -> Decision<'a>
         requires process { pid < length self.now.processes }
         requires value { IsTrue create → value ≤ sem_value_max }
-        ensures given { given self.now pid result ≡
+        ensures outcome { outcome_of self.now pid result ≡
             sem_look_up self.now pid name.now create exclusive value (semaphore_named self.now.places name.now) }
         ensures possible { IsPossible self.now result }
     {
@@ -77,7 +77,7 @@ impl Kernel {
         requires process { pid < length self.now.processes }
         requires value { value ≤ sem_value_max }
         requires absent { semaphore_named self.now.places name.now ≡ None }
-        ensures given { given self.now pid result ≡
+        ensures outcome { outcome_of self.now pid result ≡
             sem_create self.now pid name.now value (free_slot_of self.now.processes pid) }
         ensures possible { IsPossible self.now result }
     {
@@ -100,7 +100,7 @@ impl Kernel {
     fn decide_sem_open_place<'a>(&self, pid: usize, place: u8) -> Decision<'a>
         requires process { pid < length self.now.processes }
         requires place { place < object_places }
-        ensures given { given self.now pid result ≡
+        ensures outcome { outcome_of self.now pid result ≡
             sem_open_place self.now pid place (slot_for self.now.processes pid place) }
         ensures possible { IsPossible self.now result }
     {
@@ -114,7 +114,7 @@ impl Kernel {
     fn decide_new_slot<'a>(&self, pid: usize, place: u8) -> Decision<'a>
         requires process { pid < length self.now.processes }
         requires place { place < object_places }
-        ensures given { given self.now pid result ≡
+        ensures outcome { outcome_of self.now pid result ≡
             new_slot self.now pid place (free_slot_of self.now.processes pid) }
         ensures possible { IsPossible self.now result }
     {
@@ -131,7 +131,7 @@ impl Kernel {
     fn decide_one_more_open<'a>(&self, pid: usize, slot: usize) -> Decision<'a>
         requires process { pid < length self.now.processes }
         requires slot { slot < open_max }
-        ensures given { given self.now pid result ≡
+        ensures outcome { outcome_of self.now pid result ≡
             one_more_open self.now pid slot (slot_of self.now.processes pid slot) }
         ensures possible { IsPossible self.now result }
     {
@@ -150,9 +150,9 @@ impl Kernel {
 
     pub(super) fn decide_sem_close<'a>(&self, pid: usize, slot: u16) -> Decision<'a>
         requires { pid < length self.now.processes }
-        ensures given { given self.now pid result ≡ sem_close self.now pid slot (slot_of self.now.processes pid slot) }
+        ensures outcome { outcome_of self.now pid result ≡ sem_close self.now pid slot (slot_of self.now.processes pid slot) }
         ensures possible { IsPossible self.now result }
-        ensures memory { takes_memory result ≡ false }
+        ensures memory { decision_may_grow result ≡ false }
     {
         match self.processes.slot(pid, slot) {
             None => Decision::Refused(Errno::Invalid),
@@ -172,9 +172,9 @@ impl Kernel {
     }
 
     pub(super) fn decide_sem_unlink<'a>(&self, name: &'a Name) -> Decision<'a>
-        ensures given { (p : ℕ) → given self.now p result ≡ unlink self.now (semaphore_named self.now.places name.now) }
+        ensures outcome { (p : ℕ) → outcome_of self.now p result ≡ unlink self.now (semaphore_named self.now.places name.now) }
         ensures possible { IsPossible self.now result }
-        ensures memory { takes_memory result ≡ false }
+        ensures memory { decision_may_grow result ≡ false }
     {
         match self.places.find_semaphore(name) {
             None => Decision::Refused(Errno::NoEntry),
@@ -184,11 +184,11 @@ impl Kernel {
         }
     }
 
-    pub(super) fn decide_wait<'a>(&self, pid: usize, slot: u16) -> Decision<'a>
+    pub(super) fn decide_sem_wait<'a>(&self, pid: usize, slot: u16) -> Decision<'a>
         requires { pid < length self.now.processes }
-        ensures given { given self.now pid result ≡ sem_wait self.now (open_semaphore self.now pid slot) }
+        ensures outcome { outcome_of self.now pid result ≡ sem_wait self.now (open_semaphore self.now pid slot) }
         ensures possible { IsPossible self.now result }
-        ensures memory { takes_memory result ≡ false }
+        ensures memory { decision_may_grow result ≡ false }
     {
         match self.open_semaphore(pid, slot) {
             None => Decision::Refused(Errno::Invalid),
@@ -200,11 +200,11 @@ impl Kernel {
         }
     }
 
-    pub(super) fn decide_trywait<'a>(&self, pid: usize, slot: u16) -> Decision<'a>
+    pub(super) fn decide_sem_trywait<'a>(&self, pid: usize, slot: u16) -> Decision<'a>
         requires { pid < length self.now.processes }
-        ensures given { given self.now pid result ≡ sem_trywait self.now (open_semaphore self.now pid slot) }
+        ensures outcome { outcome_of self.now pid result ≡ sem_trywait self.now (open_semaphore self.now pid slot) }
         ensures possible { IsPossible self.now result }
-        ensures memory { takes_memory result ≡ false }
+        ensures memory { decision_may_grow result ≡ false }
     {
         match self.open_semaphore(pid, slot) {
             None => Decision::Refused(Errno::Invalid),
@@ -216,11 +216,11 @@ impl Kernel {
         }
     }
 
-    pub(super) fn decide_post<'a>(&self, pid: usize, slot: u16) -> Decision<'a>
+    pub(super) fn decide_sem_post<'a>(&self, pid: usize, slot: u16) -> Decision<'a>
         requires { pid < length self.now.processes }
-        ensures given { given self.now pid result ≡ sem_post self.now (open_semaphore self.now pid slot) }
+        ensures outcome { outcome_of self.now pid result ≡ sem_post self.now (open_semaphore self.now pid slot) }
         ensures possible { IsPossible self.now result }
-        ensures memory { takes_memory result ≡ false }
+        ensures memory { decision_may_grow result ≡ false }
     {
         match self.open_semaphore(pid, slot) {
             None => Decision::Refused(Errno::Invalid),
@@ -232,11 +232,11 @@ impl Kernel {
         }
     }
 
-    pub(super) fn decide_getvalue<'a>(&self, pid: usize, slot: u16) -> Decision<'a>
+    pub(super) fn decide_sem_getvalue<'a>(&self, pid: usize, slot: u16) -> Decision<'a>
         requires { pid < length self.now.processes }
-        ensures given { given self.now pid result ≡ sem_getvalue self.now (open_semaphore self.now pid slot) }
+        ensures outcome { outcome_of self.now pid result ≡ sem_getvalue self.now (open_semaphore self.now pid slot) }
         ensures possible { IsPossible self.now result }
-        ensures memory { takes_memory result ≡ false }
+        ensures memory { decision_may_grow result ≡ false }
     {
         match self.open_semaphore(pid, slot) {
             None => Decision::Refused(Errno::Invalid),

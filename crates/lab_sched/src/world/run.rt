@@ -26,7 +26,10 @@ fn local_steps(process: &mut Process, most: u32) -> u32
     ensures within { result ≤ most }
 {
     match process {
-        Process::Running(running) => running.advance(most),
+        Process::Running(running) => {
+            let (done, _) = running.advance(most);
+            done
+        }
         Process::Waiting(_, _) | Process::Ended(_) => 0,
     }
 }

@@ -1,8 +1,8 @@
 //! A process that runs.
 
-ghost use Rattle.std.specs.Prelude.{◌≡◌, ℕ, ◌+◌, ◌<◌, ◌≤◌, IfOk, Some, length, slice_index};
+ghost use Rattle.std.specs.Prelude.{◌≡◌, ℕ, ◌+◌, ◌<◌, ◌≤◌, IfOk, length, slice_index};
 ghost use Rattle.lc3_machine.specs.Process.{start, reg};
-ghost use Rattle.lc3_machine.specs.Steps.{IsStep, IsRun, after};
+ghost use Rattle.lc3_machine.specs.Steps.{IsStep, IsRun, HasRun};
 
 use super::{AtCall, Local, Running};
 use crate::machine::{Machine, Progress};
@@ -48,13 +48,12 @@ impl Running {
         }
     }
 
-    /// Does at most this many instructions in place, as `run_local` does; with how many were done.
-    pub fn advance(&mut self, max: u32) -> u32
-        ensures run { after result self.old ≡ Some self.new }
-        ensures within { result ≤ max }
+    /// Does at most this many instructions in place, as `run_local` does; with how many were done, and what kept the
+    /// next one from being done, if they are fewer.
+    pub fn advance(&mut self, max: u32) -> (u32, Progress)
+        ensures run { HasRun self.old max result.1 self.new result.0 }
     {
-        let (done, _) = self.machine.run(max);
-        done
+        self.machine.run(max)
     }
 
     /// What a register holds.

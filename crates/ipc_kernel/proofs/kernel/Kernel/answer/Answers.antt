@@ -4,10 +4,10 @@ use Rattle.ipc_kernel.proofs.kernel.Kernel.answer.Goals as goal
 pub returns-clause-form : goal.returns-clause-form
 returns-clause-form c =
     previewed_form c.preview.result c.args.self.now c.args.pid c.args.call.now c.decide-decision.result
-    c.decide-decision.ensures.given c.decide-decision.ensures.size c.decide-decision.ensures.limit (c.preview.ensures.given c.args.pid)
+    c.decide-decision.ensures.outcome c.decide-decision.ensures.size c.decide-decision.ensures.limit (c.preview.ensures.outcome c.args.pid)
 
 pub returns-clause-memory : goal.returns-clause-memory
 returns-clause-memory c failed =
     received_alone c.args.self.now c.args.pid c.args.call.now c.decide-decision.result c.decide-decision.ensures.possible
-    (decided_form c.args.self.now c.args.pid c.args.call.now c.decide-decision.result c.decide-decision.ensures.given c.decide-decision.ensures.size c.decide-decision.ensures.limit)
+    (decided_form c.args.self.now c.args.pid c.args.call.now c.decide-decision.result c.decide-decision.ensures.outcome c.decide-decision.ensures.size c.decide-decision.ensures.limit)
     (c.preview.ensures.memory failed)

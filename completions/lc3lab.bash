@@ -1,0 +1,30 @@
+# Completions of lc3lab for bash. README.md beside this file says how to install them.
+
+_lc3lab() {
+    local commands='asm dis step run explore debug help'
+    local word=${COMP_WORDS[COMP_CWORD]} command=${COMP_WORDS[1]} options=
+    COMPREPLY=()
+    if [ "$COMP_CWORD" -eq 1 ]; then
+        COMPREPLY=($(compgen -W "$commands --help -h" -- "$word"))
+        return
+    fi
+    case ${COMP_WORDS[COMP_CWORD - 1]} in
+    --limit | --worlds | --steps)
+        compopt +o bashdefault +o default 2>/dev/null
+        return
+        ;;
+    esac
+    case $command in
+    asm) options='--list --help -h' ;;
+    dis | step | debug) options='--help -h' ;;
+    run) options='--limit --help -h' ;;
+    explore) options='--worlds --steps --help -h' ;;
+    help) options=$commands ;;
+    esac
+    case $command:$word in
+    help:* | *:-*) COMPREPLY=($(compgen -W "$options" -- "$word")) ;;
+    esac
+}
+
+# Where nothing is completed here, bash completes the names of files.
+complete -o bashdefault -o default -F _lc3lab lc3lab ./lc3lab

@@ -1,0 +1,143 @@
+//! The program's commands.
+ghost use Rattle.std.specs.Prelude.{◌≡◌, false};
+
+mod asm;
+mod debug;
+mod dis;
+pub mod explore;
+pub mod run;
+mod step;
+
+use crate::arguments::{Request, read_words};
+use crate::complaint::{Complaint, Reason};
+use crate::fault::CliFault;
+use crate::hex_run::hex_run;
+use asm::assemble_file;
+use debug::debug_programs;
+use dis::disassemble_file;
+use explore::explore_programs;
+use lab_io::{Input, Output};
+use run::run_programs;
+use std::alloc::Global;
+use std::io::{Read, Write};
+use std::rt::Files;
+use std::sync::Wait;
+use std::thread::Threads;
+use step::step_programs;
+
+/// The program did what its words ask for.
+pub const SUCCESS: u8 = 0;
+
+/// A file, a text or a run had a fault.
+pub const FAULT: u8 = 1;
+
+/// The words of the command line are wrong.
+pub const USAGE: u8 = 2;
+
+/// Does what the words after the program's name ask for, and answers the exit status. Without words it reads an image
+/// as hexadecimal words and writes the report of its run. A fault goes to `errors`, on one line.
+pub fn command<T: Files + Threads + Wait + Sync, R: Read, W: Write, E: Write>(
+    rt: &T,
+    alloc: Global,
+    words: &[String],
+    input: &mut Input<R>,
+    output: &mut Output<W>,
+    errors: &mut Output<E>,
+) -> u8
+    requires input_healthy { input.old.failed ≡ false }
+    requires output_healthy { output.old.failed ≡ false }
+    requires errors_healthy { errors.old.failed ≡ false }
+{
+    if words.is_empty() {
+        let outcome = hex_run(alloc, input, output).map_err(complaint);
+        return status(alloc, outcome, errors);
+    }
+    match read_words(alloc, words) {
+        Ok(request) => {
+            let outcome = perform(rt, alloc, &request, input, output);
+            status(alloc, outcome, errors)
+        }
+        Err(error) => explain(alloc, &error, output, errors),
+    }
+}
+
+/// A fault of the run over hexadecimal words, with its place.
+fn complaint(fault: CliFault) -> Complaint<'static> {
+    match fault {
+        CliFault::Write | CliFault::NoMemory => Reason::from(fault).at("run"),
+        _ => Reason::from(fault).at("standard input"),
+    }
+}
+
+/// Does what a request asks for.
+fn perform<'a, T: Files + Threads + Wait + Sync, R: Read, W: Write>(
+    rt: &T,
+    alloc: Global,
+    request: &Request<'a>,
+    input: &mut Input<R>,
+    output: &mut Output<W>,
+) -> Result<(), Complaint<'a>>
+    requires input_healthy { input.old.failed ≡ false }
+    requires output_healthy { output.old.failed ≡ false }
+{
+    match *request {
+        Request::Assemble {
+            source,
+            object,
+            list,
+        } => assemble_file(rt, alloc, source, object, list, output),
+        Request::Disassemble { object } => disassemble_file(rt, alloc, object, output),
+        Request::Step { ref programs } => {
+            step_programs(rt, alloc, programs.as_slice(), input, output)
+        }
+        Request::Run {
+            ref programs,
+            limit,
+        } => run_programs(rt, alloc, programs.as_slice(), limit, output),
+        Request::Explore {
+            ref programs,
+            limits,
+        } => explore_programs(rt, alloc, programs.as_slice(), limits, output),
+        Request::Debug { ref programs } => {
+            debug_programs(rt, alloc, programs.as_slice(), input, output)
+        }
+    }
+}
+
+/// Help goes to the output, and what is wrong with the words to the errors.
+fn explain<W: Write, E: Write>(
+    alloc: Global,
+    error: &clap::Error,
+    output: &mut Output<W>,
+    errors: &mut Output<E>,
+) -> u8 {
+    let text = match error.to_string(alloc) {
+        Ok(text) if error.kind() != clap::error::ErrorKind::OutOfMemory => text,
+        _ => return status(alloc, Err(Reason::NoMemory.at("run")), errors),
+    };
+    if error.use_stderr() {
+        let _ = errors.write_all(text.as_bytes());
+        return USAGE;
+    }
+    let outcome = output
+        .write_all(text.as_bytes())
+        .map_err(|_| Reason::CannotWrite.at("run"));
+    status(alloc, outcome, errors)
+}
+
+/// The exit status; a complaint is written on one line.
+fn status<E: Write>(
+    alloc: Global,
+    outcome: Result<(), Complaint<'_>>,
+    errors: &mut Output<E>,
+) -> u8 {
+    let Err(complaint) = outcome else {
+        return SUCCESS;
+    };
+    let written = match format!(in alloc; "{complaint}\n") {
+        Ok(line) => errors.write_all(line.as_bytes()),
+        Err(_) => errors.write_all(b"lc3lab: run: out of memory\n"),
+    };
+    let _ = written;
+    FAULT
+}

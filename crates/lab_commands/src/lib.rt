@@ -1,0 +1,18 @@
+//! What the program `lc3lab` does: the words of its command line, its commands, and the run over hexadecimal words.
+#![tactic(auto)]
+
+mod arguments;
+mod commands;
+mod complaint;
+mod fault;
+mod files;
+mod hex;
+pub mod hex_run;
+mod input;
+mod programs;
+
+pub use commands::{FAULT, SUCCESS, USAGE, command};
+pub use fault::CliFault;
+
+#[cfg(test)]
+mod tests;

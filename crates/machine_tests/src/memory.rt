@@ -1,0 +1,156 @@
+//! Memory in pages, beside a plain vector of 65,536 words.
+
+use crate::processes::{loaded, stopped, vec_of};
+use lc3_machine::{AtCall, Effect, Running, Want};
+use std::alloc::{AllocError, Global};
+use std::process::Abort;
+use std::test::Fail;
+
+/// Numbers that look random, the same in each run.
+#[derive(Drop)]
+struct Numbers {
+    state: u32,
+}
+
+impl Numbers {
+    fn next(&mut self) -> u16 {
+        self.state = self
+            .state
+            .wrapping_mul(1_664_525)
+            .wrapping_add(1_013_904_223);
+        (self.state >> 16) as u16
+    }
+
+    /// An address behind the program and below the device registers.
+    fn address(&mut self) -> u16 {
+        0x300 + self.next() % 0xfb00
+    }
+}
+
+/// The words that memory has to hold.
+#[derive(Drop)]
+struct Plain {
+    words: Vec<u16>,
+}
+
+impl Plain {
+    fn new(alloc: Global) -> Result<Plain, AllocError> {
+        let mut words = Vec::new(alloc);
+        again!(words.resize(0x10000, 0));
+        Ok(Plain { words })
+    }
+
+    fn set(&mut self, address: u16, word: u16) {
+        if let Some(cell) = self.words.get_mut(address as usize) {
+            *cell = word;
+        }
+    }
+
+    fn write(&mut self, at: u16, words: &[u16]) {
+        for (address, word) in (at..0xfe00).zip(words.iter()) {
+            self.set(address, *word);
+        }
+    }
+
+    fn get(&self, address: u16) -> u16 {
+        match self.words.get(address as usize) {
+            Some(word) => *word,
+            None => 0,
+        }
+    }
+}
+
+/// Stores the word at x0205 at the address at x0206, asks for a call, and begins again.
+const STORES: [u16; 7] = [0x2204, 0x2404, 0x7280, 0xf044, 0x0ffb, 0, 0x0300];
+
+/// Makes a range up to the device registers writable.
+fn reserve(call: &mut AtCall, at: u16, len: u16) -> Result<(), AllocError> {
+    if at < 0xfe00 && len <= 0xfe00 - at {
+        again!(call.reserve(at, len));
+    }
+    Ok(())
+}
+
+/// The process after its call, with these words from an address on, and a priority.
+fn answered(
+    rt: &impl Abort,
+    call: AtCall,
+    at: u16,
+    words: Vec<u16>,
+    prio_at: u16,
+    prio: u16,
+) -> Running {
+    let len = (words.len() % 0x10000) as u16;
+    match call.want() {
+        Want::Trap(_)
+            if words.len() == len as usize && call.ready(at, len) && call.ready(prio_at, 1) => {
+            call.finish(Effect::Message {
+                at,
+                words,
+                prio_at: Some(prio_at),
+                prio,
+            })
+        }
+        _ => panic!(rt; "the words fit"),
+    }
+}
+
+/// Some words for an address, which stand before the device registers.
+fn message(alloc: Global, numbers: &mut Numbers, at: u16) -> Result<Vec<u16>, AllocError> {
+    let mut words = Vec::new(alloc);
+    for _ in 0..(numbers.next() % 300).min(0xfe00u16.saturating_sub(at)) {
+        let word = numbers.next();
+        again!(words.push(word));
+    }
+    Ok(words)
+}
+
+/// Looks at some words, makes a range writable, and goes back to where the process runs.
+fn disturb(
+    rt: &impl Abort,
+    call: &mut AtCall,
+    numbers: &mut Numbers,
+    plain: &Plain,
+) -> Result<(), AllocError> {
+    for _ in 0..8 {
+        let address = numbers.next();
+        assert_eq!(rt; call.word(address), plain.get(address));
+    }
+    let at = numbers.address();
+    let len = (numbers.next() % 600).min(0xfe00u16.saturating_sub(at));
+    reserve(call, at, len)
+}
+
+#[test]
+fn pages_are_a_plain_list_of_words(rt: HostRuntime) -> Result<(), Fail> {
+    let mut numbers = Numbers { state: 1 };
+    let mut plain = Plain::new(rt.alloc())?;
+    plain.write(0x200, &STORES);
+    let mut process = loaded(rt.alloc(), 0x200, &STORES, b"")?;
+    for round in 0..500 {
+        let mut call = stopped(&rt, process);
+        plain.set(plain.get(0x206), plain.get(0x205));
+        disturb(&rt, &mut call, &mut numbers, &plain)?;
+        if numbers.next() % 4 == 0 {
+            call = stopped(&rt, call.back());
+        }
+        let (at, words) = if round % 2 == 0 {
+            let next = [numbers.next(), numbers.address()];
+            (0x205, vec_of(rt.alloc(), &next)?)
+        } else {
+            let at = numbers.address();
+            (at, message(rt.alloc(), &mut numbers, at)?)
+        };
+        let prio_at = numbers.address();
+        let prio = numbers.next();
+        reserve(&mut call, at, (words.len() % 0x10000) as u16)?;
+        reserve(&mut call, prio_at, 1)?;
+        plain.write(at, &words);
+        plain.set(prio_at, prio);
+        process = answered(&rt, call, at, words, prio_at, prio);
+    }
+    for address in 0..=0xffff {
+        assert_eq!(rt; process.word(address), plain.get(address), "at {address}");
+    }
+    Ok(())
+}
