@@ -4,6 +4,7 @@ ghost use Rattle.std.specs.Prelude.{◌≡◌, false};
 use crate::complaint::{Complaint, Reason};
 use crate::files::write_text;
 use crate::programs::{laboratory, read_programs};
+use lab_arguments::{Question, Rest};
 use lab_debug::report_text;
 use lab_explore::{End, Exploration, Limits, explore};
 use lab_io::Output;
@@ -12,22 +13,6 @@ use std::alloc::{AllocError, Global};
 use std::fmt::Write as _;
 use std::io::Write;
 use std::rt::Files;
-
-/// The most worlds that can be asked for.
-pub const MOST_WORLDS: u32 = 10_000_000;
-
-/// The most local steps of a process in a row that can be asked for.
-pub const MOST_LOCAL_STEPS: u32 = 10_000_000;
-
-/// What is asked of an exploration.
-#[derive(Clone, Copy)]
-pub struct Question {
-    pub limits: Limits,
-    /// The verdict that each end must have.
-    pub required: Option<Verdict>,
-    /// The number of the end whose schedule is printed alone.
-    pub schedule: Option<u32>,
-}
 
 /// Ends with one report.
 #[derive(Drop)]
@@ -49,14 +34,24 @@ pub fn explore_programs<'a, T: Files, W: Write>(
 {
     let programs = read_programs(rt, alloc, programs)?;
     let fresh = laboratory(alloc, programs.as_slice())?;
-    let found = explore(alloc, fresh, question.limits).map_err(|fault| Reason::from(fault).at(
-        "run",
-    ))?;
+    let limits = Limits {
+        worlds: question.worlds,
+        steps: question.steps,
+    };
+    let found = explore(alloc, fresh, limits).map_err(|fault| Reason::from(fault).at("run"))?;
     let text = answer(alloc, &found, question).map_err(|reason| reason.at("explore"))?;
     write_text(&text, output)?;
-    match shortfall(&found, question.required) {
+    match shortfall(&found, question.required.map(verdict_of)) {
         None => Ok(()),
         Some(reason) => Err(reason.at("explore")),
+    }
+}
+
+/// The verdict on programs that come to rest so.
+fn verdict_of(rest: Rest) -> Verdict {
+    match rest {
+        Rest::Ended => Verdict::Ended,
+        Rest::Stuck => Verdict::Stuck,
     }
 }
 
