@@ -55,32 +55,29 @@ fn program<'a>(alloc: Global) -> Result<Command<'a>, AllocError> {
 }
 
 fn asm<'a>(alloc: Global) -> Result<Command<'a>, AllocError> {
-    let source = Arg::new(alloc, "SOURCE")
-        .required(true)
-        .help("A source text, as UTF-8");
-    let object = Arg::new(alloc, "OBJECT")
-        .required(true)
-        .help("The object file to write");
-    let list = Arg::new(alloc, "list")
-        .long("list")
-        .action(ArgAction::SetTrue)
-        .help("Prints the listing");
     Command::new(alloc, "asm")
         .about("Assembles a source and writes its object file")
         .after_help("Example:\n  lc3lab asm hello.asm hello.obj --list")
-        .arg(source)?
-        .arg(object)?
-        .arg(list)
+        .arg(file(alloc, "SOURCE", "A source text, as UTF-8"))?
+        .arg(file(alloc, "OBJECT", "The object file to write"))?
+        .arg(
+            Arg::new(alloc, "list")
+                .long("list")
+                .action(ArgAction::SetTrue)
+                .help("Prints the listing"),
+        )
 }
 
 fn dis<'a>(alloc: Global) -> Result<Command<'a>, AllocError> {
-    let object = Arg::new(alloc, "OBJECT")
-        .required(true)
-        .help("The object file to read");
     Command::new(alloc, "dis")
         .about("Prints the words of an object file as instructions")
         .after_help("Example:\n  lc3lab dis hello.obj")
-        .arg(object)
+        .arg(file(alloc, "OBJECT", "The object file to read"))
+}
+
+/// A file that must be named.
+fn file<'a>(alloc: Global, name: &'a str, help: &'a str) -> Arg<'a> {
+    Arg::new(alloc, name).required(true).help(help)
 }
 
 fn step<'a>(alloc: Global) -> Result<Command<'a>, AllocError> {
@@ -93,59 +90,56 @@ fn step<'a>(alloc: Global) -> Result<Command<'a>, AllocError> {
 }
 
 fn run<'a>(alloc: Global) -> Result<Command<'a>, AllocError> {
-    let limit = number(
-        alloc,
-        "limit",
-        "N",
-        MOST_STEPS,
-        "The most steps of each process",
-    );
     on_programs(
         alloc,
         "run",
         "Runs programs on threads and prints a report and the interleaving that they had",
         "Example:\n  lc3lab run producer.obj consumer.obj",
     )?
-    .arg(limit.default_value("100000"))
-}
-
-fn explore<'a>(alloc: Global) -> Result<Command<'a>, AllocError> {
-    let limit = number(
+    .arg(limit(
         alloc,
         "limit",
         "N",
-        MOST_LOCAL_STEPS,
-        "The most steps of a process without a call",
-    );
-    let worlds = number(
-        alloc,
-        "worlds",
-        "M",
-        MOST_WORLDS,
-        "The most worlds to visit",
-    );
-    let require = Arg::new(alloc, "require")
-        .long("require")
-        .value_name("VERDICT")
-        .value_parser(ValueParser::Names(VERDICTS))
-        .help("Fails unless the search is complete and each end has this verdict");
-    let schedule = number(
-        alloc,
-        "schedule",
-        "K",
-        MOST_WORLDS,
-        "Prints the schedule of end K alone",
-    );
+        MOST_STEPS,
+        "The most steps of each process",
+    ))
+}
+
+fn explore<'a>(alloc: Global) -> Result<Command<'a>, AllocError> {
     on_programs(
         alloc,
         "explore",
         "Visits every interleaving of programs and prints the ends that they can have",
         "Example:\n  lc3lab explore one.obj two.obj",
     )?
-    .arg(limit.default_value("100000"))?
-    .arg(worlds.default_value("100000"))?
-    .arg(require)?
-    .arg(schedule)
+    .arg(limit(
+        alloc,
+        "limit",
+        "N",
+        MOST_LOCAL_STEPS,
+        "The most steps of a process without a call",
+    ))?
+    .arg(limit(
+        alloc,
+        "worlds",
+        "M",
+        MOST_WORLDS,
+        "The most worlds to visit",
+    ))?
+    .arg(
+        Arg::new(alloc, "require")
+            .long("require")
+            .value_name("VERDICT")
+            .value_parser(ValueParser::Names(VERDICTS))
+            .help("Fails unless the search is complete and each end has this verdict"),
+    )?
+    .arg(number(
+        alloc,
+        "schedule",
+        "K",
+        MOST_WORLDS,
+        "Prints the schedule of end K alone",
+    ))
 }
 
 fn debug<'a>(alloc: Global) -> Result<Command<'a>, AllocError> {
@@ -171,6 +165,11 @@ fn on_programs<'a>(
         .about(about)
         .after_help(example)
         .arg(programs)
+}
+
+/// An option with a limit, which is 100,000 where it isn't given.
+fn limit<'a>(alloc: Global, name: &'a str, value: &'a str, most: u32, help: &'a str) -> Arg<'a> {
+    number(alloc, name, value, most, help).default_value("100000")
 }
 
 /// An option with a number from 1 to the most that there can be.

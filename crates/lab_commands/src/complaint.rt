@@ -10,7 +10,7 @@ use lc3_table::Fault;
 use std::fmt;
 
 /// A fault, as the program names it.
-#[derive(Clone, Copy, Debug, PartialEq, Eq)]
+#[derive(Clone, Copy)]
 pub enum Reason {
     Empty,
     BadWord { at: usize },
@@ -173,7 +173,7 @@ impl fmt::Display for Reason {
 }
 
 /// A fault and where it was found: a file's name, or a part of the program's work.
-#[derive(Clone, Copy, Debug)]
+#[derive(Clone, Copy)]
 pub struct Complaint<'a> {
     place: &'a str,
     reason: Reason,
