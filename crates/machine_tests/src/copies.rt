@@ -112,19 +112,20 @@ fn a_page_of_zeros_may_be_made_or_not(rt: HostRuntime) -> Result<(), Fail> {
     Ok(())
 }
 
-/// A process that waits at its trap.
-fn waiting(rt: &impl Abort, alloc: Global, input: &[u8]) -> Result<Waiting, AllocError> {
-    let call = stopped(rt, loaded(alloc, 0x3000, &[0xf044], input)?);
+/// The process, which waits for the answer of the trap that it stands before.
+fn waiting(rt: &impl Abort, call: AtCall) -> Waiting {
     match call.want() {
-        Want::Trap(_) => Ok(call.wait()),
+        Want::Trap(_) => call.wait(),
         Want::End(_) => panic!(rt; "it is a trap"),
     }
 }
 
 #[test]
 fn a_waiting_process_is_copied(rt: HostRuntime) -> Result<(), Fail> {
-    let process = waiting(&rt, rt.alloc(), b"a")?;
-    let other = waiting(&rt, rt.alloc(), b"b")?;
+    let process = loaded(rt.alloc(), 0x3000, &[0xf044], b"a")?;
+    let process = waiting(&rt, stopped(&rt, process));
+    let other = loaded(rt.alloc(), 0x3000, &[0xf044], b"b")?;
+    let other = waiting(&rt, stopped(&rt, other));
     let copy = again!(process.copy(rt.alloc()));
     assert!(rt; process.is_same(&copy) && !copy.is_same(&other));
     assert_eq!(rt; process.digest(), copy.digest());
@@ -132,19 +133,20 @@ fn a_waiting_process_is_copied(rt: HostRuntime) -> Result<(), Fail> {
     Ok(())
 }
 
-/// A process that has ended before its first instruction, or by it.
-fn ended(rt: &impl Abort, alloc: Global, word: u16) -> Result<Ended, AllocError> {
-    let call = stopped(rt, loaded(alloc, 0x3000, &[word], b"")?);
+/// The process, which its next instruction ends.
+fn ended(rt: &impl Abort, call: AtCall) -> Ended {
     match call.want() {
-        Want::End(_) => Ok(call.end()),
+        Want::End(_) => call.end(),
         Want::Trap(_) => panic!(rt; "it is an end"),
     }
 }
 
 #[test]
 fn an_ended_process_is_copied(rt: HostRuntime) -> Result<(), Fail> {
-    let process = ended(&rt, rt.alloc(), 0xf025)?;
-    let other = ended(&rt, rt.alloc(), 0xd000)?;
+    let process = loaded(rt.alloc(), 0x3000, &[0xf025], b"")?;
+    let process = ended(&rt, stopped(&rt, process));
+    let other = loaded(rt.alloc(), 0x3000, &[0xd000], b"")?;
+    let other = ended(&rt, stopped(&rt, other));
     let copy = again!(process.copy(rt.alloc()));
     assert!(rt; copy.how() == process.how());
     assert!(rt; process.is_same(&copy) && !copy.is_same(&other));

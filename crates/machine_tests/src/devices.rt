@@ -17,30 +17,6 @@ fn reads_few_bytes_and_fails(rt: HostRuntime) {
 }
 
 #[test]
-fn ends_before_it_fails(rt: HostRuntime) {
-    let mut input = Input::new(SlowIn::new(&[7], 9, 9));
-    let mut buf = [0u8; 4];
-    assert_eq!(rt; input.read(&mut buf), Ok(1));
-    assert_eq!(rt; input.read(&mut buf), Ok(0));
-    assert!(rt; !input.failed());
-}
-
-/// The call after the last byte that may move is the first that fails.
-#[test]
-fn reading_fails_at_each_place(rt: HostRuntime) {
-    for before_failure in 0..5usize {
-        let mut input = Input::new(SlowIn::new(&[1, 2, 3, 4, 5], 1, before_failure));
-        let mut buf = [0u8; 4];
-        for _ in 0..before_failure {
-            assert_eq!(rt; input.read(&mut buf), Ok(1));
-        }
-        assert!(rt; !input.failed());
-        assert_eq!(rt; input.read(&mut buf), Err(Failed));
-        assert!(rt; input.failed());
-    }
-}
-
-#[test]
 fn writing_fails_at_each_place(rt: HostRuntime) {
     let bytes = [1u8, 2, 3, 4, 5];
     for before_failure in 0..5usize {
@@ -51,16 +27,4 @@ fn writing_fails_at_each_place(rt: HostRuntime) {
         assert!(rt; room[..before_failure] == bytes[..before_failure]);
         assert_eq!(rt; room[before_failure], 0);
     }
-}
-
-/// A writer with no room takes nothing, which is a failure unless nothing was asked.
-#[test]
-fn fails_without_room(rt: HostRuntime) {
-    let mut room = [0u8; 1];
-    let mut output = Output::new(SlowOut::new(&mut room, 2, 9));
-    assert_eq!(rt; output.write_all(&[1]), Ok(()));
-    assert_eq!(rt; output.write(&[]), Ok(0));
-    assert!(rt; !output.failed());
-    assert_eq!(rt; output.write(&[2]), Err(Failed));
-    assert!(rt; output.failed());
 }

@@ -121,6 +121,46 @@ fn disturb(
     reserve(call, at, len)
 }
 
+/// The words of the next message, and where they go: over the word and the address that the program stores, or anywhere.
+fn next_words(
+    alloc: Global,
+    numbers: &mut Numbers,
+    anywhere: bool,
+) -> Result<(u16, Vec<u16>), AllocError> {
+    if anywhere {
+        let at = numbers.address();
+        return Ok((at, message(alloc, numbers, at)?));
+    }
+    let next = [numbers.next(), numbers.address()];
+    Ok((0x205, vec_of(alloc, &next)?))
+}
+
+/// Answers the call in both memories, with a priority.
+fn answer(
+    rt: &impl Abort,
+    call: AtCall,
+    numbers: &mut Numbers,
+    plain: &mut Plain,
+    at: u16,
+    words: Vec<u16>,
+) -> Result<Running, AllocError> {
+    let mut call = call;
+    let prio_at = numbers.address();
+    let prio = numbers.next();
+    reserve(&mut call, at, (words.len() % 0x10000) as u16)?;
+    reserve(&mut call, prio_at, 1)?;
+    plain.write(at, &words);
+    plain.set(prio_at, prio);
+    Ok(answered(rt, call, at, words, prio_at, prio))
+}
+
+/// Each word of the process is that of the plain memory.
+fn is_plain(rt: &impl Abort, process: &Running, plain: &Plain) {
+    for address in 0..=0xffff {
+        assert_eq!(rt; process.word(address), plain.get(address), "at {address}");
+    }
+}
+
 #[test]
 fn pages_are_a_plain_list_of_words(rt: HostRuntime) -> Result<(), Fail> {
     let mut numbers = Numbers { state: 1 };
@@ -134,23 +174,9 @@ fn pages_are_a_plain_list_of_words(rt: HostRuntime) -> Result<(), Fail> {
         if numbers.next() % 4 == 0 {
             call = stopped(&rt, call.back());
         }
-        let (at, words) = if round % 2 == 0 {
-            let next = [numbers.next(), numbers.address()];
-            (0x205, vec_of(rt.alloc(), &next)?)
-        } else {
-            let at = numbers.address();
-            (at, message(rt.alloc(), &mut numbers, at)?)
-        };
-        let prio_at = numbers.address();
-        let prio = numbers.next();
-        reserve(&mut call, at, (words.len() % 0x10000) as u16)?;
-        reserve(&mut call, prio_at, 1)?;
-        plain.write(at, &words);
-        plain.set(prio_at, prio);
-        process = answered(&rt, call, at, words, prio_at, prio);
+        let (at, words) = next_words(rt.alloc(), &mut numbers, round % 2 == 1)?;
+        process = answer(&rt, call, &mut numbers, &mut plain, at, words)?;
     }
-    for address in 0..=0xffff {
-        assert_eq!(rt; process.word(address), plain.get(address), "at {address}");
-    }
+    is_plain(&rt, &process, &plain);
     Ok(())
 }

@@ -15,23 +15,13 @@ fn image(alloc: Global) -> Result<Image, ObjFault> {
     Ok(again!(read_image(alloc, &HI)))
 }
 
-#[test]
-fn writes_one_byte_a_call(rt: HostRuntime) -> Result<(), Fail> {
-    let image = image(rt.alloc())?;
-    let mut room = [0xFFu8; 16];
-    write_image(&image, &mut Output::new(SlowOut::new(&mut room, 1, 16)))?;
-    assert!(rt; room[..14] == HI[..]);
-    assert!(rt; room[14..] == [0xFF, 0xFF]);
-    Ok(())
-}
-
 /// At each place a write may fail, and what was written before is a beginning of the file.
 #[test]
 fn leaves_a_beginning(rt: HostRuntime) -> Result<(), Fail> {
     let image = image(rt.alloc())?;
     for taken in 0..14usize {
         let mut room = [0xFFu8; 16];
-        let mut output = Output::new(SlowOut::new(&mut room, 3, taken));
+        let mut output = Output::new(SlowOut::new(&mut room, 1 + taken % 3, taken));
         assert_eq!(rt; write_image(&image, &mut output), Err(ObjFault::Write));
         assert!(rt; output.failed());
         assert!(rt; room[..taken] == HI[..taken]);

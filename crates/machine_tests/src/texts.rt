@@ -1,8 +1,9 @@
 //! Numbers and words as texts, and texts as programs.
 
-use lc3_asm::{assemble, listing};
+use lc3_asm::{AsmFault, Assembled, assemble, listing};
 use lc3_table::{image_text, text};
-use lc3_word::read_number;
+use lc3_word::{Image, read_number};
+use std::alloc::{AllocError, Global};
 use std::test::Fail;
 
 #[test]
@@ -24,11 +25,14 @@ fn numbers_as_written(rt: HostRuntime) {
     }
 }
 
+fn text_of_word(alloc: Global, word: u16) -> Result<String, AllocError> {
+    Ok(again!(text(alloc, word)))
+}
+
 #[test]
 fn the_text_of_a_word(rt: HostRuntime) -> Result<(), Fail> {
     for (word, expected) in [(0x1008u16, ".FILL x1008"), (0, "NOP"), (5, ".FILL x0005")] {
-        let shown = again!(text(rt.alloc(), word));
-        assert!(rt; shown.as_str() == expected);
+        assert!(rt; text_of_word(rt.alloc(), word)?.as_str() == expected);
     }
     Ok(())
 }
@@ -57,12 +61,22 @@ x3005 x0000 NOP
 x3006 x3000 ST R0,#0
 ";
 
+fn assembled(alloc: Global) -> Result<Assembled, AsmFault> {
+    Ok(again!(assemble(alloc, SOURCE)))
+}
+
+fn listed(alloc: Global, assembled: &Assembled) -> Result<String, AllocError> {
+    Ok(again!(listing(alloc, assembled)))
+}
+
+fn shown(alloc: Global, image: &Image) -> Result<String, AllocError> {
+    Ok(again!(image_text(alloc, image)))
+}
+
 #[test]
 fn a_source_under_refused_growths(rt: HostRuntime) -> Result<(), Fail> {
-    let assembled = again!(assemble(rt.alloc(), SOURCE));
-    let listed = again!(listing(rt.alloc(), &assembled));
-    assert!(rt; listed.as_str() == LISTED);
-    let shown = again!(image_text(rt.alloc(), assembled.image()));
-    assert!(rt; shown.as_str() == SHOWN);
+    let assembled = assembled(rt.alloc())?;
+    assert!(rt; listed(rt.alloc(), &assembled)?.as_str() == LISTED);
+    assert!(rt; shown(rt.alloc(), assembled.image())?.as_str() == SHOWN);
     Ok(())
 }
