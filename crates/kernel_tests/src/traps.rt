@@ -1,0 +1,48 @@
+//! What a trap asks for, and the memory that is made ready for its reply.
+use crate::support::vector;
+use ipc_kernel::Call;
+use ipc_traps::{Asked, prepare, read_call};
+use lc3_machine::{AtCall, Local, Running};
+use lc3_word::Image;
+use std::alloc::Global;
+use std::process::Abort;
+
+/// A process that loads these words into R0 to R3 and stands before the trap.
+fn asking(rt: &impl Abort, alloc: Global, trap: u16, r: [u16; 4]) -> AtCall {
+    let words = [0x2004, 0x2204, 0x2404, 0x2604, trap, r[0], r[1], r[2], r[3]];
+    let image = Image::new(0x3000, vector(rt, alloc, &words)).expect(rt, "an image");
+    let process = match Running::load(alloc, &image, b"") {
+        Ok(process) => process,
+        Err(_) => Running::load(alloc, &image, b"").expect(rt, "memory"),
+    };
+    let (local, _) = process.run_local(5);
+    match local {
+        Local::AtCall(call) => call,
+        _ => panic!(rt; "the process stands before its trap"),
+    }
+}
+
+/// Of a buffer of 0xBDFF words the 256 that a message can have are made ready, with the place of the priority, and no more.
+#[test]
+fn a_receive_into_a_long_buffer(rt: HostRuntime) {
+    let alloc = rt.alloc();
+    let mut call = asking(&rt, alloc, 0xf044, [0, 0x4001, 0xbdff, 0x5000]);
+    let asked = match read_call(alloc, &call) {
+        Ok(asked) => asked,
+        Err(_) => read_call(alloc, &call).expect(&rt, "memory"),
+    };
+    let long = Call::MqReceive {
+        mqd: 0,
+        len: 0xbdff,
+    };
+    match &asked {
+        Asked::Kernel(call) => assert!(rt; call.is_same(&long), "the call"),
+        Asked::Refused(_) => panic!(rt; "it is a call"),
+    }
+    assert!(rt; !call.ready(0x4001, 256), "not yet");
+    if prepare(&mut call).is_err() {
+        prepare(&mut call).expect(&rt, "memory");
+    }
+    assert!(rt; call.ready(0x4001, 256) && call.ready(0x5000, 1), "ready");
+    assert!(rt; !call.ready(0x4200, 1), "no more");
+}
