@@ -15,6 +15,43 @@ use lab_sched::World;
 use std::alloc::Global;
 use std::io::{Read, Write};
 
+/// Carries out the lines of a script on a world.
+fn perform_lines<R: Read, W: Write>(
+    alloc: Global,
+    world: &mut World,
+    input: &mut Input<R>,
+    output: &mut Output<W>,
+) -> Result<(), SessionFault>
+    ensures written { IfSome (R.remaining input.old.device) (λ bytes.
+        OnOk result (Appends (W.contents output.old.device) (W.contents output.new.device) (script line_effect world.old bytes).text)) }
+    ensures world { IfSome (R.remaining input.old.device) (λ bytes. OnOk result ((script line_effect world.old bytes).end ≡ Ok world.new)) }
+    ensures prefix { IfSome (R.remaining input.old.device) (λ bytes.
+        OnErr result (AppendsPrefix (W.contents output.old.device) (W.contents output.new.device) (script line_effect world.old bytes).text)) }
+    ensures fault { IfErr result (λ e. Explains e (option_map (script line_effect world.old) (R.remaining input.old.device)) input.new.failed output.new.failed) }
+{
+    let mut pending = Pending::new();
+    for _ in 0..LINE_COUNT_LIMIT {
+        let Some(line) = pending.read_line(alloc, input)? else {
+            return Ok(());
+        };
+        let reply = perform(alloc, world, line.as_slice())?;
+        let Ok(()) = output.write_all(reply.text.as_bytes()) else {
+            return Err(SessionFault::Write);
+        };
+        if reply.ends {
+            return Ok(());
+        }
+    }
+    let Ok(is_over) = pending.is_at_end(input) else {
+        return Err(SessionFault::Read);
+    };
+    if is_over {
+        Ok(())
+    } else {
+        Err(SessionFault::TooManyLines)
+    }
+}
+
 /// Carries out the lines of a script, and writes the text of each before the next is read.
 pub fn session<R: Read, W: Write>(
     alloc: Global,
@@ -30,25 +67,6 @@ pub fn session<R: Read, W: Write>(
     ensures fault { IfErr result (λ e. Explains e (option_map (script line_effect world) (R.remaining input.old.device)) input.new.failed output.new.failed) }
 {
     let mut world = world;
-    let mut pending = Pending::new();
-    for _ in 0..LINE_COUNT_LIMIT {
-        let Some(line) = pending.read_line(alloc, input)? else {
-            return Ok(world);
-        };
-        let reply = perform(alloc, &mut world, line.as_slice())?;
-        let Ok(()) = output.write_all(reply.text.as_bytes()) else {
-            return Err(SessionFault::Write);
-        };
-        if reply.ends {
-            return Ok(world);
-        }
-    }
-    let Ok(is_over) = pending.is_at_end(input) else {
-        return Err(SessionFault::Read);
-    };
-    if is_over {
-        Ok(world)
-    } else {
-        Err(SessionFault::TooManyLines)
-    }
+    perform_lines(alloc, &mut world, input, output)?;
+    Ok(world)
 }

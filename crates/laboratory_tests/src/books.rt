@@ -36,16 +36,13 @@ fn send(rt: &impl Abort, alloc: Global, word: u16) -> Call {
 }
 
 /// Makes a call that fits the book.
-fn make(rt: &impl Abort, alloc: Global, book: &mut Book, pid: usize, call: &Call) -> Answer {
+fn make(rt: &impl Abort, alloc: Global, book: &mut Book, pid: usize, call: &Call) {
     assert!(rt; book.fits(pid, call), "a call that fits");
     let entries = book.history().len();
-    match book.call(alloc, pid, call) {
-        Ok(answer) => answer,
-        Err(_) => {
-            assert_eq!(rt; book.history().len(), entries);
-            assert!(rt; book.fits(pid, call), "a call that still fits");
-            book.call(alloc, pid, call).expect(rt, "memory")
-        }
+    if book.call(alloc, pid, call).is_err() {
+        assert_eq!(rt; book.history().len(), entries);
+        assert!(rt; book.fits(pid, call), "a call that still fits");
+        assert!(rt; book.call(alloc, pid, call).is_ok(), "memory");
     }
 }
 
@@ -63,42 +60,59 @@ fn is_message(answer: &Answer, word: u16) -> bool {
     }
 }
 
-/// Process 0 opens the queue without waiting, sends 7, and is refused a second message (EAGAIN); process 1 opens it, and
-/// waits to send 8 until process 0 has received. Its second try, while it must still wait, has no entry.
+fn book(rt: &impl Abort, alloc: Global) -> Book {
+    match Book::new(alloc, 2) {
+        Ok(book) => book,
+        Err(_) => Book::new(alloc, 2).expect(rt, "memory"),
+    }
+}
+
+/// Process 0 opens the queue without waiting, sends 7, and tries to send it again.
+fn fill(rt: &impl Abort, alloc: Global, book: &mut Book) {
+    make(
+        rt,
+        alloc,
+        book,
+        0,
+        &open(rt, alloc, 0x0842, Some([0, 1, 1, 0])),
+    );
+    let seven = send(rt, alloc, 7);
+    make(rt, alloc, book, 0, &seven);
+    make(rt, alloc, book, 0, &seven);
+}
+
+/// Process 1 opens the queue and tries twice to send 8, which process 0's receive lets it do. While it waits it may make no
+/// other call.
+fn wait(rt: &impl Abort, alloc: Global, book: &mut Book) {
+    make(rt, alloc, book, 1, &open(rt, alloc, 0x0002, None));
+    let eight = send(rt, alloc, 8);
+    make(rt, alloc, book, 1, &eight);
+    make(rt, alloc, book, 1, &eight);
+    let receive = Call::MqReceive { mqd: 0, len: 1 };
+    assert!(rt; !book.fits(1, &receive), "it waits for another call");
+    make(rt, alloc, book, 0, &receive);
+    make(rt, alloc, book, 1, &eight);
+}
+
+/// The second send is refused (EAGAIN); of the two tries that must wait the first alone has an entry.
+fn is_right(at: usize, answer: &Answer) -> bool {
+    match at {
+        2 => is_plain(answer, 0xfff5),
+        4 => matches!(answer, Answer::Wait),
+        5 => is_message(answer, 7),
+        _ => is_plain(answer, 0),
+    }
+}
+
 #[test]
 fn a_queue_for_one_message(rt: HostRuntime) {
-    let alloc = rt.alloc();
-    let mut book = match Book::new(alloc, 2) {
-        Ok(book) => book,
-        Err(_) => Book::new(alloc, 2).expect(&rt, "memory"),
-    };
-    let first = open(&rt, alloc, 0x0842, Some([0, 1, 1, 0]));
-    let second = open(&rt, alloc, 0x0002, None);
-    let seven = send(&rt, alloc, 7);
-    let eight = send(&rt, alloc, 8);
-    let receive = Call::MqReceive { mqd: 0, len: 1 };
-    make(&rt, alloc, &mut book, 0, &first);
-    make(&rt, alloc, &mut book, 0, &seven);
-    make(&rt, alloc, &mut book, 0, &seven);
-    make(&rt, alloc, &mut book, 1, &second);
-    for _ in 0..2 {
-        let answer = make(&rt, alloc, &mut book, 1, &eight);
-        assert!(rt; matches!(answer, Answer::Wait), "it waits");
-        assert_eq!(rt; book.history().len(), 5);
-    }
-    assert!(rt; !book.fits(1, &seven), "it waits for another call");
-    make(&rt, alloc, &mut book, 0, &receive);
-    make(&rt, alloc, &mut book, 1, &eight);
+    let mut book = book(&rt, rt.alloc());
+    fill(&rt, rt.alloc(), &mut book);
+    wait(&rt, rt.alloc(), &mut book);
     let pids: [usize; 7] = [0, 0, 0, 1, 1, 0, 1];
     assert_eq!(rt; book.history().len(), 7);
     for (at, entry) in book.history().iter().enumerate() {
         assert_eq!(rt; Some(&entry.pid), pids.get(at));
-        let is_right = match at {
-            2 => is_plain(&entry.answer, 0xfff5),
-            4 => matches!(entry.answer, Answer::Wait),
-            5 => is_message(&entry.answer, 7),
-            _ => is_plain(&entry.answer, 0),
-        };
-        assert!(rt; is_right, "answer {at}");
+        assert!(rt; is_right(at, &entry.answer), "answer {at}");
     }
 }

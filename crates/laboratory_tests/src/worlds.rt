@@ -6,7 +6,7 @@ ghost use Rattle.lab_sched.specs.declared.schedule.block.TheConstants.{MOST_STEP
 use crate::programs::{FIRST, HALT, SECOND, WAITER, world};
 use ipc_kernel::Call;
 use lab_sched::{FreshFault, Process, Schedule, StepFault, Stepped, Verdict, World};
-use std::alloc::{AllocError, Global};
+use std::alloc::Global;
 use std::process::Abort;
 use std::test::Fail;
 
@@ -24,19 +24,29 @@ fn process<'a>(rt: &impl Abort, world: &'a World, pid: usize) -> &'a Process {
     }
 }
 
-fn copy(alloc: Global, process: &Process) -> Result<Process, AllocError> {
+fn copy(rt: &impl Abort, alloc: Global, process: &Process) -> Process {
     match process.copy(alloc) {
-        Ok(copy) => Ok(copy),
-        Err(_) => process.copy(alloc),
+        Ok(copy) => copy,
+        Err(_) => process.copy(alloc).expect(rt, "memory"),
     }
 }
 
 /// A copy is the same, and so is its digest.
-fn is_copied(rt: &impl Abort, alloc: Global, process: &Process) -> Result<(), AllocError> {
-    let copy = copy(alloc, process)?;
+fn is_copied(rt: &impl Abort, alloc: Global, process: &Process) {
+    let copy = copy(rt, alloc, process);
     assert!(rt; process.is_same(&copy));
     assert_eq!(rt; process.digest(), copy.digest());
-    Ok(())
+}
+
+/// A step makes another process, with another digest.
+fn is_changed(rt: &impl Abort, alloc: Global, world: &mut World, pid: usize) {
+    let before = copy(rt, alloc, process(rt, world, pid));
+    is_copied(rt, alloc, &before);
+    assert!(rt; step(world, pid).is_ok());
+    let after = process(rt, world, pid);
+    assert!(rt; !before.is_same(after));
+    assert!(rt; before.digest() != after.digest());
+    is_copied(rt, alloc, after);
 }
 
 #[test]
@@ -67,23 +77,15 @@ fn steps_of_a_process_that_waits(rt: HostRuntime) -> Result<(), Fail> {
     Ok(())
 }
 
-/// Before its trap and waiting at it the machine of a process is the same, and the processes aren't, nor are their digests.
+/// Before its trap and waiting at it the machine of a process is the same, and the processes aren't.
 #[test]
 fn copies_of_processes(rt: HostRuntime) -> Result<(), Fail> {
-    let alloc = rt.alloc();
-    let mut world = world(alloc, &[WAITER, HALT])?;
+    let mut world = world(rt.alloc(), &[WAITER, HALT])?;
     for _ in 0..4 {
-        step(&mut world, 0)?;
+        assert!(rt; step(&mut world, 0).is_ok());
     }
-    for pid in 0..2 {
-        let before = copy(alloc, process(&rt, &world, pid))?;
-        is_copied(&rt, alloc, &before)?;
-        step(&mut world, pid)?;
-        let after = process(&rt, &world, pid);
-        assert!(rt; !before.is_same(after));
-        assert!(rt; before.digest() != after.digest());
-        is_copied(&rt, alloc, after)?;
-    }
+    is_changed(&rt, rt.alloc(), &mut world, 0);
+    is_changed(&rt, rt.alloc(), &mut world, 1);
     Ok(())
 }
 
