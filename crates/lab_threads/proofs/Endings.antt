@@ -36,12 +36,12 @@ joined_is w ps k n walks history ps-is ends-is k-is kernel-is =
     ap (λ xs. record { processes = xs; kernel = w.kernel }) (ps-is ∙ ap (λ xs. map seen xs) ends-is ∙ map-map_seen walks)
     ∙ ap (λ j. record { processes = map (λ v. seen v.process) walks; kernel = j }) (k-is ∙ kernel-is)
 
-pub reported_course : (b w v u : WorldState) (ss ss' left rest : List ℕ) (h h' : List Entry) → w ≡ u → IsCourse b ss u h
+-- settling goes on with a course
+pub settled_course : (b w v : WorldState) (ss ss' left rest : List ℕ) (h h' : List Entry) → IsCourse b ss w h
     → IsSettled (report w ss h) (report v ss' h') left rest → IsCourse b ss' v h'
-reported_course b w v u ss ss' left rest h h' joined woven settled =
+settled_course b w v ss ss' left rest h h' course settled =
     let added = settled.added in
-    let first : IsCourse b ss w h = subst (λ x. IsCourse b ss x h) (sym joined) woven in
-    let both = course-append first added.course in
+    let both = course-append course added.course in
     subst (λ es. IsCourse b ss' v es) (sym added.entries) (subst (λ ps. IsCourse b ps v (h ++ added.told)) (sym added.steps) both)
 
 rested : (v : WorldState) (p : ℕ) (s : Process) (ss' rest : List ℕ) (refused limit : ℕ) → slice_get v.processes p ≡ Some s → refused ≡ 0
@@ -52,23 +52,32 @@ rested v p s ss' rest refused limit at none counts (inr (inr is_set)) =
     let zero_bit : bit_at refused p ≡ 0 = ap (λ n. bit_at n p) none ∙ bit_at-zero p in
     absurd (omega (arith, zero_bit, is_set))
 
-pub reported_finished : (w v : WorldState) (ss ss' left rest : List ℕ) (h h' : List Entry) (starts : List Kept) (walks : List Walk) (limit refused : ℕ)
-    → AreWalks limit starts walks → w.processes ≡ map (λ k. seen k.process) walks → ((p : ℕ) (k : Walk) → slice_get walks p ≡ Some k → count p ss ≡ steps k.trace)
-    → left ≡ map (λ k. k.left) walks → IsSettled (report w ss h) (report v ss' h') left rest → refused ≡ 0
+-- and where the steps so far and those left make the limit, it finishes
+pub settled_finished : (w v : WorldState) (ss ss' left rest : List ℕ) (h h' : List Entry) (limit refused : ℕ)
+    → length left ≡ length w.processes → ((p : ℕ) → p < length left → count p ss + get_or left p 0 ≡ limit)
+    → IsSettled (report w ss h) (report v ss' h') left rest → refused ≡ 0
     → ((p : ℕ) → p < length rest → HasStopped v rest refused p) → IsFinished v ss' limit
-reported_finished w v ss ss' left rest h h' starts walks limit refused are joined counted left-is settled none stopped p s at =
-    let lengths : length v.processes ≡ length walks = added_length settled.added ∙ ap length joined ∙ length-map walks (λ k. seen k.process) in
-    let below : p < length walks = subst (λ n. p < n) lengths (slice_get_within v.processes p s at) in
+settled_finished w v ss ss' left rest h h' limit refused len counted settled none stopped p s at =
+    let lengths : length v.processes ≡ length w.processes = added_length settled.added in
+    let below : p < length left = omega (arith, len, lengths, slice_get_within v.processes p s at) in
+    let taken = settled.counted p below in
+    let all : count p ss' ≡ count p ss + count p settled.taken = ap (λ ps. count p ps) settled.added.steps ∙ count-append p ss settled.taken in
+    let counts : count p ss' + get_or rest p 0 ≡ limit = omega (arith, all, taken, counted p below) in
+    (omega (arith, counts), rested v p s ss' rest refused limit at none counts (stopped p (omega (arith, below, settled.len))))
+
+-- the steps of each walk and those that it has left make the limit
+pub walked : (ss left : List ℕ) (starts : List Kept) (walks : List Walk) (limit : ℕ) → AreWalks limit starts walks
+    → ((p : ℕ) (k : Walk) → slice_get walks p ≡ Some k → count p ss ≡ steps k.trace) → left ≡ map (λ k. k.left) walks
+    → (p : ℕ) → p < length left → count p ss + get_or left p 0 ≡ limit
+walked ss left starts walks limit are counted left-is p within =
+    let lefts : length left ≡ length walks = ap length left-is ∙ length-map walks (λ k. k.left) in
+    let below : p < length walks = subst (λ n. p < n) lefts within in
     let k = some_at walks p below in
     let start = some_at starts p (subst (λ n. p < n) are.len below) in
     let walk = are.each p start.0 k.0 start.1 k.1 in
-    let lefts : length left ≡ length walks = ap length left-is ∙ length-map walks (λ k. k.left) in
     let mine : get_or left p 0 ≡ k.0.left =
     get_or_from_slice_get left p k.0.left 0 (ap (λ xs. slice_get xs p) left-is ∙ slice_get-map (λ k. k.left) walks p ∙ ap (λ o. option_map (λ k. k.left) o) k.1) in
-    let taken = settled.counted p (omega (arith, below, lefts)) in
-    let all : count p ss' ≡ count p ss + count p settled.taken = ap (λ ps. count p ps) settled.added.steps ∙ count-append p ss settled.taken in
-    let counts : count p ss' + get_or rest p 0 ≡ limit = omega (arith, all, taken, mine, counted p k.0 k.1, walk.within) in
-    (omega (arith, counts), rested v p s ss' rest refused limit at none counts (stopped p (omega (arith, below, lefts, settled.len))))
+    omega (arith, mine, counted p k.0 k.1, walk.within)
 
 runs_held : (s : Kept) → Runs s → IsHeld s
 runs_held (kept.Running m) runs = tt

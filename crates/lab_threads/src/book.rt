@@ -37,13 +37,13 @@ impl Model for Book {
 }
 
 /// The entry of a call with its answer.
-fn entry_of(alloc: Global, pid: usize, call: &Call, answer: &Answer) -> Result<Entry, AllocError>
-    ensures { IfOk result (λ e. e ≡ record { pid = pid; call = call.now; answer = answer.now }) }
+fn entry_of(alloc: Global, pid: usize, call: &Call, answer: Answer) -> Result<Entry, AllocError>
+    ensures { IfOk result (λ e. e ≡ record { pid = pid; call = call.now; answer = answer }) }
 {
     Ok(Entry {
         pid,
         call: call.copy(alloc)?,
-        answer: answer.copy(alloc)?,
+        answer,
     })
 }
 
@@ -152,8 +152,8 @@ impl Book {
         if !self.has_entry(pid, &preview) {
             return Ok(Answer::Wait);
         }
-        let entry = entry_of(alloc, pid, call, &preview)?;
         let waits = still(alloc, call, &preview)?;
+        let entry = entry_of(alloc, pid, call, preview)?;
         self.history.reserve(1)?;
         let answer = self.kernel.call(pid, call)?;
         self.waiting[pid] = waits;

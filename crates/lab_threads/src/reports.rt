@@ -1,8 +1,9 @@
 //! Runs on threads, and what they report.
-ghost use Rattle.std.specs.Prelude.{◌≡◌, ◌≤◌, ◌+◌, ℕ, List, All, true, IfOk, map, length, sum};
+ghost use Rattle.std.specs.Prelude.{◌≡◌, ◌<◌, ◌≤◌, ◌+◌, ℕ, List, All, Some, true, IfOk, get_or, map, length, slice_get, sum};
 ghost use Rattle.ipc_kernel.specs.Kernel.{KernelState, empty_kernel};
-ghost use Rattle.lab_sched.specs.Worlds.{run, entries};
-ghost use Rattle.lab_sched.specs.Course.{AreEffective, IsCourse};
+ghost use Rattle.lab_sched.specs.Worlds.{WorldState, run, entries};
+ghost use Rattle.lab_sched.specs.Alone.{steps};
+ghost use Rattle.lab_sched.specs.Course.{AreEffective, IsCourse, count};
 ghost use Rattle.lab_sched.specs.Finished.{IsFinished};
 ghost use Rattle.lab_sched.specs.Held.{IsHeld};
 ghost use Rattle.lab_sched.specs.History.{IsLegal, replay};
@@ -12,7 +13,8 @@ ghost use Rattle.lab_sched.specs.Verdicts.{IsVerdict};
 ghost use Rattle.lab_sched.specs.declared.process.Process.{Process as Kept};
 ghost use Rattle.lab_sched.specs.declared.schedule.block.TheConstants.{MOST_STEPS};
 ghost use Rattle.lab_threads.specs.Walks.{AreWalks};
-ghost use Rattle.lab_threads.specs.Woven.{begun};
+ghost use Rattle.lab_threads.specs.Woven.{begun, ended};
+ghost use Rattle.lab_threads.specs.declared.walk.Walk.{Walk as WalkSeen};
 
 use crate::crew::walk_all;
 use crate::desk::Office;
@@ -72,34 +74,39 @@ fn all_fit(walks: &[Walk]) -> bool {
     walks.iter().all(|walk| walk.fits)
 }
 
-/// Weaves the walks along the history, and goes on from there until all is finished.
-fn reported(
-    alloc: Global,
-    walks: Vec<Walk>,
-    kernel: Kernel,
+/// Weaves the walks along the history, with the steps that each walk has left.
+fn woven(alloc: Global, walks: &[Walk], history: &[Entry]) -> Result<(Schedule, Vec<u32>), RunFault>
+    requires few { length walks.now ≤ 64 }
+    ensures course { IfOk result (λ r. (starts : List Kept) (limit : ℕ) → AreWalks limit starts walks.now → IsLegal (empty_kernel (length starts)) history.now
+        → IsCourse (begun starts) (steps_of r.0) (ended (length starts) walks.now history.now) history.now) }
+    ensures counts { IfOk result (λ r. (p : ℕ) (k : WalkSeen) → slice_get walks.now p ≡ Some k → count p (steps_of r.0) ≡ steps k.trace) }
+    ensures left { IfOk result (λ r. r.1.items ≡ map (λ k. k.left) walks.now) }
+    ensures room { IfOk result (λ r. total_of r.0 + sum r.1.items ≤ MOST_STEPS) }
+{
+    if !all_fit(walks) {
+        return Err(RunFault::Unvouched);
+    }
+    let left = lefts(alloc, walks)?;
+    match weave(alloc, walks, history)? {
+        Some(schedule) if has_room(&schedule, &left) => Ok((schedule, left)),
+        _ => Err(RunFault::Unvouched),
+    }
+}
+
+/// The report of a world that a schedule with this history led to, once all has gone on that has steps left.
+fn settled(
+    mut world: World,
+    mut schedule: Schedule,
     mut history: Vec<Entry>,
-    limit: u32,
+    mut left: Vec<u32>,
 ) -> Result<Report, RunFault>
-    requires legal { IsLegal (empty_kernel (length kernel.processes)) history.items }
-    requires kernel { kernel ≡ replay (empty_kernel (length kernel.processes)) history.items }
-    requires held { All IsHeld (map (λ k. k.process) walks.items) }
-    requires some { 1 ≤ length walks.items }
-    requires few { length walks.items ≤ 64 }
-    ensures course { IfOk result (λ r. (starts : List Kept) → AreWalks limit starts walks.items → IsCourse (begun starts) (steps_of r.schedule) r.world r.history.items) }
-    ensures finished { IfOk result (λ r. (starts : List Kept) → AreWalks limit starts walks.items → IsFinished r.world (steps_of r.schedule) limit) }
+    requires len { length left.items ≡ length world.processes }
+    requires room { total_of schedule + sum left.items ≤ MOST_STEPS }
+    ensures course { IfOk result (λ r. (start : WorldState) → IsCourse start (steps_of schedule) world history.items → IsCourse start (steps_of r.schedule) r.world r.history.items) }
+    ensures finished { IfOk result (λ r. (limit : ℕ) → ((p : ℕ) → p < length left.items → count p (steps_of schedule) + get_or left.items p 0 ≡ limit)
+        → IsFinished r.world (steps_of r.schedule) limit) }
     ensures verdict { IfOk result (λ r. IsVerdict r.world r.verdict) }
 {
-    if kernel.count() != walks.len() || !all_fit(&walks) {
-        return Err(RunFault::Unvouched);
-    }
-    let Some(mut schedule) = weave(alloc, &walks, &history)? else {
-        return Err(RunFault::Unvouched);
-    };
-    let mut left = lefts(alloc, &walks)?;
-    if !has_room(&schedule, &left) {
-        return Err(RunFault::Unvouched);
-    }
-    let mut world = World::join(ends(alloc, walks)?, kernel);
     let refused = world.settle(&mut left, &mut schedule, &mut history);
     if refused != 0 {
         return Err(RunFault::NoMemory);
@@ -111,6 +118,31 @@ fn reported(
         history,
         verdict,
     })
+}
+
+/// Weaves the walks along the history, and goes on from there until all is finished.
+fn reported(
+    alloc: Global,
+    walks: Vec<Walk>,
+    kernel: Kernel,
+    history: Vec<Entry>,
+    limit: u32,
+) -> Result<Report, RunFault>
+    requires legal { IsLegal (empty_kernel (length kernel.processes)) history.items }
+    requires kernel { kernel ≡ replay (empty_kernel (length kernel.processes)) history.items }
+    requires held { All IsHeld (map (λ k. k.process) walks.items) }
+    requires some { 1 ≤ length walks.items }
+    requires few { length walks.items ≤ 64 }
+    ensures course { IfOk result (λ r. (starts : List Kept) → AreWalks limit starts walks.items → IsCourse (begun starts) (steps_of r.schedule) r.world r.history.items) }
+    ensures finished { IfOk result (λ r. (starts : List Kept) → AreWalks limit starts walks.items → IsFinished r.world (steps_of r.schedule) limit) }
+    ensures verdict { IfOk result (λ r. IsVerdict r.world r.verdict) }
+{
+    if kernel.count() != walks.len() {
+        return Err(RunFault::Unvouched);
+    }
+    let (schedule, left) = woven(alloc, &walks, &history)?;
+    let world = World::join(ends(alloc, walks)?, kernel);
+    settled(world, schedule, history, left)
 }
 
 /// Runs processes on threads over an empty kernel.

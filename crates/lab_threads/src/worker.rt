@@ -1,14 +1,15 @@
 //! Workers, which step one process each.
-ghost use Rattle.std.specs.Prelude.{◌≡◌, ◌≤◌, ◌<◌, ◌+◌, ◌-◌, ◌^◌};
+ghost use Rattle.std.specs.Prelude.{◌≡◌, ◌≤◌, ◌<◌, ◌+◌, ◌-◌, ◌^◌, false, vec_len, vec_capacity};
 ghost use Rattle.lc3_machine.specs.Process.{Process as Machine};
 ghost use Rattle.lc3_machine.specs.Steps.{AsksTrap, AsksEnd};
 ghost use Rattle.ipc_names.specs.Errno.{number_of};
 ghost use Rattle.ipc_kernel.specs.declared.call.Reply.TheVariants.{Plain};
 ghost use Rattle.ipc_traps.specs.Asked.{Calls, asked};
-ghost use Rattle.ipc_traps.specs.Reply.{HasRoom, replied};
+ghost use Rattle.ipc_traps.specs.Reply.{HasRoom, IsPrepared, replied};
 ghost use Rattle.lab_sched.specs.Worlds.{Process as Seen, Running as RunningSeen, act, moves};
 ghost use Rattle.lab_sched.specs.Held.{seen, IsHeld};
 ghost use Rattle.lab_sched.specs.Alone.{Alone, AreLocal, steps};
+ghost use Rattle.lab_threads.specs.Came.{IsCame};
 ghost use Rattle.lab_threads.specs.Walks.{IsWalk};
 
 use crate::Gate;
@@ -219,6 +220,50 @@ fn step_trap<R: Wait, G: Gate>(
     }
 }
 
+/// What comes of a process whose call was made, with its copies written down.
+fn write_down(
+    call: AtCall,
+    request: Call,
+    copy: Call,
+    came: Came,
+    may_wait: bool,
+    trace: &mut Trace,
+) -> Went
+    requires trap { AsksTrap call.process }
+    requires request { asked call.process ≡ Calls request }
+    requires prepared { IsPrepared call }
+    requires copy { copy ≡ request }
+    requires came { IsCame request may_wait came }
+    requires room { vec_len trace.old.calls + 2 ≤ vec_capacity trace.old.calls }
+    ensures alone { (s : Seen) → Alone s trace.old (RunningSeen call.process) → Alone s trace.new (seen result.process) }
+    ensures held { IsHeld result.process }
+    ensures steps { steps trace.new ≡ steps trace.old + result.taken }
+    ensures once { may_wait ≡ false → result.taken ≤ 1 }
+    ensures twice { result.taken ≤ 2 }
+{
+    match came {
+        Came::Refused => stays(call.back()),
+        Came::Misfit => misfit(call),
+        Came::Waits { fits } => {
+            trace.add_call(copy, Answer::Wait);
+            Went {
+                process: Process::Waiting(call.wait(), request),
+                taken: 1,
+                fits,
+            }
+        }
+        Came::Done { reply, copy: told } => {
+            trace.add_call(copy, Answer::Done(told));
+            replied(call, reply, 1)
+        }
+        Came::Waited { reply, copy: told } => {
+            trace.add_call(copy, Answer::Wait);
+            trace.add_call(request, Answer::Done(told));
+            replied(call, reply, 2)
+        }
+    }
+}
+
 /// The step of a process that makes a call of the kernel.
 fn make_call<R: Wait, G: Gate>(
     rt: &R,
@@ -246,30 +291,11 @@ fn make_call<R: Wait, G: Gate>(
     };
     *nth = nth.saturating_add(1);
     seat.gate.arrive(seat.pid, *nth);
-    match seat
+    let may_wait = left > 1;
+    let came = seat
         .office
-        .call(rt, seat.alloc, seat.pid, &request, left > 1)
-    {
-        Came::Refused => stays(call.back()),
-        Came::Misfit => misfit(call),
-        Came::Waits { fits } => {
-            trace.add_call(copy, Answer::Wait);
-            Went {
-                process: Process::Waiting(call.wait(), request),
-                taken: 1,
-                fits,
-            }
-        }
-        Came::Done { reply, copy: told } => {
-            trace.add_call(copy, Answer::Done(told));
-            replied(call, reply, 1)
-        }
-        Came::Waited { reply, copy: told } => {
-            trace.add_call(copy, Answer::Wait);
-            trace.add_call(request, Answer::Done(told));
-            replied(call, reply, 2)
-        }
-    }
+        .call(rt, seat.alloc, seat.pid, &request, may_wait);
+    write_down(call, request, copy, came, may_wait, trace)
 }
 
 /// Steps a process until it has ended, waits for good, has taken `limit` steps or was refused
