@@ -9,7 +9,11 @@ _lc3lab() {
         return
     fi
     case ${COMP_WORDS[COMP_CWORD - 1]} in
-    --limit | --worlds | --steps)
+    --require)
+        COMPREPLY=($(compgen -W 'ended stuck' -- "$word"))
+        return
+        ;;
+    --limit | --worlds | --schedule)
         compopt +o bashdefault +o default 2>/dev/null
         return
         ;;
@@ -18,7 +22,7 @@ _lc3lab() {
     asm) options='--list --help -h' ;;
     dis | step | debug) options='--help -h' ;;
     run) options='--limit --help -h' ;;
-    explore) options='--worlds --steps --help -h' ;;
+    explore) options='--limit --worlds --require --schedule --help -h' ;;
     help) options=$commands ;;
     esac
     case $command:$word in

@@ -4,18 +4,19 @@ ghost use Rattle.std.specs.Prelude.{◌≡◌, false};
 mod asm;
 mod debug;
 mod dis;
-pub mod explore;
-pub mod run;
+mod explore;
+mod run;
 mod step;
 
-use crate::arguments::{Request, read_words};
 use crate::complaint::{Complaint, Reason};
 use crate::fault::CliFault;
+use crate::files::write_text;
 use crate::hex_run::hex_run;
 use asm::assemble_file;
 use debug::debug_programs;
 use dis::disassemble_file;
 use explore::explore_programs;
+use lab_arguments::{Refusal, Request, read_words};
 use lab_io::{Input, Output};
 use run::run_programs;
 use std::alloc::Global;
@@ -57,7 +58,7 @@ pub fn command<T: Files + Threads + Wait + Sync, R: Read, W: Write, E: Write>(
             let outcome = perform(rt, alloc, &request, input, output);
             status(alloc, outcome, errors)
         }
-        Err(error) => explain(alloc, &error, output, errors),
+        Err(refusal) => explain(alloc, &refusal, output, errors),
     }
 }
 
@@ -96,8 +97,8 @@ fn perform<'a, T: Files + Threads + Wait + Sync, R: Read, W: Write>(
         } => run_programs(rt, alloc, programs.as_slice(), limit, output),
         Request::Explore {
             ref programs,
-            limits,
-        } => explore_programs(rt, alloc, programs.as_slice(), limits, output),
+            question,
+        } => explore_programs(rt, alloc, programs.as_slice(), question, output),
         Request::Debug { ref programs } => {
             debug_programs(rt, alloc, programs.as_slice(), input, output)
         }
@@ -107,21 +108,18 @@ fn perform<'a, T: Files + Threads + Wait + Sync, R: Read, W: Write>(
 /// Help goes to the output, and what is wrong with the words to the errors.
 fn explain<W: Write, E: Write>(
     alloc: Global,
-    error: &clap::Error,
+    refusal: &Refusal,
     output: &mut Output<W>,
     errors: &mut Output<E>,
 ) -> u8 {
-    let text = match error.to_string(alloc) {
-        Ok(text) if error.kind() != clap::error::ErrorKind::OutOfMemory => text,
-        _ => return status(alloc, Err(Reason::NoMemory.at("run")), errors),
+    let outcome = match refusal {
+        Refusal::Usage(text) => {
+            let _ = errors.write_all(text.as_bytes());
+            return USAGE;
+        }
+        Refusal::Help(text) => write_text(text, output),
+        Refusal::NoMemory => Err(Reason::NoMemory.at("run")),
     };
-    if error.use_stderr() {
-        let _ = errors.write_all(text.as_bytes());
-        return USAGE;
-    }
-    let outcome = output
-        .write_all(text.as_bytes())
-        .map_err(|_| Reason::CannotWrite.at("run"));
     status(alloc, outcome, errors)
 }
 

@@ -1,7 +1,6 @@
-//! What the program `lc3lab` does: the words of its command line, its commands, and the run over hexadecimal words.
+//! What the program `lc3lab` does: its commands, and the run over hexadecimal words.
 #![tactic(auto)]
 
-mod arguments;
 mod commands;
 mod complaint;
 mod fault;

@@ -8,7 +8,7 @@ use Rattle.lab_sched.specs.declared.process.Process.TheVariants as kept
 use Rattle.ipc_kernel.specs.Processes.{closed_process}
 use Rattle.lab_sched.specs.Worlds.{Process, Running, Waiting, Ended, WorldState, turn, turn_in, run}
 use Rattle.lab_sched.specs.Finished.{IsAtRest}
-use Rattle.lab_sched.specs.Verdicts.{IsVerdict, HasEnded}
+use Rattle.lab_sched.specs.Verdicts.{IsVerdict, IsWaiting, HasEnded, AreStuck}
 use Rattle.lab_sched.specs.declared.verdict.Verdict.{Verdict}
 use Rattle.lab_sched.specs.declared.verdict.Verdict.TheVariants as verdict
 use Rattle.lab_sched.proofs.WorldLemmas.{fresh_world}
@@ -20,7 +20,7 @@ use Rattle.lab_explore.specs.declared.ends.End.{End}
 use Rattle.lab_explore.specs.declared.ends.Walk.{Walk}
 use Rattle.lab_explore.specs.Closed.{IsClosed, AreAtRest}
 use Rattle.lab_explore.specs.Stored.{IsAt, Holds, Each, Keeps}
-use Rattle.lab_explore.specs.Ends.{IsWalk, IsEnd, HasEnd, HaveAllEnds}
+use Rattle.lab_explore.specs.Ends.{IsWalk, IsEnd, HasEnd, HaveAllEnds, NoneStuck, NeverStuck}
 use Rattle.lab_explore.proofs.Pushes.{get_pushed}
 use Rattle.lab_explore.proofs.Begins.{at_unique}
 use Rattle.lab_explore.proofs.Simulates.{has_every_end, idle}
@@ -89,3 +89,22 @@ end_kept xs ys w keeps h = (h.0, h.1, keeps h.0 h.1 h.2, h.3)
 pub end_pushed : (t : Store) (i : ℕ) (w : WorldState) (e : End) (xs ys : List End) → ys ≡ xs ++ e ∷ [] → IsAt t i e.world → IsAt t i w → HasEnd ys w
 end_pushed t i w e xs ys is here there =
     (length xs, e, ap (λ zs. slice_get zs (length xs)) is ∙ get_pushed xs e, at_unique t i e.world w here there)
+
+waits_on : (s : Process) → IsWaiting s → HasEnded s → ⊥
+waits_on (Running m) waits ended = waits
+waits_on (Waiting m c) waits ended = ended
+waits_on (Ended e) waits ended = waits
+
+-- the verdict of a world that is stuck
+stuck_verdict : (w : WorldState) (v : Verdict) → AreStuck w → IsVerdict w v → v ≡ verdict.Stuck
+stuck_verdict w verdict.Ended stuck h = absurd (waits_on stuck.waits.1 stuck.waits.3 (h stuck.waits.0 stuck.waits.1 stuck.waits.2))
+stuck_verdict w verdict.Stuck stuck h = refl
+stuck_verdict w verdict.Open stuck h = absurd (h.1 stuck)
+
+-- where no end of all is stuck, no steps lead to a world that is
+pub never_stuck : (start : WorldState) (ends : List End) → Each (IsEnd start) ends → HaveAllEnds start ends → NoneStuck ends → NeverStuck start
+never_stuck start ends each all none ps stuck =
+    let rest = verdict_rests (run start ps) verdict.Stuck stuck (λ e. absurd (cc)) in
+    let has = all ps rest in
+    let stands = subst (λ w. IsVerdict w has.1.verdict) has.3 (each has.0 has.1 has.2).verdict in
+    none has.0 has.1 has.2 (stuck_verdict (run start ps) has.1.verdict stuck stands)

@@ -6,11 +6,12 @@ use Rattle.lab_sched.specs.Held.{seen}
 use Rattle.lab_sched.specs.Worlds.{WorldState, run}
 use Rattle.lab_sched.specs.Course.{AreEffective}
 use Rattle.lab_sched.specs.Schedules.{steps_of}
-use Rattle.lab_sched.specs.Verdicts.{IsVerdict}
-use Rattle.lab_sched.specs.declared.verdict.Verdict.TheVariants.{Open}
+use Rattle.lab_sched.specs.Verdicts.{IsVerdict, AreStuck}
+use Rattle.lab_sched.specs.declared.verdict.Verdict.TheVariants.{Open, Stuck}
 use Rattle.lab_explore.specs.declared.ends.End.{End}
 use Rattle.lab_explore.specs.declared.ends.Walk.{Walk}
 use Rattle.lab_explore.specs.Closed.{AreAtRest}
+use Rattle.lab_explore.specs.Stored.{Each}
 
 -- processes before their first step, over the empty kernel
 abbrev pub first_world : List Kept → WorldState
@@ -36,3 +37,11 @@ HasEnd ends w = (i : ℕ) × (e : End) × (slice_get ends i ≡ Some e) × (e.wo
 -- whatever steps are taken from the start, effective or not: if the world after them is at rest, one of the ends is in it
 abbrev pub HaveAllEnds : WorldState → List End → Type 0
 HaveAllEnds start ends = (ps : List ℕ) → AreAtRest (run start ps) → HasEnd ends (run start ps)
+
+-- no end is stuck
+abbrev pub NoneStuck : List End → Type 0
+NoneStuck ends = Each (λ e. e.verdict ≡ Stuck → ⊥) ends
+
+-- whatever steps are taken from the start, effective or not, the world after them isn't stuck
+abbrev pub NeverStuck : WorldState → Type 0
+NeverStuck start = (ps : List ℕ) → AreStuck (run start ps) → ⊥

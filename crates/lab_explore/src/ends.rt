@@ -193,20 +193,40 @@ fn world_of(alloc: Global, processes: &[Process]) -> Result<World, ExploreFault>
     }
 }
 
+/// Puts the number of local steps of a process in its place, and answers the one that stood there.
+fn exchange(local: &mut Vec<u32>, pid: usize, count: u32) -> Result<u32, ExploreFault> {
+    if pid >= local.len() {
+        return Err(ExploreFault::Unvouched);
+    }
+    let before = local[pid];
+    local[pid] = count;
+    Ok(before)
+}
+
+/// Takes the local steps of each process.
+fn go_local(walk: &mut Walk, local: &[u32]) -> Result<(), ExploreFault>
+    ensures walk { OnOk result ((start : WorldState) → IsWalk start walk.old → IsWalk start walk.new) }
+{
+    for (pid, count) in local.iter().enumerate() {
+        go_on(walk, pid, *count)?;
+    }
+    Ok(())
+}
+
 impl Search {
-    /// Goes the way to a row.
+    /// Goes the way to a row. The local steps of a process are taken just before its next call, and its last ones at the
+    /// end.
     fn go_to(&self, alloc: Global, at: usize, walk: &mut Walk) -> Result<(), ExploreFault>
         ensures walk { OnOk result ((start : WorldState) → IsWalk start walk.old → IsWalk start walk.new) }
     {
         let way = self.store.way(alloc, at)?;
-        for (pid, count) in self.firsts.iter().enumerate() {
-            go_on(walk, pid, *count)?;
-        }
+        let mut local = Vec::from_slice(alloc, self.firsts.as_slice())?;
         for (pid, taken) in way.iter().rev() {
+            let before = exchange(&mut local, *pid, *taken)?;
+            go_on(walk, *pid, before)?;
             go(walk, *pid)?;
-            go_on(walk, *pid, *taken)?;
         }
-        Ok(())
+        go_local(walk, local.as_slice())
     }
 
     /// The end that a walk came to, which must be that of a row.

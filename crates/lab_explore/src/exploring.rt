@@ -1,7 +1,7 @@
 //! Explorations.
 ghost use Rattle.std.specs.Prelude.{◌≡◌, ◌≤◌, IsTrue, IfOk};
 ghost use Rattle.lab_explore.specs.Stored.{Each};
-ghost use Rattle.lab_explore.specs.Ends.{IsEnd, HaveAllEnds};
+ghost use Rattle.lab_explore.specs.Ends.{IsEnd, HaveAllEnds, NoneStuck, NeverStuck};
 
 use crate::search::search_all;
 use crate::trying::discard;
@@ -21,10 +21,12 @@ pub struct Exploration {
 
 /// Visits every world at calls that a laboratory can come to, as far as the limits allow, those
 /// with fewer calls first. Each end has a schedule of effective steps that leads to it. Where the
-/// exploration is complete, there is no other end: whatever steps are taken, in any order.
+/// exploration is complete, there is no other end, whatever steps are taken, in any order; and if
+/// then no end is stuck, no such steps lead to a world that is.
 pub fn explore(alloc: Global, fresh: Fresh, limits: Limits) -> Result<Exploration, ExploreFault>
     ensures sound { IfOk result (λ found. Each (IsEnd fresh) found.ends.items) }
     ensures complete { IfOk result (λ found. IsTrue found.complete → HaveAllEnds fresh found.ends.items) }
+    ensures free { IfOk result (λ found. IsTrue found.complete → NoneStuck found.ends.items → NeverStuck fresh) }
 {
     let processes = fresh.processes();
     let kernel = Kernel::new(alloc, processes.len())?;

@@ -3,20 +3,21 @@ ghost use Rattle.std.specs.Prelude.{◌≡◌, ◌<◌};
 
 use std::alloc::{AllocError, Global};
 
-/// How many chains there are.
-const CHAINS: usize = 65_536;
+/// How many chains there are at first.
+const CHAINS: usize = 1_024;
 
 /// Chains of numbers, from 1 in the order in which they were added: those of one hash are in one
-/// chain, the newest first.
+/// chain, the newest first. There are at least as many chains as numbers.
 #[derive(Drop)]
 pub(crate) struct Index {
     newest: Vec<u32>,
     older: Vec<u32>,
+    hashes: Vec<u32>,
 }
 
-/// The chain of a hash.
-fn chain(hash: u64) -> usize {
-    ((hash ^ (hash >> 32)) % 65_536) as usize
+/// The half of a hash that is kept.
+fn half(hash: u64) -> u32 {
+    ((hash ^ (hash >> 32)) % 4_294_967_296) as u32
 }
 
 impl Index {
@@ -25,12 +26,13 @@ impl Index {
         Ok(Index {
             newest: vec![in alloc; 0; CHAINS]?,
             older: Vec::new(alloc),
+            hashes: Vec::new(alloc),
         })
     }
 
     /// The newest number of a hash, or 0.
     pub(crate) fn newest(&self, hash: u64) -> usize {
-        match self.newest.get(chain(hash)) {
+        match self.newest.get(self.chain(half(hash))) {
             Some(number) => *number as usize,
             None => 0,
         }
@@ -51,18 +53,48 @@ impl Index {
 
     /// Adds the next number for a hash.
     pub(crate) fn add(&mut self, hash: u64) -> Result<(), AllocError> {
-        let at = chain(hash);
-        let Ok(number) = u32::try_from(self.older.len() + 1) else {
-            return Ok(());
-        };
-        let before = self.newest(hash);
-        let Ok(before) = u32::try_from(before) else {
-            return Ok(());
-        };
-        self.older.push(before)?;
-        if at < self.newest.len() {
-            self.newest[at] = number;
+        let count = self.hashes.len();
+        if count >= self.newest.len() {
+            self.widen()?;
+        }
+        self.hashes.push(half(hash))?;
+        self.older.push(0)?;
+        self.link(count);
+        Ok(())
+    }
+
+    /// The chain of a hash.
+    fn chain(&self, hash: u32) -> usize {
+        match self.newest.len() {
+            0 => 0,
+            count => hash as usize % count,
+        }
+    }
+
+    /// Makes twice as many chains.
+    fn widen(&mut self) -> Result<(), AllocError> {
+        let count = self.newest.len().saturating_mul(2);
+        self.newest.resize(count, 0)?;
+        self.newest.fill(0);
+        let numbers = self.hashes.len();
+        for at in 0..numbers {
+            self.link(at);
         }
         Ok(())
+    }
+
+    /// Puts the number after `at` at the head of its chain.
+    fn link(&mut self, at: usize) {
+        if at >= self.hashes.len() || at >= self.older.len() {
+            return;
+        }
+        let Ok(number) = u32::try_from(at + 1) else {
+            return;
+        };
+        let chain = self.chain(self.hashes[at]);
+        if chain < self.newest.len() {
+            self.older[at] = self.newest[chain];
+            self.newest[chain] = number;
+        }
     }
 }

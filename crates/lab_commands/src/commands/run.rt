@@ -4,6 +4,7 @@ ghost use Rattle.std.specs.Prelude.{◌≡◌, false};
 use crate::complaint::{Complaint, Reason};
 use crate::files::write_text;
 use crate::programs::{laboratory, read_programs};
+use lab_arguments::MOST_STEPS;
 use lab_debug::report_text;
 use lab_io::Output;
 use lab_threads::{NoGate, Report, run_threads};
@@ -12,9 +13,6 @@ use std::io::Write;
 use std::rt::Files;
 use std::sync::Wait;
 use std::thread::Threads;
-
-/// The most steps of each process that can be asked for.
-pub const MOST_STEPS: u32 = 10_000_000;
 
 /// Reads the files of the programs, runs them on threads for at most `limit` steps each, and writes the report and the
 /// schedule of the interleaving that the run had.

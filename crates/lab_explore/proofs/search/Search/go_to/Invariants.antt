@@ -4,6 +4,3 @@ use Rattle.lab_explore.proofs.search.Search.go_to.Given as goal
 
 abbrev pub invariant-loop-pid : goal.invariant-loop-pid
 invariant-loop-pid l = (start : WorldState) → IsWalk start l.fn.walk → IsWalk start l.walk
-
-abbrev pub invariant-loop-pid-2 : goal.invariant-loop-pid-2
-invariant-loop-pid-2 l = (start : WorldState) → IsWalk start l.fn.walk → IsWalk start l.walk

@@ -1,0 +1,17 @@
+//! What the words of the command line ask for.
+#![tactic(auto)]
+
+mod parser;
+mod request;
+
+pub use parser::read_words;
+pub use request::{Question, Refusal, Request, Rest};
+
+/// The most steps of each process that can be asked for.
+pub const MOST_STEPS: u32 = 10_000_000;
+
+/// The most worlds that can be asked for.
+pub const MOST_WORLDS: u32 = 10_000_000;
+
+/// The most local steps of a process in a row that can be asked for.
+pub const MOST_LOCAL_STEPS: u32 = 10_000_000;

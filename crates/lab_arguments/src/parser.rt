@@ -1,0 +1,242 @@
+//! The words of the command line, read by a parser of commands.
+use crate::request::{Question, Refusal, Request, Rest};
+use crate::{MOST_LOCAL_STEPS, MOST_STEPS, MOST_WORLDS};
+use clap::builder::ValueParser;
+use clap::error::ErrorKind;
+use clap::{Arg, ArgAction, ArgMatches, Command, Error};
+use std::alloc::{AllocError, Global};
+
+/// The verdicts that ends can have.
+const VERDICTS: &[&str] = &["ended", "stuck"];
+
+/// What the words ask for, or the text of help or of what is wrong with them.
+pub fn read_words<'a>(alloc: Global, words: &'a [String]) -> Result<Request<'a>, Refusal> {
+    match program(alloc)?.try_get_matches_from(words) {
+        Ok(matches) => request_of(alloc, &matches),
+        Err(error) => Err(refusal_of(alloc, &error)),
+    }
+}
+
+/// The text of help, or of what is wrong with the words.
+fn refusal_of(alloc: Global, error: &Error) -> Refusal {
+    match error.to_string(alloc) {
+        Ok(text) if error.kind() != ErrorKind::OutOfMemory => {
+            if error.use_stderr() {
+                Refusal::Usage(text)
+            } else {
+                Refusal::Help(text)
+            }
+        }
+        _ => Refusal::NoMemory,
+    }
+}
+
+const EXAMPLE: &str = "\
+Without a command it reads an image as hexadecimal words from standard input, the origin first, runs it for at most \
+100,000 steps and prints a report.
+
+Example:
+  printf '3000 2002 F021 F025 0048\\n' | lc3lab";
+
+fn program<'a>(alloc: Global) -> Result<Command<'a>, AllocError> {
+    Command::new(alloc, "lc3lab")
+        .about("A laboratory of LC-3 processes")
+        .after_help(EXAMPLE)
+        .bin_name("lc3lab")?
+        .no_binary_name(true)
+        .subcommand_required(true)
+        .override_usage("lc3lab [COMMAND]")
+        .subcommand(asm(alloc)?)?
+        .subcommand(dis(alloc)?)?
+        .subcommand(step(alloc)?)?
+        .subcommand(run(alloc)?)?
+        .subcommand(explore(alloc)?)?
+        .subcommand(debug(alloc)?)
+}
+
+fn asm<'a>(alloc: Global) -> Result<Command<'a>, AllocError> {
+    Command::new(alloc, "asm")
+        .about("Assembles a source and writes its object file")
+        .after_help("Example:\n  lc3lab asm hello.asm hello.obj --list")
+        .arg(file(alloc, "SOURCE", "A source text, as UTF-8"))?
+        .arg(file(alloc, "OBJECT", "The object file to write"))?
+        .arg(
+            Arg::new(alloc, "list")
+                .long("list")
+                .action(ArgAction::SetTrue)
+                .help("Prints the listing"),
+        )
+}
+
+fn dis<'a>(alloc: Global) -> Result<Command<'a>, AllocError> {
+    Command::new(alloc, "dis")
+        .about("Prints the words of an object file as instructions")
+        .after_help("Example:\n  lc3lab dis hello.obj")
+        .arg(file(alloc, "OBJECT", "The object file to read"))
+}
+
+/// A file that must be named.
+fn file<'a>(alloc: Global, name: &'a str, help: &'a str) -> Arg<'a> {
+    Arg::new(alloc, name).required(true).help(help)
+}
+
+fn step<'a>(alloc: Global) -> Result<Command<'a>, AllocError> {
+    on_programs(
+        alloc,
+        "step",
+        "Runs programs by the schedule on standard input and prints a report",
+        "Example:\n  echo '0*65 1*68' | lc3lab step producer.obj consumer.obj",
+    )
+}
+
+fn run<'a>(alloc: Global) -> Result<Command<'a>, AllocError> {
+    on_programs(
+        alloc,
+        "run",
+        "Runs programs on threads and prints a report and the interleaving that they had",
+        "Example:\n  lc3lab run producer.obj consumer.obj",
+    )?
+    .arg(limit(
+        alloc,
+        "limit",
+        "N",
+        MOST_STEPS,
+        "The most steps of each process",
+    ))
+}
+
+fn explore<'a>(alloc: Global) -> Result<Command<'a>, AllocError> {
+    on_programs(
+        alloc,
+        "explore",
+        "Visits every interleaving of programs and prints the ends that they can have",
+        "Example:\n  lc3lab explore one.obj two.obj",
+    )?
+    .arg(limit(
+        alloc,
+        "limit",
+        "N",
+        MOST_LOCAL_STEPS,
+        "The most steps of a process without a call",
+    ))?
+    .arg(limit(
+        alloc,
+        "worlds",
+        "M",
+        MOST_WORLDS,
+        "The most worlds to visit",
+    ))?
+    .arg(
+        Arg::new(alloc, "require")
+            .long("require")
+            .value_name("VERDICT")
+            .value_parser(ValueParser::Names(VERDICTS))
+            .help("Fails unless the search is complete and each end has this verdict"),
+    )?
+    .arg(number(
+        alloc,
+        "schedule",
+        "K",
+        MOST_WORLDS,
+        "Prints the schedule of end K alone",
+    ))
+}
+
+fn debug<'a>(alloc: Global) -> Result<Command<'a>, AllocError> {
+    on_programs(
+        alloc,
+        "debug",
+        "Runs programs by commands on standard input, which also show them",
+        "Example:\n  printf 'step 0 3\\nregs 0\\n' | lc3lab debug hello.obj",
+    )
+}
+
+/// A command on the programs of a laboratory, one or more.
+fn on_programs<'a>(
+    alloc: Global,
+    name: &'a str,
+    about: &'a str,
+    example: &'a str,
+) -> Result<Command<'a>, AllocError> {
+    let programs = Arg::new(alloc, "PROGRAM").required(true).num_args(1..).help(
+        "An object file, or OBJECT=INPUT with a file of console input",
+    );
+    Command::new(alloc, name)
+        .about(about)
+        .after_help(example)
+        .arg(programs)
+}
+
+/// An option with a limit, which is 100,000 where it isn't given.
+fn limit<'a>(alloc: Global, name: &'a str, value: &'a str, most: u32, help: &'a str) -> Arg<'a> {
+    number(alloc, name, value, most, help).default_value("100000")
+}
+
+/// An option with a number from 1 to the most that there can be.
+fn number<'a>(alloc: Global, name: &'a str, value: &'a str, most: u32, help: &'a str) -> Arg<'a> {
+    Arg::new(alloc, name)
+        .long(name)
+        .value_name(value)
+        .value_parser(clap::value_parser!(u32).range(1..=i64::from(most)))
+        .help(help)
+}
+
+/// The parser has made sure that each required word is there.
+fn request_of<'a>(alloc: Global, matches: &ArgMatches<'a>) -> Result<Request<'a>, Refusal> {
+    let request = match matches.subcommand() {
+        Some(("asm", words)) => assembly_of(alloc, words)?,
+        Some(("step", words)) => Request::Step {
+            programs: programs_of(alloc, words)?,
+        },
+        Some(("run", words)) => Request::Run {
+            programs: programs_of(alloc, words)?,
+            limit: words.get_one::<u32>("limit").unwrap_or(MOST_STEPS),
+        },
+        Some(("explore", words)) => Request::Explore {
+            programs: programs_of(alloc, words)?,
+            question: question_of(words),
+        },
+        Some(("debug", words)) => Request::Debug {
+            programs: programs_of(alloc, words)?,
+        },
+        Some((_, words)) => Request::Disassemble {
+            object: words.get_str("OBJECT").unwrap_or_default(),
+        },
+        None => Request::Disassemble { object: "" },
+    };
+    Ok(request)
+}
+
+/// What the words of `asm` ask for. An object file that has the name of its source would replace it.
+fn assembly_of<'a>(alloc: Global, words: &ArgMatches<'a>) -> Result<Request<'a>, Refusal> {
+    let source = words.get_str("SOURCE").unwrap_or_default();
+    let object = words.get_str("OBJECT").unwrap_or_default();
+    if source == object {
+        let text = format!(in alloc; "error: OBJECT is the file of SOURCE: {source}\n")?;
+        return Err(Refusal::Usage(text));
+    }
+    Ok(Request::Assemble {
+        source,
+        object,
+        list: words.get_flag("list"),
+    })
+}
+
+/// What the words of `explore` ask of the exploration.
+fn question_of(words: &ArgMatches<'_>) -> Question {
+    Question {
+        worlds: words.get_one::<u32>("worlds").unwrap_or(MOST_WORLDS),
+        steps: words.get_one::<u32>("limit").unwrap_or(MOST_LOCAL_STEPS),
+        required: match words.get_str("require") {
+            Some("ended") => Some(Rest::Ended),
+            Some(_) => Some(Rest::Stuck),
+            None => None,
+        },
+        schedule: words.get_one::<u32>("schedule"),
+    }
+}
+
+/// The words of a command that name programs.
+fn programs_of<'a>(alloc: Global, words: &ArgMatches<'a>) -> Result<Vec<&'a str>, AllocError> {
+    words.get_strs("PROGRAM").unwrap_or_default().to_vec(alloc)
+}

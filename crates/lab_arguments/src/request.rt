@@ -1,0 +1,72 @@
+//! A request, or why the words make none.
+use std::alloc::{AllocError, AllocFailed};
+
+/// What the words of a command line ask for.
+#[derive(Drop)]
+pub enum Request<'a> {
+    Assemble {
+        source: &'a str,
+        object: &'a str,
+        list: bool,
+    },
+    Disassemble {
+        object: &'a str,
+    },
+    Step {
+        programs: Vec<&'a str>,
+    },
+    Run {
+        programs: Vec<&'a str>,
+        limit: u32,
+    },
+    Explore {
+        programs: Vec<&'a str>,
+        question: Question,
+    },
+    Debug {
+        programs: Vec<&'a str>,
+    },
+}
+
+/// What is asked of an exploration.
+#[derive(Clone, Copy)]
+pub struct Question {
+    /// The most worlds to visit.
+    pub worlds: u32,
+    /// The most local steps of a process in a row.
+    pub steps: u32,
+    /// How each end must be.
+    pub required: Option<Rest>,
+    /// The number of the end whose schedule is printed alone.
+    pub schedule: Option<u32>,
+}
+
+/// How programs come to rest.
+#[derive(Clone, Copy)]
+pub enum Rest {
+    Ended,
+    Stuck,
+}
+
+/// Why words make no request.
+#[derive(Drop)]
+pub enum Refusal {
+    /// They ask for help, which is this text.
+    Help(String),
+    /// They are wrong, as this text says.
+    Usage(String),
+    /// There is no memory to read them.
+    NoMemory,
+}
+
+impl From<AllocError> for Refusal {
+    fn from(_refused: AllocError) -> Refusal {
+        Refusal::NoMemory
+    }
+}
+
+impl<T: Drop> From<AllocFailed<T>> for Refusal {
+    fn from(_refused: AllocFailed<T>) -> Refusal {
+        Refusal::NoMemory
+    }
+}
