@@ -12,6 +12,3 @@ mod programs;
 
 pub use commands::{FAULT, SUCCESS, USAGE, command};
 pub use fault::CliFault;
-
-#[cfg(test)]
-mod tests;

@@ -16,7 +16,7 @@ use std::rt::Files;
 
 /// Ends with one report.
 #[derive(Drop)]
-struct Told {
+struct ToldEnd {
     report: String,
     schedule: String,
 }
@@ -57,7 +57,7 @@ fn verdict_of(rest: Rest) -> Verdict {
 
 /// What is written of an exploration.
 fn answer(alloc: Global, found: &Exploration, question: Question) -> Result<String, Reason> {
-    let ends = told(alloc, &found.ends).map_err(|_| Reason::NoMemory)?;
+    let ends = told_ends(alloc, &found.ends).map_err(|_| Reason::NoMemory)?;
     let text = match question.schedule {
         None => text_of(alloc, &ends, found),
         Some(number) => match ends.get((number as usize).saturating_sub(1)) {
@@ -76,20 +76,20 @@ fn line_of(alloc: Global, text: &String) -> Result<String, AllocError> {
 }
 
 /// The reports that differ, each with the schedule of the first end that has it.
-fn told(alloc: Global, ends: &[End]) -> Result<Vec<Told>, AllocError> {
-    let mut told: Vec<Told> = Vec::new(alloc);
+fn told_ends(alloc: Global, ends: &[End]) -> Result<Vec<ToldEnd>, AllocError> {
+    let mut told: Vec<ToldEnd> = Vec::new(alloc);
     for end in ends {
         let report = report_text(alloc, &end.world)?;
         if !is_told(&told, &report) {
             let schedule = end.schedule.text(alloc)?;
-            told.push(Told { report, schedule })?;
+            told.push(ToldEnd { report, schedule })?;
         }
     }
     Ok(told)
 }
 
 /// Whether an end with this report is among others.
-fn is_told(ends: &[Told], report: &String) -> bool {
+fn is_told(ends: &[ToldEnd], report: &String) -> bool {
     for end in ends {
         if end.report.as_str() == report.as_str() {
             return true;
@@ -99,7 +99,7 @@ fn is_told(ends: &[Told], report: &String) -> bool {
 }
 
 /// The ends, and a line that says whether these are all.
-fn text_of(alloc: Global, ends: &[Told], found: &Exploration) -> Result<String, AllocError> {
+fn text_of(alloc: Global, ends: &[ToldEnd], found: &Exploration) -> Result<String, AllocError> {
     let mut text = String::new(alloc);
     for (at, end) in ends.iter().enumerate() {
         let number = at as u128 + 1;

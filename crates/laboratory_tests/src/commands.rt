@@ -1,8 +1,8 @@
+//! The run over hexadecimal words, as the program's command and over devices that fail.
 ghost use Rattle.std.specs.Prelude.{◌≤◌};
 
-use crate::commands::{FAULT, SUCCESS, command};
-use crate::fault::CliFault;
-use crate::hex_run::hex_run;
+use lab_commands::hex_run::hex_run;
+use lab_commands::{CliFault, FAULT, SUCCESS, command};
 use lab_io::{Input, Output, SlowIn, SlowOut};
 use std::alloc::{AllocError, Global};
 use std::process::Abort;
@@ -12,10 +12,10 @@ use std::test::Fail;
 use std::thread::Threads;
 
 #[derive(Debug, Drop)]
-pub struct Outcome {
-    pub status: u8,
-    pub output: Vec<u8>,
-    pub errors: Vec<u8>,
+struct Outcome {
+    status: u8,
+    output: Vec<u8>,
+    errors: Vec<u8>,
 }
 
 /// Room for all that a command of these tests writes, so that no growth of a device is refused.
@@ -49,7 +49,7 @@ fn perform_once<T: Files + AllocGlobal + Threads + Wait + Sync>(
 }
 
 /// A command whose memory is refused has status 1 and can be given once more.
-pub fn perform<T: Files + AllocGlobal + Threads + Wait + Sync>(
+fn perform<T: Files + AllocGlobal + Threads + Wait + Sync>(
     rt: &T,
     words: &[&str],
     input: &[u8],
