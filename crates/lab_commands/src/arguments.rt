@@ -1,8 +1,10 @@
 //! The command line.
-use crate::commands::explore::MOST_WORLDS;
+use crate::commands::explore::{MOST_LOCAL_STEPS, MOST_WORLDS, Question};
 use crate::commands::run::MOST_STEPS;
+use clap::builder::ValueParser;
 use clap::{Arg, ArgAction, ArgMatches, Command, Error};
 use lab_explore::Limits;
+use lab_sched::Verdict;
 use std::alloc::{AllocError, Global};
 
 /// What the words of a command line ask for.
@@ -25,12 +27,15 @@ pub enum Request<'a> {
     },
     Explore {
         programs: Vec<&'a str>,
-        limits: Limits,
+        question: Question,
     },
     Debug {
         programs: Vec<&'a str>,
     },
 }
+
+/// The verdicts that ends can have.
+const VERDICTS: &[&str] = &["ended", "stuck"];
 
 /// What the words ask for, or the text of help or of what is wrong with them.
 pub fn read_words<'a>(alloc: Global, words: &'a [String]) -> Result<Request<'a>, Error> {
@@ -112,23 +117,35 @@ fn run<'a>(alloc: Global) -> Result<Command<'a>, AllocError> {
 }
 
 fn explore<'a>(alloc: Global) -> Result<Command<'a>, AllocError> {
+    let limit = Arg::new(alloc, "limit")
+        .long("limit")
+        .value_name("N")
+        .value_parser(clap::value_parser!(u32).range(1..=i64::from(MOST_LOCAL_STEPS)))
+        .default_value("100000")
+        .help("The most steps of a process without a call");
     let worlds = Arg::new(alloc, "worlds")
         .long("worlds")
-        .value_name("N")
+        .value_name("M")
         .value_parser(clap::value_parser!(u32).range(1..=i64::from(MOST_WORLDS)))
         .default_value("100000")
         .help("The most worlds to visit");
-    let steps = Arg::new(alloc, "steps")
-        .long("steps")
-        .value_name("N")
-        .value_parser(clap::value_parser!(u32).range(1..=i64::from(MOST_STEPS)))
-        .default_value("100000")
-        .help("The most steps of a process between two calls");
+    let require = Arg::new(alloc, "require")
+        .long("require")
+        .value_name("VERDICT")
+        .value_parser(ValueParser::Names(VERDICTS))
+        .help("Fails unless the search is complete and each end has this verdict");
+    let schedule = Arg::new(alloc, "schedule")
+        .long("schedule")
+        .value_name("K")
+        .value_parser(clap::value_parser!(u32).range(1..=i64::from(MOST_WORLDS)))
+        .help("Prints the schedule of end K alone");
     Command::new(alloc, "explore")
         .about("Visits every interleaving of programs and prints the ends that they can have")
         .after_help("Example:\n  lc3lab explore one.obj two.obj")
+        .arg(limit)?
         .arg(worlds)?
-        .arg(steps)?
+        .arg(require)?
+        .arg(schedule)?
         .arg(programs(alloc))
 }
 
@@ -163,10 +180,7 @@ fn request_of<'a>(alloc: Global, matches: &ArgMatches<'a>) -> Result<Request<'a>
         },
         Some(("explore", words)) => Request::Explore {
             programs: programs_of(alloc, words)?,
-            limits: Limits {
-                worlds: words.get_one::<u32>("worlds").unwrap_or(MOST_WORLDS),
-                steps: words.get_one::<u32>("steps").unwrap_or(MOST_STEPS),
-            },
+            question: question_of(words),
         },
         Some(("debug", words)) => Request::Debug {
             programs: programs_of(alloc, words)?,
@@ -177,6 +191,22 @@ fn request_of<'a>(alloc: Global, matches: &ArgMatches<'a>) -> Result<Request<'a>
         None => Request::Disassemble { object: "" },
     };
     Ok(request)
+}
+
+/// What the words of `explore` ask of the exploration.
+fn question_of(words: &ArgMatches<'_>) -> Question {
+    Question {
+        limits: Limits {
+            worlds: words.get_one::<u32>("worlds").unwrap_or(MOST_WORLDS),
+            steps: words.get_one::<u32>("limit").unwrap_or(MOST_LOCAL_STEPS),
+        },
+        required: match words.get_str("require") {
+            Some("ended") => Some(Verdict::Ended),
+            Some(_) => Some(Verdict::Stuck),
+            None => None,
+        },
+        schedule: words.get_one::<u32>("schedule"),
+    }
 }
 
 /// The words of a command that name programs.

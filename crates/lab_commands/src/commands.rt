@@ -96,8 +96,8 @@ fn perform<'a, T: Files + Threads + Wait + Sync, R: Read, W: Write>(
         } => run_programs(rt, alloc, programs.as_slice(), limit, output),
         Request::Explore {
             ref programs,
-            limits,
-        } => explore_programs(rt, alloc, programs.as_slice(), limits, output),
+            question,
+        } => explore_programs(rt, alloc, programs.as_slice(), question, output),
         Request::Debug { ref programs } => {
             debug_programs(rt, alloc, programs.as_slice(), input, output)
         }

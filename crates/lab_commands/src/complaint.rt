@@ -2,7 +2,7 @@
 use crate::fault::CliFault;
 use lab_debug::SessionFault;
 use lab_explore::ExploreFault;
-use lab_sched::{RunStop, SchedFault, StepFault};
+use lab_sched::{RunStop, SchedFault, StepFault, Verdict};
 use lab_threads::RunFault;
 use lc3_asm::AsmFault;
 use lc3_obj::ObjFault;
@@ -22,6 +22,10 @@ pub enum Reason {
     Count,
     NoProcess { done: u64 },
     Unvouched,
+    Incomplete,
+    Endless,
+    Stands { verdict: Verdict },
+    NoEnd,
     Spawn,
     TooManyLines,
     LineTooLong,
@@ -130,6 +134,15 @@ impl From<SessionFault> for Reason {
     }
 }
 
+/// A verdict's name.
+fn name_of(verdict: Verdict) -> &'static str {
+    match verdict {
+        Verdict::Ended => "ended",
+        Verdict::Stuck => "stuck",
+        Verdict::Open => "open",
+    }
+}
+
 impl fmt::Display for Reason {
     fn fmt<W: fmt::Write>(&self, f: &mut fmt::Formatter<W>) -> fmt::Result {
         match *self {
@@ -143,6 +156,10 @@ impl fmt::Display for Reason {
             Reason::Count => write!(f, "Count"),
             Reason::NoProcess { done } => write!(f, "after {done} steps: NoProcess"),
             Reason::Unvouched => write!(f, "Unvouched"),
+            Reason::Incomplete => write!(f, "incomplete"),
+            Reason::Endless => write!(f, "endless"),
+            Reason::Stands { verdict } => write!(f, "{}", name_of(verdict)),
+            Reason::NoEnd => write!(f, "NoEnd"),
             Reason::Spawn => write!(f, "Spawn"),
             Reason::TooManyLines => write!(f, "TooManyLines"),
             Reason::LineTooLong => write!(f, "LineTooLong"),

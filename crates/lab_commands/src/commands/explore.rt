@@ -7,6 +7,7 @@ use crate::programs::{laboratory, read_programs};
 use lab_debug::report_text;
 use lab_explore::{End, Exploration, Limits, explore};
 use lab_io::Output;
+use lab_sched::Verdict;
 use std::alloc::{AllocError, Global};
 use std::fmt::Write as _;
 use std::io::Write;
@@ -15,71 +16,127 @@ use std::rt::Files;
 /// The most worlds that can be asked for.
 pub const MOST_WORLDS: u32 = 10_000_000;
 
+/// The most local steps of a process in a row that can be asked for.
+pub const MOST_LOCAL_STEPS: u32 = 10_000_000;
+
+/// What is asked of an exploration.
+#[derive(Clone, Copy)]
+pub struct Question {
+    pub limits: Limits,
+    /// The verdict that each end must have.
+    pub required: Option<Verdict>,
+    /// The number of the end whose schedule is printed alone.
+    pub schedule: Option<u32>,
+}
+
+/// Ends with one report.
+#[derive(Drop)]
+struct ToldEnd {
+    report: String,
+    schedule: String,
+}
+
 /// Reads the files of the programs, visits every interleaving of them as far as the limits allow, and writes the ends
-/// that they can have.
+/// that they can have, or the schedule of one of them.
 pub fn explore_programs<'a, T: Files, W: Write>(
     rt: &T,
     alloc: Global,
     programs: &[&'a str],
-    limits: Limits,
+    question: Question,
     output: &mut Output<W>,
 ) -> Result<(), Complaint<'a>>
     requires output_healthy { output.old.failed ≡ false }
 {
     let programs = read_programs(rt, alloc, programs)?;
     let fresh = laboratory(alloc, programs.as_slice())?;
-    let found = explore(alloc, fresh, limits).map_err(|fault| Reason::from(fault).at("run"))?;
-    let text = text_of(alloc, &found).map_err(|_| Reason::NoMemory.at("run"))?;
-    write_text(&text, output)
+    let found = explore(alloc, fresh, question.limits).map_err(|fault| Reason::from(fault).at(
+        "run",
+    ))?;
+    let text = answer(alloc, &found, question).map_err(|reason| reason.at("explore"))?;
+    write_text(&text, output)?;
+    match shortfall(&found, question.required) {
+        None => Ok(()),
+        Some(reason) => Err(reason.at("explore")),
+    }
 }
 
-/// The reports that differ, each the first with its schedule, and a line that says whether these are all.
-fn text_of(alloc: Global, found: &Exploration) -> Result<String, AllocError> {
-    let mut text = String::new(alloc);
-    let mut reports: Vec<String> = Vec::new(alloc);
-    for end in &found.ends {
+/// What is written of an exploration.
+fn answer(alloc: Global, found: &Exploration, question: Question) -> Result<String, Reason> {
+    let ends = told_ends(alloc, &found.ends).map_err(|_| Reason::NoMemory)?;
+    let text = match question.schedule {
+        None => text_of(alloc, &ends, found),
+        Some(number) => match ends.get((number as usize).saturating_sub(1)) {
+            None => return Err(Reason::NoEnd),
+            Some(end) => line_of(alloc, &end.schedule),
+        },
+    };
+    text.map_err(|_| Reason::NoMemory)
+}
+
+/// A text and a line feed.
+fn line_of(alloc: Global, text: &String) -> Result<String, AllocError> {
+    let mut line = String::new(alloc);
+    writeln!(line, "{text}")?;
+    Ok(line)
+}
+
+/// The reports that differ, each with the schedule of the first end that has it.
+fn told_ends(alloc: Global, ends: &[End]) -> Result<Vec<ToldEnd>, AllocError> {
+    let mut told: Vec<ToldEnd> = Vec::new(alloc);
+    for end in ends {
         let report = report_text(alloc, &end.world)?;
-        if !has_text(&reports, &report) {
-            let number = reports.len() as u128 + 1;
-            push_end(&mut text, alloc, number, &report, end)?;
-            reports.push(report)?;
+        if !is_told(&told, &report) {
+            let schedule = end.schedule.text(alloc)?;
+            told.push(ToldEnd { report, schedule })?;
         }
     }
-    let worlds = found.worlds;
-    if found.complete {
-        writeln!(text, "complete {worlds} worlds")?;
-    } else {
-        writeln!(text, "incomplete {worlds} worlds")?;
-    }
-    Ok(text)
+    Ok(told)
 }
 
-/// Whether a text is among others.
-fn has_text(texts: &[String], text: &String) -> bool {
-    for other in texts {
-        if other.as_str() == text.as_str() {
+/// Whether an end with this report is among others.
+fn is_told(ends: &[ToldEnd], report: &String) -> bool {
+    for end in ends {
+        if end.report.as_str() == report.as_str() {
             return true;
         }
     }
     false
 }
 
-/// The lines of an end.
-fn push_end(
-    text: &mut String,
-    alloc: Global,
-    number: u128,
-    report: &String,
-    end: &End,
-) -> Result<(), AllocError> {
-    let schedule = end.schedule.text(alloc)?;
-    writeln!(text, "end {number}")?;
-    text.push_str(report)?;
-    text.push_str("schedule")?;
-    if !schedule.is_empty() {
-        text.push_str(" ")?;
-        text.push_str(&schedule)?;
+/// The ends, and a line that says whether these are all.
+fn text_of(alloc: Global, ends: &[ToldEnd], found: &Exploration) -> Result<String, AllocError> {
+    let mut text = String::new(alloc);
+    for (at, end) in ends.iter().enumerate() {
+        let number = at as u128 + 1;
+        let report = end.report.as_str();
+        let schedule = end.schedule.as_str();
+        write!(text, "end {number}\n{report}schedule {schedule}\n")?;
     }
-    text.push_str("\n")?;
-    Ok(())
+    let worlds = found.worlds;
+    let extent = if found.complete {
+        "complete"
+    } else {
+        "incomplete"
+    };
+    writeln!(text, "{extent} {worlds} worlds")?;
+    Ok(text)
+}
+
+/// Why an exploration doesn't show that each end has the verdict that is required, if it doesn't.
+fn shortfall(found: &Exploration, required: Option<Verdict>) -> Option<Reason> {
+    let required = required?;
+    if !found.complete {
+        return Some(Reason::Incomplete);
+    }
+    if found.ends.is_empty() {
+        return Some(Reason::Endless);
+    }
+    for end in &found.ends {
+        if end.verdict != required {
+            return Some(Reason::Stands {
+                verdict: end.verdict,
+            });
+        }
+    }
+    None
 }
