@@ -19,6 +19,3 @@ pub use ends::End;
 pub use exploring::{Exploration, explore};
 pub use fault::ExploreFault;
 pub use limits::Limits;
-
-#[cfg(test)]
-mod tests;
