@@ -29,37 +29,78 @@ fn changed(rt: &impl Abort, alloc: Global, kernel: &Kernel, pid: usize, call: Ca
     after
 }
 
-#[test]
-fn a_copy_answers_alike(rt: HostRuntime) {
-    let alloc = rt.alloc();
-    let mut kernel = made(&rt, alloc);
-    succeeds(&rt, alloc, &mut kernel, 0, mq_send(&rt, alloc, &[7, 8], 3));
-    let mut other = copy_of(&rt, alloc, &kernel);
+/// The call changes the kernel.
+fn changes(rt: &impl Abort, alloc: Global, kernel: &Kernel, pid: usize, call: Call) {
+    let _ = changed(rt, alloc, kernel, pid, call);
+}
+
+/// Each call changes the kernel, and what they make of it differs.
+fn change_apart(
+    rt: &impl Abort,
+    alloc: Global,
+    kernel: &Kernel,
+    pid: usize,
+    first: Call,
+    second: Call,
+) {
+    let one = changed(rt, alloc, kernel, pid, first);
+    let other = changed(rt, alloc, kernel, pid, second);
+    differ(rt, &one, &other);
+}
+
+/// Two kernels are the same, and still are after a receive from each.
+fn receive_alike(rt: &impl Abort, alloc: Global, one: &mut Kernel, other: &mut Kernel) {
     assert!(rt;
-        kernel.is_same(&other) && kernel.digest() == other.digest(),
+        one.is_same(other) && one.digest() == other.digest(),
         "the same"
     );
-    receives(&rt, alloc, &mut kernel, &[7, 8]);
-    receives(&rt, alloc, &mut other, &[7, 8]);
+    receives(rt, alloc, one, &[7, 8]);
+    receives(rt, alloc, other, &[7, 8]);
     assert!(rt;
-        kernel.is_same(&other) && kernel.digest() == other.digest(),
+        one.is_same(other) && one.digest() == other.digest(),
         "the same again"
     );
 }
 
 #[test]
-fn kernels_that_differ(rt: HostRuntime) {
+fn a_copy_answers_alike(rt: HostRuntime) {
+    let alloc = rt.alloc();
+    let mut kernel = made(&rt, alloc);
+    let call = mq_send(&rt, alloc, &[7, 8], 3);
+    succeeds(&rt, alloc, &mut kernel, 0, call);
+    let mut other = copy_of(&rt, alloc, &kernel);
+    receive_alike(&rt, alloc, &mut kernel, &mut other);
+}
+
+#[test]
+fn what_is_open_differs(rt: HostRuntime) {
     let alloc = rt.alloc();
     let kernel = made(&rt, alloc);
-    // A name, what is open, a message, an access mode, and the number of processes.
-    let _ = changed(&rt, alloc, &kernel, 0, Call::Exit);
-    let _ = changed(&rt, alloc, &kernel, 0, sem_open(&rt, alloc));
-    let one = changed(&rt, alloc, &kernel, 0, mq_send(&rt, alloc, &[7], 0));
-    let other = changed(&rt, alloc, &kernel, 0, mq_send(&rt, alloc, &[8], 0));
-    differ(&rt, &one, &other);
-    let one = changed(&rt, alloc, &kernel, 1, mq_open(&rt, alloc, 0));
-    let other = changed(&rt, alloc, &kernel, 1, mq_open(&rt, alloc, 2));
-    differ(&rt, &one, &other);
+    changes(&rt, alloc, &kernel, 0, Call::Exit);
+    changes(&rt, alloc, &kernel, 0, sem_open(&rt, alloc));
+}
+
+#[test]
+fn messages_differ(rt: HostRuntime) {
+    let alloc = rt.alloc();
+    let kernel = made(&rt, alloc);
+    let first = mq_send(&rt, alloc, &[7], 0);
+    let second = mq_send(&rt, alloc, &[8], 0);
+    change_apart(&rt, alloc, &kernel, 0, first, second);
+}
+
+#[test]
+fn access_modes_differ(rt: HostRuntime) {
+    let alloc = rt.alloc();
+    let kernel = made(&rt, alloc);
+    let first = mq_open(&rt, alloc, 0);
+    let second = mq_open(&rt, alloc, 2);
+    change_apart(&rt, alloc, &kernel, 1, first, second);
+}
+
+#[test]
+fn numbers_of_processes_differ(rt: HostRuntime) {
+    let alloc = rt.alloc();
     let one = kernel_of(&rt, alloc, 1);
     let other = kernel_of(&rt, alloc, 2);
     differ(&rt, &one, &other);
