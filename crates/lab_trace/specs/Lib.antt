@@ -1,0 +1,11 @@
+pub mod Services
+pub mod Words
+pub mod Flags
+pub mod Objects
+pub mod Calls
+pub mod Answers
+pub mod Tallies
+pub mod Events
+pub mod Lines
+pub mod Ends
+pub mod Traces
