@@ -49,6 +49,7 @@ fn program<'a>(alloc: Global) -> Result<Command<'a>, AllocError> {
         .subcommand(asm(alloc)?)?
         .subcommand(dis(alloc)?)?
         .subcommand(step(alloc)?)?
+        .subcommand(trace(alloc)?)?
         .subcommand(run(alloc)?)?
         .subcommand(explore(alloc)?)?
         .subcommand(debug(alloc)?)
@@ -86,6 +87,15 @@ fn step<'a>(alloc: Global) -> Result<Command<'a>, AllocError> {
         "step",
         "Runs programs by the schedule on standard input and prints a report",
         "Example:\n  echo '0*65 1*68' | lc3lab step producer.obj consumer.obj",
+    )
+}
+
+fn trace<'a>(alloc: Global) -> Result<Command<'a>, AllocError> {
+    on_programs(
+        alloc,
+        "trace",
+        "Runs programs by the schedule on standard input and prints what happened",
+        "Example:\n  echo '0*65 1*68' | lc3lab trace producer.obj consumer.obj",
     )
 }
 
@@ -186,6 +196,9 @@ fn request_of<'a>(alloc: Global, matches: &ArgMatches<'a>) -> Result<Request<'a>
     let request = match matches.subcommand() {
         Some(("asm", words)) => assembly_of(alloc, words)?,
         Some(("step", words)) => Request::Step {
+            programs: programs_of(alloc, words)?,
+        },
+        Some(("trace", words)) => Request::Trace {
             programs: programs_of(alloc, words)?,
         },
         Some(("run", words)) => Request::Run {

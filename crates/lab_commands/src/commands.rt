@@ -7,6 +7,7 @@ mod dis;
 mod explore;
 mod run;
 mod step;
+mod trace;
 
 use crate::complaint::{Complaint, Reason};
 use crate::fault::CliFault;
@@ -25,6 +26,7 @@ use std::rt::Files;
 use std::sync::Wait;
 use std::thread::Threads;
 use step::step_programs;
+use trace::trace_programs;
 
 /// The program did what its words ask for.
 pub const SUCCESS: u8 = 0;
@@ -90,6 +92,9 @@ fn perform<'a, T: Files + Threads + Wait + Sync, R: Read, W: Write>(
         Request::Disassemble { object } => disassemble_file(rt, alloc, object, output),
         Request::Step { ref programs } => {
             step_programs(rt, alloc, programs.as_slice(), input, output)
+        }
+        Request::Trace { ref programs } => {
+            trace_programs(rt, alloc, programs.as_slice(), input, output)
         }
         Request::Run {
             ref programs,

@@ -1,0 +1,202 @@
+//! One step of a trace.
+ghost use Rattle.std.specs.Prelude.{◌≡◌, ◌<◌, ◌≤◌, IfOk, OnOk, length, string_bytes};
+ghost use Rattle.lab_sched.specs.Worlds.{step, turn_in};
+ghost use Rattle.lab_sched.specs.Held.{seen, told_of};
+ghost use Rattle.lab_trace.specs.Lines.{line, tallied_by};
+
+use crate::answers::result_of;
+use crate::fault::TraceFault;
+use crate::handles::held_place;
+use crate::lines::{Widths, new_output, push_call_line, push_end, push_head, push_output};
+use crate::observed::{Asking, Observed, observe};
+use crate::service::Service;
+use crate::tally::{Origin, Tally};
+use ipc_kernel::Kernel;
+use lab_sched::{Process, Stepped, World};
+use std::alloc::{AllocError, Global};
+
+/// What a step shows: its line, or no text, and what it was.
+#[derive(Drop)]
+pub struct Traced {
+    pub line: String,
+    pub stepped: Stepped,
+}
+
+/// Whether a step with an effect has a line.
+fn has_line(before: &Observed, after: &Process) -> bool {
+    before.asking.is_some()
+        || matches!(after, Process::Ended(_))
+        || !new_output(before, after).is_empty()
+}
+
+/// Adds what happened in a step that has a line.
+fn push_what(
+    text: &mut String,
+    world: &World,
+    tally: &Tally,
+    pid: usize,
+    before: &Observed,
+    after: &Process,
+) -> Result<(), AllocError>
+    requires process { pid < length world.now.processes }
+{
+    match (&before.asking, after) {
+        (Some(asking), _) => push_call_line(text, world, tally, pid, asking, after),
+        (None, Process::Ended(ended)) => push_end(text, ended.how()),
+        (None, _) => push_output(text, before.word, new_output(before, after)),
+    }
+}
+
+/// The line of a step that has one.
+fn line_of(
+    alloc: Global,
+    world: &World,
+    tally: &Tally,
+    widths: Widths,
+    number: u32,
+    pid: usize,
+    before: &Observed,
+    after: &Process,
+) -> Result<String, AllocError>
+    requires process { pid < length world.now.processes }
+{
+    let number = format!(in alloc; "{number}")?;
+    let mut line = String::new(alloc);
+    push_head(
+        alloc,
+        &mut line,
+        widths,
+        &number,
+        pid,
+        before.pc,
+        tally.local(pid),
+    )?;
+    push_what(&mut line, world, tally, pid, before, after)?;
+    line.push_str("\n")?;
+    Ok(line)
+}
+
+/// Keeps what an open made, by its result.
+fn keep_open(tally: &mut Tally, kernel: &Kernel, pid: usize, asking: &Asking, result: u16)
+    requires process { pid < length kernel.now.processes }
+{
+    if let Some(place) = held_place(kernel, pid, asking.service, result) {
+        if asking.empty[place as usize] {
+            tally.clear(place);
+        }
+    }
+}
+
+/// Keeps what an answered call that isn't refused did to the object that it is on.
+fn keep_change(
+    tally: &mut Tally,
+    pid: usize,
+    number: u32,
+    asking: &Asking,
+) -> Result<(), AllocError> {
+    let Some(place) = asking.place else {
+        return Ok(());
+    };
+    match asking.service {
+        Service::MqSend => tally.send(place, asking.position, Origin { step: number, pid }),
+        Service::MqReceive => {
+            tally.receive(place);
+            Ok(())
+        }
+        Service::SemWait | Service::SemTrywait => {
+            tally.take(pid, place);
+            Ok(())
+        }
+        Service::SemPost => {
+            tally.give(pid, place);
+            Ok(())
+        }
+        _ => Ok(()),
+    }
+}
+
+/// Keeps what a call did.
+fn keep_call(
+    tally: &mut Tally,
+    kernel: &Kernel,
+    pid: usize,
+    number: u32,
+    asking: &Asking,
+    after: &Process,
+) -> Result<(), AllocError>
+    requires process { pid < length kernel.now.processes }
+{
+    let Some(result) = result_of(after) else {
+        return Ok(());
+    };
+    if asking.service.is_open() {
+        keep_open(tally, kernel, pid, asking, result);
+        return Ok(());
+    }
+    keep_change(tally, pid, number, asking)
+}
+
+/// The step since which a process waits, where it waits after step `number`.
+fn waits_from(number: u32, after: &Process) -> Option<u32> {
+    match after {
+        Process::Waiting(_, _) => Some(number),
+        Process::Running(_) | Process::Ended(_) => None,
+    }
+}
+
+/// The line of a step with an effect, or no text; the tally keeps what it did.
+fn shown(
+    alloc: Global,
+    world: &World,
+    tally: &mut Tally,
+    widths: Widths,
+    number: u32,
+    pid: usize,
+    before: &Observed,
+) -> Result<String, AllocError>
+    requires process { pid < length world.now.processes }
+{
+    let Some(after) = world.process(pid) else {
+        return Ok(String::new(alloc));
+    };
+    if !has_line(before, after) {
+        tally.count_step(pid);
+        return Ok(String::new(alloc));
+    }
+    let line = line_of(alloc, world, tally, widths, number, pid, before, after)?;
+    if let Some(asking) = &before.asking {
+        keep_call(tally, world.kernel(), pid, number, asking, after)?;
+    }
+    tally.end_line(pid, waits_from(number, after));
+    Ok(line)
+}
+
+/// Takes step number `number`, of process `pid`, and tells its line.
+#[tactic(auto, unfolding(crate::specs::Lines::line, crate::specs::Lines::tallied_by))]
+pub fn trace_step(
+    alloc: Global,
+    world: &mut World,
+    tally: &mut Tally,
+    widths: Widths,
+    number: u32,
+    pid: usize,
+) -> Result<Traced, TraceFault>
+    requires process { pid < length world.old.processes }
+    ensures line { IfOk result (λ r. string_bytes r.line ≡ line (record { step = widths.step; process = widths.process }) number world.old tally.old pid) }
+    ensures world { OnOk result (world.new ≡ step world.old pid) }
+    ensures tally { OnOk result (tally.new ≡ tallied_by number world.old tally.old pid) }
+    ensures told { IfOk result (λ r. r.stepped ≡ told_of (turn_in world.old pid)) }
+{
+    let Some(process) = world.process(pid) else {
+        return Err(TraceFault::NoMemory);
+    };
+    let before = observe(alloc, world.kernel(), pid, process)?;
+    let Ok(stepped) = world.step(pid) else {
+        return Err(TraceFault::NoMemory);
+    };
+    let line = match stepped {
+        Stepped::Same => String::new(alloc),
+        _ => shown(alloc, world, tally, widths, number, pid, &before)?,
+    };
+    Ok(Traced { line, stepped })
+}
