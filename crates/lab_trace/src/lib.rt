@@ -15,8 +15,8 @@ mod others;
 mod service;
 mod step;
 mod tally;
-mod trace;
+mod tracing;
 mod words;
 
 pub use fault::TraceFault;
-pub use trace::trace;
+pub use tracing::trace;

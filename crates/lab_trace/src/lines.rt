@@ -84,8 +84,8 @@ fn told_place(kernel: &Kernel, pid: usize, asking: &Asking, after: &Process) -> 
     requires process { pid < length kernel.now.processes }
 {
     if asking.service.is_open() {
-        let result = result_of(after)?;
-        return held_place(kernel, pid, asking.service, result);
+        let number = result_of(after)?;
+        return held_place(kernel, pid, asking.service, number);
     }
     if asking.service.is_on_level() {
         asking.place
@@ -128,9 +128,10 @@ fn push_notes(
         push_level(text, kernel, place)?;
     }
     if let Some(origin) = origin_of(tally, asking, after) {
-        let Origin { step, pid } = origin;
+        let sender = origin.pid;
+        let step = origin.step;
         push_separator(text, start)?;
-        write!(text, "from P{pid} at {step}")?;
+        write!(text, "from P{sender} at {step}")?;
     }
     if let Some(since) = tally.since(pid) {
         push_separator(text, start)?;

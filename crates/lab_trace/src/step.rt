@@ -77,10 +77,10 @@ fn line_of(
 }
 
 /// Keeps what an open made, by its result.
-fn keep_open(tally: &mut Tally, kernel: &Kernel, pid: usize, asking: &Asking, result: u16)
+fn keep_open(tally: &mut Tally, kernel: &Kernel, pid: usize, asking: &Asking, number: u16)
     requires process { pid < length kernel.now.processes }
 {
-    if let Some(place) = held_place(kernel, pid, asking.service, result) {
+    if let Some(place) = held_place(kernel, pid, asking.service, number) {
         if asking.empty[place as usize] {
             tally.clear(place);
         }
@@ -126,11 +126,11 @@ fn keep_call(
 ) -> Result<(), AllocError>
     requires process { pid < length kernel.now.processes }
 {
-    let Some(result) = result_of(after) else {
+    let Some(word) = result_of(after) else {
         return Ok(());
     };
     if asking.service.is_open() {
-        keep_open(tally, kernel, pid, asking, result);
+        keep_open(tally, kernel, pid, asking, word);
         return Ok(());
     }
     keep_change(tally, pid, number, asking)

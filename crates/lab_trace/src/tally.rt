@@ -155,8 +155,8 @@ impl Tally {
         ensures { self.new ≡ cleared self.old place }
     {
         self.sent[place as usize].clear();
-        for account in &mut self.accounts {
-            account.taken[place as usize] = 0;
+        for pid in 0..self.accounts.len() {
+            self.accounts[pid].taken[place as usize] = 0;
         }
     }
 }
