@@ -43,6 +43,6 @@ event_of (Running m) after = running_event m (service_at m) after
 event_of (Waiting m c) after = waiting_event m after
 event_of (Ended e) after = nothing
 
-abbrev pub event : Option Process → Option Process → Event
-event (Some before) (Some after) = event_of before after
-event before after = nothing
+abbrev pub event_between : Option Process → Option Process → Event
+event_between (Some before) (Some after) = event_of before after
+event_between before after = nothing

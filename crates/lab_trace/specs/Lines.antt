@@ -10,7 +10,7 @@ use Rattle.lab_trace.specs.Calls.{call_text}
 use Rattle.lab_trace.specs.Answers.{answer_text, reply_text, result_of}
 use Rattle.lab_trace.specs.Objects.{held_place, level_text}
 use Rattle.lab_trace.specs.Services.{is_open, is_on_level}
-use Rattle.lab_trace.specs.Events.{Event, nothing, local, calls, writes, ends, event}
+use Rattle.lab_trace.specs.Events.{Event, nothing, local, calls, writes, ends, event_between}
 use Rattle.lab_trace.specs.Tallies.{TallyState, account_of, origins_at, counted, lined, tallied_call}
 use Rattle.lab_trace.specs.declared.tally.account.Origin.{Origin}
 use Rattle.lab_trace.specs.declared.service.Service.{Service}
@@ -97,7 +97,7 @@ event_line v n w after t p (Some s) (ends m how) = full_line v n p m t (codes "e
 
 -- the event of a step of process p
 abbrev pub event_in : WorldState → ℕ → Event
-event_in w p = event (slice_get w.processes p) (slice_get (step w p).processes p)
+event_in w p = event_between (slice_get w.processes p) (slice_get (step w p).processes p)
 
 -- the line of step number n, of process p, or nothing
 unfoldable pub line : Widths → ℕ → WorldState → TallyState → ℕ → List ℕ

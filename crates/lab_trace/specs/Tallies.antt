@@ -1,6 +1,6 @@
 -- What a trace keeps beside the world.
 use Rattle.std.specs.Prelude.{ℕ, ℤ, ◌+◌, ◌+ℤ◌, pos, negsuc, ◌==◌, nat_le, if◌then◌else◌, Bool, true, false, Option, Some, None, is_some, unwrap_or, List, [], ◌∷◌, length, map, drop, replicate, slice_get, slice_set, slice_index_or}
-use Rattle.std.specs.Option.{option_and_then}
+use Rattle.std.specs.Option.{option_map}
 use Rattle.std.specs.List.{insert, count_by}
 use Rattle.lc3_machine.specs.Process.{Process as Machine, reg}
 use Rattle.ipc_kernel.specs.Kernel.{KernelState}
@@ -81,7 +81,7 @@ made_at k None = None
 made_at k (Some place) = if is_empty (place_at k.places place) then Some place else None
 
 abbrev pub made : KernelState → Option ℕ → TallyState → TallyState
-made k opened t = unwrap_or (option_and_then (λ place. Some (cleared t place)) (made_at k opened)) t
+made k opened t = unwrap_or (option_map (cleared t) (made_at k opened)) t
 
 -- what an answered call of process p on the object in a place does to the tally; k is the kernel before it
 abbrev pub changed : KernelState → ℕ → ℕ → Machine → Service → ℕ → TallyState → TallyState
