@@ -60,7 +60,8 @@ waits_from n (Ended e) = None
 -- process p took so much from the semaphore in a place
 abbrev pub taken_by : TallyState → ℕ → ℕ → ℤ → TallyState
 taken_by t p place change = with_account t p (record (account_of t p) {
-    taken = slice_set (account_of t p).taken place (slice_index_or (account_of t p).taken place (pos 0) +ℤ change) })
+  taken = slice_set (account_of t p).taken place (slice_index_or (account_of t p).taken place (pos 0) +ℤ change);
+})
 
 -- nobody took anything from the object in a place, and nothing was sent to it
 abbrev pub cleared : TallyState → ℕ → TallyState

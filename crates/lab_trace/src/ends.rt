@@ -106,15 +106,7 @@ pub fn stand_line(
         return Ok(line);
     }
     let pc = machine::pc(process);
-    push_head(
-        alloc,
-        &mut line,
-        widths,
-        "end",
-        pid,
-        pc,
-        tally.local(pid),
-    )?;
+    push_head(alloc, &mut line, widths, "end", pid, pc, tally.local(pid))?;
     push_state(&mut line, world, tally, pid, process)?;
     line.push_str("\n")?;
     Ok(line)

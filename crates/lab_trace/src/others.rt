@@ -91,12 +91,7 @@ pub fn push_others(
 }
 
 /// Adds process `pid`, where it took so much more than it gave back.
-fn push_taker(
-    text: &mut String,
-    world: &World,
-    pid: usize,
-    taken: i32,
-) -> Result<(), AllocError> {
+fn push_taker(text: &mut String, world: &World, pid: usize, taken: i32) -> Result<(), AllocError> {
     if taken <= 0 {
         return Ok(());
     }

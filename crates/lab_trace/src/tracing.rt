@@ -4,7 +4,6 @@ ghost use Rattle.std.specs.Io.KnownBytes.{Appends};
 ghost use Rattle.lab_io.specs.Device.{AppendsPrefix};
 ghost use Rattle.lab_sched.specs.Worlds.{run};
 ghost use Rattle.lab_sched.specs.Schedules.{steps_of};
-
 ghost use Rattle.lab_trace.specs.Ends.{end_lines};
 ghost use Rattle.lab_trace.specs.Traces.{events, tally_after, trace_text, IsMissingAfter, Explains};
 ghost use Rattle.lab_trace.specs.declared.fault.TraceFault.TheVariants.{NoProcess, Write};
