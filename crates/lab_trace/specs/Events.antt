@@ -1,48 +1,37 @@
--- What a step shows.
-use Rattle.std.specs.Prelude.{ℕ, Option, Some, None, List, [], ◌∷◌, drop, length}
+-- What a step with an effect shows.
+use Rattle.std.specs.Prelude.{ℕ, Bool, true, false, Option, Some, None, List, [], ◌∷◌, drop}
 use Rattle.lc3_machine.specs.declared.want.How.{How}
-use Rattle.lc3_machine.specs.Process.{Process as Machine}
 use Rattle.lab_sched.specs.Worlds.{Process, Running, Waiting, Ended}
-use Rattle.lab_trace.specs.Services.{service_at}
-use Rattle.lab_trace.specs.declared.service.Service.{Service}
+use Rattle.lab_debug.specs.Texts.{machine_of}
+use Rattle.lab_trace.specs.Questions.{Question, Before}
 
--- a step without effect, a counted step, a call, bytes of output, or the end of the process
+-- a counted step, a call, bytes of output, or the end of the process
 pub data Event : Type 0 where
-  nothing : Event
   local : Event
-  calls : Machine → Service → Event
-  writes : Machine → List ℕ → Event
-  ends : Machine → How → Event
-
--- the call of a process that stands before one
-abbrev pub called : Machine → Option Service → Event
-called m None = nothing
-called m (Some s) = calls m s
+  calls : Question → Event
+  writes : List ℕ → Event
+  ends : How → Event
 
 -- bytes of output, where there are any
-abbrev pub written : Machine → List ℕ → Event
-written m [] = local
-written m (b ∷ bs) = writes m (b ∷ bs)
+abbrev pub written : List ℕ → Event
+written [] = local
+written (b ∷ bs) = writes (b ∷ bs)
 
--- the step of a running process
-abbrev pub running_event : Machine → Option Service → Process → Event
-running_event m (Some s) after = calls m s
-running_event m None (Running q) = written m (drop (length m.output) q.output)
-running_event m None (Waiting q c) = nothing
-running_event m None (Ended e) = ends m e.how
+-- a step that is no call, by the process after it
+abbrev pub own_event : ℕ → Process → Event
+own_event count (Running m) = written (drop count m.output)
+own_event count (Waiting m c) = written (drop count m.output)
+own_event count (Ended e) = ends e.how
 
--- the step of a waiting process
-abbrev pub waiting_event : Machine → Process → Event
-waiting_event m (Running q) = called m (service_at m)
-waiting_event m (Waiting q c) = nothing
-waiting_event m (Ended e) = nothing
+abbrev pub event_by : Option Question → ℕ → Process → Event
+event_by (Some q) count after = calls q
+event_by None count after = own_event count after
 
--- a step, by the process before and after it
-abbrev pub event_of : Process → Process → Event
-event_of (Running m) after = running_event m (service_at m) after
-event_of (Waiting m c) after = waiting_event m after
-event_of (Ended e) after = nothing
+-- a step, by what stood before it and the process after it
+abbrev pub event_of : Before → Process → Event
+event_of b after = event_by b.asking b.written after
 
-abbrev pub event_between : Option Process → Option Process → Event
-event_between (Some before) (Some after) = event_of before after
-event_between before after = nothing
+-- whether an event has a line
+abbrev pub has_line : Event → Bool
+has_line local = false
+has_line other = true

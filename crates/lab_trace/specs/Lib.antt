@@ -4,8 +4,9 @@ pub mod Flags
 pub mod Objects
 pub mod Calls
 pub mod Answers
-pub mod Tallies
+pub mod Questions
 pub mod Events
+pub mod Tallies
 pub mod Lines
 pub mod Ends
 pub mod Traces

@@ -1,20 +1,18 @@
 -- What a trace keeps beside the world.
-use Rattle.std.specs.Prelude.{ℕ, ℤ, ◌+◌, ◌+ℤ◌, pos, negsuc, ◌==◌, nat_le, if◌then◌else◌, Bool, true, false, Option, Some, None, is_some, unwrap_or, List, [], ◌∷◌, length, map, drop, replicate, slice_get, slice_set, slice_index_or}
-use Rattle.std.specs.Option.{option_map}
-use Rattle.std.specs.List.{insert, count_by}
-use Rattle.lc3_machine.specs.Process.{Process as Machine, reg}
+use Rattle.std.specs.Prelude.{ℕ, ℤ, ◌+◌, ◌+ℤ◌, pos, negsuc, if◌then◌else◌, Bool, true, false, Option, Some, None, List, [], ◌∷◌, map, drop, replicate, slice_set, slice_index_or}
+use Rattle.std.specs.List.{insert}
 use Rattle.ipc_kernel.specs.Kernel.{KernelState}
 use Rattle.ipc_kernel.specs.Limits.{object_places}
-use Rattle.ipc_kernel.specs.Places.{place_at, is_empty}
-use Rattle.ipc_kernel.specs.Decisions.{queue_at}
-use Rattle.lab_sched.specs.Worlds.{Process, Running, Waiting, Ended, WorldState}
+use Rattle.lab_sched.specs.Worlds.{Process, Running, Waiting, Ended}
 use Rattle.lab_trace.specs.Answers.{result_of}
+use Rattle.lab_trace.specs.Events.{Event, local, calls, writes, ends}
 use Rattle.lab_trace.specs.Objects.{held_place}
-use Rattle.lab_trace.specs.Services.{is_open, is_on_queues}
+use Rattle.lab_trace.specs.Questions.{Question}
+use Rattle.lab_trace.specs.Services.{is_open}
 use Rattle.lab_trace.specs.declared.tally.account.Account.{Account}
 use Rattle.lab_trace.specs.declared.tally.account.Origin.{Origin}
 use Rattle.lab_trace.specs.declared.service.Service.{Service}
-use Rattle.lab_trace.specs.declared.service.Service.TheVariants.{MqOpen, MqSend, MqReceive, SemOpen, SemWait, SemTrywait, SemPost}
+use Rattle.lab_trace.specs.declared.service.Service.TheVariants.{MqSend, MqReceive, SemWait, SemTrywait, SemPost}
 
 -- an account of each process, and for each place where the messages of its queue come from, the first to be received first
 pub record TallyState : Type 0 where
@@ -67,42 +65,36 @@ taken_by t p place change = with_account t p (record (account_of t p) {
 abbrev pub cleared : TallyState → ℕ → TallyState
 cleared t place = record { accounts = map (λ a. record a { taken = slice_set a.taken place (pos 0) }) t.accounts; sent = slice_set t.sent place [] }
 
--- a message goes behind those of its priority or a greater one
-abbrev pub place_in_queue : KernelState → ℕ → ℕ → ℕ
-place_in_queue k place priority = count_by (λ m. nat_le priority m.priority) (queue_at k place).messages
+-- process p sent a message to the queue in a place, behind so many others, in step n
+abbrev pub sent_by : ℕ → ℕ → ℕ → ℕ → TallyState → TallyState
+sent_by n p place position t = with_origins t place (insert (origins_at t place) position (record { step = n; pid = p }))
 
--- process p sent a message of a priority to the queue in a place, in step n
-abbrev pub sent_by : KernelState → ℕ → ℕ → ℕ → ℕ → TallyState → TallyState
-sent_by k n p place priority t =
-    with_origins t place (insert (origins_at t place) (place_in_queue k place priority) (record { step = n; pid = p }))
+-- an open made the object in a place that was empty before it
+abbrev pub made : List Bool → Option ℕ → TallyState → TallyState
+made empty None t = t
+made empty (Some place) t = if slice_index_or empty place false then cleared t place else t
 
--- the place of the object that an open made: the place was empty before it
-abbrev pub made_at : KernelState → Option ℕ → Option ℕ
-made_at k None = None
-made_at k (Some place) = if is_empty (place_at k.places place) then Some place else None
+-- what an answered call of process p on the object in a place does to the tally, in step n
+abbrev pub changed : ℕ → ℕ → Service → ℕ → ℕ → TallyState → TallyState
+changed n p MqSend place position t = sent_by n p place position t
+changed n p MqReceive place position t = with_origins t place (drop 1 (origins_at t place))
+changed n p SemWait place position t = taken_by t p place (pos 1)
+changed n p SemTrywait place position t = taken_by t p place (pos 1)
+changed n p SemPost place position t = taken_by t p place (negsuc 0)
+changed n p other place position t = t
 
-abbrev pub made : KernelState → Option ℕ → TallyState → TallyState
-made k opened t = unwrap_or (option_map (cleared t) (made_at k opened)) t
+abbrev pub changed_if : ℕ → ℕ → Question → Option ℕ → TallyState → TallyState
+changed_if n p q None t = t
+changed_if n p q (Some place) t = changed n p q.service place q.position t
 
--- what an answered call of process p on the object in a place does to the tally; k is the kernel before it
-abbrev pub changed : KernelState → ℕ → ℕ → Machine → Service → ℕ → TallyState → TallyState
-changed k n p m MqSend place t = sent_by k n p place (reg m 3) t
-changed k n p m MqReceive place t = with_origins t place (drop 1 (origins_at t place))
-changed k n p m SemWait place t = taken_by t p place (pos 1)
-changed k n p m SemTrywait place t = taken_by t p place (pos 1)
-changed k n p m SemPost place t = taken_by t p place (negsuc 0)
-changed k n p m other place t = t
+-- what a call of process p does to the tally by its result, where it was answered and not refused; v is the kernel after it
+unfoldable pub completed : KernelState → ℕ → ℕ → Question → Option ℕ → TallyState → TallyState
+completed v n p q None t = t
+completed v n p q (Some result) t = if is_open q.service then made q.empty (held_place v p q.service result) t else changed_if n p q q.place t
 
-abbrev pub changed_if : KernelState → ℕ → ℕ → Machine → Service → Option ℕ → TallyState → TallyState
-changed_if k n p m s None t = t
-changed_if k n p m s (Some place) t = changed k n p m s place t
-
--- the same for a call with its result; v is the kernel after it
-abbrev pub completed : KernelState → KernelState → ℕ → ℕ → Machine → Service → Option ℕ → TallyState → TallyState
-completed k v n p m s None t = t
-completed k v n p m s (Some result) t =
-    if is_open s then made k (held_place v p s result) t else changed_if k n p m s (held_place k p s (reg m 0)) t
-
--- the tally after a call of process p in step n
-unfoldable pub tallied_call : KernelState → KernelState → ℕ → ℕ → Machine → Service → Process → TallyState → TallyState
-tallied_call k v n p m s after t = lined (completed k v n p m s (result_of after) t) p (waits_from n after)
+-- the tally after an event of process p in step n; v is the kernel after it
+abbrev pub tallied_event : KernelState → ℕ → ℕ → Process → Event → TallyState → TallyState
+tallied_event v n p after local t = counted t p
+tallied_event v n p after (calls q) t = lined (completed v n p q (result_of after) t) p (waits_from n after)
+tallied_event v n p after (writes bytes) t = lined t p None
+tallied_event v n p after (ends how) t = lined t p None

@@ -36,6 +36,10 @@ pub record IsMissingAfter (w : WorldState) (ps : List ℕ) (done : ℕ) : Type 0
   pub there : (i : ℕ) → i < done → slice_index ps i < length w.processes
   pub missing : length w.processes ≤ slice_index ps done
 
+-- the fault of a writer that failed
+abbrev pub write_fault : TraceFault
+write_fault = Write
+
 -- why a trace broke off: a process that isn't there, or a writer that failed
 abbrev pub Explains : TraceFault → WorldState → List ℕ → Bool → Type 0
 Explains (NoProcess done) w ps failed = IsMissingAfter w ps done

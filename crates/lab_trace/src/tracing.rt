@@ -5,8 +5,8 @@ ghost use Rattle.lab_io.specs.Device.{AppendsPrefix};
 ghost use Rattle.lab_sched.specs.Worlds.{run};
 ghost use Rattle.lab_sched.specs.Schedules.{steps_of};
 ghost use Rattle.lab_trace.specs.Ends.{end_lines};
-ghost use Rattle.lab_trace.specs.Traces.{events, tally_after, trace_text, IsMissingAfter, Explains};
-ghost use Rattle.lab_trace.specs.declared.fault.TraceFault.TheVariants.{NoProcess, Write};
+ghost use Rattle.lab_trace.specs.Traces.{events, tally_after, trace_text, IsMissingAfter, write_fault, Explains};
+ghost use Rattle.lab_trace.specs.declared.fault.TraceFault.TheVariants.{NoProcess};
 
 use crate::ends::stand_line;
 use crate::fault::TraceFault;
@@ -39,7 +39,7 @@ fn write_text<W: Write>(text: &str, output: &mut Output<W>) -> Result<(), TraceF
     ensures written { OnOk result (Appends (W.contents output.old.device) (W.contents output.new.device) text.now) }
     ensures prefix { OnErr result (AppendsPrefix (W.contents output.old.device) (W.contents output.new.device) text.now) }
     ensures fault { OnErr result (IsTrue output.new.failed) }
-    ensures write { IfErr result (λ e. e ≡ Write) }
+    ensures write { IfErr result (λ e. e ≡ write_fault) }
 {
     match output.write_all(text.as_bytes()) {
         Ok(()) => Ok(()),
