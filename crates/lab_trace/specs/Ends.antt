@@ -9,6 +9,7 @@ use Rattle.ipc_kernel.specs.declared.process.Descriptor.{Descriptor}
 use Rattle.lab_sched.specs.Worlds.{Process, Running, Waiting, Ended, WorldState}
 use Rattle.lab_sched.specs.Verdicts.{is_ended}
 use Rattle.lab_debug.specs.Rows.{each}
+use Rattle.lab_debug.specs.Texts.{machine_of}
 use Rattle.lab_trace.specs.Calls.{call_text}
 use Rattle.lab_trace.specs.Objects.{held_place, level_text}
 use Rattle.lab_trace.specs.Services.{service_at}
@@ -21,6 +22,11 @@ use Rattle.lab_trace.specs.declared.service.Service.TheVariants.{MqSend, MqRecei
 abbrev pub or_nobody : List ℕ → List ℕ
 or_nobody [] = codes " nobody"
 or_nobody (c ∷ cs) = c ∷ cs
+
+-- that there is nobody, where nothing else was told
+abbrev pub nobody_if : Bool → List ℕ
+nobody_if true = codes " nobody"
+nobody_if false = []
 
 -- whether a descriptor refers to a place, and its access isn't this one
 abbrev pub can_do : ℕ → ℕ → Option Descriptor → Bool
@@ -81,15 +87,21 @@ wait_text w t p m (Some s) =
     codes "waits since " ++ since_text (account_of t p).since ++ codes " in " ++ call_text w.kernel p m s ++ codes ": "
     ++ object_part w t p s (held_place w.kernel p s (reg m 0))
 
-abbrev pub end_line : Widths → ℕ → ℕ → Machine → List ℕ → List ℕ
-end_line v p count m what = head v (codes "end") p m.pc count ++ what ++ codes "\n"
+-- how a process stands, if it hasn't ended
+abbrev pub state_text : WorldState → TallyState → ℕ → Process → List ℕ
+state_text w t p (Running m) = codes "runs"
+state_text w t p (Waiting m c) = wait_text w t p m (service_at m)
+state_text w t p (Ended e) = []
+
+abbrev pub end_line : Widths → WorldState → TallyState → ℕ → Process → List ℕ
+end_line v w t p s =
+    if is_ended s then [] else
+    head v (codes "end") p (machine_of s).pc (account_of t p).local ++ state_text w t p s ++ codes "\n"
 
 -- where process p stands, if it hasn't ended
 unfoldable pub stand_line : Widths → WorldState → TallyState → ℕ → Option Process → List ℕ
 stand_line v w t p None = []
-stand_line v w t p (Some (Running m)) = end_line v p (account_of t p).local m (codes "runs")
-stand_line v w t p (Some (Waiting m c)) = end_line v p (account_of t p).local m (wait_text w t p m (service_at m))
-stand_line v w t p (Some (Ended e)) = []
+stand_line v w t p (Some s) = end_line v w t p s
 
 -- where each process stands that hasn't ended
 unfoldable pub end_lines : Widths → WorldState → TallyState → List ℕ

@@ -1,5 +1,5 @@
 -- The line of a step.
-use Rattle.std.specs.Prelude.{ℕ, ◌+◌, ◌-◌, max, Bool, if◌then◌else◌, Option, Some, None, List, [], ◌∷◌, ◌++◌, codes, length, flat_map, slice_get}
+use Rattle.std.specs.Prelude.{ℕ, ◌+◌, ◌-◌, max, Bool, true, false, if◌then◌else◌, Option, Some, None, List, [], ◌∷◌, ◌++◌, codes, length, flat_map, slice_get}
 use Rattle.std.specs.Fmt.{decimal}
 use Rattle.lc3_table.specs.Text.{word_text}
 use Rattle.lc3_machine.specs.declared.want.How.{How}
@@ -74,10 +74,15 @@ abbrev pub wait_notes : Option ℕ → List (List ℕ)
 wait_notes None = []
 wait_notes (Some n) = (codes "waited since " ++ decimal n) ∷ []
 
+-- what stands before a note
+abbrev pub separator : Bool → List ℕ
+separator true = codes " ; "
+separator false = codes ", "
+
 -- notes behind an answer
 unfoldable pub notes_text : List (List ℕ) → List ℕ
 notes_text [] = []
-notes_text (note ∷ notes) = codes " ; " ++ note ++ flat_map (λ x. codes ", " ++ x) notes
+notes_text (note ∷ notes) = separator true ++ note ++ flat_map (λ x. separator false ++ x) notes
 
 -- the notes of a call of process p
 abbrev pub notes : KernelState → TallyState → ℕ → Question → Process → List (List ℕ)

@@ -1,6 +1,9 @@
 //! Where the processes stand that haven't ended.
 ghost use Rattle.std.specs.Prelude.{◌≡◌, ◌<◌, ◌++◌, OnOk, IfOk, length, string_bytes, slice_get};
-ghost use Rattle.lab_trace.specs.Ends.{servers_text, stand_line};
+ghost use Rattle.lab_sched.specs.Held.{seen};
+ghost use Rattle.lab_debug.specs.Texts.{machine_of};
+ghost use Rattle.lab_trace.specs.Services.{service_at};
+ghost use Rattle.lab_trace.specs.Ends.{servers_text, wait_text, state_text, stand_line};
 
 use crate::arguments::push_call;
 use crate::handles::{held_place, push_level};
@@ -49,6 +52,7 @@ fn push_wait(
 ) -> Result<(), AllocError>
     requires process { pid < length world.now.processes }
     requires count { length tally.now.accounts ≡ length world.now.processes }
+    ensures { OnOk result (string_bytes text.new ≡ string_bytes text.old ++ wait_text world.now tally.now pid (machine_of (seen process.now)) (service_at (machine_of (seen process.now)))) }
 {
     let Some(service) = service_at(process) else {
         return Ok(());
@@ -68,7 +72,7 @@ fn push_wait(
     push_servers(text, world, tally, pid, place, service)
 }
 
-/// Adds how process `pid` stands, which hasn't ended.
+/// Adds how process `pid` stands, if it hasn't ended.
 fn push_state(
     text: &mut String,
     world: &World,
@@ -78,10 +82,12 @@ fn push_state(
 ) -> Result<(), AllocError>
     requires process { pid < length world.now.processes }
     requires count { length tally.now.accounts ≡ length world.now.processes }
+    ensures { OnOk result (string_bytes text.new ≡ string_bytes text.old ++ state_text world.now tally.now pid (seen process.now)) }
 {
     match process {
+        Process::Running(_) => text.push_str("runs"),
         Process::Waiting(_, _) => push_wait(text, world, tally, pid, process),
-        Process::Running(_) | Process::Ended(_) => text.push_str("runs"),
+        Process::Ended(_) => Ok(()),
     }
 }
 

@@ -1,13 +1,10 @@
 //! The line of a step.
-ghost use Rattle.std.specs.Prelude.{◌≡◌, ◌≤◌, ◌<◌, ◌++◌, OnOk, IfOk, length, string_bytes, drop, IfSome};
+ghost use Rattle.std.specs.Prelude.{◌≡◌, ◌≤◌, ◌<◌, ◌++◌, ◌==◌, OnOk, IfOk, length, string_bytes, drop};
+ghost use Rattle.std.specs.Fmt.{decimal};
 ghost use Rattle.lab_sched.specs.Held.{seen};
 ghost use Rattle.lab_debug.specs.Texts.{machine_of};
-ghost use Rattle.lab_debug.specs.Texts.{how_text};
-ghost use Rattle.lc3_table.specs.Text.{word_text};
-ghost use Rattle.std.specs.Prelude.{codes};
-ghost use Rattle.std.specs.Fmt.{decimal};
-ghost use Rattle.lab_trace.specs.Words.{bytes_text};
-ghost use Rattle.lab_trace.specs.Lines.{widths_for, head, told_place, notes_text, notes};
+ghost use Rattle.lab_trace.specs.Answers.{result_of};
+ghost use Rattle.lab_trace.specs.Lines.{widths_for, head, told_place, received_from, separator, notes, notes_text, call_line, output_text, end_text};
 
 use crate::answers::{push_answer, result_of};
 use crate::handles::{held_place, push_level};
@@ -80,8 +77,10 @@ pub fn push_head(
 }
 
 /// The place of the object whose level is told.
+#[tactic(auto, unfolding(crate::specs::Lines::told_place))]
 fn told_place(kernel: &Kernel, pid: usize, asking: &Asking, after: &Process) -> Option<u8>
     requires process { pid < length kernel.now.processes }
+    ensures { result ≡ told_place kernel.now pid asking.now (seen after.now) }
 {
     if asking.service.is_open() {
         let number = result_of(after)?;
@@ -95,7 +94,9 @@ fn told_place(kernel: &Kernel, pid: usize, asking: &Asking, after: &Process) -> 
 }
 
 /// Where the message came from that a call received.
-fn origin_of(tally: &Tally, asking: &Asking, after: &Process) -> Option<Origin> {
+fn origin_of(tally: &Tally, asking: &Asking, after: &Process) -> Option<Origin>
+    ensures { result ≡ received_from tally.now asking.now.service asking.now.place (result_of (seen after.now)) }
+{
     if asking.service != Service::MqReceive || result_of(after).is_none() {
         return None;
     }
@@ -103,7 +104,9 @@ fn origin_of(tally: &Tally, asking: &Asking, after: &Process) -> Option<Origin> 
 }
 
 /// Adds what stands before a note, which is the first after so many bytes or not.
-fn push_separator(text: &mut String, start: usize) -> Result<(), AllocError> {
+fn push_separator(text: &mut String, start: usize) -> Result<(), AllocError>
+    ensures { OnOk result (string_bytes text.new ≡ string_bytes text.old ++ separator (length (string_bytes text.old) == start)) }
+{
     if text.len() == start {
         text.push_str(" ; ")
     } else {
@@ -112,6 +115,7 @@ fn push_separator(text: &mut String, start: usize) -> Result<(), AllocError> {
 }
 
 /// Adds the notes of a call of process `pid`.
+#[tactic(auto, unfolding(crate::specs::Lines::notes_text))]
 fn push_notes(
     text: &mut String,
     kernel: &Kernel,
@@ -121,6 +125,8 @@ fn push_notes(
     after: &Process,
 ) -> Result<(), AllocError>
     requires process { pid < length kernel.now.processes }
+    requires account { pid < length tally.now.accounts }
+    ensures { OnOk result (string_bytes text.new ≡ string_bytes text.old ++ notes_text (notes kernel.now tally.now pid asking.now (seen after.now))) }
 {
     let start = text.len();
     if let Some(place) = told_place(kernel, pid, asking, after) {
@@ -141,6 +147,7 @@ fn push_notes(
 }
 
 /// Adds a call, its answer and its notes.
+#[tactic(auto, unfolding(crate::specs::Lines::call_line))]
 pub fn push_call_line(
     text: &mut String,
     world: &World,
@@ -150,6 +157,8 @@ pub fn push_call_line(
     after: &Process,
 ) -> Result<(), AllocError>
     requires process { pid < length world.now.processes }
+    requires account { pid < length tally.now.accounts }
+    ensures { OnOk result (string_bytes text.new ≡ string_bytes text.old ++ call_line world.now.kernel tally.now pid asking.now (seen after.now)) }
 {
     text.push_str(&asking.call)?;
     push_answer(text, after, &asking.reply)?;
@@ -157,8 +166,9 @@ pub fn push_call_line(
 }
 
 /// Adds the text of the instruction and the bytes that it wrote.
+#[tactic(auto, unfolding(crate::specs::Lines::output_text))]
 pub fn push_output(text: &mut String, word: u16, bytes: &[u8]) -> Result<(), AllocError>
-    ensures { OnOk result (string_bytes text.new ≡ string_bytes text.old ++ (word_text word ++ codes " " ++ bytes_text bytes.now)) }
+    ensures { OnOk result (string_bytes text.new ≡ string_bytes text.old ++ output_text word bytes.now) }
 {
     let instruction = WordText(word);
     write!(text, "{instruction} ")?;
@@ -167,7 +177,7 @@ pub fn push_output(text: &mut String, word: u16, bytes: &[u8]) -> Result<(), All
 
 /// Adds how a process ended.
 pub fn push_end(text: &mut String, how: How) -> Result<(), AllocError>
-    ensures { OnOk result (string_bytes text.new ≡ string_bytes text.old ++ (codes "ends " ++ how_text how)) }
+    ensures { OnOk result (string_bytes text.new ≡ string_bytes text.old ++ end_text how) }
 {
     text.push_str("ends ")?;
     text.push_str(how_name(how))

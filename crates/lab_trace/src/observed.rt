@@ -1,16 +1,9 @@
 //! What a trace keeps of a process and of the kernel before a step.
-ghost use Rattle.std.specs.Prelude.{◌≡◌, ◌<◌, ℕ, Some, false, IfOk, length, string_bytes, slice_index, slice_index_or};
-ghost use Rattle.std.specs.Option.{option_map};
-ghost use Rattle.lab_trace.specs.declared.tally.account.TheConstants.{PLACES};
+ghost use Rattle.std.specs.Prelude.{◌≡◌, ◌<◌, IfOk, length, map};
 ghost use Rattle.lab_sched.specs.Held.{seen};
 ghost use Rattle.lab_debug.specs.Texts.{machine_of};
-ghost use Rattle.lc3_machine.specs.Process.{reg};
-ghost use Rattle.ipc_kernel.specs.Places.{place_at, is_empty};
-ghost use Rattle.lab_trace.specs.Services.{service_at};
-ghost use Rattle.lab_trace.specs.Objects.{held_place};
-ghost use Rattle.lab_trace.specs.Calls.{call_text};
-ghost use Rattle.lab_trace.specs.Answers.{reply_text};
-ghost use Rattle.lab_trace.specs.Tallies.{place_in_queue};
+ghost use Rattle.ipc_kernel.specs.Places.{is_empty};
+ghost use Rattle.lab_trace.specs.Questions.{position_in, question, before};
 
 use crate::answers::push_reply;
 use crate::arguments::push_call;
@@ -22,6 +15,7 @@ use ipc_kernel::Kernel;
 use lab_debug::machine;
 use lab_sched::Process;
 use std::alloc::{AllocError, Global};
+use std::marker::Model;
 
 /// A call that a process is about to make.
 #[derive(Drop)]
@@ -39,6 +33,15 @@ pub struct Asking {
     pub empty: [bool; PLACES],
 }
 
+impl Model for Asking {
+    ghost use Rattle.std.specs.Prelude.{string_bytes};
+    ghost use Rattle.lab_trace.specs.Questions.{Question};
+
+    ghost Value = { Question };
+
+    ghost view = { λ a. record { service = a.service; call = string_bytes a.call; reply = string_bytes a.reply; place = a.place; position = a.position; empty = a.empty } };
+}
+
 /// A process before its step.
 #[derive(Drop)]
 pub struct Observed {
@@ -50,9 +53,17 @@ pub struct Observed {
     pub asking: Option<Asking>,
 }
 
+impl Model for Observed {
+    ghost use Rattle.lab_trace.specs.Questions.{Before};
+
+    ghost Value = { Before };
+
+    ghost view = { λ o. record { pc = o.pc; word = o.word; written = o.written; asking = o.asking } };
+}
+
 /// Which places are empty.
 fn empty_places(kernel: &Kernel) -> [bool; PLACES]
-    ensures { (k : ℕ) → k < PLACES → slice_index_or result k false ≡ is_empty (place_at kernel.now.places k) }
+    ensures { result ≡ map is_empty kernel.now.places }
 {
     let mut empty = [false; PLACES];
     for place in 0..PLACES {
@@ -63,8 +74,8 @@ fn empty_places(kernel: &Kernel) -> [bool; PLACES]
 }
 
 /// How many messages of the queue in a place a message of a priority goes behind.
-fn place_in_queue(kernel: &Kernel, place: Option<u8>, priority: u16) -> usize
-    ensures { (k : ℕ) → place ≡ Some k → result ≡ place_in_queue kernel.now k priority }
+fn position_in(kernel: &Kernel, place: Option<u8>, priority: u16) -> usize
+    ensures { result ≡ position_in kernel.now place priority }
 {
     let Some(place) = place else {
         return 0;
@@ -93,12 +104,7 @@ fn asking_of(
     service: Service,
 ) -> Result<Asking, AllocError>
     requires process { pid < length kernel.now.processes }
-    ensures service { IfOk result (λ a. a.service ≡ service) }
-    ensures call { IfOk result (λ a. string_bytes a.call ≡ call_text kernel.now pid (machine_of (seen process.now)) service) }
-    ensures reply { IfOk result (λ a. string_bytes a.reply ≡ reply_text kernel.now pid (machine_of (seen process.now)) service) }
-    ensures place { IfOk result (λ a. a.place ≡ held_place kernel.now pid service (reg (machine_of (seen process.now)) 0)) }
-    ensures position { IfOk result (λ a. (k : ℕ) → a.place ≡ Some k → a.position ≡ place_in_queue kernel.now k (reg (machine_of (seen process.now)) 3)) }
-    ensures empty { IfOk result (λ a. (k : ℕ) → k < PLACES → slice_index_or a.empty k false ≡ is_empty (place_at kernel.now.places k)) }
+    ensures { IfOk result (λ a. a ≡ question kernel.now pid (machine_of (seen process.now)) service) }
 {
     let mut call = String::new(alloc);
     push_call(&mut call, kernel, pid, process, service)?;
@@ -110,7 +116,7 @@ fn asking_of(
         call,
         reply,
         place,
-        position: place_in_queue(kernel, place, register(process, 3)),
+        position: position_in(kernel, place, register(process, 3)),
         empty: empty_places(kernel),
     })
 }
@@ -123,10 +129,7 @@ pub fn observe(
     process: &Process,
 ) -> Result<Observed, AllocError>
     requires process { pid < length kernel.now.processes }
-    ensures pc { IfOk result (λ o. o.pc ≡ (machine_of (seen process.now)).pc) }
-    ensures word { IfOk result (λ o. o.word ≡ slice_index (machine_of (seen process.now)).memory (machine_of (seen process.now)).pc) }
-    ensures written { IfOk result (λ o. o.written ≡ length (machine_of (seen process.now)).output) }
-    ensures asking { IfOk result (λ o. option_map (λ a. a.service) o.asking ≡ service_at (machine_of (seen process.now))) }
+    ensures { IfOk result (λ o. o ≡ before kernel.now pid (machine_of (seen process.now))) }
 {
     let asking = match service_at(process) {
         Some(service) => Some(asking_of(alloc, kernel, pid, process, service)?),

@@ -1,8 +1,8 @@
 //! Who has an object open, and who took it.
-ghost use Rattle.std.specs.Prelude.{◌≡◌, ◌<◌, ◌++◌, OnOk, length, string_bytes};
+ghost use Rattle.std.specs.Prelude.{◌≡◌, ◌<◌, ◌==◌, ◌++◌, OnOk, length, string_bytes};
 ghost use Rattle.std.specs.List.{list_any};
 ghost use Rattle.ipc_kernel.specs.Processes.{process_at, slot_refers};
-ghost use Rattle.lab_trace.specs.Ends.{can_do, has_open, other_text, others_text, taker_text, takers_text};
+ghost use Rattle.lab_trace.specs.Ends.{can_do, has_open, other_text, others_text, nobody_if, taker, taker_text, takers_text};
 
 use crate::service::Service;
 use crate::tally::Tally;
@@ -62,7 +62,9 @@ fn has_open(kernel: &Kernel, place: u8, service: Service, pid: usize) -> bool
 }
 
 /// Adds that there is nobody, where nothing was added after so many bytes.
-fn push_nobody(text: &mut String, start: usize) -> Result<(), AllocError> {
+fn push_nobody(text: &mut String, start: usize) -> Result<(), AllocError>
+    ensures { OnOk result (string_bytes text.new ≡ string_bytes text.old ++ nobody_if (length (string_bytes text.old) == start)) }
+{
     if text.len() == start {
         text.push_str(" nobody")
     } else {
@@ -91,7 +93,10 @@ pub fn push_others(
 }
 
 /// Adds process `pid`, where it took so much more than it gave back.
-fn push_taker(text: &mut String, world: &World, pid: usize, taken: i32) -> Result<(), AllocError> {
+fn push_taker(text: &mut String, world: &World, pid: usize, taken: i32) -> Result<(), AllocError>
+    requires process { pid < length world.now.processes }
+    ensures { OnOk result (string_bytes text.new ≡ string_bytes text.old ++ taker world.now pid taken) }
+{
     if taken <= 0 {
         return Ok(());
     }

@@ -1,8 +1,14 @@
 //! One step of a trace.
-ghost use Rattle.std.specs.Prelude.{◌≡◌, ◌<◌, ◌≤◌, IfOk, OnOk, length, string_bytes};
+ghost use Rattle.std.specs.Prelude.{◌≡◌, ◌<◌, IfOk, OnOk, IsTrue, Some, length, string_bytes, slice_get};
+ghost use Rattle.std.specs.Fmt.{decimal};
+ghost use Rattle.ipc_kernel.specs.Limits.{object_places};
 ghost use Rattle.lab_sched.specs.Worlds.{step, turn_in};
 ghost use Rattle.lab_sched.specs.Held.{seen, told_of};
-ghost use Rattle.lab_trace.specs.Lines.{line, tallied_by};
+ghost use Rattle.lab_trace.specs.Events.{event_of, has_line};
+ghost use Rattle.lab_trace.specs.Objects.{held_place};
+ghost use Rattle.lab_trace.specs.Answers.{result_of};
+ghost use Rattle.lab_trace.specs.Tallies.{made, changed_if, completed, waits_from};
+ghost use Rattle.lab_trace.specs.Lines.{what, event_line, line_by, tally_by, line, tallied_by};
 
 use crate::answers::result_of;
 use crate::fault::TraceFault;
@@ -23,7 +29,9 @@ pub struct Traced {
 }
 
 /// Whether a step with an effect has a line.
-fn has_line(before: &Observed, after: &Process) -> bool {
+fn has_line(before: &Observed, after: &Process) -> bool
+    ensures value { result ≡ has_line (event_of before.now (seen after.now)) }
+{
     before.asking.is_some()
         || matches!(after, Process::Ended(_))
         || !new_output(before, after).is_empty()
@@ -39,6 +47,9 @@ fn push_what(
     after: &Process,
 ) -> Result<(), AllocError>
     requires process { pid < length world.now.processes }
+    requires account { pid < length tally.now.accounts }
+    requires line { IsTrue (has_line (event_of before.now (seen after.now))) }
+    ensures { OnOk result (string_bytes text.new ≡ string_bytes text.old ++ what world.now.kernel tally.now pid before.now (seen after.now) (event_of before.now (seen after.now))) }
 {
     match (&before.asking, after) {
         (Some(asking), _) => push_call_line(text, world, tally, pid, asking, after),
@@ -59,6 +70,9 @@ fn line_of(
     after: &Process,
 ) -> Result<String, AllocError>
     requires process { pid < length world.now.processes }
+    requires account { pid < length tally.now.accounts }
+    requires line { IsTrue (has_line (event_of before.now (seen after.now))) }
+    ensures { IfOk result (λ s. string_bytes s ≡ event_line (record { step = widths.step; process = widths.process }) number world.now.kernel tally.now pid before.now (seen after.now) (event_of before.now (seen after.now))) }
 {
     let number = format!(in alloc; "{number}")?;
     let mut line = String::new(alloc);
@@ -79,6 +93,7 @@ fn line_of(
 /// Keeps what an open made, by its result.
 fn keep_open(tally: &mut Tally, kernel: &Kernel, pid: usize, asking: &Asking, number: u16)
     requires process { pid < length kernel.now.processes }
+    ensures { tally.new ≡ made asking.now.empty (held_place kernel.now pid asking.now.service number) tally.old }
 {
     if let Some(place) = held_place(kernel, pid, asking.service, number) {
         if asking.empty[place as usize] {
@@ -93,7 +108,10 @@ fn keep_change(
     pid: usize,
     number: u32,
     asking: &Asking,
-) -> Result<(), AllocError> {
+) -> Result<(), AllocError>
+    requires account { pid < length tally.old.accounts }
+    ensures ok { OnOk result (tally.new ≡ changed_if number pid asking.now asking.now.place tally.old) }
+{
     let Some(place) = asking.place else {
         return Ok(());
     };
@@ -116,6 +134,7 @@ fn keep_change(
 }
 
 /// Keeps what a call did.
+#[tactic(auto, unfolding(crate::specs::Tallies::completed))]
 fn keep_call(
     tally: &mut Tally,
     kernel: &Kernel,
@@ -125,6 +144,8 @@ fn keep_call(
     after: &Process,
 ) -> Result<(), AllocError>
     requires process { pid < length kernel.now.processes }
+    requires account { pid < length tally.old.accounts }
+    ensures ok { OnOk result (tally.new ≡ completed kernel.now number pid asking.now (result_of (seen after.now)) tally.old) }
 {
     let Some(word) = result_of(after) else {
         return Ok(());
@@ -137,7 +158,9 @@ fn keep_call(
 }
 
 /// The step since which a process waits, where it waits after step `number`.
-fn waits_from(number: u32, after: &Process) -> Option<u32> {
+fn waits_from(number: u32, after: &Process) -> Option<u32>
+    ensures value { result ≡ waits_from number (seen after.now) }
+{
     match after {
         Process::Waiting(_, _) => Some(number),
         Process::Running(_) | Process::Ended(_) => None,
@@ -155,6 +178,9 @@ fn shown(
     before: &Observed,
 ) -> Result<String, AllocError>
     requires process { pid < length world.now.processes }
+    requires account { pid < length tally.old.accounts }
+    ensures line { IfOk result (λ s. string_bytes s ≡ line_by (record { step = widths.step; process = widths.process }) number world.now.kernel tally.old pid before.now (slice_get world.now.processes pid)) }
+    ensures tally { OnOk result (tally.new ≡ tally_by number world.now.kernel tally.old pid before.now (slice_get world.now.processes pid)) }
 {
     let Some(after) = world.process(pid) else {
         return Ok(String::new(alloc));
@@ -182,6 +208,7 @@ pub fn trace_step(
     pid: usize,
 ) -> Result<Traced, TraceFault>
     requires process { pid < length world.old.processes }
+    requires accounts { length tally.old.accounts ≡ length world.old.processes }
     ensures line { IfOk result (λ r. string_bytes r.line ≡ line (record { step = widths.step; process = widths.process }) number world.old tally.old pid) }
     ensures world { OnOk result (world.new ≡ step world.old pid) }
     ensures tally { OnOk result (tally.new ≡ tallied_by number world.old tally.old pid) }

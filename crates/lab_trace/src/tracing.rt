@@ -59,6 +59,7 @@ fn trace_block<W: Write>(
     output: &mut Output<W>,
 ) -> Result<(), TraceFault>
     requires process { block.pid < length world.old.processes }
+    requires accounts { length tally.old.accounts ≡ length world.old.processes }
     ensures written { OnOk result (Appends (W.contents output.old.device) (W.contents output.new.device)
         (events (record { step = widths.step; process = widths.process }) first world.old tally.old (replicate block.count block.pid))) }
     ensures world { OnOk result (world.new ≡ run world.old (replicate block.count block.pid)) }
@@ -87,6 +88,7 @@ fn trace_blocks<W: Write>(
     blocks: &[Block],
     output: &mut Output<W>,
 ) -> Result<(), TraceFault>
+    requires accounts { length tally.old.accounts ≡ length world.old.processes }
     requires there { All (λ b. b.pid < length world.old.processes) blocks.now }
     ensures written { OnOk result (Appends (W.contents output.old.device) (W.contents output.new.device)
         (events (record { step = widths.step; process = widths.process }) 1 world.old tally.old (steps_of blocks.now))) }
