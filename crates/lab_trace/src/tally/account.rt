@@ -4,7 +4,7 @@
 pub const PLACES: usize = 64;
 
 /// What a trace keeps of a process.
-#[derive(Clone, Copy, Debug, PartialEq, Eq)]
+#[derive(Clone, Copy)]
 pub struct Account {
     /// The counted steps since its last line.
     pub local: u32,
@@ -15,7 +15,7 @@ pub struct Account {
 }
 
 /// Where a message came from.
-#[derive(Clone, Copy, Debug, PartialEq, Eq)]
+#[derive(Clone, Copy)]
 pub struct Origin {
     /// The step that sent it.
     pub step: u32,
