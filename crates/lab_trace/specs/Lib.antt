@@ -7,6 +7,7 @@ pub mod Answers
 pub mod Questions
 pub mod Events
 pub mod Tallies
+pub mod Kept
 pub mod Lines
 pub mod Ends
 pub mod Traces

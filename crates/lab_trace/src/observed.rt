@@ -34,12 +34,15 @@ pub struct Asking {
 }
 
 impl Model for Asking {
-    ghost use Rattle.std.specs.Prelude.{string_bytes};
+    ghost use Rattle.std.specs.Prelude.{◌<◌, IfSome, string_bytes};
+    ghost use Rattle.ipc_kernel.specs.Limits.{object_places};
     ghost use Rattle.lab_trace.specs.Questions.{Question};
 
     ghost Value = { Question };
 
     ghost view = { λ a. record { service = a.service; call = string_bytes a.call; reply = string_bytes a.reply; place = a.place; position = a.position; empty = a.empty } };
+
+    ghost invariant = { λ a. IfSome a.place (λ place. place < object_places) };
 }
 
 /// A process before its step.

@@ -1,5 +1,5 @@
 //! One step of a trace.
-ghost use Rattle.std.specs.Prelude.{◌≡◌, ◌<◌, IfOk, OnOk, IsTrue, Some, length, string_bytes, slice_get};
+ghost use Rattle.std.specs.Prelude.{◌≡◌, ◌<◌, ◌≤◌, ◌+◌, IfSome, IfOk, OnOk, IsTrue, Some, length, string_bytes, slice_get};
 ghost use Rattle.std.specs.Fmt.{decimal};
 ghost use Rattle.ipc_kernel.specs.Limits.{object_places};
 ghost use Rattle.lab_sched.specs.Worlds.{step, turn_in};
@@ -7,7 +7,8 @@ ghost use Rattle.lab_sched.specs.Held.{seen, told_of};
 ghost use Rattle.lab_trace.specs.Events.{event_of, has_line};
 ghost use Rattle.lab_trace.specs.Objects.{held_place};
 ghost use Rattle.lab_trace.specs.Answers.{result_of};
-ghost use Rattle.lab_trace.specs.Tallies.{made, changed_if, completed, waits_from};
+ghost use Rattle.lab_trace.specs.Tallies.{origins_at, made, changed_if, completed, waits_from};
+ghost use Rattle.lab_trace.specs.Kept.{IsKept};
 ghost use Rattle.lab_trace.specs.Lines.{what, event_line, line_by, tally_by, line, tallied_by};
 
 use crate::answers::result_of;
@@ -110,6 +111,7 @@ fn keep_change(
     asking: &Asking,
 ) -> Result<(), AllocError>
     requires account { pid < length tally.old.accounts }
+    requires position { IfSome asking.now.place (λ place. asking.now.position ≤ length (origins_at tally.old place)) }
     ensures ok { OnOk result (tally.new ≡ changed_if number pid asking.now asking.now.place tally.old) }
 {
     let Some(place) = asking.place else {
@@ -208,7 +210,8 @@ pub fn trace_step(
     pid: usize,
 ) -> Result<Traced, TraceFault>
     requires process { pid < length world.old.processes }
-    requires accounts { length tally.old.accounts ≡ length world.old.processes }
+    requires kept { IsKept world.old tally.old number }
+    ensures kept { OnOk result (IsKept world.new tally.new (number + 1)) }
     ensures line { IfOk result (λ r. string_bytes r.line ≡ line (record { step = widths.step; process = widths.process }) number world.old tally.old pid) }
     ensures world { OnOk result (world.new ≡ step world.old pid) }
     ensures tally { OnOk result (tally.new ≡ tallied_by number world.old tally.old pid) }

@@ -1,9 +1,11 @@
 //! A whole trace.
-ghost use Rattle.std.specs.Prelude.{◌≡◌, ◌<◌, ℕ, [], All, Err, IsTrue, IfOk, IfErr, OnOk, OnErr, MatchOption, length, replicate, slice_index};
+ghost use Rattle.std.specs.Prelude.{◌≡◌, ◌<◌, ◌≤◌, ◌+◌, ℕ, [], All, Err, IsTrue, IfOk, IfErr, OnOk, OnErr, MatchOption, length, replicate, slice_index};
 ghost use Rattle.std.specs.Io.KnownBytes.{Appends};
 ghost use Rattle.lab_io.specs.Device.{AppendsPrefix};
 ghost use Rattle.lab_sched.specs.Worlds.{run};
-ghost use Rattle.lab_sched.specs.Schedules.{steps_of};
+ghost use Rattle.lab_sched.specs.Schedules.{steps_of, total_of};
+ghost use Rattle.lab_sched.specs.declared.schedule.block.TheConstants.{MOST_STEPS};
+ghost use Rattle.lab_trace.specs.Kept.{IsKept};
 ghost use Rattle.lab_trace.specs.Ends.{end_lines};
 ghost use Rattle.lab_trace.specs.Traces.{events, tally_after, trace_text, IsMissingAfter, write_fault, Explains};
 ghost use Rattle.lab_trace.specs.declared.fault.TraceFault.TheVariants.{NoProcess};
@@ -59,7 +61,9 @@ fn trace_block<W: Write>(
     output: &mut Output<W>,
 ) -> Result<(), TraceFault>
     requires process { block.pid < length world.old.processes }
-    requires accounts { length tally.old.accounts ≡ length world.old.processes }
+    requires room { first + block.count ≤ 1_000_000_000 }
+    requires kept { IsKept world.old tally.old first }
+    ensures kept { OnOk result (IsKept world.new tally.new (first + block.count)) }
     ensures written { OnOk result (Appends (W.contents output.old.device) (W.contents output.new.device)
         (events (record { step = widths.step; process = widths.process }) first world.old tally.old (replicate block.count block.pid))) }
     ensures world { OnOk result (world.new ≡ run world.old (replicate block.count block.pid)) }
@@ -88,8 +92,10 @@ fn trace_blocks<W: Write>(
     blocks: &[Block],
     output: &mut Output<W>,
 ) -> Result<(), TraceFault>
-    requires accounts { length tally.old.accounts ≡ length world.old.processes }
+    requires kept { IsKept world.old tally.old 1 }
+    requires room { total_of blocks.now ≤ MOST_STEPS }
     requires there { All (λ b. b.pid < length world.old.processes) blocks.now }
+    ensures count { OnOk result (length tally.new.accounts ≡ length world.new.processes) }
     ensures written { OnOk result (Appends (W.contents output.old.device) (W.contents output.new.device)
         (events (record { step = widths.step; process = widths.process }) 1 world.old tally.old (steps_of blocks.now))) }
     ensures world { OnOk result (world.new ≡ run world.old (steps_of blocks.now)) }
