@@ -4,6 +4,7 @@ ghost use Rattle.lab_sched.specs.declared.process.Process.{Process as ProcessVal
 ghost use Rattle.lab_threads.specs.Promised.{promised, due};
 ghost use Rattle.lab_threads.specs.WorkerResults.{AreWorkerResults};
 
+use crate::context::WorkerContext;
 use crate::monitor::Monitor;
 use crate::worker::work;
 use crate::worker_result::{WorkerPromise, WorkerResult};
@@ -40,7 +41,13 @@ fn spawn_all<'s, E, R: Threads + Wait + Sync, G: Gate>(
             start: Snapshot::of(&start),
             limit,
         };
-        let worker = move || work(rt, alloc, monitor, gate, pid, start, limit);
+        let context = WorkerContext {
+            monitor,
+            gate,
+            alloc,
+            pid,
+        };
+        let worker = move || work(rt, &context, start, limit);
         let Ok(handle) = scope.spawn_with(promise, worker) else {
             stop_rest(rt, monitor, count - pid);
             return Err(RunFault::Spawn);
