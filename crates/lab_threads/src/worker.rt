@@ -297,7 +297,7 @@ fn make_call<R: Wait, G: Gate>(
     write_down(call, request, copy, outcome, may_wait, trace)
 }
 
-/// Steps a process until it has ended, waits for good, has taken `limit` steps or was refused
+/// Steps a process, from the common start on, until it has ended, waits for good, has taken `limit` steps or was refused
 /// memory, or its call doesn't fit the book.
 pub(crate) fn work<R: Wait, G: Gate>(
     rt: &R,
@@ -312,6 +312,7 @@ pub(crate) fn work<R: Wait, G: Gate>(
     let mut left = limit;
     let mut nth = 0;
     let mut fits = true;
+    context.monitor.meet(rt);
     for _ in rt.forever() {
         if left == 0 {
             break;
