@@ -24,6 +24,7 @@ use std::io::{Read, Write};
 use std::rt::Files;
 use std::sync::Wait;
 use std::thread::Threads;
+use std::time::Clock;
 use step::step_programs;
 
 /// The program did what its words ask for.
@@ -37,7 +38,7 @@ pub const USAGE: u8 = 2;
 
 /// Does what the words after the program's name ask for, and answers the exit status. Without words it reads an image
 /// as hexadecimal words and writes the report of its run. A fault goes to `errors`, on one line.
-pub fn command<T: Files + Threads + Wait + Sync, R: Read, W: Write, E: Write>(
+pub fn command<T: Files + Threads + Wait + Clock + Sync, R: Read, W: Write, E: Write>(
     rt: &T,
     alloc: Global,
     words: &[String],
@@ -71,7 +72,7 @@ fn complaint(fault: CliFault) -> Complaint<'static> {
 }
 
 /// Does what a request asks for.
-fn perform<'a, T: Files + Threads + Wait + Sync, R: Read, W: Write>(
+fn perform<'a, T: Files + Threads + Wait + Clock + Sync, R: Read, W: Write>(
     rt: &T,
     alloc: Global,
     request: &Request<'a>,
@@ -94,7 +95,8 @@ fn perform<'a, T: Files + Threads + Wait + Sync, R: Read, W: Write>(
         Request::Run {
             ref programs,
             limit,
-        } => run_programs(rt, alloc, programs.as_slice(), limit, output),
+            mix,
+        } => run_programs(rt, alloc, programs.as_slice(), limit, mix, output),
         Request::Explore {
             ref programs,
             question,

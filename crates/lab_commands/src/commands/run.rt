@@ -1,5 +1,5 @@
 //! The command `run`.
-ghost use Rattle.std.specs.Prelude.{◌≡◌, false};
+ghost use Rattle.std.specs.Prelude.{◌≡◌, ◌≤◌, false};
 
 use crate::complaint::{Complaint, Reason};
 use crate::files::write_text;
@@ -7,31 +7,51 @@ use crate::programs::{laboratory, read_programs};
 use lab_arguments::MOST_STEPS;
 use lab_debug::report_text;
 use lab_io::Output;
-use lab_threads::{NoGate, Report, run_threads};
+use lab_sched::Fresh;
+use lab_threads::{NoGate, PausingGate, Report, RunFault, run_threads};
 use std::alloc::{AllocError, Global};
 use std::io::Write;
 use std::rt::Files;
 use std::sync::Wait;
 use std::thread::Threads;
+use std::time::Clock;
 
 /// Reads the files of the programs, runs them on threads for at most `limit` steps each, and writes the report and the
-/// schedule of the interleaving that the run had.
-pub fn run_programs<'a, T: Files + Threads + Wait + Sync, W: Write>(
+/// schedule of an interleaving that leads to it. With a seed, workers pause before calls.
+pub fn run_programs<'a, T: Files + Threads + Wait + Clock + Sync, W: Write>(
     rt: &T,
     alloc: Global,
     programs: &[&'a str],
     limit: u32,
+    mix: Option<u32>,
     output: &mut Output<W>,
 ) -> Result<(), Complaint<'a>>
     requires output_healthy { output.old.failed ≡ false }
 {
     let programs = read_programs(rt, alloc, programs)?;
     let fresh = laboratory(alloc, programs.as_slice())?;
-    let report = run_threads(rt, alloc, fresh, limit.clamp(1, MOST_STEPS), &NoGate).map_err(
+    let report = report_of(rt, alloc, fresh, limit.clamp(1, MOST_STEPS), mix).map_err(
         |fault| Reason::from(fault).at("run"),
     )?;
     let text = text_of(alloc, &report).map_err(|_| Reason::NoMemory.at("run"))?;
     write_text(&text, output)
+}
+
+/// The report on a run, with pauses where there is a seed.
+fn report_of<T: Threads + Wait + Clock + Sync>(
+    rt: &T,
+    alloc: Global,
+    fresh: Fresh,
+    limit: u32,
+    mix: Option<u32>,
+) -> Result<Report, RunFault>
+    requires at_least { 1 ≤ limit }
+    requires at_most { limit ≤ 10000000 }
+{
+    match mix {
+        None => run_threads(rt, alloc, fresh, limit, &NoGate),
+        Some(seed) => run_threads(rt, alloc, fresh, limit, &PausingGate::new(rt, seed)),
+    }
 }
 
 /// The report on a run, and a line with its schedule.
