@@ -139,16 +139,38 @@ impl Kernel {
         !matches!(self.decide(pid, call), Decision::Waits)
     }
 
-    /// The answer that a call would be given now; nothing changes. A message that would be received
-    /// is copied, and only that takes memory.
-    pub fn answer(&self, alloc: Global, pid: usize, call: &Call) -> Result<Answer, AllocError>
+    /// The answer that a call would be given now; nothing changes. Takes no memory: the words of a
+    /// message that would be received are shared.
+    pub fn answer(&self, pid: usize, call: &Call) -> Result<Answer, AllocError>
         requires process { pid < length self.now.processes }
         ensures answered { IfOk result (λ a. a ≡ (answer self.now pid call.now).0) }
         ensures form { IfOk result (λ a. IsAnswerTo call.now a) }
         ensures memory { IsErr result → IsTrue (is_receive call.now) }
     {
         let decision = self.decide(pid, call);
-        self.preview(alloc, decision)
+        self.preview(decision)
+    }
+
+    /// Answers a call as `call` does, with two equal answers beside it, whose words are shared. The
+    /// call is looked at once. Where memory is refused nothing has changed.
+    pub fn call_with_copies(
+        &mut self,
+        pid: usize,
+        call: &Call,
+    ) -> Result<(Answer, Answer, Answer), AllocError>
+        requires process { pid < length self.old.processes }
+        ensures answered { IfOk result (λ r. (r.0, self.new) ≡ answer self.old pid call.now) }
+        ensures form { IfOk result (λ r. IsAnswerTo call.now r.0) }
+        ensures copies { IfOk result (λ r. (r.1 ≡ r.0) × (r.2 ≡ r.0)) }
+        ensures err { OnErr result (self.new ≡ self.old) }
+        ensures count { length self.new.processes ≡ length self.old.processes }
+        ensures settled { IsSettled self.new }
+    {
+        let decision = self.decide(pid, call);
+        let answers = self.carry_out_with_copies(pid, decision);
+        // The invariant, which `settled` tells, is known where a field is named.
+        let _ = &self.places;
+        answers
     }
 
     /// What becomes of a call now.

@@ -39,11 +39,10 @@ fn empty_unused_in(places: &mut [Place], processes: &Processes)
     }
 }
 
-/// Adds a copy of a message to the queue in a place.
+/// Adds a message to the queue in a place, with shared words.
 #[tactic(auto, using(crate::proofs::PlaceLemmas::queue_in_range, crate::proofs::PlaceLemmas::place_at_read))]
 fn send_at(
     places: &mut Vec<Place>,
-    alloc: Global,
     place: u8,
     priority: u16,
     words: &Words,
@@ -54,16 +53,16 @@ fn send_at(
         places.new.items ≡ slice_set places.old.items place (with_queue (with_message priority words.now q) (place_at places.old.items place))) }
     ensures err { OnErr result (places.new.items ≡ places.old.items) }
 {
-    let words = words.copy(alloc)?;
+    let words = words.copy()?;
     let place = &mut places[place as usize];
-    place.send(priority, words.into_vec())
+    place.send(priority, words)
 }
 
 #[tactic(auto, using(crate::proofs::PlaceLemmas::queue_in_range, crate::proofs::PlaceLemmas::place_at_read))]
-fn receive_at(places: &mut Vec<Place>, place: u8) -> (u16, Vec<u16>)
+fn receive_at(places: &mut Vec<Place>, place: u8) -> (u16, Words)
     requires { IsSomeAnd (queue_in (place_at places.old.items place)) HasMessage }
     ensures first { (q : QueueState) → queue_in (place_at places.old.items place) ≡ Some q →
-        q.messages ≡ record { priority = result.0; words = result.1.items } ∷ drop 1 q.messages }
+        q.messages ≡ record { priority = result.0; words = result.1 } ∷ drop 1 q.messages }
     ensures rest { (q : QueueState) → queue_in (place_at places.old.items place) ≡ Some q →
         places.new.items ≡ slice_set places.old.items place (with_queue (without_first q) (place_at places.old.items place)) }
 {
@@ -139,11 +138,7 @@ fn index_name(
     ensures ok { OnOk result (names.new ≡ fin.insert names.old name.now place) }
     ensures err { OnErr result (names.new ≡ names.old) }
 {
-    let key = name.copy(alloc)?;
-    match names.put(key, place) {
-        Ok(()) => Ok(()),
-        Err(_) => Err(AllocError),
-    }
+    names.put(alloc, name, place)
 }
 
 fn empty_unused_at(places: &mut Vec<Place>, processes: &Processes)
@@ -258,7 +253,7 @@ impl Places {
         }
     }
 
-    /// Adds a copy of a message to the queue in a place.
+    /// Adds a message to the queue in a place, with shared words.
     pub(crate) fn send(&mut self, place: u8, priority: u16, words: &Words) -> Result<(), AllocError>
         requires queue { IsSomeAnd (queue_in (place_at self.old place)) (HasRoomFor words.now) }
         requires priority { priority < mq_prio_max }
@@ -266,14 +261,14 @@ impl Places {
             self.new ≡ slice_set self.old place (with_queue (with_message priority words.now q) (place_at self.old place))) }
         ensures err { OnErr result (self.new ≡ self.old) }
     {
-        send_at(&mut self.places, self.alloc, place, priority, words)
+        send_at(&mut self.places, place, priority, words)
     }
 
     /// Takes the first message from the queue in a place.
-    pub(crate) fn receive(&mut self, place: u8) -> (u16, Vec<u16>)
+    pub(crate) fn receive(&mut self, place: u8) -> (u16, Words)
         requires { IsSomeAnd (queue_in (place_at self.old place)) HasMessage }
         ensures first { (q : QueueState) → queue_in (place_at self.old place) ≡ Some q →
-            q.messages ≡ record { priority = result.0; words = result.1.items } ∷ drop 1 q.messages }
+            q.messages ≡ record { priority = result.0; words = result.1 } ∷ drop 1 q.messages }
         ensures rest { (q : QueueState) → queue_in (place_at self.old place) ≡ Some q →
             self.new ≡ slice_set self.old place (with_queue (without_first q) (place_at self.old place)) }
     {
@@ -339,7 +334,7 @@ impl Places {
         ensures err { OnErr result (self.new ≡ self.old) }
     {
         let queue = new_queue(self.alloc, max_messages, message_size)?;
-        let kept = name.copy(self.alloc)?;
+        let kept = name.copy()?;
         index_name(&mut self.queue_names, self.alloc, name, place)?;
         put_queue_at(&mut self.places, place, kept, queue);
         Ok(())
@@ -359,7 +354,7 @@ impl Places {
         ensures ok { OnOk result (self.new ≡ slice_set self.old place (Sem (Some name.now) value)) }
         ensures err { OnErr result (self.new ≡ self.old) }
     {
-        let kept = name.copy(self.alloc)?;
+        let kept = name.copy()?;
         index_name(&mut self.semaphore_names, self.alloc, name, place)?;
         put_semaphore_at(&mut self.places, place, kept, value);
         Ok(())

@@ -46,18 +46,15 @@ impl Bucket {
     }
 
     /// Adds a message behind the others. Where memory is refused its words are handed back.
-    fn push(&mut self, priority: u16, words: Vec<u16>) -> Result<(), Vec<u16>>
-        ensures ok { OnOk result (self.new ≡ self.old ++ record { priority = priority; words = words.items } ∷ []) }
+    fn push(&mut self, priority: u16, words: Words) -> Result<(), Words>
+        ensures ok { OnOk result (self.new ≡ self.old ++ record { priority = priority; words = words } ∷ []) }
         ensures err { OnErr result (self.new ≡ self.old) }
-        ensures handed_back { IfErr result (λ back. back.items ≡ words.items) }
+        ensures handed_back { IfErr result (λ back. back ≡ words) }
     {
-        let message = Message {
-            priority,
-            words: Words::from_vec(words),
-        };
+        let message = Message { priority, words };
         match self.messages.push_back(message) {
             Ok(()) => Ok(()),
-            Err(failed) => Err(failed.value.words.into_vec()),
+            Err(failed) => Err(failed.value.words),
         }
     }
 
@@ -76,7 +73,7 @@ impl Bucket {
         let mut messages = VecDeque::new(alloc);
         for i in 0..self.messages.len() {
             let message = &self.messages[i];
-            messages.push_back(message.copy(alloc)?)?;
+            messages.push_back(message.copy()?)?;
         }
         Ok(Bucket { messages })
     }
@@ -94,12 +91,12 @@ pub(crate) fn push_at(
     buckets: &mut Vec<Bucket>,
     i: usize,
     priority: u16,
-    words: Vec<u16>,
-) -> Result<(), Vec<u16>>
+    words: Words,
+) -> Result<(), Words>
     requires { i < length buckets.old.items }
-    ensures ok { OnOk result (buckets.new.items ≡ slice_set buckets.old.items i (bucket_at buckets.old.items i ++ record { priority = priority; words = words.items } ∷ [])) }
+    ensures ok { OnOk result (buckets.new.items ≡ slice_set buckets.old.items i (bucket_at buckets.old.items i ++ record { priority = priority; words = words } ∷ [])) }
     ensures err { OnErr result (buckets.new.items ≡ buckets.old.items) }
-    ensures handed_back { IfErr result (λ back. back.items ≡ words.items) }
+    ensures handed_back { IfErr result (λ back. back ≡ words) }
 {
     let bucket = &mut buckets[i];
     bucket.push(priority, words)

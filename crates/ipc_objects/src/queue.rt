@@ -85,13 +85,13 @@ impl Queue {
 
     /// Adds a message behind all of its priority or a greater one and before all of a lesser one.
     /// Where memory is refused the words are handed back and nothing changes.
-    pub fn send(&mut self, priority: u16, words: Vec<u16>) -> Result<(), Vec<u16>>
+    pub fn send(&mut self, priority: u16, words: Words) -> Result<(), Words>
         requires room { length self.old.messages < self.old.max_messages }
         requires priority { priority < 32 }
-        requires size { length words.items ≤ self.old.message_size }
-        ensures ok { OnOk result (self.new ≡ record self.old { messages = sent (record { priority = priority; words = words.items }) self.old.messages }) }
+        requires size { length words ≤ self.old.message_size }
+        ensures ok { OnOk result (self.new ≡ record self.old { messages = sent (record { priority = priority; words = words }) self.old.messages }) }
         ensures err { OnErr result (self.new ≡ self.old) }
-        ensures handed_back { IfErr result (λ back. back.items ≡ words.items) }
+        ensures handed_back { IfErr result (λ back. back ≡ words) }
     {
         let i = 31 - priority as usize;
         push_at(&mut self.buckets, i, priority, words)?;
@@ -101,9 +101,9 @@ impl Queue {
     }
 
     /// Takes out the oldest message of the greatest priority. Takes no memory.
-    pub fn receive(&mut self) -> (u16, Vec<u16>)
+    pub fn receive(&mut self) -> (u16, Words)
         requires some { 0 < length self.old.messages }
-        ensures first { self.old.messages ≡ record { priority = result.0; words = result.1.items } ∷ drop 1 self.old.messages }
+        ensures first { self.old.messages ≡ record { priority = result.0; words = result.1 } ∷ drop 1 self.old.messages }
         ensures rest { self.new ≡ record self.old { messages = drop 1 self.old.messages } }
     {
         let i = first_bit(self.filled);
@@ -111,15 +111,15 @@ impl Queue {
         let empty = is_empty_at(&self.buckets, i);
         self.filled = without_bit(self.filled, i, empty);
         self.count -= 1;
-        (message.priority, message.words.into_vec())
+        (message.priority, message.words)
     }
 
     /// The priority and words of the message that would be received after `i` others.
-    pub fn entry(&self, i: usize) -> Option<(u16, &[u16])>
+    pub fn entry(&self, i: usize) -> Option<(u16, &Words)>
         ensures message { option_map (λ e. record { priority = e.0; words = e.1.now }) result ≡ slice_get self.now.messages i }
     {
         match nth_of(self.buckets.as_slice(), i) {
-            Some(message) => Some((message.priority, message.words.as_slice())),
+            Some(message) => Some((message.priority, &message.words)),
             None => None,
         }
     }

@@ -1,34 +1,38 @@
 //! Lists of words.
 ghost use Rattle.std.specs.Prelude.{◌≡◌, length, IfOk};
+ghost use Rattle.std.specs.Arc.{arc_slice_items};
 
-use std::alloc::{AllocError, Global};
+use std::alloc::AllocError;
 use std::marker::Model;
+use std::sync::ArcSlice;
 
-/// A list of words: a vector of which contracts see the items alone.
+/// A list of words that doesn't change: a shared slice of which contracts see the items alone.
 #[derive(Drop)]
 pub struct Words {
-    items: Vec<u16>,
+    items: ArcSlice<u16>,
 }
 
 impl Model for Words {
     ghost use Rattle.std.specs.Prelude.{List, ℕ};
+    ghost use Rattle.std.specs.Arc.{arc_slice_items};
 
     ghost Value = { List ℕ };
 
-    ghost view = { λ a. a.items.items };
+    ghost view = { λ a. arc_slice_items a.items };
 }
 
 impl Words {
     /// These words.
-    pub fn from_vec(items: Vec<u16>) -> Words
-        ensures words { result ≡ items.items }
+    pub fn from_vec(items: Vec<u16>) -> Result<Words, AllocError>
+        ensures words { IfOk result (λ words. words ≡ items.items) }
     {
-        Words { items }
+        let items = ArcSlice::from_vec(items)?;
+        Ok(Words { items })
     }
 
-    /// The words as a vector.
-    pub fn into_vec(self) -> Vec<u16>
-        ensures words { result.items ≡ self }
+    /// The words as a shared slice.
+    pub fn into_shared(self) -> ArcSlice<u16>
+        ensures words { arc_slice_items result ≡ self }
     {
         let Words { items } = self;
         items
@@ -48,11 +52,11 @@ impl Words {
         self.items.len()
     }
 
-    /// Equal words.
-    pub fn copy(&self, alloc: Global) -> Result<Words, AllocError>
+    /// Equal words, which are shared. Takes no memory; an error is that there are 2^64 - 1 copies.
+    pub fn copy(&self) -> Result<Words, AllocError>
         ensures equal { IfOk result (λ copy. copy ≡ self.now) }
     {
-        let items = Vec::from_slice(alloc, self.items.as_slice())?;
+        let items = self.items.clone()?;
         Ok(Words { items })
     }
 }

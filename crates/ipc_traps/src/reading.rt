@@ -152,7 +152,7 @@ fn read_send(alloc: Global, call: &AtCall) -> Result<Asked, AllocError>
     let words = read_words(alloc, call, at, len)?;
     Ok(Asked::Kernel(Call::MqSend {
         mqd: register(call, 0),
-        words: Words::from_vec(words),
+        words: Words::from_vec(words)?,
         prio: register(call, 3),
     }))
 }

@@ -43,7 +43,7 @@ pub fn effect_of(call: &AtCall, reply: Reply) -> Effect
         Reply::Plain(word) => Effect::Plain(word),
         Reply::Message { words, prio } => Effect::Message {
             at: register(call, 1),
-            words: words.into_vec(),
+            words: words.into_shared(),
             prio_at: unless_zero(register(call, 3)),
             prio,
         },

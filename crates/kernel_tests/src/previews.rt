@@ -6,9 +6,9 @@ use std::process::Abort;
 
 fn preview(rt: &impl Abort, alloc: Global, kernel: &Kernel, call: &Call) -> Answer {
     assert!(rt; 0 < kernel.count(), "a process");
-    match kernel.answer(alloc, 0, call) {
+    match kernel.answer(0, call) {
         Ok(answer) => answer,
-        Err(_) => kernel.answer(alloc, 0, call).expect(rt, "memory"),
+        Err(_) => kernel.answer(0, call).expect(rt, "memory"),
     }
 }
 

@@ -37,6 +37,14 @@ pub(crate) fn vector(rt: &impl Abort, alloc: Global, items: &[u16]) -> Vec<u16> 
     }
 }
 
+/// These words, to be shared.
+pub(crate) fn words_of(rt: &impl Abort, alloc: Global, items: &[u16]) -> Words {
+    match Words::from_vec(vector(rt, alloc, items)) {
+        Ok(words) => words,
+        Err(_) => Words::from_vec(vector(rt, alloc, items)).expect(rt, "memory"),
+    }
+}
+
 /// mq_open of `/q` with these flags, for 4 messages of 2 words.
 pub(crate) fn mq_open(rt: &impl Abort, alloc: Global, flags: u16) -> Call {
     Call::MqOpen {
@@ -50,7 +58,7 @@ pub(crate) fn mq_open(rt: &impl Abort, alloc: Global, flags: u16) -> Call {
 pub(crate) fn mq_send(rt: &impl Abort, alloc: Global, items: &[u16], prio: u16) -> Call {
     Call::MqSend {
         mqd: 0,
-        words: Words::from_vec(vector(rt, alloc, items)),
+        words: words_of(rt, alloc, items),
         prio,
     }
 }

@@ -108,7 +108,9 @@ fn run<'a>(alloc: Global) -> Result<Command<'a>, AllocError> {
             .long("mix")
             .value_name("SEED")
             .value_parser(clap::value_parser!(u32))
-            .help("Pauses before calls, by random numbers from SEED, which does not fix the interleaving"),
+            .help(
+                "Pauses before calls, by random numbers from SEED, which does not fix the interleaving",
+            ),
     )
 }
 

@@ -99,7 +99,7 @@ fn push_messages(text: &mut String, queue: &Queue) -> Result<(), AllocError>
         let Some((priority, words)) = queue.entry(i as usize) else {
             return Ok(());
         };
-        push_message(text, priority, words)?;
+        push_message(text, priority, words.as_slice())?;
     }
     Ok(())
 }

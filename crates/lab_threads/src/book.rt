@@ -36,24 +36,13 @@ impl Model for Book {
     ghost invariant = { λ b. BookInvariant b.kernel b.history.items b.waiting.items };
 }
 
-/// The entry of a call with its answer.
-fn entry_of(alloc: Global, pid: usize, call: &Call, answer: Answer) -> Result<Entry, AllocError>
-    ensures { IfOk result (λ e. e ≡ record { pid = pid; call = call.now; answer = answer }) }
-{
-    Ok(Entry {
-        pid,
-        call: call.copy(alloc)?,
-        answer,
-    })
-}
-
 /// The call that waits after this answer.
-fn pending_call(alloc: Global, call: &Call, answer: &Answer) -> Result<Option<Call>, AllocError>
-    ensures { IfOk result (λ o. o ≡ still call.now answer.now) }
+fn pending_call(call: Call, answer: &Answer) -> Option<Call>
+    ensures { result ≡ still call answer.now }
 {
     match answer {
-        Answer::Wait => Ok(Some(call.copy(alloc)?)),
-        Answer::Done(_) => Ok(None),
+        Answer::Wait => Some(call),
+        Answer::Done(_) => None,
     }
 }
 
@@ -134,43 +123,37 @@ impl Book {
         }
     }
 
-    /// Whether a call of a process with this answer has an entry. The try of a process that waits
-    /// and must still wait has none.
-    fn has_entry(&self, pid: usize, answer: &Answer) -> bool
-        requires { pid < self.now.count }
-        ensures yes { result ≡ true → (c : CallValue) → added (waits self.now.history pid) pid c answer.now ≡ record { pid = pid; call = c; answer = answer.now } ∷ [] }
-        ensures no { result ≡ false → (answer.now ≡ Wait) × ((c : CallValue) → added (waits self.now.history pid) pid c Wait ≡ []) }
-    {
-        match answer {
-            Answer::Done(_) => true,
-            Answer::Wait => self.waits(pid).is_none(),
-        }
-    }
-
-    /// Answers a call of a process, and adds its entry to the history. Where the process waits for
-    /// the answer of this call and must still wait, nothing changes. An error is want of memory:
-    /// nothing has changed then.
-    pub fn call(&mut self, alloc: Global, pid: usize, call: &Call) -> Result<Answer, AllocError>
+    /// Answers a call of a process, and adds its entry to the history; with an equal answer beside it
+    /// for whoever writes it down, whose words are shared. Where the process waits for the answer of
+    /// this call and must still wait, nothing changes. An error is want of memory: nothing has changed
+    /// then.
+    pub fn call(&mut self, pid: usize, call: &Call) -> Result<(Answer, Answer), AllocError>
         requires process { pid < self.old.count }
         requires call { MayCall (waits self.old.history pid) call.now }
-        ensures answer { IfOk result (λ a. a ≡ (answer (replay (empty_kernel self.old.count) self.old.history) pid call.now).0) }
-        ensures form { IfOk result (λ a. IsAnswerTo call.now a) }
-        ensures history { IfOk result (λ a. self.new.history ≡ self.old.history ++ added (waits self.old.history pid) pid call.now a) }
+        ensures answer { IfOk result (λ r. r.0 ≡ (answer (replay (empty_kernel self.old.count) self.old.history) pid call.now).0) }
+        ensures copy { IfOk result (λ r. r.1 ≡ r.0) }
+        ensures form { IfOk result (λ r. IsAnswerTo call.now r.0) }
+        ensures history { IfOk result (λ r. self.new.history ≡ self.old.history ++ added (waits self.old.history pid) pid call.now r.0) }
         ensures kernel { OnOk result (replay (empty_kernel self.new.count) self.new.history ≡ (answer (replay (empty_kernel self.old.count) self.old.history) pid call.now).1) }
         ensures count { self.new.count ≡ self.old.count }
         ensures err { OnErr result (self.new ≡ self.old) }
     {
-        let preview = self.kernel.answer(alloc, pid, call)?;
-        if !self.has_entry(pid, &preview) {
-            return Ok(Answer::Wait);
-        }
-        let waits = pending_call(alloc, call, &preview)?;
-        let entry = entry_of(alloc, pid, call, preview)?;
+        let waits = self.waits(pid).is_some();
+        let pending = call.copy()?;
+        let written = call.copy()?;
         self.history.reserve(1)?;
-        let answer = self.kernel.call(pid, call)?;
-        self.waiting[pid] = waits;
+        let (answer, copy, kept) = self.kernel.call_with_copies(pid, call)?;
+        if waits && matches!(answer, Answer::Wait) {
+            return Ok((answer, copy));
+        }
+        self.waiting[pid] = pending_call(pending, &answer);
+        let entry = Entry {
+            pid,
+            call: written,
+            answer: kept,
+        };
         self.history.push_reserved(entry);
-        Ok(answer)
+        Ok((answer, copy))
     }
 
     /// The kernel and the history.

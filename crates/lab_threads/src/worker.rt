@@ -289,7 +289,7 @@ fn make_call<R: Wait, G: Gate>(
     if trace.reserve().is_err() || prepare(&mut call).is_err() {
         return stays(call.back());
     }
-    let Ok(copy) = request.copy(context.alloc) else {
+    let Ok(copy) = request.copy() else {
         return stays(call.back());
     };
     let may_wait = left > 1;

@@ -4,7 +4,7 @@ use ipc_kernel::{Answer, Call, Reply};
 use ipc_names::Name;
 use ipc_objects::Words;
 use lab_threads::Book;
-use std::alloc::Global;
+use std::alloc::{AllocError, Global};
 use std::process::Abort;
 
 fn name(rt: &impl Abort, alloc: Global) -> Name {
@@ -23,14 +23,18 @@ fn open(rt: &impl Abort, alloc: Global, flags: u16, attr: Option<[u16; 4]>) -> C
     Call::MqOpen { name, flags, attr }
 }
 
+fn one_word(alloc: Global, word: u16) -> Result<Words, AllocError> {
+    Words::from_vec(Vec::from_slice(alloc, &[word])?)
+}
+
 fn send(rt: &impl Abort, alloc: Global, word: u16) -> Call {
-    let words = match Vec::from_slice(alloc, &[word]) {
+    let words = match one_word(alloc, word) {
         Ok(words) => words,
-        Err(_) => Vec::from_slice(alloc, &[word]).expect(rt, "memory"),
+        Err(_) => one_word(alloc, word).expect(rt, "memory"),
     };
     Call::MqSend {
         mqd: 0,
-        words: Words::from_vec(words),
+        words,
         prio: 0,
     }
 }
@@ -39,10 +43,10 @@ fn send(rt: &impl Abort, alloc: Global, word: u16) -> Call {
 fn make(rt: &impl Abort, alloc: Global, book: &mut Book, pid: usize, call: &Call) {
     assert!(rt; book.fits(pid, call), "a call that fits");
     let entries = book.history().len();
-    if book.call(alloc, pid, call).is_err() {
+    if book.call(pid, call).is_err() {
         assert_eq!(rt; book.history().len(), entries);
         assert!(rt; book.fits(pid, call), "a call that still fits");
-        assert!(rt; book.call(alloc, pid, call).is_ok(), "memory");
+        assert!(rt; book.call(pid, call).is_ok(), "memory");
     }
 }
 

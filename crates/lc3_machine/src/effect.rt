@@ -1,3 +1,5 @@
+use std::sync::ArcSlice;
+
 /// What the answer of a call writes into the process that made it.
 #[derive(Drop)]
 pub enum Effect {
@@ -6,7 +8,7 @@ pub enum Effect {
     /// The words of a message from `at` on, and then its priority where `prio_at` says; their number for R0.
     Message {
         at: u16,
-        words: Vec<u16>,
+        words: ArcSlice<u16>,
         prio_at: Option<u16>,
         prio: u16,
     },

@@ -150,7 +150,7 @@ impl Machine {
                 prio,
             } => {
                 let count = words.len() as u16;
-                self.memory.put(at, &words);
+                self.memory.put(at, words.as_slice());
                 if let Some(at) = prio_at {
                     self.memory.put(at, &[prio]);
                 }

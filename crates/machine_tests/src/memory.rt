@@ -4,6 +4,7 @@ use crate::processes::{loaded, stopped, vec_of};
 use lc3_machine::{AtCall, Effect, Running, Want};
 use std::alloc::{AllocError, Global};
 use std::process::Abort;
+use std::sync::ArcSlice;
 use std::test::Fail;
 
 /// Numbers that look random, the same in each run.
@@ -76,7 +77,7 @@ fn answered(
     rt: &impl Abort,
     call: AtCall,
     at: u16,
-    words: Vec<u16>,
+    words: ArcSlice<u16>,
     prio_at: u16,
     prio: u16,
 ) -> Running {
@@ -147,11 +148,12 @@ fn answer(
     let mut call = call;
     let prio_at = numbers.address();
     let prio = numbers.next();
+    let message = again!(ArcSlice::from_slice(*words.allocator(), &words));
     reserve(&mut call, at, (words.len() % 0x10000) as u16)?;
     reserve(&mut call, prio_at, 1)?;
     plain.write(at, &words);
     plain.set(prio_at, prio);
-    Ok(answered(rt, call, at, words, prio_at, prio))
+    Ok(answered(rt, call, at, message, prio_at, prio))
 }
 
 /// Each word of the process is that of the plain memory.

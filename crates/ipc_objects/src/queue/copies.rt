@@ -8,10 +8,10 @@ use std::hash::{FoldHasher, Hasher};
 
 impl Message {
     /// An equal message.
-    pub(crate) fn copy(&self, alloc: Global) -> Result<Message, AllocError>
+    pub(crate) fn copy(&self) -> Result<Message, AllocError>
         ensures equal { IfOk result (λ copy. copy ≡ self.now) }
     {
-        let words = self.words.copy(alloc)?;
+        let words = self.words.copy()?;
         Ok(Message {
             priority: self.priority,
             words,
@@ -49,7 +49,7 @@ impl Queue {
     {
         match (self.entry(i), other.entry(i)) {
             (Some((priority, words)), Some((other_priority, other_words))) => {
-                priority == other_priority && words == other_words
+                priority == other_priority && words.as_slice() == other_words.as_slice()
             }
             (None, None) => true,
             _ => false,

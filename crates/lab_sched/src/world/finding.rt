@@ -63,7 +63,7 @@ pub(super) fn find(alloc: Global, process: Process, most: u32) -> (Process, Foun
 {
     match process {
         Process::Running(running) => find_local(alloc, running, most),
-        Process::Waiting(waiting, call) => match call.copy(alloc) {
+        Process::Waiting(waiting, call) => match call.copy() {
             Ok(copy) => (Process::Waiting(waiting, call), Found::Asks(copy)),
             Err(_) => (Process::Waiting(waiting, call), Found::Moved(0)),
         },

@@ -16,7 +16,7 @@ pub returns-clause-first : goal.returns-clause-first
 returns-clause-first c =
     let first = filled_first c.self.inside.max_messages c.self.inside.message_size c.self.inside.count c.self.inside.filled c.self.inside.buckets.items c.first_bit-i.result c.pop_at-message.result
     (drop 1 (bucket_at c.self.inside.buckets.items c.first_bit-i.result)) c.self.invariant c.first_bit-i.ensures.range c.first_bit-i.ensures.earlier c.pop_at-message.ensures.first in
-    rw (c.into_vec.ensures.words, ← c.self.view_is, first) refl
+    rw (← c.self.view_is, first) refl
 
 pub returns-clause-rest : goal.returns-clause-rest
 returns-clause-rest c =
