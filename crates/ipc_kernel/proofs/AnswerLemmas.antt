@@ -1,5 +1,5 @@
 -- The message that mq_receive takes.
-use Rattle.std.proofs.Common.{◌≡◌, ℕ, ◌≤◌, List, [], ◌∷◌, length, Some, refl, sym, arith, slice_set, drop, All, IsSomeAnd}
+use Rattle.std.proofs.Common.{◌≡◌, ℕ, ◌≤◌, List, [], ◌∷◌, length, Some, sym, arith, slice_set, drop, All, IsSomeAnd}
 use Rattle.ipc_objects.specs.declared.queue.Message.{Message}
 use Rattle.ipc_objects.specs.Queue.{QueueState, IsQueue}
 use Rattle.std.proofs.lemmas.List.Elements.{All-head}

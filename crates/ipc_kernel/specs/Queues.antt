@@ -6,7 +6,7 @@ use Rattle.ipc_names.specs.declared.errno.Errno.{Errno}
 use Rattle.ipc_names.specs.declared.errno.Errno.TheVariants.{NoEntry, BadDescriptor, MessageSize, Exists, Invalid, TooManyOpen, NoSpace}
 use Rattle.ipc_objects.specs.declared.queue.Message.{Message}
 use Rattle.ipc_objects.specs.Queue.{QueueState}
-use Rattle.ipc_kernel.specs.Limits.{mq_prio_max, mq_maxmsg_default, mq_msgsize_default}
+use Rattle.ipc_objects.specs.declared.limits.TheConstants.{MQ_PRIO_MAX, MQ_MAXMSG_DEFAULT, MQ_MSGSIZE_DEFAULT}
 use Rattle.ipc_kernel.specs.declared.place.Place.TheVariants.{Mq}
 use Rattle.ipc_kernel.specs.declared.process.Descriptor.{Descriptor}
 use Rattle.ipc_kernel.specs.declared.call.Reply.TheVariants.{Plain, Message as received, Attr}
@@ -17,7 +17,7 @@ use Rattle.ipc_kernel.specs.Outcomes.{Outcome, refusal, completion, blocked, wit
 
 -- mq_maxmsg and mq_msgsize as they are asked for; the other two attributes are ignored [mq_open]
 abbrev pub sizes_asked : Option (List ℕ) → ℕ × ℕ
-sizes_asked None = (mq_maxmsg_default, mq_msgsize_default)
+sizes_asked None = (MQ_MAXMSG_DEFAULT, MQ_MSGSIZE_DEFAULT)
 sizes_asked (Some attr) = (slice_index attr 1, slice_index attr 2)
 
 -- a descriptor for the queue in a place, by the access mode and O_NONBLOCK [mq_open]
@@ -65,7 +65,7 @@ abbrev pub mq_send : KernelState → ℕ → List ℕ → Option (Descriptor × 
 mq_send k prio words None = refusal k BadDescriptor
 mq_send k prio words (Some held) =
     if held.0.access == 0 then refusal k BadDescriptor
-    else if nat_le mq_prio_max prio then refusal k Invalid
+    else if nat_le MQ_PRIO_MAX prio then refusal k Invalid
     else if nat_lt held.1.message_size (length words) then refusal k MessageSize
     else if nat_le held.1.max_messages (length held.1.messages) then blocked k held.0
     else completion (with_queue_at k held.0.place (with_message prio words held.1)) (Plain 0)

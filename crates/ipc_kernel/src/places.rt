@@ -5,7 +5,8 @@ ghost use Rattle.std.specs.Prelude.{◌∷◌, IsSomeAnd, IsTrue, drop};
 ghost use Rattle.std.specs.Option.{option_map, option_copied};
 ghost use Rattle.ipc_objects.specs.Queue.{QueueState};
 ghost use Rattle.ipc_objects.specs.declared.queue.Message.{Message};
-ghost use Rattle.ipc_kernel.specs.Limits.{object_places, sem_value_max, mq_prio_max};
+ghost use Rattle.ipc_objects.specs.declared.limits.TheConstants.{SEM_VALUE_MAX, MQ_PRIO_MAX};
+ghost use Rattle.ipc_kernel.specs.Limits.{object_places};
 ghost use Rattle.ipc_kernel.specs.Places.{queue_in, with_queue, with_message, without_first, HasRoomFor, HasMessage, are_sizes, empty_queue};
 ghost use Rattle.ipc_kernel.specs.Places.{is_empty, semaphore_value, with_value, unnamed, queue_named, semaphore_named, queue_and_name, value_and_name, place_at, emptied};
 ghost use Rattle.ipc_kernel.specs.declared.place.Place.TheVariants.{Empty, Mq, Sem};
@@ -49,7 +50,7 @@ fn send_at(
     words: &Words,
 ) -> Result<(), AllocError>
     requires queue { IsSomeAnd (queue_in (place_at places.old.items place)) (HasRoomFor words.now) }
-    requires priority { priority < mq_prio_max }
+    requires priority { priority < MQ_PRIO_MAX }
     ensures ok { OnOk result ((q : QueueState) → queue_in (place_at places.old.items place) ≡ Some q →
         places.new.items ≡ slice_set places.old.items place (with_queue (with_message priority words.now q) (place_at places.old.items place))) }
     ensures err { OnErr result (places.new.items ≡ places.old.items) }
@@ -74,7 +75,7 @@ fn receive_at(places: &mut Vec<Place>, place: u8) -> (u16, Vec<u16>)
 #[tactic(auto, using(crate::proofs::PlaceLemmas::semaphore_in_range, crate::proofs::PlaceLemmas::place_at_read))]
 fn post_at(places: &mut Vec<Place>, place: u8, value: u16)
     requires value { semaphore_value (place_at places.old.items place) ≡ Some value }
-    requires room { value < sem_value_max }
+    requires room { value < SEM_VALUE_MAX }
     ensures { places.new.items ≡ slice_set places.old.items place (with_value (value + 1) (place_at places.old.items place)) }
 {
     let place = &mut places[place as usize];
@@ -111,7 +112,7 @@ fn put_queue_at(places: &mut Vec<Place>, place: u8, name: Name, queue: Queue)
 
 fn put_semaphore_at(places: &mut Vec<Place>, place: u8, name: Name, value: u16)
     requires place { place < length places.old.items }
-    requires value { value ≤ sem_value_max }
+    requires value { value ≤ SEM_VALUE_MAX }
     ensures { places.new.items ≡ slice_set places.old.items place (Sem (Some name) value) }
 {
     places[place as usize] = Place::Sem {
@@ -220,7 +221,7 @@ impl Places {
     /// The value of the semaphore in a place.
     pub(crate) fn value(&self, place: u8) -> Option<u16>
         ensures value { result ≡ semaphore_value (place_at self.now place) }
-        ensures bound { IfSome result (λ value. value ≤ sem_value_max) }
+        ensures bound { IfSome result (λ value. value ≤ SEM_VALUE_MAX) }
     {
         match self.places.get(place as usize) {
             Some(place) => place.value(),
@@ -261,7 +262,7 @@ impl Places {
     /// Adds a copy of a message to the queue in a place.
     pub(crate) fn send(&mut self, place: u8, priority: u16, words: &Words) -> Result<(), AllocError>
         requires queue { IsSomeAnd (queue_in (place_at self.old place)) (HasRoomFor words.now) }
-        requires priority { priority < mq_prio_max }
+        requires priority { priority < MQ_PRIO_MAX }
         ensures ok { OnOk result ((q : QueueState) → queue_in (place_at self.old place) ≡ Some q →
             self.new ≡ slice_set self.old place (with_queue (with_message priority words.now q) (place_at self.old place))) }
         ensures err { OnErr result (self.new ≡ self.old) }
@@ -283,7 +284,7 @@ impl Places {
     /// Adds one to the value of the semaphore in a place.
     pub(crate) fn post(&mut self, place: u8, value: u16)
         requires value { semaphore_value (place_at self.old place) ≡ Some value }
-        requires room { value < sem_value_max }
+        requires room { value < SEM_VALUE_MAX }
         ensures { self.new ≡ slice_set self.old place (with_value (value + 1) (place_at self.old place)) }
     {
         post_at(&mut self.places, place, value);
@@ -353,7 +354,7 @@ impl Places {
         value: u16,
     ) -> Result<(), AllocError>
         requires place { place < object_places }
-        requires value { value ≤ sem_value_max }
+        requires value { value ≤ SEM_VALUE_MAX }
         requires empty { place_at self.old place ≡ Empty }
         requires absent { semaphore_named self.old name.now ≡ None }
         ensures ok { OnOk result (self.new ≡ slice_set self.old place (Sem (Some name.now) value)) }

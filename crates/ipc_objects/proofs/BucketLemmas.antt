@@ -1,202 +1,274 @@
--- The messages of all buckets.
-use Rattle.std.proofs.Common.{◌≡◌, ◌≢◌, ℕ, zero, suc, ◌+◌, ◌-◌, ◌≤◌, ◌<◌, ◌==◌, ◌&&◌, Bool, true, false, cond, List, [], ◌∷◌, ◌++◌, length, set, drop, replicate, refl, sym, ap, ◌∙◌, ◌⊎◌, inl, inr, arith, All, None, append_assoc, length-set, get_or-set_same, get_or-set_other, eq-eqb}
-use Rattle.std.specs.Int.{bit_at}
-use Rattle.std.proofs.lemmas.Nat.Bits.{bit_at-zero}
-use Rattle.std.proofs.lemmas.Bool.Decides.{Decides-eqb}
-use Rattle.std.proofs.lemmas.List.{get_or-replicate, get_or_past, length-replicate}
-use Rattle.std.specs.List.{slice_get}
-use Rattle.std.proofs.lemmas.Bool.{cases_lt}
-use Rattle.std.proofs.lemmas.Option.{slice_get_past}
-use Rattle.std.proofs.lemmas.List.Elements.{All-nil, All-append, All-weaker, All-push, All-tail}
+-- Messages in buckets by priority.
+use Rattle.std.proofs.Common.{◌≡◌, ℕ, ◌+◌, ◌-◌, ◌≤◌, ◌<◌, Bool, true, false, cond, List, [], ◌∷◌, ◌++◌, length, drop, Option, Some, None, unwrap_or, IsSome, Result, Ok, Err, OnOk, OnErr, refl, sym, ap, subst, ◌∙◌, arith, All, append_assoc, append-nil, length-append, Ordering, Less, Equal, Greater, nat_cmp, is_eq}
+use Rattle.std.specs.Cmp.{nat_cmp_total}
+use Rattle.std.specs.Ordering.{match_ordering}
+use Rattle.std.specs.List.{slice_get, AllByRecursion}
+use Rattle.std.specs.List.Sorted.{IsStrictlySortedBy}
+use Rattle.std.specs.Map.{keys_of, lookup, remove_entry, set_value}
+use Rattle.std.specs.BTreeMap.{is_at, insert_entry}
+use Rattle.std.proofs.lemmas.Bool.Decides.{nat_tests}
+use Rattle.std.proofs.lemmas.List.Elements.{All-nil, All-cons, All-head, All-tail, All-append, All-weaker, All-push}
+use Rattle.std.proofs.lemmas.Map.{lookup-none}
+use Rattle.std.proofs.lemmas.Map.Entries.{none_below_head}
+use Rattle.std.proofs.lemmas.Map.Keys.{sorted_head, sorted_tail}
+use Rattle.std.proofs.lemmas.Map.Steps.{set_value_same}
 use Rattle.ipc_objects.specs.declared.queue.Message.{Message}
-use Rattle.ipc_objects.specs.Queue.{sent, IsShape}
-use Rattle.ipc_objects.specs.Buckets.{joined, bucket_at, mark, IsFilled}
-use Rattle.ipc_objects.proofs.SentLemmas.{sent-before, sent-append, length-sent, shape-sent, slice_get-append_here, slice_get-append_later}
+use Rattle.ipc_objects.specs.Queue.{sent}
+use Rattle.ipc_objects.specs.Buckets.{joined, bucket_at, with_rest, IsBucket, AreBuckets}
+use Rattle.ipc_objects.proofs.SentLemmas.{sent-all, sent-append-less, slice_get-append_here, slice_get-append_later}
 
--- what holds of each bucket's messages holds of all
-pub All-joined : (P : Message → Type 0) (bs : List (List Message)) → ((i : ℕ) → i < length bs → All P (bucket_at bs i)) → All P (joined bs)
-All-joined P [] each = All-nil P
-All-joined P (b ∷ rest) each = All-append P b (joined rest) (each 0 (omega arith)) (All-joined P rest (λ i h. each (suc i) (omega arith)))
+abbrev Entries : Type 0
+Entries = List (ℕ × List Message)
 
--- a message goes to the end of its bucket
-pub joined-push : (bs : List (List Message)) (i : ℕ) (m : Message) → i < length bs
-    → ((j : ℕ) → j ≤ i → All (λ x. m.priority ≤ x.priority) (bucket_at bs j))
-    → ((j : ℕ) → i < j → j < length bs → All (λ x. x.priority < m.priority) (bucket_at bs j))
-    → joined (set bs i (bucket_at bs i ++ m ∷ [])) ≡ sent m (joined bs)
-joined-push [] i m h most less = absurd (omega arith)
-joined-push (b ∷ rest) zero m h most less =
-    append_assoc b (m ∷ []) (joined rest)
-    ∙ sym (sent-append m b (joined rest) (most 0 (omega arith)) ∙ ap (λ ms. b ++ ms) (sent-before m (joined rest) (All-joined (λ x. x.priority < m.priority) rest (λ j lt. less (suc j) (omega arith) (omega arith)))))
-joined-push (b ∷ rest) (suc i) m h most less =
-    ap (λ ms. b ++ ms) (joined-push rest i m (omega arith) (λ j le. most (suc j) (omega arith)) (λ j lt in_range. less (suc j) (omega arith) (omega arith)))
-    ∙ sym (sent-append m b (joined rest) (most 0 (omega arith)))
+-- how two priorities compare
+less_is : (a b : ℕ) → nat_cmp a b ≡ Less → a < b
+less_is a b e = grind (arith, nat_tests)
 
--- the first message of the first bucket that has some
-pub joined-first : (bs : List (List Message)) (i : ℕ) (x : Message) (xs : List Message) → i < length bs → ((j : ℕ) → j < i → bucket_at bs j ≡ []) → bucket_at bs i ≡ x ∷ xs → joined bs ≡ x ∷ joined (set bs i xs)
-joined-first [] i x xs h empty at = absurd (omega arith)
-joined-first (b ∷ rest) zero x xs h empty at = ap (λ ms. ms ++ joined rest) at
-joined-first (b ∷ rest) (suc i) x xs h empty at =
-    let none : b ≡ [] = empty 0 (omega arith) in
-    rw none (joined-first rest i x xs (omega arith) (λ j lt. empty (suc j) (omega arith)) at)
+equal_is : (a b : ℕ) → nat_cmp a b ≡ Equal → a ≡ b
+equal_is a b e = grind (arith, nat_tests)
 
--- a message that is found among those of one bucket, or among the rest
-pub entry_here : (bs : List (List Message)) (k left : ℕ) → k < length bs → left < length (bucket_at bs k) → slice_get (joined (drop k bs)) left ≡ slice_get (bucket_at bs k) left
-entry_here [] k left h lt = absurd (omega arith)
-entry_here (b ∷ rest) zero left h lt = slice_get-append_here b (joined rest) left lt
-entry_here (b ∷ rest) (suc k) left h lt = entry_here rest k left (omega arith) lt
+greater_is : (a b : ℕ) → nat_cmp a b ≡ Greater → b < a
+greater_is a b e = grind (arith, nat_tests)
 
-pub entry_later : (bs : List (List Message)) (k left : ℕ) → k < length bs → slice_get (joined (drop k bs)) (length (bucket_at bs k) + left) ≡ slice_get (joined (drop (suc k) bs)) left
-entry_later [] k left h = absurd (omega arith)
-entry_later (b ∷ rest) zero left h = slice_get-append_later b (joined rest) left
-entry_later (b ∷ rest) (suc k) left h = entry_later rest k left (omega arith)
+-- the messages of buckets above a priority are above it
+above : (p : ℕ) (es : Entries) → AllByRecursion (λ q. nat_cmp p q ≡ Less) (keys_of es) → All IsBucket es → All (λ m. p < m.priority) (joined es)
+above p [] less each = All-nil (λ m. p < m.priority)
+above p (e ∷ es) less each =
+    let here : p < e.0 = less_is p e.0 less.0 in
+    All-append (λ m. p < m.priority) (joined es) e.1 (above p es less.1 (All-tail IsBucket e es each))
+    (All-weaker (λ m. m.priority ≡ e.0) (λ m. p < m.priority) (λ m is. omega arith) e.1 (All-head IsBucket e es each).1)
 
-pub entry_none : (bs : List (List Message)) (k left : ℕ) → length bs ≤ k → slice_get (joined (drop k bs)) left ≡ None
-entry_none [] zero left h = slice_get_past [] left (omega arith)
-entry_none [] (suc k) left h = slice_get_past [] left (omega arith)
-entry_none (b ∷ rest) zero left h = absurd (omega arith)
-entry_none (b ∷ rest) (suc k) left h = entry_none rest k left (omega arith)
-
-mark_none : (b : List Message) → mark b ≡ 0 → b ≡ []
-mark_none [] e = refl
-mark_none (m ∷ rest) e = cc
-
-mark_some : (b : List Message) → mark b ≡ 1 → 0 < length b
-mark_some [] e = cc
-mark_some (m ∷ rest) e = omega arith
-
-mark_push : (b : List Message) (m : Message) → mark (b ++ m ∷ []) ≡ 1
-mark_push [] m = refl
-mark_push (x ∷ b) m = refl
-
-joined-empty : (bs : List (List Message)) → ((i : ℕ) → i < length bs → bucket_at bs i ≡ []) → joined bs ≡ []
-joined-empty [] each = refl
-joined-empty (b ∷ rest) each = rw (each 0 (omega arith)) (joined-empty rest (λ i h. each (suc i) (omega arith)))
-
--- there is a one where there is a message
-pub filled_above : (max size count filled : ℕ) (bs : List (List Message)) → IsFilled max size count bs filled → 0 < length (joined bs) → 0 < filled
-filled_above max size count filled bs inv some = elim (cases_lt 0 filled) [
-  | inl more ↦ more
-  | inr none ↦ (let zero_word : filled ≡ 0 = omega arith in
-      let empty : joined bs ≡ [] = joined-empty bs (λ i h. mark_none (bucket_at bs i) (sym (inv.marked i (omega (arith, inv.all))) ∙ (rw zero_word (bit_at-zero i)))) in
-      absurd (omega (arith, rw empty at some)))
-]
-
--- the bucket of a one has a message, and that of a zero has none
-pub filled_some : (max size count filled : ℕ) (bs : List (List Message)) (i : ℕ) → IsFilled max size count bs filled → i < 32 → bit_at filled i ≡ 1 → 0 < length (bucket_at bs i)
-filled_some max size count filled bs i inv h one = mark_some (bucket_at bs i) (sym (inv.marked i h) ∙ one)
-
-pub filled_none : (max size count filled : ℕ) (bs : List (List Message)) (i : ℕ) → IsFilled max size count bs filled → i < 32 → bit_at filled i ≡ 0 → bucket_at bs i ≡ []
-filled_none max size count filled bs i inv h none = mark_none (bucket_at bs i) (sym (inv.marked i h) ∙ none)
-
--- a message that is sent
-pub joined_sent : (max size count filled : ℕ) (bs new : List (List Message)) (m : Message) → IsFilled max size count bs filled → m.priority < 32 → new ≡ set bs (31 - m.priority) (bucket_at bs (31 - m.priority) ++ m ∷ []) → joined new ≡ sent m (joined bs)
-joined_sent max size count filled bs new m inv h is =
-    let i : ℕ = 31 - m.priority in
-    rw is (joined-push bs i m (omega (arith, inv.all))
-    (λ j le. All-weaker (λ x. x.priority + j ≡ 31) (λ x. m.priority ≤ x.priority) (λ x e. omega arith) (bucket_at bs j) (inv.in_place j (omega arith)))
-    (λ j lt inside. All-weaker (λ x. x.priority + j ≡ 31) (λ x. x.priority < m.priority) (λ x e. omega arith) (bucket_at bs j) (inv.in_place j (omega (arith, inv.all)))))
-
-same_or_other : (k i : ℕ) → (k ≡ i) ⊎ (k ≢ i)
-same_or_other k i = elim (cases_lt k i) [ inl less ↦ inr (λ e. omega arith) | inr le ↦ elim (cases_lt i k) [ inl more ↦ inr (λ e. omega arith) | inr ge ↦ inl (omega arith) ] ]
-
-unlike : (k i : ℕ) → k ≢ i → (k == i) ≡ false
-unlike k i other = go (k == i) refl
+-- a message goes to the end of the bucket of its priority
+pub joined_put : (m : Message) (es : Entries) → IsStrictlySortedBy nat_cmp (keys_of es) → All IsBucket es
+    → joined (insert_entry nat_cmp es m.priority (bucket_at es m.priority ++ m ∷ [])) ≡ sent m (joined es)
+joined_put m [] sorted each = refl
+joined_put m (e ∷ es) sorted each = by (nat_cmp m.priority e.0) refl (joined_put m es (sorted_tail nat_cmp e.0 (keys_of es) sorted) rest)
   where
-    go : (b : Bool) → (k == i) ≡ b → b ≡ false
-    go true e = absurd (other ((Decides-eqb k i).0 e))
-    go false e = refl
+    p : ℕ
+    p = m.priority
 
-pub filled_sent : (max size count filled word : ℕ) (bs new : List (List Message)) (m : Message) → IsFilled max size count bs filled → length (joined bs) < max → m.priority < 32 → length m.words ≤ size
-    → new ≡ set bs (31 - m.priority) (bucket_at bs (31 - m.priority) ++ m ∷ [])
-    → ((k : ℕ) → k < 32 → bit_at word k ≡ cond (k == (31 - m.priority)) 1 (bit_at filled k))
-    → IsFilled max size (count + 1) new word
-filled_sent max size count filled word bs new m inv room h small is bits_are =
-    let i : ℕ = 31 - m.priority in
-    let b : List Message = bucket_at bs i ++ m ∷ [] in
-    let inside : i < length bs = omega (arith, inv.all) in
-    let all : joined new ≡ sent m (joined bs) = joined_sent max size count filled bs new m inv h is in
-    record {
-      all = rw is (length-set bs i b ∙ inv.all);
-      shape = rw all (shape-sent max size (joined bs) m inv.shape room h small);
-      counted = rw all (omega (arith, length-sent m (joined bs), inv.counted));
-      in_place = λ k lt. rw is (elim (same_or_other k i) [
-        | inl same ↦ rw (same, get_or-set_same bs i b [] inside) (All-push (λ x. x.priority + i ≡ 31) (bucket_at bs i) m (inv.in_place i (omega arith)) (omega arith))
-        | inr other ↦ rw (get_or-set_other bs i k b [] other) (inv.in_place k lt)
-      ]);
-      marked = λ k lt. bits_are k lt ∙ rw is (elim (same_or_other k i) [
-        | inl same ↦ rw (same, eq-eqb i i refl, get_or-set_same bs i b [] inside) (sym (mark_push (bucket_at bs i) m))
-        | inr other ↦ rw (unlike k i other, get_or-set_other bs i k b [] other) (inv.marked k lt)
-      ]);
-    }
+    rest : All IsBucket es
+    rest = All-tail IsBucket e es each
 
-shape-tail : (max size : ℕ) (x : Message) (ms : List Message) → IsShape max size (x ∷ ms) → IsShape max size ms
-shape-tail max size x ms h = record {
-  max_at_least = h.max_at_least;
-  max_at_most = h.max_at_most;
-  size_at_least = h.size_at_least;
-  size_at_most = h.size_at_most;
-  within = omega (arith, h.within);
-  priorities = All-tail (λ x. x.priority < 32) x ms h.priorities;
-  sizes = All-tail (λ x. length x.words ≤ size) x ms h.sizes;
+    here : All (λ x. x.priority ≡ e.0) e.1
+    here = (All-head IsBucket e es each).1
+
+    higher : All (λ x. e.0 < x.priority) (joined es)
+    higher = above e.0 es (sorted_head nat_cmp e.0 (keys_of es) sorted) rest
+
+    most : p ≤ e.0 → All (λ x. p ≤ x.priority) (joined es ++ e.1)
+    most le =
+        All-append (λ x. p ≤ x.priority) (joined es) e.1 (All-weaker (λ x. e.0 < x.priority) (λ x. p ≤ x.priority) (λ x lt. omega arith) (joined es) higher)
+        (All-weaker (λ x. x.priority ≡ e.0) (λ x. p ≤ x.priority) (λ x is. omega arith) e.1 here)
+
+    by : (r : Ordering) → nat_cmp p e.0 ≡ r → joined (insert_entry nat_cmp es p (bucket_at es p ++ m ∷ [])) ≡ sent m (joined es)
+        → joined (match_ordering r ((p, unwrap_or (cond (is_eq r) (Some e.1) (lookup (is_at (nat_cmp p)) es)) [] ++ m ∷ []) ∷ e ∷ es)
+        ((e.0, unwrap_or (cond (is_eq r) (Some e.1) (lookup (is_at (nat_cmp p)) es)) [] ++ m ∷ []) ∷ es)
+        (e ∷ insert_entry nat_cmp es p (unwrap_or (cond (is_eq r) (Some e.1) (lookup (is_at (nat_cmp p)) es)) [] ++ m ∷ []))) ≡ sent m (joined es ++ e.1)
+    by Less is later =
+        let none = lookup-none (is_at (nat_cmp p)) es (none_below_head nat_cmp_total p e es sorted is).1 in
+        rw none (sym (sent-all m (joined es ++ e.1) (most (let lt = less_is p e.0 is in omega arith))))
+    by Equal is later =
+        sym (sent-all m (joined es ++ e.1) (most (let same = equal_is p e.0 is in omega arith)) ∙ append_assoc (joined es) e.1 (m ∷ []))
+    by Greater is later =
+        ap (λ ms. ms ++ e.1) later
+        ∙ sym (sent-append-less m (joined es) e.1 (All-weaker (λ x. x.priority ≡ e.0) (λ x. x.priority < p) (λ x same. let lt = greater_is p e.0 is in omega arith) e.1 here))
+
+-- what is put into a bucket is of its priority
+bucket_is : (p : ℕ) (es : Entries) → All IsBucket es → All (λ m. m.priority ≡ p) (bucket_at es p)
+bucket_is p [] each = All-nil (λ m. m.priority ≡ p)
+bucket_is p (e ∷ es) each = by (nat_cmp p e.0) refl (bucket_is p es (All-tail IsBucket e es each))
+  where
+    by : (r : Ordering) → nat_cmp p e.0 ≡ r → All (λ m. m.priority ≡ p) (bucket_at es p) → All (λ m. m.priority ≡ p) (unwrap_or (cond (is_eq r) (Some e.1) (lookup (is_at (nat_cmp p)) es)) [])
+    by Less is later = later
+    by Equal is later = let same = equal_is p e.0 is in All-weaker (λ m. m.priority ≡ e.0) (λ m. m.priority ≡ p) (λ m e. omega arith) e.1 (All-head IsBucket e es each).1
+    by Greater is later = later
+
+each_put : (p : ℕ) (b : List Message) (es : Entries) → All IsBucket es → IsBucket (p, b) → All IsBucket (insert_entry nat_cmp es p b)
+each_put p b [] each new = All-cons IsBucket (p, b) [] new (All-nil IsBucket)
+each_put p b (e ∷ es) each new = by (nat_cmp p e.0) refl (each_put p b es (All-tail IsBucket e es each) new)
+  where
+    by : (r : Ordering) → nat_cmp p e.0 ≡ r → All IsBucket (insert_entry nat_cmp es p b) → All IsBucket (match_ordering r ((p, b) ∷ e ∷ es) ((e.0, b) ∷ es) (e ∷ insert_entry nat_cmp es p b))
+    by Less is later = All-cons IsBucket (p, b) (e ∷ es) new each
+    by Equal is later = All-cons IsBucket (e.0, b) es (rw (← equal_is p e.0 is) new) (All-tail IsBucket e es each)
+    by Greater is later = All-cons IsBucket e (insert_entry nat_cmp es p b) (All-head IsBucket e es each) later
+
+-- buckets stay buckets when a message is put in
+pub buckets_put : (m : Message) (es new : Entries) → AreBuckets es → new ≡ insert_entry nat_cmp es m.priority (bucket_at es m.priority ++ m ∷ []) → IsStrictlySortedBy nat_cmp (keys_of new) → AreBuckets new
+buckets_put m es new inv is sorted = record {
+  ordered = sorted;
+  each = rw is (each_put m.priority (bucket_at es m.priority ++ m ∷ []) es inv.each (
+    rw length-append (omega arith),
+    All-push (λ x. x.priority ≡ m.priority) (bucket_at es m.priority) m (bucket_is m.priority es inv.each) refl,
+  ));
 }
 
--- the first message is taken out
-pub filled_received : (max size count filled word : ℕ) (bs new : List (List Message)) (i : ℕ) (x : Message) (xs : List Message) → IsFilled max size count bs filled → i < 32
-    → joined bs ≡ x ∷ joined (set bs i xs) → bucket_at bs i ≡ x ∷ xs → new ≡ set bs i xs
-    → ((k : ℕ) → k < 32 → bit_at word k ≡ cond (length xs == 0 && k == i) 0 (bit_at filled k))
-    → IsFilled max size (count - 1) new word
-filled_received max size count filled word bs new i x xs inv h first at is bits_are =
-    let inside : i < length bs = omega (arith, inv.all) in
-    record {
-      all = rw is (length-set bs i xs ∙ inv.all);
-      shape = rw is (shape-tail max size x (joined (set bs i xs)) (rw first at inv.shape));
-      counted = rw is (omega (arith, inv.counted, ap length first));
-      in_place = λ k lt. rw is (elim (same_or_other k i) [
-        | inl same ↦ rw (same, get_or-set_same bs i xs [] inside) (All-tail (λ y. y.priority + i ≡ 31) x xs (rw at at (inv.in_place i h)))
-        | inr other ↦ rw (get_or-set_other bs i k xs [] other) (inv.in_place k lt)
-      ]);
-      marked = λ k lt. bits_are k lt ∙ rw is (elim (same_or_other k i) [
-        | inl same ↦ rw (same, get_or-set_same bs i xs [] inside) (at_i xs refl)
-        | inr other ↦ rw (unlike k i other, get_or-set_other bs i k xs [] other) (apart (length xs == 0) 0 (inv.marked k lt))
-      ]);
-    }
+-- where the greatest priority has a bucket, its messages are the first
+joined_rest : (p : ℕ) (b w : List Message) (es : Entries) → IsStrictlySortedBy nat_cmp (keys_of es) → All (λ q. q ≤ p) (keys_of es) → lookup (is_at (nat_cmp p)) es ≡ Some b
+    → joined (set_value (is_at (nat_cmp p)) es w) ≡ w ++ joined (remove_entry (is_at (nat_cmp p)) es)
+joined_rest p b w [] sorted top here = absurd cc
+joined_rest p b w (e ∷ es) sorted top here =
+    by (nat_cmp p e.0) refl here (joined_rest p b w es (sorted_tail nat_cmp e.0 (keys_of es) sorted) (All-tail (λ q. q ≤ p) e.0 (keys_of es) top))
   where
-    at_i : (ys : List Message) → xs ≡ ys → cond (length ys == 0 && i == i) 0 (bit_at filled i) ≡ mark ys
-    at_i [] e = rw (eq-eqb i i refl) refl
-    at_i (y ∷ ys) e = rw (unlike (length (y ∷ ys)) 0 (λ q. omega arith)) (inv.marked i h ∙ ap mark at)
+    alone : (fs : Entries) → es ≡ fs → nat_cmp p e.0 ≡ Equal → joined es ++ w ≡ w ++ joined es
+    alone [] is equal = rw is (sym (append-nil w))
+    alone (f ∷ fs) is equal =
+        let same = equal_is p e.0 equal in
+        let later : AllByRecursion (λ q. nat_cmp e.0 q ≡ Less) (keys_of (f ∷ fs)) = subst (λ gs. AllByRecursion (λ q. nat_cmp e.0 q ≡ Less) (keys_of gs)) is (sorted_head nat_cmp e.0 (keys_of es) sorted) in
+        let below = less_is e.0 f.0 later.0 in
+        let most : All (λ q. q ≤ p) (keys_of (f ∷ fs)) = subst (λ gs. All (λ q. q ≤ p) (keys_of gs)) is (All-tail (λ q. q ≤ p) e.0 (keys_of es) top) in
+        absurd (omega (arith, same, below, All-head (λ q. q ≤ p) f.0 (keys_of fs) most))
 
-    apart : {a b : ℕ} (z : Bool) (c : ℕ) → a ≡ b → cond (z && false) c a ≡ b
-    apart true c e = e
-    apart false c e = e
+    by : (r : Ordering) → nat_cmp p e.0 ≡ r → cond (is_eq r) (Some e.1) (lookup (is_at (nat_cmp p)) es) ≡ Some b
+        → (lookup (is_at (nat_cmp p)) es ≡ Some b → joined (set_value (is_at (nat_cmp p)) es w) ≡ w ++ joined (remove_entry (is_at (nat_cmp p)) es))
+        → joined (cond (is_eq r) ((e.0, w) ∷ es) (e ∷ set_value (is_at (nat_cmp p)) es w)) ≡ w ++ joined (cond (is_eq r) es (e ∷ remove_entry (is_at (nat_cmp p)) es))
+    by Less is found later = let lt = less_is p e.0 is in let le = All-head (λ q. q ≤ p) e.0 (keys_of es) top in absurd (omega arith)
+    by Equal is found later = alone es refl is
+    by Greater is found later =
+        ap (λ ms. ms ++ e.1) (later found)
+        ∙ append_assoc w (joined (remove_entry (is_at (nat_cmp p)) es)) e.1
 
-empty_at : (n i : ℕ) → bucket_at (replicate n []) i ≡ []
-empty_at n i = elim (cases_lt i n) [ inl less ↦ get_or-replicate n i [] [] less | inr more ↦ get_or_past (replicate n []) i [] (omega (arith, length-replicate {A = List Message} n [])) ]
+-- a bucket with messages is found
+found : (x : Message) (rest : List Message) (o : Option (List Message)) → unwrap_or o [] ≡ x ∷ rest → o ≡ Some (x ∷ rest)
+found x rest None is = absurd cc
+found x rest (Some b) is = ap (λ ms. Some ms) is
 
--- empty buckets
-pub filled_at_first : (max size : ℕ) (bs : List (List Message)) → 1 ≤ max → max ≤ 64 → 1 ≤ size → size ≤ 256 → bs ≡ replicate 32 [] → IsFilled max size 0 bs 0
-filled_at_first max size bs a b c d is = rw is (record {
-  all = refl;
-  shape = record { max_at_least = a; max_at_most = b; size_at_least = c; size_at_most = d; within = omega arith; priorities = All-nil (λ x. x.priority < 32); sizes = All-nil (λ x. length x.words ≤ size) };
-  counted = refl;
-  in_place = λ i h. rw (empty_at 32 i) (All-nil (λ x. x.priority + i ≡ 31));
-  marked = λ i h. rw (empty_at 32 i) (bit_at-zero i);
-})
+-- the first message of the greatest priority is the first of all
+pub joined_take : (p : ℕ) (x : Message) (rest : List Message) (es : Entries) → AreBuckets es → All (λ q. q ≤ p) (keys_of es) → bucket_at es p ≡ x ∷ rest → joined es ≡ x ∷ joined (with_rest es p rest)
+joined_take p x rest es inv top has = whole ∙ by rest
+  where
+    here : lookup (is_at (nat_cmp p)) es ≡ Some (x ∷ rest)
+    here = found x rest (lookup (is_at (nat_cmp p)) es) has
 
--- the first message of the first bucket with a one
-pub filled_first : (max size count filled : ℕ) (bs : List (List Message)) (i : ℕ) (x : Message) (xs : List Message) → IsFilled max size count bs filled → i < 32 → ((k : ℕ) → k < i → bit_at filled k ≡ 0) → bucket_at bs i ≡ x ∷ xs → joined bs ≡ x ∷ joined (set bs i xs)
-filled_first max size count filled bs i x xs inv h earlier at = joined-first bs i x xs (omega (arith, inv.all)) (λ j lt. filled_none max size count filled bs j inv (omega arith) (earlier j lt)) at
+    whole : joined es ≡ x ∷ rest ++ joined (remove_entry (is_at (nat_cmp p)) es)
+    whole = ap joined (sym (set_value_same (is_at (nat_cmp p)) es (x ∷ rest) here)) ∙ joined_rest p (x ∷ rest) (x ∷ rest) es inv.ordered top here
 
-pub filled_after : (max size count filled word : ℕ) (bs new : List (List Message)) (i : ℕ) (x : Message) (xs : List Message) (empty : Bool) → IsFilled max size count bs filled → i < 32 → ((k : ℕ) → k < i → bit_at filled k ≡ 0)
-    → bucket_at bs i ≡ x ∷ xs → new ≡ set bs i xs → empty ≡ (length (bucket_at new i) == 0)
-    → ((k : ℕ) → k < 32 → bit_at word k ≡ cond (empty && k == i) 0 (bit_at filled k))
-    → IsFilled max size (count - 1) new word
-filled_after max size count filled word bs new i x xs empty inv h earlier at is empty_is bits_are =
-    let left : bucket_at new i ≡ xs = ap (λ cs. bucket_at cs i) is ∙ get_or-set_same bs i xs [] (omega (arith, inv.all)) in
-    filled_received max size count filled word bs new i x xs inv h (filled_first max size count filled bs i x xs inv h earlier at) at is
-    (λ k lt. bits_are k lt ∙ ap (λ e. cond (e && k == i) 0 (bit_at filled k)) (empty_is ∙ ap (λ b. length b == 0) left))
+    by : (ms : List Message) → x ∷ ms ++ joined (remove_entry (is_at (nat_cmp p)) es) ≡ x ∷ joined (with_rest es p ms)
+    by [] = refl
+    by (m ∷ ms) = ap (λ ns. x ∷ ns) (sym (joined_rest p (x ∷ rest) (m ∷ ms) es inv.ordered top here))
 
-pub entry_past : (bs : List (List Message)) (k left n : ℕ) → k < length bs → n ≡ length (bucket_at bs k) → n ≤ left → slice_get (joined (drop k bs)) left ≡ slice_get (joined (drop (k + 1) bs)) (left - n)
-entry_past bs k left n h is le =
-    let parts : left ≡ length (bucket_at bs k) + (left - n) = omega (arith, is) in
-    let next : k + 1 ≡ suc k = omega arith in
-    ap (λ at. slice_get (joined (drop k bs)) at) parts ∙ entry_later bs k (left - n) h ∙ ap (λ j. slice_get (joined (drop j bs)) (left - n)) (sym next)
+each_removed : (t : ℕ → Bool) (es : Entries) → All IsBucket es → All IsBucket (remove_entry t es)
+each_removed t [] each = each
+each_removed t (e ∷ es) each = by (t e.0) (each_removed t es (All-tail IsBucket e es each))
+  where
+    by : (b : Bool) → All IsBucket (remove_entry t es) → All IsBucket (cond b es (e ∷ remove_entry t es))
+    by true later = All-tail IsBucket e es each
+    by false later = All-cons IsBucket e (remove_entry t es) (All-head IsBucket e es each) later
+
+each_kept : (p : ℕ) (w : List Message) (es : Entries) → All IsBucket es → IsBucket (p, w) → All IsBucket (set_value (is_at (nat_cmp p)) es w)
+each_kept p w [] each kept = each
+each_kept p w (e ∷ es) each kept = by (nat_cmp p e.0) refl (each_kept p w es (All-tail IsBucket e es each) kept)
+  where
+    by : (r : Ordering) → nat_cmp p e.0 ≡ r → All IsBucket (set_value (is_at (nat_cmp p)) es w) → All IsBucket (cond (is_eq r) ((e.0, w) ∷ es) (e ∷ set_value (is_at (nat_cmp p)) es w))
+    by Less is later = All-cons IsBucket e (set_value (is_at (nat_cmp p)) es w) (All-head IsBucket e es each) later
+    by Equal is later = All-cons IsBucket (e.0, w) es (rw (← equal_is p e.0 is) kept) (All-tail IsBucket e es each)
+    by Greater is later = All-cons IsBucket e (set_value (is_at (nat_cmp p)) es w) (All-head IsBucket e es each) later
+
+-- buckets stay buckets when the first message of one is taken out
+pub buckets_take : (p : ℕ) (x : Message) (rest : List Message) (es new : Entries) → AreBuckets es → bucket_at es p ≡ x ∷ rest → new ≡ with_rest es p rest → IsStrictlySortedBy nat_cmp (keys_of new) → AreBuckets new
+buckets_take p x rest es new inv here is sorted = record {
+  ordered = sorted;
+  each = rw is (by rest refl);
+}
+  where
+    by : (ms : List Message) → rest ≡ ms → All IsBucket (with_rest es p ms)
+    by [] e = each_removed (is_at (nat_cmp p)) es inv.each
+    by (m ∷ ms) e =
+        let all : All (λ n. n.priority ≡ p) (x ∷ m ∷ ms) = subst (λ ns. All (λ n. n.priority ≡ p) ns) (here ∙ ap (λ ns. x ∷ ns) e) (bucket_is p es inv.each) in
+        each_kept p (m ∷ ms) es inv.each (omega arith, All-tail (λ n. n.priority ≡ p) x (m ∷ ms) all)
+
+-- the last bucket has the first messages
+pub joined_last : (es : Entries) (e : ℕ × List Message) → joined (es ++ e ∷ []) ≡ e.1 ++ joined es
+joined_last [] e = sym (append-nil e.1)
+joined_last (f ∷ es) e = ap (λ ms. ms ++ f.1) (joined_last es e) ∙ append_assoc e.1 (joined es) f.1
+
+-- an entry whose key is above all others goes to the end
+pub put_last : (xs ys : Entries) (e : ℕ × List Message) → IsStrictlySortedBy nat_cmp (keys_of (xs ++ e ∷ ys)) → insert_entry nat_cmp xs e.0 e.1 ≡ xs ++ e ∷ []
+put_last [] ys e sorted = refl
+put_last (x ∷ xs) ys e sorted = by (nat_cmp e.0 x.0) refl (put_last xs ys e (sorted_tail nat_cmp x.0 (keys_of (xs ++ e ∷ ys)) sorted))
+  where
+    below_last : (zs : Entries) → AllByRecursion (λ q. nat_cmp x.0 q ≡ Less) (keys_of (zs ++ e ∷ ys)) → x.0 < e.0
+    below_last [] all = less_is x.0 e.0 all.0
+    below_last (z ∷ zs) all = below_last zs all.1
+
+    below : x.0 < e.0
+    below = below_last xs (sorted_head nat_cmp x.0 (keys_of (xs ++ e ∷ ys)) sorted)
+
+    by : (r : Ordering) → nat_cmp e.0 x.0 ≡ r → insert_entry nat_cmp xs e.0 e.1 ≡ xs ++ e ∷ [] → match_ordering r ((e.0, e.1) ∷ x ∷ xs) ((x.0, e.1) ∷ xs) (x ∷ insert_entry nat_cmp xs e.0 e.1) ≡ x ∷ xs ++ e ∷ []
+    by Less is later = let lt = less_is e.0 x.0 is in absurd (omega (arith, below))
+    by Equal is later = let same = equal_is e.0 x.0 is in absurd (omega (arith, below))
+    by Greater is later = ap (λ zs. x ∷ zs) later
+
+-- what is written to a bucket that is there is put at its priority
+set_is_put : (p : ℕ) (b w : List Message) (es : Entries) → IsStrictlySortedBy nat_cmp (keys_of es) → lookup (is_at (nat_cmp p)) es ≡ Some b → set_value (is_at (nat_cmp p)) es w ≡ insert_entry nat_cmp es p w
+set_is_put p b w [] sorted here = absurd cc
+set_is_put p b w (e ∷ es) sorted here = by (nat_cmp p e.0) refl here (set_is_put p b w es (sorted_tail nat_cmp e.0 (keys_of es) sorted))
+  where
+    by : (r : Ordering) → nat_cmp p e.0 ≡ r → cond (is_eq r) (Some e.1) (lookup (is_at (nat_cmp p)) es) ≡ Some b
+        → (lookup (is_at (nat_cmp p)) es ≡ Some b → set_value (is_at (nat_cmp p)) es w ≡ insert_entry nat_cmp es p w)
+        → cond (is_eq r) ((e.0, w) ∷ es) (e ∷ set_value (is_at (nat_cmp p)) es w) ≡ match_ordering r ((p, w) ∷ e ∷ es) ((e.0, w) ∷ es) (e ∷ insert_entry nat_cmp es p w)
+    by Less is some later =
+        let none = lookup-none (is_at (nat_cmp p)) es (none_below_head nat_cmp_total p e es sorted is).1 in
+        let never : ⊥ = cc in
+        absurd never
+    by Equal is some later = refl
+    by Greater is some later = ap (λ fs. e ∷ fs) (later some)
+
+pub put_in : (m : Message) (b w : List Message) (es new : Entries) → IsStrictlySortedBy nat_cmp (keys_of es) → Some b ≡ lookup (is_at (nat_cmp m.priority)) es → new ≡ set_value (is_at (nat_cmp m.priority)) es w → w ≡ b ++ m ∷ []
+    → new ≡ insert_entry nat_cmp es m.priority (bucket_at es m.priority ++ m ∷ [])
+put_in m b w es new sorted here is w_is =
+    is ∙ set_is_put m.priority b w es sorted (sym here) ∙ ap (insert_entry nat_cmp es m.priority) (w_is ∙ ap (λ o. unwrap_or o [] ++ m ∷ []) here)
+
+pub put_back : (p : ℕ) (b w : List Message) (es new : Entries) → Some b ≡ lookup (is_at (nat_cmp p)) es → new ≡ set_value (is_at (nat_cmp p)) es w → w ≡ b → new ≡ es
+put_back p b w es new here is w_is = is ∙ set_value_same (is_at (nat_cmp p)) es w (sym here ∙ ap (λ ms. Some ms) (sym w_is))
+
+-- the same buckets are left where the one that is emptied goes
+remove_set : (t : ℕ → Bool) (w : List Message) (es : Entries) → remove_entry t (set_value t es w) ≡ remove_entry t es
+remove_set t w [] = refl
+remove_set t w (e ∷ es) = by (t e.0) refl (remove_set t w es)
+  where
+    by : (b : Bool) → t e.0 ≡ b → remove_entry t (set_value t es w) ≡ remove_entry t es → remove_entry t (cond b ((e.0, w) ∷ es) (e ∷ set_value t es w)) ≡ cond b es (e ∷ remove_entry t es)
+    by true is later = rw is refl
+    by false is later = rw is (ap (λ fs. e ∷ fs) later)
+
+pub rest_gone : (p : ℕ) (x : Message) (b w : List Message) (es middle new : Entries) → Some b ≡ lookup (is_at (nat_cmp p)) es → b ≡ x ∷ w → length w ≡ 0 → middle ≡ set_value (is_at (nat_cmp p)) es w → new ≡ remove_entry (is_at (nat_cmp p)) middle
+    → new ≡ with_rest es p (drop 1 (bucket_at es p))
+rest_gone p x b [] es middle new here is none middle_is new_is =
+    new_is ∙ ap (remove_entry (is_at (nat_cmp p))) middle_is ∙ remove_set (is_at (nat_cmp p)) [] es ∙ ap (λ ms. with_rest es p (drop 1 ms)) (sym is ∙ ap (λ o. unwrap_or o []) here)
+rest_gone p x b (m ∷ ms) es middle new here is none middle_is new_is = absurd (omega arith)
+
+pub rest_stays : (p : ℕ) (x : Message) (b w : List Message) (es new : Entries) → Some b ≡ lookup (is_at (nat_cmp p)) es → b ≡ x ∷ w → 0 < length w → new ≡ set_value (is_at (nat_cmp p)) es w
+    → new ≡ with_rest es p (drop 1 (bucket_at es p))
+rest_stays p x b [] es new here is some new_is = absurd (omega arith)
+rest_stays p x b (m ∷ ms) es new here is some new_is = new_is ∙ ap (λ ns. with_rest es p (drop 1 ns)) (sym is ∙ ap (λ o. unwrap_or o []) here)
+
+-- a bucket that is there has messages
+pub has_message : (p : ℕ) (es : Entries) → All IsBucket es → IsSome (lookup (is_at (nat_cmp p)) es) → 0 < length (bucket_at es p)
+has_message p [] each some = absurd cc
+has_message p (e ∷ es) each some = by (is_at (nat_cmp p) e.0) some (has_message p es (All-tail IsBucket e es each))
+  where
+    by : (b : Bool) → IsSome (cond b (Some e.1) (lookup (is_at (nat_cmp p)) es)) → (IsSome (lookup (is_at (nat_cmp p)) es) → 0 < length (bucket_at es p)) → 0 < length (unwrap_or (cond b (Some e.1) (lookup (is_at (nat_cmp p)) es)) [])
+    by true here later = (All-head IsBucket e es each).0
+    by false here later = later here
+
+-- buckets stay buckets whether a message is put in or not
+pub buckets_pushed : {T E : Type 0} (r : Result T E) (m : Message) (es new : Entries) → AreBuckets es
+    → OnOk r (new ≡ insert_entry nat_cmp es m.priority (bucket_at es m.priority ++ m ∷ [])) → OnErr r (new ≡ es) → OnOk r (IsStrictlySortedBy nat_cmp (keys_of new)) → AreBuckets new
+buckets_pushed (Ok x) m es new inv is same sorted = buckets_put m es new inv is sorted
+buckets_pushed (Err x) m es new inv is same sorted = rw same inv
+
+-- the message after `left` others of the buckets s is in the last of them, e, or among the others, t
+pub entry_here : (s t : Entries) (e : ℕ × List Message) (left : ℕ) → s ≡ t ++ e ∷ [] → left < length e.1 → slice_get (joined s) left ≡ slice_get e.1 left
+entry_here s t e left is h = ap (λ ms. slice_get ms left) (ap joined is ∙ joined_last t e) ∙ slice_get-append_here e.1 (joined t) left h
+
+pub entry_past : (s t : Entries) (e : ℕ × List Message) (left n : ℕ) → s ≡ t ++ e ∷ [] → n ≡ length e.1 → n ≤ left → slice_get (joined s) left ≡ slice_get (joined t) (left - n)
+entry_past s t e left n is counted h =
+    let parts : left ≡ length e.1 + (left - n) = omega (arith, counted) in
+    ap (λ ms. slice_get ms left) (ap joined is ∙ joined_last t e) ∙ ap (slice_get (e.1 ++ joined t)) parts ∙ slice_get-append_later e.1 (joined t) (left - n)
+
+-- one more entry is copied
+pub copied_more : (es xs s t new : Entries) (e : ℕ × List Message) (b : List Message) → IsStrictlySortedBy nat_cmp (keys_of es) → xs ++ s ≡ es → s ≡ e ∷ t → b ≡ e.1 → new ≡ insert_entry nat_cmp xs e.0 b → new ++ t ≡ es
+copied_more es xs s t new e b sorted so_far s_is b_is is =
+    let whole : xs ++ e ∷ t ≡ es = ap (λ zs. xs ++ zs) (sym s_is) ∙ so_far in
+    let last = put_last xs t e (subst (λ zs. IsStrictlySortedBy nat_cmp (keys_of zs)) (sym whole) sorted) in
+    ap (λ zs. zs ++ t) (is ∙ ap (insert_entry nat_cmp xs e.0) b_is ∙ last) ∙ append_assoc xs (e ∷ []) t ∙ whole

@@ -1,4 +1,4 @@
 pub mod SentLemmas
-pub mod BitLemmas
-pub mod BucketLemmas
 pub mod QueueCopies
+pub mod BucketLemmas
+pub mod QueueLemmas

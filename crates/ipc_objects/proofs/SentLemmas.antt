@@ -1,10 +1,11 @@
 -- Where a message goes in the order of receive.
-use Rattle.std.proofs.Common.{◌≡◌, ℕ, zero, suc, ◌+◌, ◌≤◌, ◌<◌, Bool, true, false, not, nat_le, nat_lt, List, [], ◌∷◌, ◌++◌, length, filter, refl, ap, arith, All, append_assoc, zero-add, length-append}
+use Rattle.std.proofs.Common.{◌≡◌, ℕ, zero, suc, ◌+◌, ◌≤◌, ◌<◌, Bool, true, false, not, nat_le, nat_lt, List, [], ◌∷◌, ◌++◌, length, filter, refl, ap, arith, All, append_assoc, append-nil, sym, zero-add, length-append}
 use Rattle.std.proofs.lemmas.List.Filters.{length-filter_both}
 use Rattle.std.proofs.lemmas.List.Elements.{All-head, All-tail, All-cons, All-append, All-filter, All-weaker, filter-append}
 use Rattle.std.proofs.lemmas.Bool.Decides.{nat_tests}
 use Rattle.std.specs.List.{slice_get}
 use Rattle.ipc_objects.specs.declared.queue.Message.{Message}
+use Rattle.ipc_objects.specs.declared.limits.TheConstants.{MQ_PRIO_MAX}
 use Rattle.ipc_objects.specs.Queue.{sent, IsShape}
 
 nat_lt_not : (a b : ℕ) → nat_lt b a ≡ not (nat_le a b)
@@ -28,10 +29,6 @@ nat_lt-true a b h = grind (arith, nat_tests)
 pub nat_lt-false : (a b : ℕ) → b ≤ a → nat_lt a b ≡ false
 nat_lt-false a b h = grind (arith, nat_tests)
 
--- a message goes behind one of its priority or a greater one
-pub sent-behind : (m x : Message) (ms : List Message) → m.priority ≤ x.priority → sent m (x ∷ ms) ≡ x ∷ sent m ms
-sent-behind m x ms h = rw (nat_le-true m.priority x.priority h, nat_lt-false x.priority m.priority h) refl
-
 pub filter-none : {X : Type 0} (p : X → Bool) (xs : List X) → All (λ x. p x ≡ false) xs → filter p xs ≡ []
 filter-none p [] none = refl
 filter-none p (x ∷ xs) none = rw (All-head (λ x. p x ≡ false) x xs none) (filter-none p xs (All-tail (λ x. p x ≡ false) x xs none))
@@ -40,39 +37,20 @@ pub filter-all : {X : Type 0} (p : X → Bool) (xs : List X) → All (λ x. p x 
 filter-all p [] all = refl
 filter-all p (x ∷ xs) all = rw (All-head (λ x. p x ≡ true) x xs all) (ap (λ ys. x ∷ ys) (filter-all p xs (All-tail (λ x. p x ≡ true) x xs all)))
 
--- a message goes before all of lesser priorities
-pub sent-before : (m : Message) (ms : List Message) → All (λ x. x.priority < m.priority) ms → sent m ms ≡ m ∷ ms
-sent-before m ms less =
-    rw (
-      filter-none (λ x. nat_le m.priority x.priority) ms (All-weaker (λ x. x.priority < m.priority) (λ x. nat_le m.priority x.priority ≡ false) (λ x h. nat_le-false m.priority x.priority h) ms less),
-      filter-all (λ x. nat_lt x.priority m.priority) ms (All-weaker (λ x. x.priority < m.priority) (λ x. nat_lt x.priority m.priority ≡ true) (λ x h. nat_lt-true x.priority m.priority h) ms less),
-    ) refl
-
--- a message goes behind all of its priority or a greater one
-pub sent-append : (m : Message) (xs ys : List Message) → All (λ x. m.priority ≤ x.priority) xs → sent m (xs ++ ys) ≡ xs ++ sent m ys
-sent-append m xs ys most =
-    rw (
-      filter-append (λ x. nat_le m.priority x.priority) xs ys,
-      filter-append (λ x. nat_lt x.priority m.priority) xs ys,
-      filter-all (λ x. nat_le m.priority x.priority) xs (All-weaker (λ x. m.priority ≤ x.priority) (λ x. nat_le m.priority x.priority ≡ true) (λ x h. nat_le-true m.priority x.priority h) xs most),
-      filter-none (λ x. nat_lt x.priority m.priority) xs (All-weaker (λ x. m.priority ≤ x.priority) (λ x. nat_lt x.priority m.priority ≡ false) (λ x h. nat_lt-false x.priority m.priority h) xs most),
-    )
-    (append_assoc xs _ _)
-
 pub All-sent : (P : Message → Type 0) (m : Message) (ms : List Message) → P m → All P ms → All P (sent m ms)
 All-sent P m ms p all =
     All-append P (filter (λ x. nat_le m.priority x.priority) ms) _ (All-filter (λ x. nat_le m.priority x.priority) P ms all)
     (All-cons P m (filter (λ x. nat_lt x.priority m.priority) ms) p (All-filter (λ x. nat_lt x.priority m.priority) P ms all))
 
 -- the ranges still hold after a send that has room
-pub shape-sent : (max size : ℕ) (ms : List Message) (m : Message) → IsShape max size ms → length ms < max → m.priority < 32 → length m.words ≤ size → IsShape max size (sent m ms)
+pub shape-sent : (max size : ℕ) (ms : List Message) (m : Message) → IsShape max size ms → length ms < max → m.priority < MQ_PRIO_MAX → length m.words ≤ size → IsShape max size (sent m ms)
 shape-sent max size ms m h room priority small = record {
   max_at_least = h.max_at_least;
   max_at_most = h.max_at_most;
   size_at_least = h.size_at_least;
   size_at_most = h.size_at_most;
   within = omega (arith, length-sent m ms);
-  priorities = All-sent (λ x. x.priority < 32) m ms priority h.priorities;
+  priorities = All-sent (λ x. x.priority < MQ_PRIO_MAX) m ms priority h.priorities;
   sizes = All-sent (λ x. length x.words ≤ size) m ms small h.sizes;
 }
 
@@ -84,3 +62,23 @@ slice_get-append_here (x ∷ xs) ys (suc i) h = slice_get-append_here xs ys i (o
 pub slice_get-append_later : {X : Type 0} (xs ys : List X) (i : ℕ) → slice_get (xs ++ ys) (length xs + i) ≡ slice_get ys i
 slice_get-append_later [] ys i = ap (slice_get ys) (zero-add i)
 slice_get-append_later (x ∷ xs) ys i = let e : suc (length xs) + i ≡ suc (length xs + i) = omega arith in rw e (slice_get-append_later xs ys i)
+
+-- a message goes behind all where each has its priority or a greater one
+pub sent-all : (m : Message) (xs : List Message) → All (λ x. m.priority ≤ x.priority) xs → sent m xs ≡ xs ++ m ∷ []
+sent-all m xs most =
+    rw (
+      filter-all (λ x. nat_le m.priority x.priority) xs (All-weaker (λ x. m.priority ≤ x.priority) (λ x. nat_le m.priority x.priority ≡ true) (λ x h. nat_le-true m.priority x.priority h) xs most),
+      filter-none (λ x. nat_lt x.priority m.priority) xs (All-weaker (λ x. m.priority ≤ x.priority) (λ x. nat_lt x.priority m.priority ≡ false) (λ x h. nat_lt-false x.priority m.priority h) xs most),
+    ) refl
+
+-- a message goes before all of lesser priorities at the end
+pub sent-append-less : (m : Message) (xs ys : List Message) → All (λ x. x.priority < m.priority) ys → sent m (xs ++ ys) ≡ sent m xs ++ ys
+sent-append-less m xs ys less =
+    rw (
+      filter-append (λ x. nat_le m.priority x.priority) xs ys,
+      filter-append (λ x. nat_lt x.priority m.priority) xs ys,
+      filter-none (λ x. nat_le m.priority x.priority) ys (All-weaker (λ x. x.priority < m.priority) (λ x. nat_le m.priority x.priority ≡ false) (λ x h. nat_le-false m.priority x.priority h) ys less),
+      filter-all (λ x. nat_lt x.priority m.priority) ys (All-weaker (λ x. x.priority < m.priority) (λ x. nat_lt x.priority m.priority ≡ true) (λ x h. nat_lt-true x.priority m.priority h) ys less),
+      append-nil (filter (λ x. nat_le m.priority x.priority) xs),
+    )
+    (sym (append_assoc (filter (λ x. nat_le m.priority x.priority) xs) (m ∷ filter (λ x. nat_lt x.priority m.priority) xs) ys))

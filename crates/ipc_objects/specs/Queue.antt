@@ -1,5 +1,6 @@
 -- Message queues (POSIX.1-2017, mq_send and mq_receive).
-use Rattle.std.specs.Prelude.{ℕ, ◌<◌, ◌≤◌, nat_le, nat_lt, List, ◌∷◌, ◌++◌, length, filter, All}
+use Rattle.std.specs.Prelude.{◌≡◌, ℕ, ◌<◌, ◌≤◌, nat_le, nat_lt, List, ◌∷◌, ◌++◌, length, filter, All}
+use Rattle.ipc_objects.specs.declared.limits.TheConstants.{MQ_PRIO_MAX, MQ_MAXMSG_MAX, MQ_MSGSIZE_MAX}
 use Rattle.ipc_objects.specs.declared.queue.Message.{Message}
 
 -- what a queue is seen as: its messages are in the order in which they would be received
@@ -15,13 +16,18 @@ sent m ms = filter (λ x. nat_le m.priority x.priority) ms ++ m ∷ filter (λ x
 -- the ranges of a queue's numbers, of its priorities and of its lengths
 pub record IsShape (max size : ℕ) (messages : List Message) : Type 0 where
   pub max_at_least : 1 ≤ max
-  pub max_at_most : max ≤ 64
+  pub max_at_most : max ≤ MQ_MAXMSG_MAX
   pub size_at_least : 1 ≤ size
-  pub size_at_most : size ≤ 256
+  pub size_at_most : size ≤ MQ_MSGSIZE_MAX
   pub within : length messages ≤ max
-  pub priorities : All (λ m. m.priority < 32) messages
+  pub priorities : All (λ m. m.priority < MQ_PRIO_MAX) messages
   pub sizes : All (λ m. length m.words ≤ size) messages
 
 -- each queue has them
 abbrev pub IsQueue : QueueState → Type 0
 IsQueue q = IsShape q.max_messages q.message_size q.messages
+
+-- a queue has them and counts its messages
+pub record IsCounted (max size count : ℕ) (messages : List Message) : Type 0 where
+  pub shape : IsShape max size messages
+  pub counted : count ≡ length messages

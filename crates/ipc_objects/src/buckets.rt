@@ -1,135 +1,107 @@
-//! Buckets of messages, one for each priority.
-ghost use Rattle.std.specs.Prelude.{◌≡◌, ◌<◌, [], ◌∷◌, ◌++◌, length, drop, slice_get, slice_set, IfOk, IfErr, OnOk, OnErr, ◌==◌};
+//! Messages in the order of receive, in one bucket for each priority that has some.
+ghost use Rattle.std.specs.Prelude.{◌≡◌, ◌<◌, ◌≤◌, [], ◌∷◌, ◌++◌, length, drop, slice_get, None, IfOk, IfErr, OnOk, OnErr, IsSome, All};
 ghost use Rattle.std.specs.Option.{option_copied};
-ghost use Rattle.ipc_objects.specs.Buckets.{joined, bucket_at};
+ghost use Rattle.std.specs.Ordering.{nat_cmp};
+ghost use Rattle.std.specs.BTreeMap.{get, insert_entry, keys, IsOrdered};
+ghost use Rattle.ipc_objects.specs.Queue.{sent};
+ghost use Rattle.ipc_objects.specs.Buckets.{joined, bucket_at, with_rest};
 
-use crate::{Message, Words};
+use crate::Message;
+use crate::bucket::Bucket;
 use std::alloc::{AllocError, Global};
-use std::collections::VecDeque;
+use std::collections::BTreeMap;
 use std::hash::FoldHasher;
 use std::marker::Model;
 
-/// The messages of one priority, in the order of arrival.
+/// Messages in the order in which they would be received.
 #[derive(Drop)]
-pub(crate) struct Bucket {
-    messages: VecDeque<Message>,
+pub(crate) struct Buckets {
+    alloc: Global,
+    /// The messages of each priority that has some: no bucket is empty.
+    by_priority: BTreeMap<u16, Bucket>,
 }
 
-impl Model for Bucket {
+impl Model for Buckets {
     ghost use Rattle.std.specs.Prelude.{List};
     ghost use Rattle.ipc_objects.specs.declared.queue.Message.{Message};
+    ghost use Rattle.ipc_objects.specs.Buckets.{joined, AreBuckets};
 
     ghost Value = { List Message };
 
-    ghost view = { λ a. a.messages.items };
+    ghost view = { λ a. joined a.by_priority.entries };
+
+    ghost invariant = { λ a. AreBuckets a.by_priority.entries };
 }
 
-impl Bucket {
-    pub(crate) fn new(alloc: Global) -> Bucket
-        ensures { result ≡ [] }
-    {
-        Bucket {
-            messages: VecDeque::new(alloc),
-        }
-    }
-
-    fn len(&self) -> usize
-        ensures { result ≡ length self.now }
-    {
-        self.messages.len()
-    }
-
-    fn get(&self, i: usize) -> Option<&Message>
-        ensures { option_copied result ≡ slice_get self.now i }
-    {
-        self.messages.get(i)
-    }
-
-    /// Adds a message behind the others. Where memory is refused its words are handed back.
-    fn push(&mut self, priority: u16, words: Vec<u16>) -> Result<(), Vec<u16>>
-        ensures ok { OnOk result (self.new ≡ self.old ++ record { priority = priority; words = words.items } ∷ []) }
-        ensures err { OnErr result (self.new ≡ self.old) }
-        ensures handed_back { IfErr result (λ back. back.items ≡ words.items) }
-    {
-        let message = Message {
-            priority,
-            words: Words::from_vec(words),
-        };
-        match self.messages.push_back(message) {
-            Ok(()) => Ok(()),
-            Err(failed) => Err(failed.value.words.into_vec()),
-        }
-    }
-
-    /// Takes out the oldest message.
-    fn pop_front(&mut self) -> Message
-        requires { 0 < length self.old }
-        ensures { self.old ≡ result ∷ self.new }
-    {
-        self.messages.pop_front().unwrap()
-    }
-
-    /// An equal bucket.
-    fn copy(&self, alloc: Global) -> Result<Bucket, AllocError>
-        ensures equal { IfOk result (λ copy. copy ≡ self.now) }
-    {
-        let mut messages = VecDeque::new(alloc);
-        for i in 0..self.messages.len() {
-            let message = &self.messages[i];
-            messages.push_back(message.copy(alloc)?)?;
-        }
-        Ok(Bucket { messages })
-    }
-
-    /// Adds the messages to a digest.
-    pub(crate) fn feed(&self, hasher: &mut FoldHasher) {
-        for message in &self.messages {
-            message.feed(hasher);
-        }
-    }
-}
-
-/// Adds a message behind those of bucket `i`. Where memory is refused its words are handed back.
-pub(crate) fn push_at(
-    buckets: &mut Vec<Bucket>,
-    i: usize,
-    priority: u16,
-    words: Vec<u16>,
-) -> Result<(), Vec<u16>>
-    requires { i < length buckets.old.items }
-    ensures ok { OnOk result (buckets.new.items ≡ slice_set buckets.old.items i (bucket_at buckets.old.items i ++ record { priority = priority; words = words.items } ∷ [])) }
-    ensures err { OnErr result (buckets.new.items ≡ buckets.old.items) }
-    ensures handed_back { IfErr result (λ back. back.items ≡ words.items) }
+/// Makes the bucket of a priority that has none. Where memory is refused the message is handed back.
+fn make(buckets: &mut BTreeMap<u16, Bucket>, alloc: Global, message: Message) -> Result<(), Message>
+    requires { get nat_cmp buckets.old message.priority ≡ None }
+    ensures ok { OnOk result (buckets.new.entries ≡ insert_entry nat_cmp buckets.old.entries message.priority (message ∷ [])) }
+    ensures err { OnErr result (buckets.new.entries ≡ buckets.old.entries) }
+    ensures handed_back { IfErr result (λ back. back ≡ message) }
+    ensures ordered { OnOk result (IsOrdered nat_cmp buckets.new) }
 {
-    let bucket = &mut buckets[i];
-    bucket.push(priority, words)
+    let priority = message.priority;
+    let mut bucket = Bucket::new(alloc);
+    bucket.push(message)?;
+    match buckets.insert(priority, bucket) {
+        Ok(_) => Ok(()),
+        Err(failed) => {
+            let (_, mut bucket) = failed.value;
+            Err(bucket.pop_front())
+        }
+    }
 }
 
-/// Takes out the oldest message of bucket `i`.
-pub(crate) fn pop_at(buckets: &mut Vec<Bucket>, i: usize) -> Message
-    requires within { i < length buckets.old.items }
-    requires some { 0 < length (bucket_at buckets.old.items i) }
-    ensures first { bucket_at buckets.old.items i ≡ result ∷ drop 1 (bucket_at buckets.old.items i) }
-    ensures rest { buckets.new.items ≡ slice_set buckets.old.items i (drop 1 (bucket_at buckets.old.items i)) }
+/// Adds a message to the bucket of its priority. Where memory is refused it is handed back.
+fn put(buckets: &mut BTreeMap<u16, Bucket>, alloc: Global, message: Message) -> Result<(), Message>
+    ensures ok { OnOk result (buckets.new.entries ≡
+        insert_entry nat_cmp buckets.old.entries message.priority (bucket_at buckets.old.entries message.priority ++ message ∷ [])) }
+    ensures err { OnErr result (buckets.new.entries ≡ buckets.old.entries) }
+    ensures handed_back { IfErr result (λ back. back ≡ message) }
+    ensures ordered { OnOk result (IsOrdered nat_cmp buckets.new) }
 {
-    let bucket = &mut buckets[i];
-    bucket.pop_front()
+    match buckets.get_mut(&message.priority) {
+        Some(bucket) => bucket.push(message),
+        None => make(buckets, alloc, message),
+    }
 }
 
-pub(crate) fn is_empty_at(buckets: &Vec<Bucket>, i: usize) -> bool
-    requires { i < length buckets.now.items }
-    ensures { result ≡ (length (bucket_at buckets.now.items i) == 0) }
+/// The greatest priority that has messages.
+fn greatest(buckets: &BTreeMap<u16, Bucket>) -> u16
+    requires { 0 < length buckets.now.entries }
+    ensures some { IsSome (get nat_cmp buckets.now result) }
+    ensures greatest { All (λ q. q ≤ result) (keys buckets.now) }
 {
-    let bucket = &buckets[i];
-    bucket.len() == 0
+    match buckets.last_key_value() {
+        Some((priority, _)) => *priority,
+        None => unreachable!(),
+    }
+}
+
+/// Takes out the oldest message of a priority, and the bucket once it is empty.
+fn take(buckets: &mut BTreeMap<u16, Bucket>, priority: u16) -> Message
+    requires { 0 < length (bucket_at buckets.old.entries priority) }
+    ensures first { bucket_at buckets.old.entries priority ≡ result ∷ drop 1 (bucket_at buckets.old.entries priority) }
+    ensures rest { buckets.new.entries ≡ with_rest buckets.old.entries priority (drop 1 (bucket_at buckets.old.entries priority)) }
+    ensures ordered { IsOrdered nat_cmp buckets.new }
+{
+    let Some(bucket) = buckets.get_mut(&priority) else {
+        unreachable!()
+    };
+    let message = bucket.pop_front();
+    if bucket.len() == 0 {
+        let _ = buckets.remove(&priority);
+    }
+    message
 }
 
 /// The message with `n` others before it, bucket by bucket.
-pub(crate) fn nth_of(buckets: &[Bucket], n: usize) -> Option<&Message>
-    ensures { option_copied result ≡ slice_get (joined buckets.now) n }
+fn nth_of(buckets: &BTreeMap<u16, Bucket>, n: usize) -> Option<&Message>
+    ensures { option_copied result ≡ slice_get (joined buckets.now.entries) n }
 {
     let mut left = n;
-    for bucket in buckets {
+    for (_, bucket) in buckets.iter().rev() {
         let count = bucket.len();
         if left < count {
             return bucket.get(left);
@@ -140,12 +112,67 @@ pub(crate) fn nth_of(buckets: &[Bucket], n: usize) -> Option<&Message>
 }
 
 /// Equal buckets.
-pub(crate) fn copies_of(alloc: Global, buckets: &[Bucket]) -> Result<Vec<Bucket>, AllocError>
-    ensures equal { IfOk result (λ copies. copies.items ≡ buckets.now) }
+fn copy_of(
+    alloc: Global,
+    buckets: &BTreeMap<u16, Bucket>,
+) -> Result<BTreeMap<u16, Bucket>, AllocError>
+    ensures equal { IfOk result (λ copy. copy.entries ≡ buckets.now.entries) }
 {
-    let mut copies = Vec::with_capacity(alloc, buckets.len())?;
-    for bucket in buckets {
-        copies.push(bucket.copy(alloc)?)?;
+    let mut copy = BTreeMap::new(alloc);
+    for (priority, bucket) in buckets {
+        copy.insert(*priority, bucket.copy(alloc)?)?;
     }
-    Ok(copies)
+    Ok(copy)
+}
+
+impl Buckets {
+    pub(crate) fn new(alloc: Global) -> Buckets
+        ensures { result ≡ [] }
+    {
+        Buckets {
+            alloc,
+            by_priority: BTreeMap::new(alloc),
+        }
+    }
+
+    /// Adds a message behind all of its priority or a greater one and before all of a lesser one.
+    /// Where memory is refused it is handed back and nothing changes.
+    pub(crate) fn push(&mut self, message: Message) -> Result<(), Message>
+        ensures ok { OnOk result (self.new ≡ sent message self.old) }
+        ensures err { OnErr result (self.new ≡ self.old) }
+        ensures handed_back { IfErr result (λ back. back ≡ message) }
+    {
+        put(&mut self.by_priority, self.alloc, message)
+    }
+
+    /// Takes out the first message.
+    pub(crate) fn pop_front(&mut self) -> Message
+        requires { 0 < length self.old }
+        ensures { self.old ≡ result ∷ self.new }
+    {
+        let priority = greatest(&self.by_priority);
+        take(&mut self.by_priority, priority)
+    }
+
+    /// The message with `n` others before it.
+    pub(crate) fn get(&self, n: usize) -> Option<&Message>
+        ensures { option_copied result ≡ slice_get self.now n }
+    {
+        nth_of(&self.by_priority, n)
+    }
+
+    /// Equal messages in the same order.
+    pub(crate) fn copy(&self, alloc: Global) -> Result<Buckets, AllocError>
+        ensures equal { IfOk result (λ copy. copy ≡ self.now) }
+    {
+        let by_priority = copy_of(alloc, &self.by_priority)?;
+        Ok(Buckets { alloc, by_priority })
+    }
+
+    /// Adds the messages to a digest.
+    pub(crate) fn feed(&self, hasher: &mut FoldHasher) {
+        for bucket in self.by_priority.values() {
+            bucket.feed(hasher);
+        }
+    }
 }

@@ -1,12 +1,17 @@
 //! Message queues and semaphores of POSIX.1-2017, each by itself: no names, no descriptors.
 #![tactic(auto)]
 
-mod bits;
+mod bucket;
 mod buckets;
+mod limits;
 mod queue;
 mod semaphore;
 mod words;
 
+pub use limits::{
+    MQ_MAXMSG_DEFAULT, MQ_MAXMSG_MAX, MQ_MSGSIZE_DEFAULT, MQ_MSGSIZE_MAX, MQ_PRIO_MAX,
+    SEM_VALUE_MAX,
+};
 pub use queue::{Message, Queue};
-pub use semaphore::{Semaphore, VALUE_MAX};
+pub use semaphore::Semaphore;
 pub use words::Words;

@@ -5,18 +5,15 @@ ghost use Rattle.std.specs.Option.{option_map};
 mod copies;
 
 use crate::Words;
-use crate::bits::{first_bit, with_bit, without_bit};
-use crate::buckets::{Bucket, is_empty_at, nth_of, pop_at, push_at};
+use crate::buckets::Buckets;
+use crate::limits::{MQ_MAXMSG_MAX, MQ_MSGSIZE_MAX, MQ_PRIO_MAX};
 use std::alloc::{AllocError, Global};
 use std::marker::Model;
-
-/// The number of priorities, and so of buckets.
-const BUCKETS: usize = 32;
 
 /// A message with its priority.
 #[derive(Drop)]
 pub struct Message {
-    /// From 0 to 31. Messages of greater priority are received first.
+    /// Less than `MQ_PRIO_MAX`. Messages of greater priority are received first.
     pub priority: u16,
     pub words: Words,
 }
@@ -24,51 +21,41 @@ pub struct Message {
 /// A message queue: the greatest number of messages that it holds, the greatest length of a
 /// message in words, and its messages in the order in which they would be received
 /// (POSIX.1-2017, `mq_send` and `mq_receive`).
-// Bucket `i` keeps the messages of priority `31 - i` in the order of arrival, so that the buckets
-// one after the other are the order of receive.
 #[derive(Drop)]
 pub struct Queue {
     max_messages: u16,
     message_size: u16,
     count: u16,
-    buckets: Vec<Bucket>,
-    /// Bit `i` is one where bucket `i` isn't empty.
-    filled: u32,
+    messages: Buckets,
 }
 
 impl Model for Queue {
-    ghost use Rattle.ipc_objects.specs.Queue.{QueueState};
-    ghost use Rattle.ipc_objects.specs.Buckets.{IsFilled, joined};
+    ghost use Rattle.ipc_objects.specs.Queue.{QueueState, IsCounted};
 
     ghost Value = { QueueState };
 
-    ghost view = { λ a. record { max_messages = a.max_messages; message_size = a.message_size; messages = joined a.buckets.items } };
+    ghost view = { λ a. record { max_messages = a.max_messages; message_size = a.message_size; messages = a.messages } };
 
-    ghost invariant = { λ a. IsFilled a.max_messages a.message_size a.count a.buckets.items a.filled };
+    ghost invariant = { λ a. IsCounted a.max_messages a.message_size a.count a.messages };
 }
 
 impl Queue {
     ghost use Rattle.ipc_objects.specs.Queue.{sent, IsQueue};
 
-    /// An empty queue for at most `max_messages` messages (1 to 64) of at most `message_size`
-    /// words each (1 to 256).
+    /// An empty queue for at most `max_messages` messages (1 to `MQ_MAXMSG_MAX`) of at most
+    /// `message_size` words each (1 to `MQ_MSGSIZE_MAX`).
     pub fn new(alloc: Global, max_messages: u16, message_size: u16) -> Result<Queue, AllocError>
         requires max_at_least { 1 ≤ max_messages }
-        requires max_at_most { max_messages ≤ 64 }
+        requires max_at_most { max_messages ≤ MQ_MAXMSG_MAX }
         requires size_at_least { 1 ≤ message_size }
-        requires size_at_most { message_size ≤ 256 }
+        requires size_at_most { message_size ≤ MQ_MSGSIZE_MAX }
         ensures empty { IfOk result (λ q. q ≡ record { max_messages = max_messages; message_size = message_size; messages = [] }) }
     {
-        let mut buckets = Vec::with_capacity(alloc, BUCKETS)?;
-        for _ in 0..BUCKETS {
-            buckets.push(Bucket::new(alloc))?;
-        }
         Ok(Queue {
             max_messages,
             message_size,
             count: 0,
-            buckets,
-            filled: 0,
+            messages: Buckets::new(alloc),
         })
     }
 
@@ -87,17 +74,23 @@ impl Queue {
     /// Where memory is refused the words are handed back and nothing changes.
     pub fn send(&mut self, priority: u16, words: Vec<u16>) -> Result<(), Vec<u16>>
         requires room { length self.old.messages < self.old.max_messages }
-        requires priority { priority < 32 }
+        requires priority { priority < MQ_PRIO_MAX }
         requires size { length words.items ≤ self.old.message_size }
         ensures ok { OnOk result (self.new ≡ record self.old { messages = sent (record { priority = priority; words = words.items }) self.old.messages }) }
         ensures err { OnErr result (self.new ≡ self.old) }
         ensures handed_back { IfErr result (λ back. back.items ≡ words.items) }
     {
-        let i = 31 - priority as usize;
-        push_at(&mut self.buckets, i, priority, words)?;
-        self.filled = with_bit(self.filled, i);
-        self.count += 1;
-        Ok(())
+        let message = Message {
+            priority,
+            words: Words::from_vec(words),
+        };
+        match self.messages.push(message) {
+            Ok(()) => {
+                self.count += 1;
+                Ok(())
+            }
+            Err(back) => Err(back.words.into_vec()),
+        }
     }
 
     /// Takes out the oldest message of the greatest priority. Takes no memory.
@@ -106,10 +99,7 @@ impl Queue {
         ensures first { self.old.messages ≡ record { priority = result.0; words = result.1.items } ∷ drop 1 self.old.messages }
         ensures rest { self.new ≡ record self.old { messages = drop 1 self.old.messages } }
     {
-        let i = first_bit(self.filled);
-        let message = pop_at(&mut self.buckets, i);
-        let empty = is_empty_at(&self.buckets, i);
-        self.filled = without_bit(self.filled, i, empty);
+        let message = self.messages.pop_front();
         self.count -= 1;
         (message.priority, message.words.into_vec())
     }
@@ -118,7 +108,7 @@ impl Queue {
     pub fn entry(&self, i: usize) -> Option<(u16, &[u16])>
         ensures message { option_map (λ e. record { priority = e.0; words = e.1.now }) result ≡ slice_get self.now.messages i }
     {
-        match nth_of(self.buckets.as_slice(), i) {
+        match self.messages.get(i) {
             Some(message) => Some((message.priority, message.words.as_slice())),
             None => None,
         }

@@ -1,12 +1,10 @@
 //! Semaphores.
 ghost use Rattle.std.specs.Prelude.{◌≡◌, ◌+◌, ◌-◌, ◌<◌, ◌≤◌, ◌==◌, not};
 
+use crate::limits::SEM_VALUE_MAX;
 use std::marker::Model;
 
-/// The greatest value of a semaphore (SEM_VALUE_MAX).
-pub const VALUE_MAX: u16 = 32767;
-
-/// A semaphore, seen as its value, 0 to 32,767 (POSIX.1-2017, `sem_open`).
+/// A semaphore, seen as its value, 0 to `SEM_VALUE_MAX` (POSIX.1-2017, `sem_open`).
 #[derive(Drop)]
 pub struct Semaphore {
     value: u16,
@@ -14,18 +12,19 @@ pub struct Semaphore {
 
 impl Model for Semaphore {
     ghost use Rattle.std.specs.Prelude.{ℕ, ◌≤◌};
+    ghost use Rattle.ipc_objects.specs.declared.limits.TheConstants.{SEM_VALUE_MAX};
 
     ghost Value = { ℕ };
 
     ghost view = { λ a. a.value };
 
-    ghost invariant = { λ a. a.value ≤ 32767 };
+    ghost invariant = { λ a. a.value ≤ SEM_VALUE_MAX };
 }
 
 impl Semaphore {
     /// A semaphore with this value.
     pub fn new(value: u16) -> Semaphore
-        requires range { value ≤ VALUE_MAX }
+        requires range { value ≤ SEM_VALUE_MAX }
         ensures value { result ≡ value }
     {
         Semaphore { value }
@@ -34,14 +33,14 @@ impl Semaphore {
     /// The value now (`sem_getvalue`).
     pub fn value(&self) -> u16
         ensures value { result ≡ self.now }
-        ensures bound { result ≤ VALUE_MAX }
+        ensures bound { result ≤ SEM_VALUE_MAX }
     {
         self.value
     }
 
     /// Adds one to a value below the greatest (`sem_post`).
     pub fn post(&mut self)
-        requires below { self.old < VALUE_MAX }
+        requires below { self.old < SEM_VALUE_MAX }
         ensures more { self.new ≡ self.old + 1 }
     {
         self.value += 1;

@@ -9,11 +9,9 @@ ghost use Rattle.ipc_traps.specs.Reply.{vector_in, unless_zero, four_words_go, r
 
 use crate::memory::{is_in_memory, register};
 use ipc_kernel::Reply;
+use ipc_objects::MQ_MSGSIZE_MAX;
 use lc3_machine::{AtCall, Effect, Want};
 use std::alloc::AllocError;
-
-/// How many words the longest message has.
-const LONGEST: u16 = 256;
 
 /// An address, of which 0 stands for none.
 fn unless_zero(address: u16) -> Option<u16>
@@ -58,7 +56,8 @@ pub fn effect_of(call: &AtCall, reply: Reply) -> Effect
     }
 }
 
-/// Makes writable each word that a reply to the call may write, of a buffer for a message the first 256 words at most.
+/// Makes writable each word that a reply to the call may write, of a buffer for a message the first
+/// `MQ_MSGSIZE_MAX` words at most.
 /// An error is want of memory: some of the words may be writable then.
 #[tactic(auto, unfolding(crate::specs::Reply::IsPrepared, crate::specs::Reply::HasRoom, crate::specs::Asked::asked, crate::specs::Asked::trap_asks))]
 #[inline(always)]
@@ -92,12 +91,12 @@ fn prepare_receive(call: &mut AtCall) -> Result<(), AllocError>
         return Ok(());
     }
     if prio_at == 0 {
-        return call.reserve(at, len.min(LONGEST));
+        return call.reserve(at, len.min(MQ_MSGSIZE_MAX));
     }
     if !is_in_memory(prio_at, 1) {
         return Ok(());
     }
-    call.reserve(at, len.min(LONGEST))?;
+    call.reserve(at, len.min(MQ_MSGSIZE_MAX))?;
     call.reserve(prio_at, 1)
 }
 

@@ -1,7 +1,7 @@
 //! The rules of the calls on message queues.
 ghost use Rattle.std.specs.Prelude.{◌≡◌, ℕ, ◌<◌, ◌≤◌, false, None, length, IsTrue};
 ghost use Rattle.ipc_names.specs.Flags.{flags_read};
-ghost use Rattle.ipc_kernel.specs.Limits.{object_places, mq_msgsize_max};
+ghost use Rattle.ipc_kernel.specs.Limits.{object_places};
 ghost use Rattle.ipc_kernel.specs.Decisions.{outcome_of, IsPossible, decision_may_grow};
 ghost use Rattle.ipc_kernel.specs.Outcomes.{open_queue, unlink};
 ghost use Rattle.ipc_kernel.specs.Places.{are_sizes, queue_named};
@@ -13,10 +13,9 @@ use super::Kernel;
 use super::decision::{Change, Decision, NewQueue, block};
 use crate::{Descriptor, Reply};
 use ipc_names::{Errno, Flags, Name};
-use ipc_objects::{Queue, Words};
-
-/// Priorities are below this.
-const PRIORITY_COUNT: u16 = 32;
+use ipc_objects::{
+    MQ_MAXMSG_DEFAULT, MQ_MAXMSG_MAX, MQ_MSGSIZE_DEFAULT, MQ_MSGSIZE_MAX, MQ_PRIO_MAX, Queue, Words,
+};
 
 /// The flag of a descriptor whose calls do not wait.
 const NONBLOCK: u16 = 0x800;
@@ -26,7 +25,7 @@ fn sizes_asked(attr: Option<[u16; 4]>) -> (u16, u16)
     ensures { result ≡ sizes_asked attr }
 {
     match attr {
-        None => (10, 16),
+        None => (MQ_MAXMSG_DEFAULT, MQ_MSGSIZE_DEFAULT),
         Some(words) => (words[1], words[2]),
     }
 }
@@ -34,7 +33,10 @@ fn sizes_asked(attr: Option<[u16; 4]>) -> (u16, u16)
 fn are_sizes(max_messages: u16, message_size: u16) -> bool
     ensures { result ≡ are_sizes (max_messages, message_size) }
 {
-    max_messages >= 1 && max_messages <= 64 && message_size >= 1 && message_size <= 256
+    max_messages >= 1
+        && max_messages <= MQ_MAXMSG_MAX
+        && message_size >= 1
+        && message_size <= MQ_MSGSIZE_MAX
 }
 
 /// The attributes of an open queue.
@@ -211,7 +213,7 @@ impl Kernel {
         if descriptor.access == 0 {
             return Decision::Refused(Errno::BadDescriptor);
         }
-        if prio >= PRIORITY_COUNT {
+        if prio >= MQ_PRIO_MAX {
             return Decision::Refused(Errno::Invalid);
         }
         if words.len() > size as usize {
@@ -231,7 +233,7 @@ impl Kernel {
         ensures possible { IsPossible self.now result }
         ensures memory { decision_may_grow result ≡ false }
         ensures size { message_length (outcome_of self.now pid result).0 ≤ len }
-        ensures limit { message_length (outcome_of self.now pid result).0 ≤ mq_msgsize_max }
+        ensures limit { message_length (outcome_of self.now pid result).0 ≤ MQ_MSGSIZE_MAX }
     {
         let Some((descriptor, queue)) = self.open_queue(pid, mqd) else {
             return Decision::Refused(Errno::BadDescriptor);

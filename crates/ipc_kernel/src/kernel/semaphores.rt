@@ -1,6 +1,6 @@
 //! The rules of the calls on semaphores.
 ghost use Rattle.std.specs.Prelude.{◌≡◌, ℕ, ◌<◌, ◌≤◌, false, None, length, IsTrue};
-ghost use Rattle.ipc_kernel.specs.Limits.{object_places, open_max, sem_value_max};
+ghost use Rattle.ipc_kernel.specs.Limits.{object_places, open_max};
 ghost use Rattle.ipc_kernel.specs.Decisions.{outcome_of, IsPossible, decision_may_grow};
 ghost use Rattle.ipc_kernel.specs.Outcomes.{open_semaphore, unlink};
 ghost use Rattle.ipc_kernel.specs.Places.{semaphore_named};
@@ -10,7 +10,7 @@ use super::Kernel;
 use super::decision::{Change, Decision, NewSemaphore};
 use crate::{Reply, Slot};
 use ipc_names::{Errno, Name};
-use ipc_objects::VALUE_MAX;
+use ipc_objects::SEM_VALUE_MAX;
 
 /// Make the semaphore where it does not exist.
 const CREATE: u16 = 0x40;
@@ -34,7 +34,7 @@ impl Kernel {
     {
         let create = flags & CREATE != 0;
         let exclusive = flags & EXCLUSIVE != 0;
-        if create && value > VALUE_MAX {
+        if create && value > SEM_VALUE_MAX {
             return Decision::Refused(Errno::Invalid);
         }
         self.decide_sem_look_up(pid, name, create, exclusive, value)
@@ -50,7 +50,7 @@ impl Kernel {
         value: u16,
     ) -> Decision<'a>
         requires process { pid < length self.now.processes }
-        requires value { IsTrue create → value ≤ sem_value_max }
+        requires value { IsTrue create → value ≤ SEM_VALUE_MAX }
         ensures outcome { outcome_of self.now pid result ≡
             sem_look_up self.now pid name.now create exclusive value (semaphore_named self.now.places name.now) }
         ensures possible { IsPossible self.now result }
@@ -75,7 +75,7 @@ impl Kernel {
     #[tactic(auto, using(crate::proofs::PlaceLemmas::first_empty_place))]
     fn decide_sem_create<'a>(&self, pid: usize, name: &'a Name, value: u16) -> Decision<'a>
         requires process { pid < length self.now.processes }
-        requires value { value ≤ sem_value_max }
+        requires value { value ≤ SEM_VALUE_MAX }
         requires absent { semaphore_named self.now.places name.now ≡ None }
         ensures outcome { outcome_of self.now pid result ≡
             sem_create self.now pid name.now value (free_slot_of self.now.processes pid) }
@@ -224,7 +224,7 @@ impl Kernel {
     {
         match self.open_semaphore(pid, slot) {
             None => Decision::Refused(Errno::Invalid),
-            Some((_, VALUE_MAX)) => Decision::Refused(Errno::Overflow),
+            Some((_, SEM_VALUE_MAX)) => Decision::Refused(Errno::Overflow),
             Some((held, value)) => {
                 let place = held.place;
                 Decision::Answered(Reply::Plain(0), Change::Post { place, value })

@@ -2,7 +2,6 @@
 ghost use Rattle.std.specs.Prelude.{◌≡◌, ◌↔◌, IfOk, IsTrue, slice_get};
 
 use super::{Message, Queue};
-use crate::buckets::copies_of;
 use std::alloc::{AllocError, Global};
 use std::hash::{FoldHasher, Hasher};
 
@@ -33,13 +32,12 @@ impl Queue {
     pub fn copy(&self, alloc: Global) -> Result<Queue, AllocError>
         ensures equal { IfOk result (λ copy. copy ≡ self.now) }
     {
-        let buckets = copies_of(alloc, self.buckets.as_slice())?;
+        let messages = self.messages.copy(alloc)?;
         Ok(Queue {
             max_messages: self.max_messages,
             message_size: self.message_size,
             count: self.count,
-            buckets,
-            filled: self.filled,
+            messages,
         })
     }
 
@@ -78,9 +76,7 @@ impl Queue {
         hasher.write_u16(self.max_messages);
         hasher.write_u16(self.message_size);
         hasher.write_u16(self.count);
-        for bucket in &self.buckets {
-            bucket.feed(&mut hasher);
-        }
+        self.messages.feed(&mut hasher);
         hasher.finish()
     }
 }
