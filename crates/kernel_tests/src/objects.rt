@@ -1,6 +1,6 @@
 //! Copies of queues, and pairs of queues that differ in one part alone.
 use crate::support::vector;
-use ipc_objects::Queue;
+use ipc_objects::{MQ_PRIO_MAX, Queue};
 use std::alloc::Global;
 use std::process::Abort;
 
@@ -20,7 +20,7 @@ fn queue_of(rt: &impl Abort, alloc: Global, messages: &[(u16, u16)]) -> Queue {
 fn send(rt: &impl Abort, queue: &mut Queue, priority: u16, words: Vec<u16>) {
     let (max, size, count) = queue.attr();
     assert!(rt;
-        count < max && priority < 32 && words.len() <= size as usize,
+        count < max && priority < MQ_PRIO_MAX && words.len() <= size as usize,
         "it can be sent"
     );
     if let Err(back) = queue.send(priority, words) {
@@ -43,7 +43,7 @@ fn differs_from(rt: &impl Abort, alloc: Global, queue: &Queue, messages: &[(u16,
 #[test]
 fn a_copy_of_a_queue(rt: HostRuntime) {
     let alloc = rt.alloc();
-    let mut queue = queue_of(&rt, alloc, &[(0, 7), (31, 8), (0, 9)]);
+    let mut queue = queue_of(&rt, alloc, &[(0, 7), (32767, 8), (0, 9)]);
     let copy = match queue.copy(alloc) {
         Ok(copy) => copy,
         Err(_) => queue.copy(alloc).expect(&rt, "memory"),
@@ -56,11 +56,11 @@ fn a_copy_of_a_queue(rt: HostRuntime) {
     assert!(rt; count > 0, "a message");
     let (priority, words) = queue.receive();
     assert!(rt;
-        priority == 31 && words.as_slice() == [8].as_slice(),
+        priority == 32767 && words.as_slice() == [8].as_slice(),
         "the first message"
     );
     differ(&rt, &queue, &copy);
-    send(&rt, &mut queue, 31, words);
+    send(&rt, &mut queue, 32767, words);
     assert!(rt;
         queue.is_same(&copy) && queue.digest() == copy.digest(),
         "the same again"
