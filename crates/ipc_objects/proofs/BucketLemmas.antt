@@ -14,7 +14,7 @@ use Rattle.std.proofs.lemmas.Map.Keys.{sorted_head, sorted_tail}
 use Rattle.std.proofs.lemmas.Map.Steps.{set_value_same}
 use Rattle.ipc_objects.specs.declared.queue.Message.{Message}
 use Rattle.ipc_objects.specs.Queue.{sent}
-use Rattle.ipc_objects.specs.Buckets.{joined, bucket_at, with_rest, IsBucket, AreBuckets}
+use Rattle.ipc_objects.specs.Buckets.{joined, bucket_at, with_message, with_rest, without_oldest, IsBucket, AreBuckets}
 use Rattle.ipc_objects.proofs.SentLemmas.{sent-all, sent-append-less, slice_get-append_here, slice_get-append_later}
 
 abbrev Entries : Type 0
@@ -40,7 +40,7 @@ above p (e ∷ es) less each =
 
 -- a message goes to the end of the bucket of its priority
 pub joined_put : (m : Message) (es : Entries) → IsStrictlySortedBy nat_cmp (keys_of es) → All IsBucket es
-    → joined (insert_entry nat_cmp es m.priority (bucket_at es m.priority ++ m ∷ [])) ≡ sent m (joined es)
+    → joined (with_message es m) ≡ sent m (joined es)
 joined_put m [] sorted each = refl
 joined_put m (e ∷ es) sorted each = by (nat_cmp m.priority e.0) refl (joined_put m es (sorted_tail nat_cmp e.0 (keys_of es) sorted) rest)
   where
@@ -94,7 +94,7 @@ each_put p b (e ∷ es) each new = by (nat_cmp p e.0) refl (each_put p b es (All
     by Greater is later = All-cons IsBucket e (insert_entry nat_cmp es p b) (All-head IsBucket e es each) later
 
 -- buckets stay buckets when a message is put in
-pub buckets_put : (m : Message) (es new : Entries) → AreBuckets es → new ≡ insert_entry nat_cmp es m.priority (bucket_at es m.priority ++ m ∷ []) → IsStrictlySortedBy nat_cmp (keys_of new) → AreBuckets new
+pub buckets_put : (m : Message) (es new : Entries) → AreBuckets es → new ≡ with_message es m → IsStrictlySortedBy nat_cmp (keys_of new) → AreBuckets new
 buckets_put m es new inv is sorted = record {
   ordered = sorted;
   each = rw is (each_put m.priority (bucket_at es m.priority ++ m ∷ []) es inv.each (
@@ -215,7 +215,7 @@ set_is_put p b w (e ∷ es) sorted here = by (nat_cmp p e.0) refl here (set_is_p
     by Greater is some later = ap (λ fs. e ∷ fs) (later some)
 
 pub put_in : (m : Message) (b w : List Message) (es new : Entries) → IsStrictlySortedBy nat_cmp (keys_of es) → Some b ≡ lookup (is_at (nat_cmp m.priority)) es → new ≡ set_value (is_at (nat_cmp m.priority)) es w → w ≡ b ++ m ∷ []
-    → new ≡ insert_entry nat_cmp es m.priority (bucket_at es m.priority ++ m ∷ [])
+    → new ≡ with_message es m
 put_in m b w es new sorted here is w_is =
     is ∙ set_is_put m.priority b w es sorted (sym here) ∙ ap (insert_entry nat_cmp es m.priority) (w_is ∙ ap (λ o. unwrap_or o [] ++ m ∷ []) here)
 
@@ -232,13 +232,13 @@ remove_set t w (e ∷ es) = by (t e.0) refl (remove_set t w es)
     by false is later = rw is (ap (λ fs. e ∷ fs) later)
 
 pub rest_gone : (p : ℕ) (x : Message) (b w : List Message) (es middle new : Entries) → Some b ≡ lookup (is_at (nat_cmp p)) es → b ≡ x ∷ w → length w ≡ 0 → middle ≡ set_value (is_at (nat_cmp p)) es w → new ≡ remove_entry (is_at (nat_cmp p)) middle
-    → new ≡ with_rest es p (drop 1 (bucket_at es p))
+    → new ≡ without_oldest es p
 rest_gone p x b [] es middle new here is none middle_is new_is =
     new_is ∙ ap (remove_entry (is_at (nat_cmp p))) middle_is ∙ remove_set (is_at (nat_cmp p)) [] es ∙ ap (λ ms. with_rest es p (drop 1 ms)) (sym is ∙ ap (λ o. unwrap_or o []) here)
 rest_gone p x b (m ∷ ms) es middle new here is none middle_is new_is = absurd (omega arith)
 
 pub rest_stays : (p : ℕ) (x : Message) (b w : List Message) (es new : Entries) → Some b ≡ lookup (is_at (nat_cmp p)) es → b ≡ x ∷ w → 0 < length w → new ≡ set_value (is_at (nat_cmp p)) es w
-    → new ≡ with_rest es p (drop 1 (bucket_at es p))
+    → new ≡ without_oldest es p
 rest_stays p x b [] es new here is some new_is = absurd (omega arith)
 rest_stays p x b (m ∷ ms) es new here is some new_is = new_is ∙ ap (λ ns. with_rest es p (drop 1 ns)) (sym is ∙ ap (λ o. unwrap_or o []) here)
 
@@ -251,9 +251,14 @@ has_message p (e ∷ es) each some = by (is_at (nat_cmp p) e.0) some (has_messag
     by true here later = (All-head IsBucket e es each).0
     by false here later = later here
 
+-- the messages of a priority whose oldest is known
+pub oldest_is : (x : Message) (ms : List Message) → slice_get ms 0 ≡ Some x → ms ≡ x ∷ drop 1 ms
+oldest_is x [] is = absurd cc
+oldest_is x (m ∷ ms) is = let same : m ≡ x = cc in rw same refl
+
 -- buckets stay buckets whether a message is put in or not
 pub buckets_pushed : {T E : Type 0} (r : Result T E) (m : Message) (es new : Entries) → AreBuckets es
-    → OnOk r (new ≡ insert_entry nat_cmp es m.priority (bucket_at es m.priority ++ m ∷ [])) → OnErr r (new ≡ es) → OnOk r (IsStrictlySortedBy nat_cmp (keys_of new)) → AreBuckets new
+    → OnOk r (new ≡ with_message es m) → OnErr r (new ≡ es) → OnOk r (IsStrictlySortedBy nat_cmp (keys_of new)) → AreBuckets new
 buckets_pushed (Ok x) m es new inv is same sorted = buckets_put m es new inv is sorted
 buckets_pushed (Err x) m es new inv is same sorted = rw same inv
 

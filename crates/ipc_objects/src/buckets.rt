@@ -1,10 +1,10 @@
 //! Messages in the order of receive, in one bucket for each priority that has some.
-ghost use Rattle.std.specs.Prelude.{◌≡◌, ◌<◌, ◌≤◌, [], ◌∷◌, ◌++◌, length, drop, slice_get, None, IfOk, IfErr, OnOk, OnErr, IsSome, All};
+ghost use Rattle.std.specs.Prelude.{◌≡◌, ◌<◌, ◌≤◌, [], ◌∷◌, length, slice_get, Some, None, IfOk, IfErr, OnOk, OnErr, IsSome, All};
 ghost use Rattle.std.specs.Option.{option_copied};
 ghost use Rattle.std.specs.Ordering.{nat_cmp};
-ghost use Rattle.std.specs.BTreeMap.{get, insert_entry, keys, IsOrdered};
+ghost use Rattle.std.specs.BTreeMap.{get, keys, IsOrdered};
 ghost use Rattle.ipc_objects.specs.Queue.{sent};
-ghost use Rattle.ipc_objects.specs.Buckets.{joined, bucket_at, with_rest};
+ghost use Rattle.ipc_objects.specs.Buckets.{joined, bucket_at, with_message, without_oldest};
 
 use crate::Message;
 use crate::bucket::Bucket;
@@ -33,10 +33,10 @@ impl Model for Buckets {
     ghost invariant = { λ a. AreBuckets a.by_priority.entries };
 }
 
-/// Makes the bucket of a priority that has none. Where memory is refused the message is handed back.
+/// Makes the bucket of a priority that has none. A message that is refused memory is handed back.
 fn make(buckets: &mut BTreeMap<u16, Bucket>, alloc: Global, message: Message) -> Result<(), Message>
     requires { get nat_cmp buckets.old message.priority ≡ None }
-    ensures ok { OnOk result (buckets.new.entries ≡ insert_entry nat_cmp buckets.old.entries message.priority (message ∷ [])) }
+    ensures ok { OnOk result (buckets.new.entries ≡ with_message buckets.old.entries message) }
     ensures err { OnErr result (buckets.new.entries ≡ buckets.old.entries) }
     ensures handed_back { IfErr result (λ back. back ≡ message) }
     ensures ordered { OnOk result (IsOrdered nat_cmp buckets.new) }
@@ -55,8 +55,7 @@ fn make(buckets: &mut BTreeMap<u16, Bucket>, alloc: Global, message: Message) ->
 
 /// Adds a message to the bucket of its priority. Where memory is refused it is handed back.
 fn put(buckets: &mut BTreeMap<u16, Bucket>, alloc: Global, message: Message) -> Result<(), Message>
-    ensures ok { OnOk result (buckets.new.entries ≡
-        insert_entry nat_cmp buckets.old.entries message.priority (bucket_at buckets.old.entries message.priority ++ message ∷ [])) }
+    ensures ok { OnOk result (buckets.new.entries ≡ with_message buckets.old.entries message) }
     ensures err { OnErr result (buckets.new.entries ≡ buckets.old.entries) }
     ensures handed_back { IfErr result (λ back. back ≡ message) }
     ensures ordered { OnOk result (IsOrdered nat_cmp buckets.new) }
@@ -82,8 +81,8 @@ fn greatest(buckets: &BTreeMap<u16, Bucket>) -> u16
 /// Takes out the oldest message of a priority, and the bucket once it is empty.
 fn take(buckets: &mut BTreeMap<u16, Bucket>, priority: u16) -> Message
     requires { 0 < length (bucket_at buckets.old.entries priority) }
-    ensures first { bucket_at buckets.old.entries priority ≡ result ∷ drop 1 (bucket_at buckets.old.entries priority) }
-    ensures rest { buckets.new.entries ≡ with_rest buckets.old.entries priority (drop 1 (bucket_at buckets.old.entries priority)) }
+    ensures first { slice_get (bucket_at buckets.old.entries priority) 0 ≡ Some result }
+    ensures rest { buckets.new.entries ≡ without_oldest buckets.old.entries priority }
     ensures ordered { IsOrdered nat_cmp buckets.new }
 {
     let Some(bucket) = buckets.get_mut(&priority) else {
