@@ -14,7 +14,7 @@ use Rattle.std.proofs.lemmas.Map.Keys.{sorted_head, sorted_tail}
 use Rattle.std.proofs.lemmas.Map.Steps.{set_value_same}
 use Rattle.ipc_objects.specs.declared.queue.Message.{Message}
 use Rattle.ipc_objects.specs.Queue.{sent}
-use Rattle.ipc_objects.specs.Buckets.{joined, bucket_at, with_message, with_rest, without_oldest, IsBucket, AreBuckets}
+use Rattle.ipc_objects.specs.Buckets.{joined, bucket_at, with_message, with_rest, IsBucket, AreBuckets}
 use Rattle.ipc_objects.proofs.SentLemmas.{sent-all, sent-append-less, slice_get-append_here, slice_get-append_later}
 
 abbrev Entries : Type 0
@@ -221,26 +221,6 @@ put_in m b w es new sorted here is w_is =
 
 pub put_back : (p : ℕ) (b w : List Message) (es new : Entries) → Some b ≡ lookup (is_at (nat_cmp p)) es → new ≡ set_value (is_at (nat_cmp p)) es w → w ≡ b → new ≡ es
 put_back p b w es new here is w_is = is ∙ set_value_same (is_at (nat_cmp p)) es w (sym here ∙ ap (λ ms. Some ms) (sym w_is))
-
--- the same buckets are left where the one that is emptied goes
-remove_set : (t : ℕ → Bool) (w : List Message) (es : Entries) → remove_entry t (set_value t es w) ≡ remove_entry t es
-remove_set t w [] = refl
-remove_set t w (e ∷ es) = by (t e.0) refl (remove_set t w es)
-  where
-    by : (b : Bool) → t e.0 ≡ b → remove_entry t (set_value t es w) ≡ remove_entry t es → remove_entry t (cond b ((e.0, w) ∷ es) (e ∷ set_value t es w)) ≡ cond b es (e ∷ remove_entry t es)
-    by true is later = rw is refl
-    by false is later = rw is (ap (λ fs. e ∷ fs) later)
-
-pub rest_gone : (p : ℕ) (x : Message) (b w : List Message) (es middle new : Entries) → Some b ≡ lookup (is_at (nat_cmp p)) es → b ≡ x ∷ w → length w ≡ 0 → middle ≡ set_value (is_at (nat_cmp p)) es w → new ≡ remove_entry (is_at (nat_cmp p)) middle
-    → new ≡ without_oldest es p
-rest_gone p x b [] es middle new here is none middle_is new_is =
-    new_is ∙ ap (remove_entry (is_at (nat_cmp p))) middle_is ∙ remove_set (is_at (nat_cmp p)) [] es ∙ ap (λ ms. with_rest es p (drop 1 ms)) (sym is ∙ ap (λ o. unwrap_or o []) here)
-rest_gone p x b (m ∷ ms) es middle new here is none middle_is new_is = absurd (omega arith)
-
-pub rest_stays : (p : ℕ) (x : Message) (b w : List Message) (es new : Entries) → Some b ≡ lookup (is_at (nat_cmp p)) es → b ≡ x ∷ w → 0 < length w → new ≡ set_value (is_at (nat_cmp p)) es w
-    → new ≡ without_oldest es p
-rest_stays p x b [] es new here is some new_is = absurd (omega arith)
-rest_stays p x b (m ∷ ms) es new here is some new_is = new_is ∙ ap (λ ns. with_rest es p (drop 1 ns)) (sym is ∙ ap (λ o. unwrap_or o []) here)
 
 -- a bucket that is there has messages
 pub has_message : (p : ℕ) (es : Entries) → All IsBucket es → IsSome (lookup (is_at (nat_cmp p)) es) → 0 < length (bucket_at es p)

@@ -7,41 +7,49 @@ use std::alloc::{AllocError, Global};
 use std::collections::VecDeque;
 use std::hash::FoldHasher;
 use std::marker::Model;
+use std::mem::replace;
 
-/// The messages of one priority, in the order of arrival.
+/// The messages of one priority, in the order of arrival. There is at least one, and a bucket of
+/// one takes no memory of its own.
 #[derive(Drop)]
 pub(crate) struct Bucket {
-    messages: VecDeque<Message>,
+    oldest: Message,
+    later: VecDeque<Message>,
 }
 
 impl Model for Bucket {
-    ghost use Rattle.std.specs.Prelude.{List};
+    ghost use Rattle.std.specs.Prelude.{List, ◌∷◌};
     ghost use Rattle.ipc_objects.specs.declared.queue.Message.{Message};
 
     ghost Value = { List Message };
 
-    ghost view = { λ a. a.messages.items };
+    ghost view = { λ a. a.oldest ∷ a.later.items };
 }
 
 impl Bucket {
-    pub(crate) fn new(alloc: Global) -> Bucket
-        ensures { result ≡ [] }
+    /// A bucket of one message.
+    pub(crate) fn of(alloc: Global, message: Message) -> Bucket
+        ensures { result ≡ message ∷ [] }
     {
         Bucket {
-            messages: VecDeque::new(alloc),
+            oldest: message,
+            later: VecDeque::new(alloc),
         }
     }
 
     pub(crate) fn len(&self) -> usize
         ensures { result ≡ length self.now }
     {
-        self.messages.len()
+        1 + self.later.len()
     }
 
     pub(crate) fn get(&self, i: usize) -> Option<&Message>
         ensures { option_copied result ≡ slice_get self.now i }
     {
-        self.messages.get(i)
+        if i == 0 {
+            return Some(&self.oldest);
+        }
+        self.later.get(i - 1)
     }
 
     /// Adds a message behind the others. Where memory is refused it is handed back.
@@ -50,35 +58,47 @@ impl Bucket {
         ensures err { OnErr result (self.new ≡ self.old) }
         ensures handed_back { IfErr result (λ back. back ≡ message) }
     {
-        match self.messages.push_back(message) {
+        match self.later.push_back(message) {
             Ok(()) => Ok(()),
             Err(failed) => Err(failed.value),
         }
     }
 
-    /// Takes out the oldest message.
+    /// Takes out the oldest of several messages.
     pub(crate) fn pop_front(&mut self) -> Message
-        requires { 0 < length self.old }
+        requires { 1 < length self.old }
         ensures { self.old ≡ result ∷ self.new }
     {
-        self.messages.pop_front().unwrap()
+        let next = self.later.pop_front().unwrap();
+        replace(&mut self.oldest, next)
+    }
+
+    /// The only message.
+    pub(crate) fn into_message(self) -> Message
+        requires { length self ≡ 1 }
+        ensures { self ≡ result ∷ [] }
+    {
+        let Bucket { oldest, later: _ } = self;
+        oldest
     }
 
     /// An equal bucket.
     pub(crate) fn copy(&self, alloc: Global) -> Result<Bucket, AllocError>
         ensures equal { IfOk result (λ copy. copy ≡ self.now) }
     {
-        let mut messages = VecDeque::new(alloc);
-        for i in 0..self.messages.len() {
-            let message = &self.messages[i];
-            messages.push_back(message.copy(alloc)?)?;
+        let oldest = self.oldest.copy(alloc)?;
+        let mut later = VecDeque::new(alloc);
+        for i in 0..self.later.len() {
+            let message = &self.later[i];
+            later.push_back(message.copy(alloc)?)?;
         }
-        Ok(Bucket { messages })
+        Ok(Bucket { oldest, later })
     }
 
     /// Adds the messages to a digest.
     pub(crate) fn feed(&self, hasher: &mut FoldHasher) {
-        for message in &self.messages {
+        self.oldest.feed(hasher);
+        for message in &self.later {
             message.feed(hasher);
         }
     }

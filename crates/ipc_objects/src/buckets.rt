@@ -1,5 +1,5 @@
 //! Messages in the order of receive, in one bucket for each priority that has some.
-ghost use Rattle.std.specs.Prelude.{◌≡◌, ◌<◌, ◌≤◌, [], ◌∷◌, length, slice_get, Some, None, IfOk, IfErr, OnOk, OnErr, IsSome, All};
+ghost use Rattle.std.specs.Prelude.{◌≡◌, ◌<◌, ◌≤◌, ◌==◌, [], ◌∷◌, length, slice_get, Some, None, IfOk, IfErr, OnOk, OnErr, IsSome, All};
 ghost use Rattle.std.specs.Option.{option_copied};
 ghost use Rattle.std.specs.Ordering.{nat_cmp};
 ghost use Rattle.std.specs.BTreeMap.{get, keys, IsOrdered};
@@ -41,14 +41,11 @@ fn make(buckets: &mut BTreeMap<u16, Bucket>, alloc: Global, message: Message) ->
     ensures handed_back { IfErr result (λ back. back ≡ message) }
     ensures ordered { OnOk result (IsOrdered nat_cmp buckets.new) }
 {
-    let priority = message.priority;
-    let mut bucket = Bucket::new(alloc);
-    bucket.push(message)?;
-    match buckets.insert(priority, bucket) {
+    match buckets.insert(message.priority, Bucket::of(alloc, message)) {
         Ok(_) => Ok(()),
         Err(failed) => {
-            let (_, mut bucket) = failed.value;
-            Err(bucket.pop_front())
+            let (_, bucket) = failed.value;
+            Err(bucket.into_message())
         }
     }
 }
@@ -66,33 +63,57 @@ fn put(buckets: &mut BTreeMap<u16, Bucket>, alloc: Global, message: Message) -> 
     }
 }
 
-/// The greatest priority that has messages.
-fn greatest(buckets: &BTreeMap<u16, Bucket>) -> u16
+/// The greatest priority that has messages, and whether it has a single one.
+fn greatest(buckets: &BTreeMap<u16, Bucket>) -> (u16, bool)
     requires { 0 < length buckets.now.entries }
-    ensures some { IsSome (get nat_cmp buckets.now result) }
-    ensures greatest { All (λ q. q ≤ result) (keys buckets.now) }
+    ensures some { IsSome (get nat_cmp buckets.now result.0) }
+    ensures greatest { All (λ q. q ≤ result.0) (keys buckets.now) }
+    ensures single { result.1 ≡ (length (bucket_at buckets.now.entries result.0) == 1) }
 {
     match buckets.last_key_value() {
-        Some((priority, _)) => *priority,
+        Some((priority, bucket)) => (*priority, bucket.len() == 1),
+        None => unreachable!(),
+    }
+}
+
+/// Takes out the bucket of a priority that has a single message.
+fn take_bucket(buckets: &mut BTreeMap<u16, Bucket>, priority: u16) -> Message
+    requires { length (bucket_at buckets.old.entries priority) ≡ 1 }
+    ensures first { slice_get (bucket_at buckets.old.entries priority) 0 ≡ Some result }
+    ensures rest { buckets.new.entries ≡ without_oldest buckets.old.entries priority }
+    ensures ordered { IsOrdered nat_cmp buckets.new }
+{
+    match buckets.remove(&priority) {
+        Some(bucket) => bucket.into_message(),
+        None => unreachable!(),
+    }
+}
+
+/// Takes out the oldest message of a priority that has several.
+fn take_oldest(buckets: &mut BTreeMap<u16, Bucket>, priority: u16) -> Message
+    requires { 1 < length (bucket_at buckets.old.entries priority) }
+    ensures first { slice_get (bucket_at buckets.old.entries priority) 0 ≡ Some result }
+    ensures rest { buckets.new.entries ≡ without_oldest buckets.old.entries priority }
+    ensures ordered { IsOrdered nat_cmp buckets.new }
+{
+    match buckets.get_mut(&priority) {
+        Some(bucket) => bucket.pop_front(),
         None => unreachable!(),
     }
 }
 
 /// Takes out the oldest message of a priority, and the bucket once it is empty.
-fn take(buckets: &mut BTreeMap<u16, Bucket>, priority: u16) -> Message
-    requires { 0 < length (bucket_at buckets.old.entries priority) }
+fn take(buckets: &mut BTreeMap<u16, Bucket>, priority: u16, single: bool) -> Message
+    requires some { 0 < length (bucket_at buckets.old.entries priority) }
+    requires single { single ≡ (length (bucket_at buckets.old.entries priority) == 1) }
     ensures first { slice_get (bucket_at buckets.old.entries priority) 0 ≡ Some result }
     ensures rest { buckets.new.entries ≡ without_oldest buckets.old.entries priority }
     ensures ordered { IsOrdered nat_cmp buckets.new }
 {
-    let Some(bucket) = buckets.get_mut(&priority) else {
-        unreachable!()
-    };
-    let message = bucket.pop_front();
-    if bucket.len() == 0 {
-        let _ = buckets.remove(&priority);
+    if single {
+        return take_bucket(buckets, priority);
     }
-    message
+    take_oldest(buckets, priority)
 }
 
 /// The message with `n` others before it, bucket by bucket.
@@ -149,8 +170,8 @@ impl Buckets {
         requires { 0 < length self.old }
         ensures { self.old ≡ result ∷ self.new }
     {
-        let priority = greatest(&self.by_priority);
-        take(&mut self.by_priority, priority)
+        let (priority, single) = greatest(&self.by_priority);
+        take(&mut self.by_priority, priority, single)
     }
 
     /// The message with `n` others before it.
