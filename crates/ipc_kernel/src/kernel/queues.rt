@@ -193,6 +193,7 @@ impl Kernel {
         }
     }
 
+    #[inline(always)]
     pub(super) fn decide_mq_send<'a>(
         &self,
         pid: usize,
@@ -225,6 +226,7 @@ impl Kernel {
     }
 
     #[tactic(auto, using(crate::proofs::AnswerLemmas::first_short))]
+    #[inline(always)]
     pub(super) fn decide_mq_receive<'a>(&self, pid: usize, mqd: u16, len: u16) -> Decision<'a>
         requires { pid < length self.now.processes }
         ensures outcome { outcome_of self.now pid result ≡ mq_receive self.now len (open_queue self.now pid mqd) }

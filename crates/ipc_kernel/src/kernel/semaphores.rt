@@ -184,6 +184,7 @@ impl Kernel {
         }
     }
 
+    #[inline(always)]
     pub(super) fn decide_sem_wait<'a>(&self, pid: usize, slot: u16) -> Decision<'a>
         requires { pid < length self.now.processes }
         ensures outcome { outcome_of self.now pid result ≡ sem_wait self.now (open_semaphore self.now pid slot) }
@@ -216,6 +217,7 @@ impl Kernel {
         }
     }
 
+    #[inline(always)]
     pub(super) fn decide_sem_post<'a>(&self, pid: usize, slot: u16) -> Decision<'a>
         requires { pid < length self.now.processes }
         ensures outcome { outcome_of self.now pid result ≡ sem_post self.now (open_semaphore self.now pid slot) }
