@@ -9,6 +9,7 @@ pub mod Runs
 pub mod Stands
 pub mod Ends
 pub mod WorldLemmas
+pub mod Locals
 pub mod ScheduleRuns
 pub mod Histories
 pub mod Courses

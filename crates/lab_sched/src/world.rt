@@ -143,16 +143,10 @@ impl World {
             return Err(StepFault::NoProcess);
         }
         let alloc = *self.processes.allocator();
-        let process = self.processes.remove(pid);
-        match take_step(alloc, process, &mut self.kernel, pid) {
-            Ok((process, stepped)) => {
-                put_back(&mut self.processes, pid, process);
-                Ok(stepped)
-            }
-            Err(process) => {
-                put_back(&mut self.processes, pid, process);
-                Err(StepFault::NoMemory)
-            }
-        }
+        let process = &mut self.processes[pid];
+        let Ok(stepped) = take_step(alloc, process, &mut self.kernel, pid) else {
+            return Err(StepFault::NoMemory);
+        };
+        Ok(stepped)
     }
 }
