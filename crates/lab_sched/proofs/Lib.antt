@@ -16,7 +16,6 @@ pub mod Courses
 pub mod Alones
 pub mod Rests
 pub mod Commutes
-pub mod Finds
 pub mod ScheduleEnds
 pub mod Settles
 pub mod VerdictLemmas

@@ -6,6 +6,7 @@ use Rattle.lc3_machine.specs.declared.want.How.{How}
 use Rattle.lc3_machine.specs.declared.want.Want.TheVariants.{End}
 use Rattle.lc3_machine.specs.Steps.{after as machine_after}
 use Rattle.lc3_machine.specs.declared.machine.Progress.{Progress}
+use Rattle.lc3_machine.specs.declared.machine.Progress.TheVariants as progress
 use Rattle.ipc_kernel.specs.Kernel.{KernelState}
 use Rattle.ipc_kernel.specs.declared.call.Call.{Call}
 use Rattle.ipc_kernel.specs.declared.call.Call.TheVariants.{Exit}
@@ -24,9 +25,10 @@ use Rattle.lab_sched.specs.declared.stepped.Stepped.TheVariants as stepped
 use Rattle.lab_sched.specs.Worlds.{Process, Running, Waiting, Ended, WorldState, calls, act, act_for, told, first_try, retry, kernel_step}
 use Rattle.lab_sched.specs.Held.{seen, IsHeld, Taken, taken, step_of}
 use Rattle.lab_sched.specs.Segments.{IsAfterLocal}
+use Rattle.lab_sched.specs.Settling.{AsksFor}
 use Rattle.lab_sched.specs.Stepping.{CanTakeReply, IsWaiting, StandsBefore, StopsBy, StopsByIn, after_end, after_reply, before_wait}
 use Rattle.lab_sched.proofs.Alones.{act_local}
-use Rattle.lab_sched.proofs.Ends.{end_step}
+use Rattle.lab_sched.proofs.Ends.{act_end, end_step}
 use Rattle.lab_sched.proofs.Places.{get-set_same}
 use Rattle.lab_sched.proofs.WorldLemmas.{seen_at}
 
@@ -51,7 +53,8 @@ local_one k p (Running m) u n h one =
 local_one k p (Waiting m c) u n h one = let none = h.0 in absurd (omega arith)
 local_one k p (Ended e) u n h one = let none = h.0 in absurd (omega arith)
 
-asks : (m : Machine) (c : Call) → asked m ≡ Calls c → act m ≡ calls c
+-- a call that is asked for is what a process does next
+pub asks : (m : Machine) (c : Call) → asked m ≡ Calls c → act m ≡ calls c
 unfolding act
 asks m c is = ap (λ r. act_for m r) is
 
@@ -116,14 +119,20 @@ end_told k j p (Running m) u how stands u-is j-is =
 end_told k j p (Waiting m c) u how stands u-is j-is = absurd stands
 end_told k j p (Ended e) u how stands u-is j-is = absurd stands
 
+-- a process at its end asks for Exit
+pub end_asks : (x : Kept) (m : Machine) (p : Progress) (how : How) → x ≡ kept.Running m → p ≡ progress.Stopped (End how) → StopsBy (seen x) p → AsksFor (seen x) Exit
+end_asks x m p how is stopped stops =
+    let stands : StopsBy (Running m) (progress.Stopped (End how)) = subst (λ y. StopsBy (Running m) y) stopped (subst (λ y. StopsBy (seen y) p) is stops) in
+    subst (λ y. AsksFor (seen y) Exit) (sym is) (act_end m how (asked_end m how stands))
+
 -- what keeps a process from its next local step, in the world that it was written into
 pub stops_in : (ps : List Kept) (k : KernelState) (v : WorldState) (p : ℕ) (s : Kept) (progress : Progress)
     → record { processes = map seen (set ps p s); kernel = k } ≡ v → p < length ps → StopsBy (seen s) progress → StopsByIn v p progress
 stops_in ps k v p s progress same within stops =
     subst (λ x. StopsByIn x p progress) same (λ u at. (
-      let there : slice_get (map seen (set ps p s)) p ≡ Some (seen s) = slice_get-map seen (set ps p s) p ∙ ap (λ o. option_map seen o) (get-set_same ps p s within) in
-      let is : seen s ≡ u = let both : Some (seen s) ≡ Some u = sym there ∙ at in cc in
-      subst (λ x. StopsBy x progress) is stops
+    let there : slice_get (map seen (set ps p s)) p ≡ Some (seen s) = slice_get-map seen (set ps p s) p ∙ ap (λ o. option_map seen o) (get-set_same ps p s within) in
+    let is : seen s ≡ u = let both : Some (seen s) ≡ Some u = sym there ∙ at in cc in
+    subst (λ x. StopsBy x progress) is stops
     ))
 
 -- the same where it is read again

@@ -29,9 +29,9 @@ pub(crate) enum Asking {
 
 /// The vector of a trap, and where the arguments of its call are kept.
 #[derive(Clone, Copy)]
-struct TrapAt {
-    alloc: Global,
-    vector: u8,
+pub(crate) struct TrapAt {
+    pub(crate) alloc: Global,
+    pub(crate) vector: u8,
 }
 
 /// Takes local steps of a process, at most so many; with how many were taken, and what kept a
@@ -84,7 +84,7 @@ fn ask(alloc: Global, call: AtCall) -> (Process, Asking)
 
 /// The same of a process that runs.
 #[inline(always)]
-fn ask_by(process: Process, trap: TrapAt) -> (Process, Asking)
+pub(crate) fn ask_by(process: Process, trap: TrapAt) -> (Process, Asking)
     requires stands { StandsBefore (seen process) (Trap trap.vector) }
     ensures asking { IsAsking (seen process) result.1 (seen result.0) }
     ensures held { IsHeld result.0 }
@@ -131,15 +131,13 @@ fn ended(process: Process, how: How) -> (Process, ())
     ensures held { IsHeld result.0 }
 {
     match process {
-        Process::Running(running) => {
-            (Process::Ended(running.stand(Want::End(how)).end()), ())
-        }
+        Process::Running(running) => { (Process::Ended(running.stand(Want::End(how)).end()), ()) }
         other => (other, ()),
     }
 }
 
 /// Tries the call that a process waits for.
-#[inline(always)]
+#[inline(never)]
 fn retry(process: &mut Process, kernel: &mut Kernel, pid: usize) -> Result<Stepped, AllocError>
     requires process { pid < length kernel.old.processes }
     requires held { IsHeld process.old }
