@@ -44,6 +44,7 @@ impl Model for Kernel {
 }
 
 /// The reply of a refused call.
+#[inline(always)]
 fn refusal(errno: Errno) -> Answer
     ensures { result ≡ Done (Plain (65536 - number_of errno)) }
 {
