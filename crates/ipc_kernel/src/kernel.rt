@@ -45,6 +45,7 @@ impl Model for Kernel {
 }
 
 /// The reply of a refused call.
+#[inline(always)]
 fn refusal(errno: Errno) -> Answer
     ensures { result ≡ Done (Plain (65536 - number_of errno)) }
 {
@@ -116,6 +117,7 @@ impl Kernel {
     /// Answers a call of a process: the reply, or that the call must wait. A refusal is a plain
     /// reply, the negative of the error's number. Where memory is refused nothing has changed, and
     /// the same call can be made again; only mq_open, mq_send and sem_open take memory.
+    #[inline(always)]
     pub fn call(&mut self, pid: usize, call: &Call) -> Result<Answer, AllocError>
         requires process { pid < length self.old.processes }
         ensures answered { IfOk result (λ a. (a, self.new) ≡ answer self.old pid call.now) }
@@ -154,6 +156,7 @@ impl Kernel {
 
     /// What becomes of a call now.
     #[tactic(auto, unfolding(crate::specs::Answer::answer))]
+    #[inline(always)]
     fn decide<'a>(&self, pid: usize, call: &'a Call) -> Decision<'a>
         requires { pid < length self.now.processes }
         ensures outcome { outcome_of self.now pid result ≡ answer self.now pid call.now }
@@ -186,6 +189,7 @@ impl Kernel {
     }
 
     /// An open descriptor, with its queue.
+    #[inline(always)]
     fn open_queue(&self, pid: usize, mqd: u16) -> Option<(Descriptor, &Queue)>
         requires { pid < length self.now.processes }
         ensures found { option_map (λ r. (r.0, r.1.now)) result ≡ open_queue self.now pid mqd }
@@ -203,6 +207,7 @@ impl Kernel {
     }
 
     /// An open slot, with the value of its semaphore.
+    #[inline(always)]
     fn open_semaphore(&self, pid: usize, slot: u16) -> Option<(Slot, u16)>
         requires { pid < length self.now.processes }
         ensures found { result ≡ open_semaphore self.now pid slot }

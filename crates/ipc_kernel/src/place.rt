@@ -47,6 +47,7 @@ impl Place {
     }
 
     /// The value of the semaphore.
+    #[inline(always)]
     pub(crate) fn value(&self) -> Option<u16>
         ensures value { result ≡ semaphore_value self.now }
         ensures bound { IfSome result (λ value. value ≤ SEM_VALUE_MAX) }
@@ -58,6 +59,7 @@ impl Place {
     }
 
     /// The queue.
+    #[inline(always)]
     pub(crate) fn queue(&self) -> Option<&Queue>
         ensures { option_copied result ≡ queue_in self.now }
     {
@@ -88,6 +90,7 @@ impl Place {
     }
 
     /// Adds a message to the queue.
+    #[inline(always)]
     pub(crate) fn send(&mut self, priority: u16, words: Vec<u16>) -> Result<(), AllocError>
         requires queue { IsSomeAnd (queue_in self.old) (HasRoomFor words.items) }
         requires priority { priority < MQ_PRIO_MAX }
@@ -104,6 +107,7 @@ impl Place {
     }
 
     /// Takes the first message from the queue.
+    #[inline(always)]
     pub(crate) fn receive(&mut self) -> (u16, Vec<u16>)
         requires { IsSomeAnd (queue_in self.old) HasMessage }
         ensures first { (q : QueueState) → queue_in self.old ≡ Some q →
@@ -118,6 +122,7 @@ impl Place {
     }
 
     /// Adds one to the value of the semaphore.
+    #[inline(always)]
     pub(crate) fn post(&mut self, value: u16)
         requires value { semaphore_value self.old ≡ Some value }
         requires room { value < SEM_VALUE_MAX }
@@ -129,6 +134,7 @@ impl Place {
     }
 
     /// Takes one from the value of the semaphore.
+    #[inline(always)]
     pub(crate) fn take(&mut self, value: u16)
         requires value { semaphore_value self.old ≡ Some value }
         ensures { self.new ≡ with_value (value - 1) self.old }

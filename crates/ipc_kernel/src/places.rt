@@ -42,6 +42,7 @@ fn empty_unused_in(places: &mut [Place], processes: &Processes)
 
 /// Adds a copy of a message to the queue in a place.
 #[tactic(auto, using(crate::proofs::PlaceLemmas::queue_in_range, crate::proofs::PlaceLemmas::place_at_read))]
+#[inline(always)]
 fn send_at(
     places: &mut Vec<Place>,
     alloc: Global,
@@ -61,6 +62,7 @@ fn send_at(
 }
 
 #[tactic(auto, using(crate::proofs::PlaceLemmas::queue_in_range, crate::proofs::PlaceLemmas::place_at_read))]
+#[inline(always)]
 fn receive_at(places: &mut Vec<Place>, place: u8) -> (u16, Vec<u16>)
     requires { IsSomeAnd (queue_in (place_at places.old.items place)) HasMessage }
     ensures first { (q : QueueState) → queue_in (place_at places.old.items place) ≡ Some q →
@@ -73,6 +75,7 @@ fn receive_at(places: &mut Vec<Place>, place: u8) -> (u16, Vec<u16>)
 }
 
 #[tactic(auto, using(crate::proofs::PlaceLemmas::semaphore_in_range, crate::proofs::PlaceLemmas::place_at_read))]
+#[inline(always)]
 fn post_at(places: &mut Vec<Place>, place: u8, value: u16)
     requires value { semaphore_value (place_at places.old.items place) ≡ Some value }
     requires room { value < SEM_VALUE_MAX }
@@ -83,6 +86,7 @@ fn post_at(places: &mut Vec<Place>, place: u8, value: u16)
 }
 
 #[tactic(auto, using(crate::proofs::PlaceLemmas::semaphore_in_range, crate::proofs::PlaceLemmas::place_at_read))]
+#[inline(always)]
 fn take_at(places: &mut Vec<Place>, place: u8, value: u16)
     requires value { semaphore_value (place_at places.old.items place) ≡ Some value }
     ensures { places.new.items ≡ slice_set places.old.items place (with_value (value - 1) (place_at places.old.items place)) }
@@ -219,6 +223,7 @@ impl Places {
     }
 
     /// The value of the semaphore in a place.
+    #[inline(always)]
     pub(crate) fn value(&self, place: u8) -> Option<u16>
         ensures value { result ≡ semaphore_value (place_at self.now place) }
         ensures bound { IfSome result (λ value. value ≤ SEM_VALUE_MAX) }
@@ -230,6 +235,7 @@ impl Places {
     }
 
     /// The queue in a place.
+    #[inline(always)]
     pub(crate) fn queue(&self, place: u8) -> Option<&Queue>
         ensures { option_copied result ≡ queue_in (place_at self.now place) }
     {
@@ -260,6 +266,7 @@ impl Places {
     }
 
     /// Adds a copy of a message to the queue in a place.
+    #[inline(always)]
     pub(crate) fn send(&mut self, place: u8, priority: u16, words: &Words) -> Result<(), AllocError>
         requires queue { IsSomeAnd (queue_in (place_at self.old place)) (HasRoomFor words.now) }
         requires priority { priority < MQ_PRIO_MAX }
@@ -271,6 +278,7 @@ impl Places {
     }
 
     /// Takes the first message from the queue in a place.
+    #[inline(always)]
     pub(crate) fn receive(&mut self, place: u8) -> (u16, Vec<u16>)
         requires { IsSomeAnd (queue_in (place_at self.old place)) HasMessage }
         ensures first { (q : QueueState) → queue_in (place_at self.old place) ≡ Some q →
@@ -282,6 +290,7 @@ impl Places {
     }
 
     /// Adds one to the value of the semaphore in a place.
+    #[inline(always)]
     pub(crate) fn post(&mut self, place: u8, value: u16)
         requires value { semaphore_value (place_at self.old place) ≡ Some value }
         requires room { value < SEM_VALUE_MAX }
@@ -291,6 +300,7 @@ impl Places {
     }
 
     /// Takes one from the value of the semaphore in a place.
+    #[inline(always)]
     pub(crate) fn take(&mut self, place: u8, value: u16)
         requires value { semaphore_value (place_at self.old place) ≡ Some value }
         ensures { self.new ≡ slice_set self.old place (with_value (value - 1) (place_at self.old place)) }

@@ -42,6 +42,7 @@ pub(crate) fn slot_refers_to(slot: &Option<Slot>, place: u8) -> bool
     }
 }
 
+#[inline(always)]
 pub(crate) fn descriptor_at(descriptors: &[Option<Descriptor>], mqd: u16) -> Option<Descriptor>
     ensures held { result ≡ unwrap_or (slice_get descriptors.now mqd) None }
     ensures range { IfSome result (λ _. mqd < length descriptors.now) }
@@ -52,6 +53,7 @@ pub(crate) fn descriptor_at(descriptors: &[Option<Descriptor>], mqd: u16) -> Opt
     }
 }
 
+#[inline(always)]
 pub(crate) fn slot_at(slots: &[Option<Slot>], slot: u16) -> Option<Slot>
     ensures held { result ≡ unwrap_or (slice_get slots.now slot) None }
     ensures range { IfSome result (λ _. slot < length slots.now) }

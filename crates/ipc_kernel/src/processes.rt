@@ -121,6 +121,7 @@ impl Processes {
     }
 
     #[tactic(auto, using(crate::proofs::ProcessLemmas::process_at_read))]
+    #[inline(always)]
     pub(crate) fn descriptor(&self, pid: usize, mqd: u16) -> Option<Descriptor>
         requires { pid < length self.now }
         ensures held { result ≡ descriptor_of self.now pid mqd }
@@ -132,6 +133,7 @@ impl Processes {
     }
 
     #[tactic(auto, using(crate::proofs::ProcessLemmas::process_at_read))]
+    #[inline(always)]
     pub(crate) fn slot(&self, pid: usize, slot: u16) -> Option<Slot>
         requires { pid < length self.now }
         ensures held { result ≡ slot_of self.now pid slot }

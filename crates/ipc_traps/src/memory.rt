@@ -12,6 +12,7 @@ use std::alloc::{AllocError, Global};
 const DEVICES: u32 = 0xfe00;
 
 /// The word of a register.
+#[inline(always)]
 pub(crate) fn register(call: &AtCall, number: u16) -> u16
     requires { number < 8 }
     ensures { result ≡ reg call.now.process number }

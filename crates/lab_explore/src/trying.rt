@@ -92,7 +92,7 @@ fn came(made: Option<Made>) -> Tried
 fn step_on(
     alloc: Global,
     mut kernel: Kernel,
-    process: Process,
+    mut process: Process,
     pid: usize,
     most: u32,
 ) -> Result<Tried, ExploreFault>
@@ -100,14 +100,14 @@ fn step_on(
     requires held { IsHeld process }
     ensures stepped { IfOk result (λ tried. IsStepped kernel pid (seen process) tried) }
 {
-    match take_step(alloc, process, &mut kernel, pid) {
-        Ok((process, Stepped::Same)) => {
+    match take_step(alloc, &mut process, &mut kernel, pid) {
+        Ok(Stepped::Same) => {
             discard(process);
             discard(kernel);
             Ok(Tried::Still)
         }
-        Ok((process, _)) => Ok(came(run_on(alloc, kernel, process, most)?)),
-        Err(process) => {
+        Ok(_) => Ok(came(run_on(alloc, kernel, process, most)?)),
+        Err(_) => {
             discard(process);
             discard(kernel);
             Err(ExploreFault::NoMemory)

@@ -16,7 +16,8 @@ use Rattle.lab_sched.specs.Worlds.{Running, Waiting, Ended, calls, act, told, fi
 use Rattle.lab_sched.specs.declared.stepped.Stepped.TheVariants as stepped
 use Rattle.lab_sched.specs.Held.{Taken, taken, step_of}
 
-act_end : (m : Machine) (how : How) → asked m ≡ Ends how → act m ≡ calls Exit
+-- an end asks for Exit
+pub act_end : (m : Machine) (how : How) → asked m ≡ Ends how → act m ≡ calls Exit
 unfolding act
 act_end m how is = rw is refl
 

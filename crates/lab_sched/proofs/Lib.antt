@@ -9,13 +9,13 @@ pub mod Runs
 pub mod Stands
 pub mod Ends
 pub mod WorldLemmas
+pub mod Locals
 pub mod ScheduleRuns
 pub mod Histories
 pub mod Courses
 pub mod Alones
 pub mod Rests
 pub mod Commutes
-pub mod Finds
 pub mod ScheduleEnds
 pub mod Settles
 pub mod VerdictLemmas

@@ -14,16 +14,16 @@ use Rattle.ipc_kernel.specs.Kernel.{KernelState}
 use Rattle.ipc_kernel.specs.Answer.{answer}
 use Rattle.lab_sched.specs.declared.process.Process.{Process as Kept}
 use Rattle.lab_sched.specs.declared.entry.Entry.{Entry}
-use Rattle.lab_sched.specs.declared.world.finding.Found.{Found}
-use Rattle.lab_sched.specs.declared.world.finding.Found.TheVariants.{Moved, Refusal, Asks}
+use Rattle.lab_sched.specs.declared.next.Next.{Next}
+use Rattle.lab_sched.specs.declared.next.Next.TheVariants as next
 use Rattle.lab_sched.specs.Worlds.{Process, Running, Waiting, Ended, WorldState, first_try, retry, nothing, local_step, kernel_step, turn, turn_in, step, after, run, IsEffective}
 use Rattle.lab_sched.specs.Held.{seen}
 use Rattle.lab_sched.specs.Verdicts.{HasEnded}
 use Rattle.lab_sched.specs.Course.{IsCourse}
 use Rattle.lab_sched.specs.Settled.{Report, IsAdded, IsSettled, HasStopped, IsShort}
-use Rattle.lab_sched.specs.Settling.{AsksFor, IsFound, AsksIn, IsFoundIn, IsTaken}
+use Rattle.lab_sched.specs.Settling.{AsksFor, IsNext, AsksIn, IsNextIn, IsTaken}
 use Rattle.lab_sched.proofs.Runs.{run-none}
-use Rattle.lab_sched.proofs.Courses.{course_none, course-append, course_step, course_length, course_local, turn_local, with_process, count-append, count-replicate_same, count-replicate_other}
+use Rattle.lab_sched.proofs.Courses.{course_none, course-append, course_step, course_length, course_local, with_process, count-append, count-replicate_same, count-replicate_other}
 use Rattle.lab_sched.proofs.Commutes.{after_other}
 use Rattle.lab_sched.proofs.WorldLemmas.{seen_at, same_world}
 
@@ -159,26 +159,25 @@ short_more {r} {q} left bits bits' {short} i k added within len clear only mine 
           lives = λ s at. not_ended q.world p s (rw now.0 m.1) at;
         }
 
--- what was found of a process that was taken out and put back
+-- what a process does next, over the whole world
 
-found_seen : (w : WorldState) (p most : ℕ) (s u : Process) (f : Found) (v : WorldState) → slice_get w.processes p ≡ Some s → (u ≡ s → v ≡ w) → with_process w p u ≡ v
-    → IsFound s most f u → IsFoundIn w p most f v
-found_seen w p most s u (Moved n) v at same is h = (h.0, subst (λ x. IsCourse w (replicate n p) x []) is (course_local n w p s u at h.1))
-found_seen w p most (Running m) u Refusal v at same is h = (same h.0, (h.1.0, turn_local w p m h.1.0 at h.1.1))
-found_seen w p most (Waiting m c) u Refusal v at same is h = absurd h.1
-found_seen w p most (Ended e) u Refusal v at same is h = absurd h.1
-found_seen w p most s u (Asks c) v at same is h = (same h.0, (s, at, h.1))
+next_seen : (w : WorldState) (p most : ℕ) (s u : Process) (n : Next) (v : WorldState) → slice_get w.processes p ≡ Some s → (u ≡ s → v ≡ w) → with_process w p u ≡ v
+    → IsNext s most n u → IsNextIn w p most n v
+next_seen w p most s u (next.Moved n) v at same is h = (h.1, subst (λ x. IsCourse w (replicate n p) x []) is (course_local n w p s u at h.2))
+next_seen w p most s u (next.Asks c) v at same is h = (same h.0, (s, at, h.1))
+next_seen w p most s u next.Ended v at same is h = same h.0
+next_seen w p most s u next.Short v at same is h = same h
 
-pub found_in : (ps ps' : List Kept) (k : KernelState) (w : WorldState) (p most : ℕ) (s s' : Kept) (f : Found)
-    → record { processes = map seen ps; kernel = k } ≡ w → p < length ps → s ≡ get_or ps p s → ps' ≡ set ps p s' → IsFound (seen s) most f (seen s')
-    → IsFoundIn w p most f (record { processes = map seen ps'; kernel = k })
+pub next_in : (ps ps' : List Kept) (k : KernelState) (w : WorldState) (p most : ℕ) (s s' : Kept) (n : Next)
+    → record { processes = map seen ps; kernel = k } ≡ w → p < length ps → s ≡ get_or ps p s → ps' ≡ set ps p s' → IsNext (seen s) most n (seen s')
+    → IsNextIn w p most n (record { processes = map seen ps'; kernel = k })
 unfolding with_process
-found_in ps ps' k w p most s s' f same within read ps-is found =
+next_in ps ps' k w p most s s' n same within read ps-is found =
     let old : WorldState = record { processes = map seen ps; kernel = k } in
     let new : WorldState = record { processes = map seen ps'; kernel = k } in
     let moved : map seen ps' ≡ set (map seen ps) p (seen s') = ap (λ xs. map seen xs) ps-is ∙ map-set seen ps p s' in
-    subst (λ x. IsFoundIn x p most f new) same
-    (found_seen old p most (seen s) (seen s') f new (seen_at ps p s within read)
+    subst (λ x. IsNextIn x p most n new) same
+    (next_seen old p most (seen s) (seen s') n new (seen_at ps p s within read)
     (λ e. same_world ps ps' k k old p s s' refl within read ps-is e refl)
     (ap (λ xs. record { processes = xs; kernel = k }) (sym moved)) found)
 
@@ -193,13 +192,6 @@ taken_none w v es fs p w-is es-is = record {
 
 pub taken_moves : (w v : WorldState) (es : List Entry) (ps : List ℕ) → IsCourse w ps v [] → IsTaken w es ps v es
 taken_moves w v es ps course = record { told = []; course = course; entries = sym (append-nil es) }
-
-pub taken_local : (w v : WorldState) (es : List Entry) (p : ℕ) (q : Machine) → turn_in w p ≡ local_step q → v ≡ step w p → IsTaken w es (replicate 1 p) v es
-taken_local w v es p q is v-is = record {
-  told = [];
-  course = subst (λ x. IsCourse w (p ∷ []) x []) (sym (v-is ∙ ap (λ t. after w p t) is)) (course_step w p (local_step q) is tt);
-  entries = sym (append-nil es);
-}
 
 retry_told : (m : Machine) (c : Call) (a : Answer) → IsEffective (retry m c a) → retry m c a ≡ kernel_step m c a
 retry_told m c Wait h = absurd h

@@ -4,6 +4,7 @@
 mod entry;
 mod fresh;
 pub mod laws;
+mod next;
 mod process;
 mod schedule;
 mod stepped;
@@ -14,6 +15,7 @@ mod world;
 
 pub use entry::Entry;
 pub use fresh::{Fresh, FreshFault, Program};
+pub use next::{Next, find_next};
 pub use process::Process;
 pub use schedule::{Block, MOST_STEPS, PROCESSES, SchedFault, Schedule};
 pub use stepped::Stepped;

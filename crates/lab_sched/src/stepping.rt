@@ -1,159 +1,291 @@
-//! One step of one process.
-ghost use Rattle.std.specs.Prelude.{◌≡◌, ◌<◌, length, IfOk, IfErr, OnOk, OnErr};
-ghost use Rattle.ipc_kernel.specs.Answer.{answer};
-ghost use Rattle.ipc_kernel.specs.declared.call.Call.TheVariants.{Exit};
-ghost use Rattle.lc3_machine.specs.Steps.{AsksTrap, AsksEnd};
+//! One step of one process: what it does next, and what the answer to its call makes of it.
+ghost use Rattle.std.specs.Prelude.{◌≡◌, ◌<◌, ◌≤◌, length, IfOk, OnOk, OnErr};
+ghost use Rattle.lc3_machine.specs.Steps.{AsksTrap};
+ghost use Rattle.lc3_machine.specs.declared.want.Want.TheVariants.{Trap, End};
 ghost use Rattle.ipc_traps.specs.Asked.{Calls, asked};
-ghost use Rattle.lab_sched.specs.Worlds.{Running as RunningSeen};
+ghost use Rattle.lab_sched.specs.declared.stepped.Stepped.TheVariants.{Same, Waits};
 ghost use Rattle.lab_sched.specs.Held.{seen, IsHeld, step_of};
+ghost use Rattle.lab_sched.specs.Segments.{IsAfterLocal};
+ghost use Rattle.lab_sched.specs.Worlds.{Running as RunningSeen};
+ghost use Rattle.lab_sched.specs.Stepping.{CanTakeReply, IsAsking, IsWaiting, StandsBefore, StopsBy, after_end, after_reply, before_wait};
 
 use crate::{Process, Stepped};
+use core::mem::replace_with;
 use ipc_kernel::{Answer, Call, Kernel, Reply};
 use ipc_traps::{Asked, effect_of, prepare, read_call};
-use lc3_machine::{AtCall, Local, Want};
+use lc3_machine::{AtCall, How, Progress, Want};
 use std::alloc::{AllocError, Global};
 
-/// Takes a step of process `pid`, or hands the process back where memory was refused.
-#[tactic(auto, using(ipc_traps::proofs::Laws::asked_local, ipc_traps::proofs::Laws::room_prepared), unfolding(crate::specs::Worlds::act, crate::specs::Worlds::told))]
-pub fn take_step(
-    alloc: Global,
-    process: Process,
-    kernel: &mut Kernel,
-    pid: usize,
-) -> Result<(Process, Stepped), Process>
-    requires process { pid < length kernel.old.processes }
+/// What came of a running process that stood before a trap of the kernel.
+#[derive(Clone, Copy, PartialEq, Eq, Debug)]
+pub(crate) enum Asking {
+    /// It waits for the answer to its call, which the kernel hasn't seen yet.
+    Waits,
+    /// Its call was refused without the kernel: a local step.
+    Refused,
+    /// Memory was refused, and nothing has changed.
+    Short,
+}
+
+/// The vector of a trap, and where the arguments of its call are kept.
+#[derive(Clone, Copy)]
+pub(crate) struct TrapAt {
+    pub(crate) alloc: Global,
+    pub(crate) vector: u8,
+}
+
+/// Takes local steps of a process, at most so many; with how many were taken, and what kept a
+/// running process from the next one.
+#[inline(always)]
+pub(crate) fn local_steps(process: &mut Process, most: u32) -> (u32, Progress)
+    requires held { IsHeld process.old }
+    ensures local { IsAfterLocal (seen process.old) result.0 (seen process.new) }
+    ensures held { IsHeld process.new }
+    ensures within { result.0 ≤ most }
+    ensures stops { result.0 < most → StopsBy (seen process.new) result.1 }
+{
+    match process {
+        Process::Running(running) => running.advance(most),
+        Process::Waiting(_, _) | Process::Ended(_) => (0, Progress::Moved),
+    }
+}
+
+/// The process that waits for the answer to its call, once there is room for each reply.
+#[inline(always)]
+fn wait(mut call: AtCall, request: Call) -> (Process, Asking)
+    requires trap { AsksTrap call.process }
+    requires request { asked call.process ≡ Calls request }
+    ensures asking { IsAsking (RunningSeen call.process) result.1 (seen result.0) }
+    ensures held { IsHeld result.0 }
+{
+    match prepare(&mut call) {
+        Ok(()) => (Process::Waiting(call.wait(), request), Asking::Waits),
+        Err(_) => (Process::Running(call.back()), Asking::Short),
+    }
+}
+
+/// What a process does that stands before a trap of the kernel.
+#[tactic(auto, using(ipc_traps::proofs::Laws::room_plain), unfolding(crate::specs::Worlds::act))]
+#[inline(always)]
+fn ask(alloc: Global, call: AtCall) -> (Process, Asking)
+    requires trap { AsksTrap call.process }
+    ensures asking { IsAsking (RunningSeen call.process) result.1 (seen result.0) }
+    ensures held { IsHeld result.0 }
+{
+    match read_call(alloc, &call) {
+        Ok(Asked::Kernel(request)) => wait(call, request),
+        Ok(Asked::Refused(e)) => {
+            let effect = effect_of(&call, Reply::Plain(e.reply()));
+            (Process::Running(call.finish(effect)), Asking::Refused)
+        }
+        Err(_) => (Process::Running(call.back()), Asking::Short),
+    }
+}
+
+/// The same of a process that runs.
+#[inline(always)]
+pub(crate) fn ask_by(process: Process, trap: TrapAt) -> (Process, Asking)
+    requires stands { StandsBefore (seen process) (Trap trap.vector) }
+    ensures asking { IsAsking (seen process) result.1 (seen result.0) }
+    ensures held { IsHeld result.0 }
+{
+    match process {
+        Process::Running(running) => ask(trap.alloc, running.stand(Want::Trap(trap.vector))),
+        other => (other, Asking::Short),
+    }
+}
+
+/// The process that the reply to its call makes of one that waits.
+#[inline(always)]
+fn replied(process: Process, reply: Reply) -> (Process, ())
     requires held { IsHeld process }
-    ensures ok { IfOk result (λ r. record { process = seen r.0; kernel = kernel.new; told = r.1 } ≡ step_of kernel.old pid (seen process)) }
-    ensures held { IfOk result (λ r. IsHeld r.0) }
-    ensures err { IfErr result (λ same. seen same ≡ seen process) }
+    requires reply { CanTakeReply process reply }
+    ensures told { seen result.0 ≡ after_reply (seen process) reply }
+    ensures held { IsHeld result.0 }
+{
+    match process {
+        Process::Waiting(waiting, _) => {
+            let effect = effect_of(waiting.at_call(), reply);
+            (Process::Running(waiting.finish(effect)), ())
+        }
+        other => (other, ()),
+    }
+}
+
+/// The process as it was before it began to wait.
+fn resumed(process: Process, (): ()) -> (Process, ())
+    requires held { IsHeld process }
+    ensures process { seen result.0 ≡ before_wait (seen process) }
+    ensures held { IsHeld result.0 }
+{
+    match process {
+        Process::Waiting(waiting, _) => (Process::Running(waiting.back()), ()),
+        other => (other, ()),
+    }
+}
+
+/// The process that has ended.
+fn ended(process: Process, how: How) -> (Process, ())
+    requires stands { StandsBefore (seen process) (End how) }
+    ensures ended { seen result.0 ≡ after_end (seen process) how }
+    ensures held { IsHeld result.0 }
+{
+    match process {
+        Process::Running(running) => { (Process::Ended(running.stand(Want::End(how)).end()), ()) }
+        other => (other, ()),
+    }
+}
+
+/// Tries the call that a process waits for.
+#[inline(never)]
+fn retry(process: &mut Process, kernel: &mut Kernel, pid: usize) -> Result<Stepped, AllocError>
+    requires process { pid < length kernel.old.processes }
+    requires held { IsHeld process.old }
+    requires waits { IsWaiting (seen process.old) }
+    ensures ok { IfOk result (λ told. record { process = seen process.new; kernel = kernel.new; told = told } ≡ step_of kernel.old pid (seen process.old)) }
+    ensures held { IsHeld process.new }
+    ensures err { OnErr result (seen process.new ≡ seen process.old) }
     ensures kernel { OnErr result (kernel.new ≡ kernel.old) }
-    ensures still_held { IfErr result (λ same. IsHeld same) }
     ensures count { length kernel.new.processes ≡ length kernel.old.processes }
 {
     match process {
-        Process::Running(running) => match running.step() {
-            Local::Running(next) => Ok((Process::Running(next), Stepped::Moved)),
-            Local::AtCall(call) => step_call(alloc, call, kernel, pid),
-            Local::Short(same) => Err(Process::Running(same)),
-        },
-        Process::Waiting(waiting, call) => match kernel.call(pid, &call) {
-            Ok(Answer::Done(reply)) => {
-                let effect = effect_of(waiting.at_call(), reply);
-                Ok((Process::Running(waiting.finish(effect)), Stepped::Called))
+        Process::Waiting(_, call) => match kernel.call(pid, call)? {
+            Answer::Wait => Ok(Stepped::Same),
+            Answer::Done(reply) => {
+                replace_with(process, reply, replied);
+                Ok(Stepped::Called)
             }
-            Ok(Answer::Wait) => Ok((Process::Waiting(waiting, call), Stepped::Same)),
-            Err(_) => Err(Process::Waiting(waiting, call)),
         },
-        Process::Ended(ended) => Ok((Process::Ended(ended), Stepped::Same)),
+        Process::Running(_) | Process::Ended(_) => unreachable!(),
     }
 }
 
-/// The step of a process that stands before a call or its end.
-fn step_call(
-    alloc: Global,
-    call: AtCall,
-    kernel: &mut Kernel,
-    pid: usize,
-) -> Result<(Process, Stepped), Process>
+/// What the first try of a call is, by what a later one would be.
+#[inline(always)]
+fn first(stepped: Stepped) -> Stepped
+    ensures same { stepped ≡ Same → result ≡ Waits }
+    ensures other { (stepped ≡ Same → ⊥) → result ≡ stepped }
+{
+    match stepped {
+        Stepped::Same => Stepped::Waits,
+        Stepped::Moved | Stepped::Called | Stepped::Waits => stepped,
+    }
+}
+
+/// Tries the call that a process has just begun to wait for; where memory is refused it runs again.
+#[inline(always)]
+fn first_try(process: &mut Process, kernel: &mut Kernel, pid: usize) -> Result<Stepped, AllocError>
     requires process { pid < length kernel.old.processes }
-    ensures ok { IfOk result (λ r. record { process = seen r.0; kernel = kernel.new; told = r.1 } ≡ step_of kernel.old pid (RunningSeen call.process)) }
-    ensures held { IfOk result (λ r. IsHeld r.0) }
-    ensures err { IfErr result (λ same. seen same ≡ RunningSeen call.process) }
+    requires held { IsHeld process.old }
+    requires waits { IsWaiting (seen process.old) }
+    ensures ok { IfOk result (λ told. record { process = seen process.new; kernel = kernel.new; told = told } ≡ step_of kernel.old pid (before_wait (seen process.old))) }
+    ensures held { IsHeld process.new }
+    ensures err { OnErr result (seen process.new ≡ before_wait (seen process.old)) }
     ensures kernel { OnErr result (kernel.new ≡ kernel.old) }
-    ensures still_held { IfErr result (λ same. IsHeld same) }
     ensures count { length kernel.new.processes ≡ length kernel.old.processes }
 {
-    match call.want() {
-        Want::End(_) => step_end(call, kernel, pid),
-        Want::Trap(_) => step_trap(alloc, call, kernel, pid),
-    }
-}
-
-/// The call of an end, whose reply no process sees.
-fn exit(kernel: &mut Kernel, pid: usize) -> Result<(), AllocError>
-    requires process { pid < length kernel.old.processes }
-    ensures ok { OnOk result (kernel.new ≡ (answer kernel.old pid Exit).1) }
-    ensures err { OnErr result (kernel.new ≡ kernel.old) }
-    ensures count { length kernel.new.processes ≡ length kernel.old.processes }
-{
-    match kernel.call(pid, &Call::Exit) {
-        Ok(_) => Ok(()),
-        Err(e) => Err(e),
-    }
-}
-
-/// The end of a process.
-#[tactic(auto, using(ipc_traps::proofs::Laws::asked_end), unfolding(crate::specs::Worlds::act, crate::specs::Worlds::told))]
-fn step_end(call: AtCall, kernel: &mut Kernel, pid: usize) -> Result<(Process, Stepped), Process>
-    requires process { pid < length kernel.old.processes }
-    requires end { AsksEnd call.process }
-    ensures ok { IfOk result (λ r. record { process = seen r.0; kernel = kernel.new; told = r.1 } ≡ step_of kernel.old pid (RunningSeen call.process)) }
-    ensures held { IfOk result (λ r. IsHeld r.0) }
-    ensures err { IfErr result (λ same. seen same ≡ RunningSeen call.process) }
-    ensures kernel { OnErr result (kernel.new ≡ kernel.old) }
-    ensures still_held { IfErr result (λ same. IsHeld same) }
-    ensures count { length kernel.new.processes ≡ length kernel.old.processes }
-{
-    match exit(kernel, pid) {
-        Ok(()) => Ok((Process::Ended(call.end()), Stepped::Called)),
-        Err(_) => Err(Process::Running(call.back())),
+    match retry(process, kernel, pid) {
+        Ok(stepped) => Ok(first(stepped)),
+        Err(e) => {
+            replace_with(process, (), resumed);
+            Err(e)
+        }
     }
 }
 
 /// The step of a process that stands before a trap of the kernel.
-#[tactic(auto, using(ipc_traps::proofs::Laws::room_plain), unfolding(crate::specs::Worlds::act, crate::specs::Worlds::told))]
+#[inline(always)]
 fn step_trap(
     alloc: Global,
-    call: AtCall,
+    process: &mut Process,
+    vector: u8,
     kernel: &mut Kernel,
     pid: usize,
-) -> Result<(Process, Stepped), Process>
+) -> Result<Stepped, AllocError>
     requires process { pid < length kernel.old.processes }
-    requires trap { AsksTrap call.process }
-    ensures ok { IfOk result (λ r. record { process = seen r.0; kernel = kernel.new; told = r.1 } ≡ step_of kernel.old pid (RunningSeen call.process)) }
-    ensures held { IfOk result (λ r. IsHeld r.0) }
-    ensures err { IfErr result (λ same. seen same ≡ RunningSeen call.process) }
+    requires held { IsHeld process.old }
+    requires stands { StandsBefore (seen process.old) (Trap vector) }
+    ensures ok { IfOk result (λ told. record { process = seen process.new; kernel = kernel.new; told = told } ≡ step_of kernel.old pid (seen process.old)) }
+    ensures held { IsHeld process.new }
+    ensures err { OnErr result (seen process.new ≡ seen process.old) }
     ensures kernel { OnErr result (kernel.new ≡ kernel.old) }
-    ensures still_held { IfErr result (λ same. IsHeld same) }
     ensures count { length kernel.new.processes ≡ length kernel.old.processes }
 {
-    match read_call(alloc, &call) {
-        Ok(Asked::Kernel(request)) => step_kernel(call, request, kernel, pid),
-        Ok(Asked::Refused(e)) => {
-            let effect = effect_of(&call, Reply::Plain(e.reply()));
-            Ok((Process::Running(call.finish(effect)), Stepped::Moved))
-        }
-        Err(_) => Err(Process::Running(call.back())),
+    match replace_with(process, TrapAt { alloc, vector }, ask_by) {
+        Asking::Waits => first_try(process, kernel, pid),
+        Asking::Refused => Ok(Stepped::Moved),
+        Asking::Short => Err(AllocError),
     }
 }
 
-/// The step of a process that makes a call of the kernel.
-#[tactic(auto, using(ipc_traps::proofs::Laws::room_prepared), unfolding(crate::specs::Worlds::act, crate::specs::Worlds::told))]
-fn step_kernel(
-    mut call: AtCall,
-    request: Call,
+/// The step of a process that stands before its end. No process sees the reply of `Exit`.
+fn step_end(
+    process: &mut Process,
+    how: How,
     kernel: &mut Kernel,
     pid: usize,
-) -> Result<(Process, Stepped), Process>
+) -> Result<Stepped, AllocError>
     requires process { pid < length kernel.old.processes }
-    requires trap { AsksTrap call.process }
-    requires request { asked call.process ≡ Calls request }
-    ensures ok { IfOk result (λ r. record { process = seen r.0; kernel = kernel.new; told = r.1 } ≡ step_of kernel.old pid (RunningSeen call.process)) }
-    ensures held { IfOk result (λ r. IsHeld r.0) }
-    ensures err { IfErr result (λ same. seen same ≡ RunningSeen call.process) }
+    requires held { IsHeld process.old }
+    requires stands { StandsBefore (seen process.old) (End how) }
+    ensures ok { IfOk result (λ told. record { process = seen process.new; kernel = kernel.new; told = told } ≡ step_of kernel.old pid (seen process.old)) }
+    ensures held { IsHeld process.new }
+    ensures err { OnErr result (seen process.new ≡ seen process.old) }
     ensures kernel { OnErr result (kernel.new ≡ kernel.old) }
-    ensures still_held { IfErr result (λ same. IsHeld same) }
     ensures count { length kernel.new.processes ≡ length kernel.old.processes }
 {
-    if prepare(&mut call).is_err() {
-        return Err(Process::Running(call.back()));
+    let _ = kernel.call(pid, &Call::Exit)?;
+    replace_with(process, how, ended);
+    Ok(Stepped::Called)
+}
+
+/// The next step of a process that takes no local step.
+#[inline(always)]
+pub(crate) fn step_on(
+    alloc: Global,
+    process: &mut Process,
+    progress: Progress,
+    kernel: &mut Kernel,
+    pid: usize,
+) -> Result<Stepped, AllocError>
+    requires process { pid < length kernel.old.processes }
+    requires held { IsHeld process.old }
+    requires stops { StopsBy (seen process.old) progress }
+    ensures ok { IfOk result (λ told. record { process = seen process.new; kernel = kernel.new; told = told } ≡ step_of kernel.old pid (seen process.old)) }
+    ensures held { IsHeld process.new }
+    ensures err { OnErr result (seen process.new ≡ seen process.old) }
+    ensures kernel { OnErr result (kernel.new ≡ kernel.old) }
+    ensures count { length kernel.new.processes ≡ length kernel.old.processes }
+{
+    match process {
+        Process::Running(_) => match progress {
+            Progress::Stopped(Want::Trap(vector)) => step_trap(alloc, process, vector, kernel, pid),
+            Progress::Stopped(Want::End(how)) => step_end(process, how, kernel, pid),
+            Progress::Short | Progress::Moved => Err(AllocError),
+        },
+        Process::Waiting(_, _) => retry(process, kernel, pid),
+        Process::Ended(_) => Ok(Stepped::Same),
     }
-    match kernel.call(pid, &request) {
-        Ok(Answer::Done(reply)) => {
-            let effect = effect_of(&call, reply);
-            Ok((Process::Running(call.finish(effect)), Stepped::Called))
-        }
-        Ok(Answer::Wait) => Ok((Process::Waiting(call.wait(), request), Stepped::Waits)),
-        Err(_) => Err(Process::Running(call.back())),
+}
+
+/// Takes a step of process `pid`. Where memory is refused nothing has changed.
+pub fn take_step(
+    alloc: Global,
+    process: &mut Process,
+    kernel: &mut Kernel,
+    pid: usize,
+) -> Result<Stepped, AllocError>
+    requires process { pid < length kernel.old.processes }
+    requires held { IsHeld process.old }
+    ensures ok { IfOk result (λ told. record { process = seen process.new; kernel = kernel.new; told = told } ≡ step_of kernel.old pid (seen process.old)) }
+    ensures held { IsHeld process.new }
+    ensures err { OnErr result (seen process.new ≡ seen process.old) }
+    ensures kernel { OnErr result (kernel.new ≡ kernel.old) }
+    ensures count { length kernel.new.processes ≡ length kernel.old.processes }
+{
+    let (taken, progress) = local_steps(process, 1);
+    if taken == 1 {
+        return Ok(Stepped::Moved);
     }
+    step_on(alloc, process, progress, kernel, pid)
 }

@@ -1,6 +1,5 @@
 //! Worlds of processes over one kernel.
-ghost use Rattle.std.specs.Prelude.{◌≡◌, ◌<◌, ◌≤◌, ◌↔◌, ℕ, map, length, slice_get, vec_len, vec_capacity, Err, Some, true, false, IfOk, OnOk, OnErr};
-ghost use Rattle.std.specs.List.{insert};
+ghost use Rattle.std.specs.Prelude.{◌≡◌, ◌<◌, ◌≤◌, ◌↔◌, ℕ, map, length, slice_get, Err, Some, true, false, IfOk, OnOk, OnErr};
 ghost use Rattle.std.specs.Option.{option_map, option_copied};
 ghost use Rattle.lab_sched.specs.Worlds.{Process as Seen, turn, turn_in, step, nothing, IsEffective};
 ghost use Rattle.lab_sched.specs.Verdicts.{HasEnded};
@@ -8,7 +7,6 @@ ghost use Rattle.lab_sched.specs.Held.{seen, told_of, IsWorld};
 ghost use Rattle.lab_sched.specs.declared.world.StepFault.TheVariants.{NoProcess};
 
 mod bits;
-mod finding;
 mod run;
 mod settle;
 
@@ -44,18 +42,6 @@ impl Model for World {
     ghost view = { λ w. record { processes = map seen w.processes.items; kernel = w.kernel } };
 
     ghost invariant = { λ w. IsWorld w.processes.items w.kernel };
-}
-
-/// Puts a process back into a list from which one was taken.
-#[inline(always)]
-fn put_back(processes: &mut Vec<Process>, pid: usize, process: Process)
-    requires within { pid ≤ length processes.old.items }
-    requires room { vec_len processes.old < vec_capacity processes.old }
-    ensures { processes.new.items ≡ insert processes.old.items pid process }
-{
-    let Ok(()) = processes.insert(pid, process) else {
-        unreachable!()
-    };
 }
 
 fn has_ended(process: &Process) -> bool
@@ -143,16 +129,10 @@ impl World {
             return Err(StepFault::NoProcess);
         }
         let alloc = *self.processes.allocator();
-        let process = self.processes.remove(pid);
-        match take_step(alloc, process, &mut self.kernel, pid) {
-            Ok((process, stepped)) => {
-                put_back(&mut self.processes, pid, process);
-                Ok(stepped)
-            }
-            Err(process) => {
-                put_back(&mut self.processes, pid, process);
-                Err(StepFault::NoMemory)
-            }
-        }
+        let process = &mut self.processes[pid];
+        let Ok(stepped) = take_step(alloc, process, &mut self.kernel, pid) else {
+            return Err(StepFault::NoMemory);
+        };
+        Ok(stepped)
     }
 }

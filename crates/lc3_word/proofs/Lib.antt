@@ -3,3 +3,4 @@ pub mod FourDigits
 pub mod NumberSteps
 pub mod Numerals
 pub mod Signed
+pub mod Shifts

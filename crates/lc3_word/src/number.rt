@@ -102,11 +102,7 @@ pub fn sext<const B: u32>(word: u16) -> u16
     requires word { B ≤ 16 }
     ensures value { result ≡ low_bits 16 (signed_value B word) }
 {
-    let mask = u16::MAX >> (16 - B);
-    let low = word & mask;
-    if low >> (B - 1) == 0 {
-        low
-    } else {
-        low | !mask
-    }
+    let spare = 16 - B;
+    let raised = (word << spare).cast_signed();
+    (raised >> spare).cast_unsigned()
 }

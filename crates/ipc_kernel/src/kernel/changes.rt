@@ -16,6 +16,7 @@ use ipc_objects::Words;
 use std::alloc::{AllocError, Global};
 
 /// Makes a change by a process in the places and the tables. Where memory is refused nothing has changed.
+#[inline(always)]
 fn apply(
     places: &mut Places,
     processes: &mut Processes,
@@ -59,6 +60,7 @@ fn apply(
 }
 
 /// Whether a change leaves each name, and what is open, as they were, so that no place is to be emptied.
+#[inline(always)]
 fn keeps_references(change: Change<'_>) -> bool
     ensures { result ≡ keeps_references change.entry }
 {
@@ -70,6 +72,7 @@ fn keeps_references(change: Change<'_>) -> bool
 
 impl Kernel {
     /// Carries out a decision. Where memory is refused nothing has changed.
+    #[inline(always)]
     pub(super) fn carry_out(
         &mut self,
         pid: usize,
@@ -95,6 +98,7 @@ impl Kernel {
 
     /// Makes a change by a process, and empties each place that nothing keeps.
     #[tactic(auto, using(crate::proofs::KernelLemmas::settled_after))]
+    #[inline(always)]
     fn change(&mut self, pid: usize, change: Change<'_>) -> Result<(), AllocError>
         requires process { pid < length self.old.processes }
         requires possible { CanChange self.old change }
@@ -112,6 +116,7 @@ impl Kernel {
 
     /// Takes the first message from the queue in a place.
     #[tactic(auto, using(crate::proofs::AnswerLemmas::settled_received, crate::proofs::AnswerLemmas::received_first))]
+    #[inline(always)]
     fn receive(&mut self, place: u8) -> Reply
         requires { IsSomeAnd (queue_in (place_at self.old.places place)) HasMessage }
         ensures outcome { (p : ℕ) → (Done result, self.new) ≡ outcome_of self.old p (Receives place) }

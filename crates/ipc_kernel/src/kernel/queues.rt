@@ -21,6 +21,7 @@ use ipc_objects::{
 const NONBLOCK: u16 = 0x800;
 
 /// The greatest numbers of messages and of words of a message that mq_open asks for.
+#[inline(always)]
 fn sizes_asked(attr: Option<[u16; 4]>) -> (u16, u16)
     ensures { result ≡ sizes_asked attr }
 {
@@ -30,6 +31,7 @@ fn sizes_asked(attr: Option<[u16; 4]>) -> (u16, u16)
     }
 }
 
+#[inline(always)]
 fn are_sizes(max_messages: u16, message_size: u16) -> bool
     ensures { result ≡ are_sizes (max_messages, message_size) }
 {
@@ -40,6 +42,7 @@ fn are_sizes(max_messages: u16, message_size: u16) -> bool
 }
 
 /// The attributes of an open queue.
+#[inline(always)]
 fn attributes(descriptor: Descriptor, queue: &Queue) -> [u16; 4]
     ensures { result ≡ attributes descriptor queue.now }
 {
@@ -48,6 +51,7 @@ fn attributes(descriptor: Descriptor, queue: &Queue) -> [u16; 4]
     [flags, max, size, count]
 }
 
+#[inline(always)]
 fn descriptor_for(place: u8, flags: Flags) -> Descriptor
     ensures { result ≡ descriptor_for place flags }
 {
@@ -61,6 +65,7 @@ fn descriptor_for(place: u8, flags: Flags) -> Descriptor
 impl Kernel {
     ghost use Rattle.ipc_kernel.specs.Queues.{new_descriptor, mq_create, mq_look_up, mq_open, mq_close, mq_send, mq_receive, mq_getattr, mq_setattr};
 
+    #[inline(always)]
     pub(super) fn decide_mq_open<'a>(
         &self,
         pid: usize,
@@ -84,6 +89,7 @@ impl Kernel {
     }
 
     /// Opens a queue by whether its name is found.
+    #[inline(always)]
     fn decide_mq_look_up<'a>(
         &self,
         pid: usize,
@@ -116,6 +122,7 @@ impl Kernel {
 
     /// Makes a queue with a name that is free.
     #[tactic(auto, using(crate::proofs::PlaceLemmas::first_empty_place))]
+    #[inline(always)]
     fn decide_mq_create<'a>(
         &self,
         pid: usize,
@@ -148,6 +155,7 @@ impl Kernel {
     }
 
     /// Opens the queue in a place on a new descriptor.
+    #[inline(always)]
     fn decide_new_descriptor<'a>(&self, pid: usize, place: u8, flags: Flags) -> Decision<'a>
         requires process { pid < length self.now.processes }
         requires place { place < object_places }
@@ -167,6 +175,7 @@ impl Kernel {
         }
     }
 
+    #[inline(always)]
     pub(super) fn decide_mq_close<'a>(&self, pid: usize, mqd: u16) -> Decision<'a>
         requires { pid < length self.now.processes }
         ensures outcome { outcome_of self.now pid result ≡ mq_close self.now pid mqd (descriptor_of self.now.processes pid mqd) }
@@ -182,6 +191,7 @@ impl Kernel {
         }
     }
 
+    #[inline(always)]
     pub(super) fn decide_mq_unlink<'a>(&self, name: &'a Name) -> Decision<'a>
         ensures outcome { (p : ℕ) → outcome_of self.now p result ≡ unlink self.now (queue_named self.now.places name.now) }
         ensures possible { IsPossible self.now result }
@@ -195,6 +205,7 @@ impl Kernel {
         }
     }
 
+    #[inline(always)]
     pub(super) fn decide_mq_send<'a>(
         &self,
         pid: usize,
@@ -227,6 +238,7 @@ impl Kernel {
     }
 
     #[tactic(auto, using(crate::proofs::AnswerLemmas::first_short))]
+    #[inline(always)]
     pub(super) fn decide_mq_receive<'a>(&self, pid: usize, mqd: u16, len: u16) -> Decision<'a>
         requires { pid < length self.now.processes }
         ensures outcome { outcome_of self.now pid result ≡ mq_receive self.now len (open_queue self.now pid mqd) }
@@ -251,6 +263,7 @@ impl Kernel {
         Decision::Receives(descriptor.place)
     }
 
+    #[inline(always)]
     pub(super) fn decide_mq_getattr<'a>(&self, pid: usize, mqd: u16) -> Decision<'a>
         requires { pid < length self.now.processes }
         ensures outcome { outcome_of self.now pid result ≡ mq_getattr self.now (open_queue self.now pid mqd) }
@@ -265,6 +278,7 @@ impl Kernel {
         }
     }
 
+    #[inline(always)]
     pub(super) fn decide_mq_setattr<'a>(&self, pid: usize, mqd: u16, flags: u16) -> Decision<'a>
         requires { pid < length self.now.processes }
         ensures outcome { outcome_of self.now pid result ≡ mq_setattr self.now pid mqd flags (open_queue self.now pid mqd) }

@@ -21,6 +21,7 @@ const EXCLUSIVE: u16 = 0x80;
 impl Kernel {
     ghost use Rattle.ipc_kernel.specs.Semaphores.{new_slot, one_more_open, sem_open_place, sem_create, sem_look_up, sem_open, sem_close, sem_wait, sem_trywait, sem_post, sem_getvalue};
 
+    #[inline(always)]
     pub(super) fn decide_sem_open<'a>(
         &self,
         pid: usize,
@@ -41,6 +42,7 @@ impl Kernel {
     }
 
     /// Opens a semaphore by whether its name is found.
+    #[inline(always)]
     fn decide_sem_look_up<'a>(
         &self,
         pid: usize,
@@ -73,6 +75,7 @@ impl Kernel {
 
     /// Makes a semaphore with a name that is free.
     #[tactic(auto, using(crate::proofs::PlaceLemmas::first_empty_place))]
+    #[inline(always)]
     fn decide_sem_create<'a>(&self, pid: usize, name: &'a Name, value: u16) -> Decision<'a>
         requires process { pid < length self.now.processes }
         requires value { value ≤ SEM_VALUE_MAX }
@@ -97,6 +100,7 @@ impl Kernel {
     }
 
     /// Opens the semaphore in a place: on the slot that the process has for it, or on a new one.
+    #[inline(always)]
     fn decide_sem_open_place<'a>(&self, pid: usize, place: u8) -> Decision<'a>
         requires process { pid < length self.now.processes }
         requires place { place < object_places }
@@ -111,6 +115,7 @@ impl Kernel {
     }
 
     /// Opens the semaphore in a place on a new slot.
+    #[inline(always)]
     fn decide_new_slot<'a>(&self, pid: usize, place: u8) -> Decision<'a>
         requires process { pid < length self.now.processes }
         requires place { place < object_places }
@@ -128,6 +133,7 @@ impl Kernel {
     }
 
     /// Counts one more open of a slot.
+    #[inline(always)]
     fn decide_one_more_open<'a>(&self, pid: usize, slot: usize) -> Decision<'a>
         requires process { pid < length self.now.processes }
         requires slot { slot < open_max }
@@ -148,6 +154,7 @@ impl Kernel {
         }
     }
 
+    #[inline(always)]
     pub(super) fn decide_sem_close<'a>(&self, pid: usize, slot: u16) -> Decision<'a>
         requires { pid < length self.now.processes }
         ensures outcome { outcome_of self.now pid result ≡ sem_close self.now pid slot (slot_of self.now.processes pid slot) }
@@ -171,6 +178,7 @@ impl Kernel {
         }
     }
 
+    #[inline(always)]
     pub(super) fn decide_sem_unlink<'a>(&self, name: &'a Name) -> Decision<'a>
         ensures outcome { (p : ℕ) → outcome_of self.now p result ≡ unlink self.now (semaphore_named self.now.places name.now) }
         ensures possible { IsPossible self.now result }
@@ -184,6 +192,7 @@ impl Kernel {
         }
     }
 
+    #[inline(always)]
     pub(super) fn decide_sem_wait<'a>(&self, pid: usize, slot: u16) -> Decision<'a>
         requires { pid < length self.now.processes }
         ensures outcome { outcome_of self.now pid result ≡ sem_wait self.now (open_semaphore self.now pid slot) }
@@ -200,6 +209,7 @@ impl Kernel {
         }
     }
 
+    #[inline(always)]
     pub(super) fn decide_sem_trywait<'a>(&self, pid: usize, slot: u16) -> Decision<'a>
         requires { pid < length self.now.processes }
         ensures outcome { outcome_of self.now pid result ≡ sem_trywait self.now (open_semaphore self.now pid slot) }
@@ -216,6 +226,7 @@ impl Kernel {
         }
     }
 
+    #[inline(always)]
     pub(super) fn decide_sem_post<'a>(&self, pid: usize, slot: u16) -> Decision<'a>
         requires { pid < length self.now.processes }
         ensures outcome { outcome_of self.now pid result ≡ sem_post self.now (open_semaphore self.now pid slot) }
@@ -232,6 +243,7 @@ impl Kernel {
         }
     }
 
+    #[inline(always)]
     pub(super) fn decide_sem_getvalue<'a>(&self, pid: usize, slot: u16) -> Decision<'a>
         requires { pid < length self.now.processes }
         ensures outcome { outcome_of self.now pid result ≡ sem_getvalue self.now (open_semaphore self.now pid slot) }

@@ -1,14 +1,16 @@
 //! Runs of worlds by schedules.
 ghost use Rattle.std.specs.Prelude.{◌≡◌, ◌<◌, ◌≤◌, ◌↔◌, length, replicate, take, slice_index, IfOk, IfErr, OnOk, OnErr};
 ghost use Rattle.lab_sched.specs.Schedules.{steps_of};
-ghost use Rattle.lab_sched.specs.Worlds.{run};
-ghost use Rattle.lab_sched.specs.Held.{seen, IsHeld};
-ghost use Rattle.lab_sched.specs.Segments.{IsAfterLocal};
+ghost use Rattle.lab_sched.specs.Worlds.{run, step, turn_in};
+ghost use Rattle.lab_sched.specs.Held.{told_of};
+ghost use Rattle.lab_sched.specs.Stepping.{StopsByIn};
 ghost use Rattle.lab_sched.specs.declared.stepped.Stepped.TheVariants.{Same};
-ghost use Rattle.lab_sched.specs.declared.world.StepFault.TheVariants.{NoProcess};
+ghost use Rattle.lab_sched.specs.declared.world.StepFault.TheVariants.{NoProcess, NoMemory};
 
 use super::{StepFault, World};
-use crate::{Process, Schedule, Stepped};
+use crate::stepping::{local_steps, step_on};
+use crate::{Schedule, Stepped};
+use lc3_machine::Progress;
 
 /// Where a run stopped: the number of steps that were taken, those without effect too, and why the
 /// next one wasn't.
@@ -16,22 +18,6 @@ use crate::{Process, Schedule, Stepped};
 pub struct RunStop {
     pub done: u64,
     pub fault: StepFault,
-}
-
-/// Takes local steps of a process, at most so many; with how many were taken.
-fn local_steps(process: &mut Process, most: u32) -> u32
-    requires held { IsHeld process.old }
-    ensures local { IsAfterLocal (seen process.old) result (seen process.new) }
-    ensures held { IsHeld process.new }
-    ensures within { result ≤ most }
-{
-    match process {
-        Process::Running(running) => {
-            let (done, _) = running.advance(most);
-            done
-        }
-        Process::Waiting(_, _) | Process::Ended(_) => 0,
-    }
 }
 
 /// How many steps were done by one that was told so: a step without effect stands for all of `most`.
@@ -62,24 +48,45 @@ impl World {
         if pid >= self.processes.len() {
             return Err(StepFault::NoProcess);
         }
-        let taken = self.advance_locally(pid, most);
+        let (taken, progress) = self.advance_locally(pid, most);
         if taken == most {
             return Ok(taken);
         }
-        match self.step(pid) {
+        match self.step_on(pid, progress) {
             Ok(stepped) => Ok(taken + steps_done(stepped, most - taken)),
             Err(fault) => { if taken > 0 { Ok(taken) } else { Err(fault) } }
         }
     }
 
-    /// Takes local steps of a process, at most so many; with how many were taken.
-    fn advance_locally(&mut self, pid: usize, most: u32) -> u32
+    /// Takes local steps of a process, at most so many; with how many were taken, and what kept a
+    /// running process from the next one.
+    #[inline(always)]
+    fn advance_locally(&mut self, pid: usize, most: u32) -> (u32, Progress)
         requires process { pid < length self.old.processes }
-        ensures world { self.new ≡ run self.old (replicate result pid) }
-        ensures within { result ≤ most }
+        ensures world { self.new ≡ run self.old (replicate result.0 pid) }
+        ensures within { result.0 ≤ most }
+        ensures stops { result.0 < most → StopsByIn self.new pid result.1 }
     {
         let process = &mut self.processes[pid];
         local_steps(process, most)
+    }
+
+    /// Takes the next step of a process, which isn't local.
+    #[inline(always)]
+    fn step_on(&mut self, pid: usize, progress: Progress) -> Result<Stepped, StepFault>
+        requires process { pid < length self.old.processes }
+        requires stops { StopsByIn self.old pid progress }
+        ensures world { OnOk result (self.new ≡ step self.old pid) }
+        ensures told { IfOk result (λ stepped. stepped ≡ told_of (turn_in self.old pid)) }
+        ensures err { OnErr result (self.new ≡ self.old) }
+        ensures fault { IfErr result (λ fault. fault ≡ NoMemory) }
+    {
+        let alloc = *self.processes.allocator();
+        let process = &mut self.processes[pid];
+        let Ok(stepped) = step_on(alloc, process, progress, &mut self.kernel, pid) else {
+            return Err(StepFault::NoMemory);
+        };
+        Ok(stepped)
     }
 
     /// Takes so many steps of a process.

@@ -4,13 +4,13 @@ ghost use Rattle.std.specs.Int.{bit_at};
 ghost use Rattle.lab_sched.specs.Worlds.{nothing, turn_in, IsEffective};
 ghost use Rattle.lab_sched.specs.Schedules.{steps_of, total_of};
 ghost use Rattle.lab_sched.specs.Settled.{IsAdded, IsSettled, HasStopped, IsShort};
-ghost use Rattle.lab_sched.specs.Settling.{AsksIn, IsFoundIn, IsTaken};
+ghost use Rattle.lab_sched.specs.Settling.{AsksIn, IsNextIn, IsTaken};
 ghost use Rattle.lab_sched.specs.declared.schedule.block.TheConstants.{PROCESSES, MOST_STEPS};
 
+use super::World;
 use super::bits::{has_bit, with_bit};
-use super::finding::{Found, find};
-use super::{World, put_back};
-use crate::{Entry, Schedule};
+use crate::next::find_next;
+use crate::{Entry, Next, Schedule};
 use ipc_kernel::Call;
 
 /// Whether there was a step.
@@ -22,17 +22,16 @@ fn has_moved(moved: bool, taken: u32) -> bool
 }
 
 impl World {
-    /// Takes local steps of a process, at most so many, or finds the call that it asks or waits
+    /// Takes local steps of a process, at most so many, or tells the call that it asks or waits
     /// for.
-    fn find(&mut self, pid: usize, most: u32) -> Found
+    fn find_next(&mut self, pid: usize, most: u32) -> Next
         requires process { pid < length self.old.processes }
-        ensures found { IsFoundIn self.old pid most result self.new }
+        requires some { 1 ≤ most }
+        ensures next { IsNextIn self.old pid most result self.new }
     {
         let alloc = *self.processes.allocator();
-        let process = self.processes.remove(pid);
-        let (process, found) = find(alloc, process, most);
-        put_back(&mut self.processes, pid, process);
-        found
+        let process = &mut self.processes[pid];
+        find_next(alloc, process, most)
     }
 
     /// Takes the step of a process whose call is answered, and adds its entry; with how many steps
@@ -67,13 +66,11 @@ impl World {
         ensures taken { IsTaken self.old entries.old.items (replicate result pid) self.new entries.new.items }
         ensures within { result ≤ most }
     {
-        match self.find(pid, most) {
-            Found::Moved(taken) => taken,
-            Found::Refusal => match self.step(pid) {
-                Ok(_) => 1,
-                Err(_) => 0,
-            },
-            Found::Asks(call) => self.take_call(pid, call, entries),
+        match self.find_next(pid, most) {
+            Next::Moved(taken) => taken,
+            Next::Asks(call) => self.take_call(pid, call, entries),
+            Next::Ended => 0,
+            Next::Short => 0,
         }
     }
 

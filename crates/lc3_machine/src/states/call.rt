@@ -41,6 +41,7 @@ impl AtCall {
     }
 
     /// The process as it was before it came to stand here.
+    #[inline(always)]
     pub fn back(self) -> Running
         ensures process { result ≡ self.process }
     {
@@ -64,6 +65,7 @@ impl AtCall {
     }
 
     /// The process begins to wait for the answer of its trap; nothing else changes.
+    #[inline(always)]
     pub fn wait(self) -> Waiting
         requires trap { AsksTrap self.process }
         ensures same { result ≡ self }
@@ -88,6 +90,7 @@ impl AtCall {
     }
 
     /// What a register holds.
+    #[inline(always)]
     pub fn reg(&self, r: Reg) -> u16
         ensures value { result ≡ reg self.now.process r }
     {

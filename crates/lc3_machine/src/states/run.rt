@@ -1,11 +1,13 @@
 //! A process that runs.
 
 ghost use Rattle.std.specs.Prelude.{◌≡◌, ℕ, ◌+◌, ◌<◌, ◌≤◌, IfOk, length, slice_index};
-ghost use Rattle.lc3_machine.specs.Process.{start, reg};
+ghost use Rattle.lc3_machine.specs.Process.{start, reg, Stops};
+ghost use Rattle.lc3_machine.specs.Effects.{next_step};
 ghost use Rattle.lc3_machine.specs.Steps.{IsStep, IsRun, HasRun};
 
 use super::{AtCall, Local, Running};
 use crate::machine::{Machine, Progress};
+use crate::want::Want;
 use lc3_word::{Cc, Image, Reg};
 use std::alloc::{AllocError, Global};
 
@@ -54,6 +56,16 @@ impl Running {
         ensures run { HasRun self.old max result.1 self.new result.0 }
     {
         self.machine.run(max)
+    }
+
+    /// The process as it stands before this trap or end, which is its next step.
+    #[inline(always)]
+    pub fn stand(self, want: Want) -> AtCall
+        requires stops { next_step self ≡ Stops want }
+        ensures process { result.process ≡ self }
+    {
+        let Running { machine } = self;
+        AtCall { machine, want }
     }
 
     /// What a register holds.

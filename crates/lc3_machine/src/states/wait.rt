@@ -11,6 +11,7 @@ use lc3_word::{Cc, Reg};
 
 impl Waiting {
     /// The process as it stands before its trap.
+    #[inline(always)]
     pub fn at_call(&self) -> &AtCall
         ensures same { result.now ≡ self.now }
         ensures trap { AsksTrap self.now.process }
@@ -18,7 +19,16 @@ impl Waiting {
         &self.call
     }
 
+    /// The process as it was before it began to wait.
+    pub fn back(self) -> Running
+        ensures process { result ≡ self.process }
+    {
+        let Waiting { call } = self;
+        call.back()
+    }
+
     /// Answers the trap: the process goes on behind it, with what the effect writes. It takes no memory.
+    #[inline(always)]
     pub fn finish(self, effect: Effect) -> Running
         requires room { CanTake self.ready effect }
         ensures answered { result ≡ answered self.process effect }

@@ -1,5 +1,6 @@
 use Rattle.std.proofs.Common.{refl}
 use Rattle.lab_sched.proofs.WorldLemmas.{ran_locally, seen_within, world_set}
+use Rattle.lab_sched.proofs.Locals.{stops_in}
 use Rattle.lab_sched.proofs.world.World.advance_locally.Goals as goal
 
 pub invariant_of-self : goal.invariant_of-self
@@ -12,5 +13,11 @@ pub returns-clause-world : goal.returns-clause-world
 returns-clause-world c =
     let ps = c.self.inside.processes.items in
     let within = seen_within ps c.self.inside.kernel c.args.self.now c.args.pid c.self.view_is c.requires.process in
-    ran_locally ps _ c.self.inside.kernel c.args.self.now c.args.pid c.local_steps.result c.index_mut-process.result.now c.local_steps.new.process
+    ran_locally ps _ c.self.inside.kernel c.args.self.now c.args.pid c.local_steps.result.0 c.index_mut-process.result.now c.local_steps.new.process
     c.self.view_is within c.index_mut-process.ensures.value refl c.local_steps.ensures.local
+
+pub returns-clause-stops : goal.returns-clause-stops
+returns-clause-stops c fewer =
+    let ps = c.self.inside.processes.items in
+    let within = seen_within ps c.self.inside.kernel c.args.self.now c.args.pid c.self.view_is c.requires.process in
+    stops_in ps c.self.inside.kernel _ c.args.pid c.local_steps.new.process c.local_steps.result.1 refl within (c.local_steps.ensures.stops fewer)

@@ -1,44 +1,30 @@
-use Rattle.std.proofs.Common.{◌≡◌, ◌<◌, length, ap, ◌∙◌, arith, set}
-use Rattle.std.specs.List.{insert}
-use Rattle.lab_sched.proofs.WorldLemmas.{insert-remove, stepped_world, stepped_told, same_world, world_set}
+use Rattle.std.proofs.Common.{◌<◌, length, refl, arith}
+use Rattle.lab_sched.proofs.WorldLemmas.{stepped_world, stepped_told, same_world, world_set}
 use Rattle.lab_sched.proofs.world.World.step.Goals as goal
-use Rattle.lab_sched.proofs.world.World.step.Goals.{After-put_back, After-put_back-in-Err}
-
-within : (c : After-put_back) → c.args.pid < length c.self.inside.processes.items
-within c = omega (arith, c.self.inside.processes.ok.0)
-
-written : (c : After-put_back) → c.put_back.new.processes.items ≡ set c.self.inside.processes.items c.args.pid c.in-Ok.process
-written c =
-    c.put_back.ensures ∙ ap (λ xs. insert xs c.args.pid c.in-Ok.process) c.remove-process.ensures.items
-    ∙ insert-remove c.self.inside.processes.items c.args.pid c.in-Ok.process (within c)
-
-within-in-Err : (c : After-put_back-in-Err) → c.args.pid < length c.self.inside.processes.items
-within-in-Err c = omega (arith, c.self.inside.processes.ok.0)
-
-written-in-Err : (c : After-put_back-in-Err) → c.put_back-in-Err.new.processes.items ≡ set c.self.inside.processes.items c.args.pid c.in-Err.process
-written-in-Err c =
-    c.put_back-in-Err.ensures ∙ ap (λ xs. insert xs c.args.pid c.in-Err.process) c.remove-process.ensures.items
-    ∙ insert-remove c.self.inside.processes.items c.args.pid c.in-Err.process (within-in-Err c)
 
 pub invariant_of-self : goal.invariant_of-self
 invariant_of-self c =
-    world_set c.self.inside.processes.items _ c.self.inside.kernel c.take_step.new.kernel c.args.pid c.in-Ok.process c.self.invariant (within c) (written c) c.in-Ok.ensures.held c.take_step.ensures.count
+    let ps = c.self.inside.processes.items in
+    let within : c.args.pid < length ps = omega (arith, c.self.inside.processes.ok.0) in
+    world_set ps _ c.self.inside.kernel c.take_step.new.kernel c.args.pid c.take_step.new.process c.self.invariant within refl c.take_step.ensures.held c.take_step.ensures.count
 
-pub invariant_of-self-in-Err : goal.invariant_of-self-in-Err
-invariant_of-self-in-Err c =
-    world_set c.self.inside.processes.items _ c.self.inside.kernel c.take_step.new.kernel c.args.pid c.in-Err.process c.self.invariant (within-in-Err c) (written-in-Err c) c.in-Err.ensures.still_held c.take_step.ensures.count
+pub returns-clause-world : goal.returns-clause-world
+returns-clause-world c =
+    let ps = c.self.inside.processes.items in
+    let within : c.args.pid < length ps = omega (arith, c.self.inside.processes.ok.0) in
+    stepped_world ps _ c.self.inside.kernel c.take_step.new.kernel c.args.self.now c.args.pid c.index_mut-process.result.now c.take_step.new.process c.in-Ok.stepped
+    c.self.view_is within c.index_mut-process.ensures.value refl c.in-Ok.ensures.ok
 
-pub returns-in-Ok-clause-world : goal.returns-in-Ok-clause-world
-returns-in-Ok-clause-world c =
-    stepped_world c.self.inside.processes.items _ c.self.inside.kernel c.take_step.new.kernel c.args.self.now c.args.pid c.remove-process.result c.in-Ok.process c.in-Ok.stepped
-    c.self.view_is (within c) c.remove-process.ensures.value (written c) c.in-Ok.ensures.ok
+pub returns-clause-told : goal.returns-clause-told
+returns-clause-told c =
+    let ps = c.self.inside.processes.items in
+    let within : c.args.pid < length ps = omega (arith, c.self.inside.processes.ok.0) in
+    stepped_told ps c.self.inside.kernel c.take_step.new.kernel c.args.self.now c.args.pid c.index_mut-process.result.now c.take_step.new.process c.in-Ok.stepped
+    c.self.view_is within c.index_mut-process.ensures.value c.in-Ok.ensures.ok
 
-pub returns-in-Ok-clause-told : goal.returns-in-Ok-clause-told
-returns-in-Ok-clause-told c =
-    stepped_told c.self.inside.processes.items c.self.inside.kernel c.take_step.new.kernel c.args.self.now c.args.pid c.remove-process.result c.in-Ok.process c.in-Ok.stepped
-    c.self.view_is (within c) c.remove-process.ensures.value c.in-Ok.ensures.ok
-
-pub returns-in-Err-clause-err : goal.returns-in-Err-clause-err
-returns-in-Err-clause-err c =
-    same_world c.self.inside.processes.items _ c.self.inside.kernel c.take_step.new.kernel c.args.self.now c.args.pid c.remove-process.result c.in-Err.process
-    c.self.view_is (within-in-Err c) c.remove-process.ensures.value (written-in-Err c) c.in-Err.ensures.err c.in-Err.ensures.kernel
+pub returns-in_default-clause-err : goal.returns-in_default-clause-err
+returns-in_default-clause-err c =
+    let ps = c.self.inside.processes.items in
+    let within : c.args.pid < length ps = omega (arith, c.self.inside.processes.ok.0) in
+    same_world ps _ c.self.inside.kernel c.take_step.new.kernel c.args.self.now c.args.pid c.index_mut-process.result.now c.take_step.new.process
+    c.self.view_is within c.index_mut-process.ensures.value refl c.in_default.ensures.err c.in_default.ensures.kernel
