@@ -2,7 +2,7 @@
 ghost use Rattle.std.specs.Prelude.{◌≡◌, ◌<◌, ℕ, Some, IsTrue, true, length, slice_get, slice_set, IfOk, IfSome, OnOk};
 ghost use Rattle.lab_sched.specs.Worlds.{WorldState};
 ghost use Rattle.lab_explore.specs.declared.store.Row.{Row};
-ghost use Rattle.lab_explore.specs.Stored.{IsRow, Holds, IsStore, Grows};
+ghost use Rattle.lab_explore.specs.Stored.{IsRow, IsAt, IsStore, Grows};
 
 use crate::ExploreFault;
 use crate::store::{Row, Store};
@@ -27,41 +27,42 @@ fn row_digest(row: &Row) -> u64 {
 }
 
 impl Store {
-    /// Whether a row of the same world is kept.
-    fn has_row(&self, row: &Row, hash: u64) -> bool
-        ensures found { IsTrue result → (w : WorldState) → IsRow self.now row.now w → Holds self.now w }
+    /// The number of a row of the same world, if one is kept.
+    fn find_row(&self, row: &Row, hash: u64) -> Option<usize>
+        ensures found { IfSome result (λ i. (w : WorldState) → IsRow self.now row.now w → IsAt self.now i w) }
     {
         let mut number = self.row_index.newest(hash);
         while number > 0 {
             let at = number - 1;
             if let Some(kept) = self.rows.get(at) {
                 if is_same_row(kept, row) {
-                    return true;
+                    return Some(at);
                 }
             }
             number = self.row_index.older(number);
         }
-        false
+        None
     }
 
-    /// Keeps the world of a row, if there are fewer than `most`; with whether it is kept now.
-    pub(crate) fn keep_row(&mut self, row: Row, most: u32) -> Result<bool, AllocError>
+    /// Keeps the world of a row, if there are fewer than `most`; with its number, if it is kept now.
+    pub(crate) fn keep_row(&mut self, row: Row, most: u32) -> Result<Option<usize>, AllocError>
         requires store { IsStore self.old }
         requires row { (w : WorldState) × IsRow self.old row w }
         ensures store { OnOk result (IsStore self.new) }
         ensures grows { OnOk result (Grows self.old self.new) }
-        ensures kept { IfOk result (λ kept. IsTrue kept → (w : WorldState) → IsRow self.old row w → Holds self.new w) }
+        ensures kept { IfOk result (λ kept. IfSome kept (λ i. (w : WorldState) → IsRow self.old row w → IsAt self.new i w)) }
     {
         let hash = row_digest(&row);
-        if self.has_row(&row, hash) {
-            return Ok(true);
+        if let Some(at) = self.find_row(&row, hash) {
+            return Ok(Some(at));
         }
-        if self.rows.len() >= most as usize {
-            return Ok(false);
+        let at = self.rows.len();
+        if at >= most as usize {
+            return Ok(None);
         }
         self.row_index.add(hash)?;
         self.rows.push(row)?;
-        Ok(true)
+        Ok(Some(at))
     }
 
     /// The places of the kernel and of the state of process `pid` in a row.

@@ -37,12 +37,24 @@ pub(crate) enum Next {
     },
 }
 
-/// Kernels, states of processes at calls, and worlds, each of which is kept once.
+/// A step of process `pid` from the world of a row, and then so many local steps of it, to the world
+/// of a row.
+#[derive(Clone, Copy, Drop)]
+pub(crate) struct Edge {
+    pub from: u32,
+    pub to: u32,
+    pub pid: u32,
+    pub taken: u32,
+}
+
+/// Kernels, states of processes at calls, and worlds, each of which is kept once, and the edges
+/// between the worlds, in the order of those that they lead from.
 #[derive(Drop)]
 pub(crate) struct Store {
     pub kernels: Vec<Kernel>,
     pub states: Vec<Process>,
     pub rows: Vec<Row>,
+    pub edges: Vec<Edge>,
     kernel_index: Index,
     state_index: Index,
     pub row_index: Index,
@@ -57,6 +69,7 @@ impl Store {
             kernels: Vec::new(alloc),
             states: Vec::new(alloc),
             rows: Vec::new(alloc),
+            edges: Vec::new(alloc),
             kernel_index: Index::new(alloc)?,
             state_index: Index::new(alloc)?,
             row_index: Index::new(alloc)?,

@@ -3,6 +3,7 @@ use Rattle.ipc_kernel.specs.Kernel.{empty_kernel}
 use Rattle.lab_sched.specs.Worlds.{WorldState}
 use Rattle.lab_sched.specs.Held.{seen}
 use Rattle.lab_explore.specs.Ends.{first_world}
+use Rattle.lab_explore.proofs.Begins.{all_closed}
 use Rattle.lab_explore.proofs.Explorations.{started, same_ends, all_ends, never_stuck}
 use Rattle.lab_explore.proofs.exploring.explore.Goals as goal
 
@@ -20,7 +21,8 @@ returns-in-Ok-clause-complete c is =
     let processes = ap (map seen) c.deref.ensures.value ∙ c.processes-processes.ensures.processes in
     let count : c.len.result ≡ length ps = omega (arith, ap length c.deref.ensures.value) in
     let same = started c.args.fresh ps c.in_ok-kernel.kernel c.len.result processes c.processes-processes.ensures.empty count c.in_ok-kernel.ensures.empty in
-    all_ends c.args.fresh start c.in_ok-search.search.store c.in-Ok.ends.items same (c.in_ok-search.ensures.complete is) c.in-Ok.ensures.all
+    all_ends c.args.fresh start c.in_ok-search.search.store c.in-Ok.ends.items same
+    (all_closed c.in_ok-search.search.store start (c.in_ok-search.ensures.complete is)) c.in-Ok.ensures.all
 
 pub returns-in-Ok-clause-free : goal.returns-in-Ok-clause-free
 returns-in-Ok-clause-free c is none =
