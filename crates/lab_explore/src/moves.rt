@@ -145,13 +145,7 @@ impl Store {
 impl Store {
     /// Keeps the world of a row, and the edge to it by a step of process `pid` from the world of another, if there are
     /// fewer worlds than `most`; with whether both are kept now.
-    fn keep_edge(
-        &mut self,
-        at: usize,
-        pid: usize,
-        row: Row,
-        most: u32,
-    ) -> Result<bool, AllocError>
+    fn keep_edge(&mut self, at: usize, pid: usize, row: Row, most: u32) -> Result<bool, AllocError>
         requires store { IsStore self.old }
         requires row { (w : WorldState) × IsRow self.old row w }
         ensures store { OnOk result (IsStore self.new) }
