@@ -87,11 +87,11 @@ impl Store {
         let Some(row) = self.rows.get(at) else {
             return Err(ExploreFault::Unvouched);
         };
-        let Some(kernel) = self.kernels.get(row.kernel) else {
+        let Some(kernel) = self.kernels.get(row.kernel as usize) else {
             return Err(ExploreFault::Unvouched);
         };
         for (pid, state) in row.states.iter().enumerate() {
-            let Some(process) = self.states.get(*state) else {
+            let Some(process) = self.states.get(*state as usize) else {
                 return Err(ExploreFault::Unvouched);
             };
             if pid >= kernel.count() {
@@ -105,10 +105,10 @@ impl Store {
     }
 
     /// Whether a state is that of a process.
-    fn is_state(&self, state: usize, process: &Process) -> bool
+    fn is_state(&self, state: u32, process: &Process) -> bool
         ensures same { IsTrue result → IsState self.now state (seen process.now) }
     {
-        match self.states.get(state) {
+        match self.states.get(state as usize) {
             Some(kept) => kept.is_same(process),
             None => false,
         }
@@ -121,7 +121,7 @@ impl Store {
         let Some(row) = self.rows.get(at) else {
             return false;
         };
-        let Some(kernel) = self.kernels.get(row.kernel) else {
+        let Some(kernel) = self.kernels.get(row.kernel as usize) else {
             return false;
         };
         if row.states.len() != world.count() || !kernel.is_same(world.kernel()) {
@@ -150,8 +150,8 @@ impl Store {
             let Some(row) = self.rows.get(now) else {
                 break;
             };
-            way.push((row.pid, row.taken))?;
-            now = row.before;
+            way.push((row.pid as usize, row.taken))?;
+            now = row.before as usize;
         }
         Ok(way)
     }

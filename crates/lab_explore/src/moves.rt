@@ -21,13 +21,12 @@ pub(crate) fn both(first: bool, second: bool) -> bool
 }
 
 /// The edge between two rows of these numbers, if they are small enough.
-fn edge_of(from: usize, to: usize, pid: usize, taken: u32) -> Option<Edge>
+fn edge_of(from: usize, to: usize, pid: u32, taken: u32) -> Option<Edge>
     ensures from { IfSome result (λ e. e.from ≡ from) }
     ensures to { IfSome result (λ e. e.to ≡ to) }
 {
     let from = u32::try_from(from).ok()?;
     let to = u32::try_from(to).ok()?;
-    let pid = u32::try_from(pid).ok()?;
     Some(Edge {
         from,
         to,
@@ -41,22 +40,22 @@ impl Store {
     fn try_next(
         &self,
         alloc: Global,
-        kernel: usize,
-        pid: usize,
-        state: usize,
+        kernel: u32,
+        pid: u32,
+        state: u32,
         most: u32,
     ) -> Result<Tried, ExploreFault>
         requires store { IsStore self.now }
         ensures tried { IfOk result (λ tried. (k : KernelState) × (s : Seen) × (slice_get self.now.kernels.items kernel ≡ Some k)
             × IsState self.now state s × IsStepped k pid s tried) }
     {
-        let Some(kernel) = self.kernels.get(kernel) else {
+        let Some(kernel) = self.kernels.get(kernel as usize) else {
             return Err(ExploreFault::Unvouched);
         };
-        let Some(process) = self.states.get(state) else {
+        let Some(process) = self.states.get(state as usize) else {
             return Err(ExploreFault::Unvouched);
         };
-        try_step(alloc, kernel, process, pid, most)
+        try_step(alloc, kernel, process, pid as usize, most)
     }
 
     /// Keeps the kernel and the state that came of a step.
@@ -92,9 +91,9 @@ impl Store {
     fn make_next(
         &mut self,
         alloc: Global,
-        kernel: usize,
-        pid: usize,
-        state: usize,
+        kernel: u32,
+        pid: u32,
+        state: u32,
         most: u32,
     ) -> Result<Next, ExploreFault>
         requires store { IsStore self.old }
@@ -121,9 +120,9 @@ impl Store {
         &mut self,
         alloc: Global,
         moves: &mut Moves,
-        kernel: usize,
-        pid: usize,
-        state: usize,
+        kernel: u32,
+        pid: u32,
+        state: u32,
         most: u32,
     ) -> Result<Next, ExploreFault>
         requires store { IsStore self.old }
@@ -145,7 +144,7 @@ impl Store {
 impl Store {
     /// Keeps the world of a row, and the edge to it by a step of process `pid` from the world of another, if there are
     /// fewer worlds than `most`; with whether both are kept now.
-    fn keep_edge(&mut self, at: usize, pid: usize, row: Row, most: u32) -> Result<bool, AllocError>
+    fn keep_edge(&mut self, at: usize, pid: u32, row: Row, most: u32) -> Result<bool, AllocError>
         requires store { IsStore self.old }
         requires row { (w : WorldState) × IsRow self.old row w }
         ensures store { OnOk result (IsStore self.new) }
@@ -171,7 +170,7 @@ impl Store {
         alloc: Global,
         moves: &mut Moves,
         at: usize,
-        pid: usize,
+        pid: u32,
         limits: Limits,
     ) -> Result<bool, ExploreFault>
         requires store { IsStore self.old }

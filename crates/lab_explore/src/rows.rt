@@ -5,7 +5,7 @@ ghost use Rattle.lab_explore.specs.declared.store.Row.{Row};
 ghost use Rattle.lab_explore.specs.Stored.{IsRow, IsAt, IsStore, Grows};
 
 use crate::ExploreFault;
-use crate::store::{Row, Store};
+use crate::store::{Row, Store, place_of};
 use std::alloc::{AllocError, Global};
 
 /// Whether two rows stand for the same world.
@@ -66,21 +66,24 @@ impl Store {
     }
 
     /// The places of the kernel and of the state of process `pid` in a row.
-    pub(crate) fn places(&self, at: usize, pid: usize) -> Option<(usize, usize)>
+    pub(crate) fn places(&self, at: usize, pid: u32) -> Option<(u32, u32)>
         ensures places { IfSome result (λ x. (r : Row) × (slice_get self.now.rows.items at ≡ Some r) × (r.kernel ≡ x.0)
             × (slice_get r.states.items pid ≡ Some x.1)) }
     {
         let row = self.rows.get(at)?;
-        let state = row.states.get(pid)?;
+        let state = row.states.get(pid as usize)?;
         Some((row.kernel, *state))
     }
 
     /// The number of processes of a row.
-    pub(crate) fn width(&self, at: usize) -> Option<usize>
+    pub(crate) fn width(&self, at: usize) -> Option<u32>
         ensures width { IfSome result (λ n. (r : Row) × (slice_get self.now.rows.items at ≡ Some r) × (n ≡ length r.states.items)) }
     {
         let row = self.rows.get(at)?;
-        Some(row.states.len())
+        match place_of(row.states.len()) {
+            Ok(count) => Some(count),
+            Err(_) => None,
+        }
     }
 
     /// The row with this kernel and this state of process `pid`, and else as a row that is kept.
@@ -88,9 +91,9 @@ impl Store {
         &self,
         alloc: Global,
         at: usize,
-        pid: usize,
-        kernel: usize,
-        state: usize,
+        pid: u32,
+        kernel: u32,
+        state: u32,
         taken: u32,
     ) -> Result<Row, ExploreFault>
         ensures kernel { IfOk result (λ row. row.kernel ≡ kernel) }
@@ -101,14 +104,15 @@ impl Store {
             return Err(ExploreFault::Unvouched);
         };
         let mut states = Vec::from_slice(alloc, row.states.as_slice())?;
-        if pid >= states.len() {
+        let place = pid as usize;
+        if place >= states.len() {
             return Err(ExploreFault::Unvouched);
         }
-        states[pid] = state;
+        states[place] = state;
         Ok(Row {
             kernel,
             states,
-            before: at,
+            before: place_of(at)?,
             pid,
             taken,
         })

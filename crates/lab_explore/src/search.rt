@@ -19,14 +19,14 @@ use std::alloc::Global;
 /// The state that a process comes to by so many local steps, by its place.
 #[derive(Clone, Copy, Drop)]
 pub(crate) struct Come {
-    pub state: usize,
+    pub state: u32,
     pub taken: u32,
 }
 
 /// The states that processes begin with, at their first calls, and the local steps to them.
 #[derive(Drop)]
 pub(crate) struct Begun {
-    pub states: Vec<usize>,
+    pub states: Vec<u32>,
     pub firsts: Vec<u32>,
 }
 

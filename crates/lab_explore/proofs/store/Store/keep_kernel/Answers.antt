@@ -9,4 +9,4 @@ pub returns-clause-grows : goal.returns-clause-grows
 returns-clause-grows c = (kernels_pushed c.args.self.now _ c.args.kernel c.requires.store c.in_ok-push.ensures.items refl refl refl).0
 
 pub returns-clause-kernel : goal.returns-clause-kernel
-returns-clause-kernel c = kernel_pushed c.args.self.now.kernels.items _ c.args.kernel c.len-at.result c.in_ok-push.ensures.items (omega arith)
+returns-clause-kernel c = kernel_pushed c.args.self.now.kernels.items _ c.args.kernel c.in_ok-place-2.place c.in_ok-push.ensures.items (omega arith)

@@ -9,4 +9,4 @@ pub returns-clause-grows : goal.returns-clause-grows
 returns-clause-grows c = (states_pushed c.args.self.now _ c.args.process c.requires.store c.requires.ready c.in_ok-push.ensures.items refl refl refl).0
 
 pub returns-clause-state : goal.returns-clause-state
-returns-clause-state c = state_pushed c.args.self.now.states.items _ c.args.process c.len-at.result c.in_ok-push.ensures.items (omega arith)
+returns-clause-state c = state_pushed c.args.self.now.states.items _ c.args.process c.in_ok-place-2.place c.in_ok-push.ensures.items (omega arith)
