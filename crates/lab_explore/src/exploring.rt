@@ -36,7 +36,8 @@ pub fn explore(alloc: Global, fresh: Fresh, limits: Limits) -> Result<Exploratio
     ensures free { IfOk result (λ found. IsTrue found.complete → NoneStuck found.ends.items → NeverStuck fresh) }
     ensures round { IfOk result (λ found. IfSome found.round (λ r. IsRound fresh r)) }
     ensures endless { IfOk result (λ found. IfSome found.round (λ r. AreEndless fresh)) }
-    ensures bounded { IfOk result (λ found. IsTrue found.complete → found.round ≡ None → AreBounded fresh) }
+    ensures bounded { IfOk result (λ found. IsTrue found.complete → found.round ≡ None
+        → AreBounded fresh) }
 {
     let processes = fresh.processes();
     let kernel = Kernel::new(alloc, processes.len())?;
@@ -63,10 +64,12 @@ impl Search {
         requires running { All Runs processes.now }
         requires some { 1 ≤ length processes.now }
         requires few { length processes.now ≤ 64 }
-        ensures ends { IfOk result (λ found. Each (IsEnd (first_world processes.now)) found.ends.items) }
-        ensures all { IfOk result (λ found. (i : ℕ) (w : WorldState) → IsAt self.now.store i w → AreAtRest w
-            → HasEnd found.ends.items w) }
-        ensures round { IfOk result (λ found. IfSome found.round (λ r. IsRound (first_world processes.now) r)) }
+        ensures ends { IfOk result (λ found.
+            Each (IsEnd (first_world processes.now)) found.ends.items) }
+        ensures all { IfOk result (λ found. (i : ℕ) (w : WorldState) → IsAt self.now.store i w
+            → AreAtRest w → HasEnd found.ends.items w) }
+        ensures round { IfOk result (λ found.
+            IfSome found.round (λ r. IsRound (first_world processes.now) r)) }
         ensures none { IfOk result (λ found. found.round ≡ None → AreRising self.now.store.edges.items) }
         ensures complete { IfOk result (λ found. IsTrue found.complete → IsTrue self.now.complete) }
     {

@@ -28,22 +28,24 @@ fn put(numbers: &mut Vec<usize>, at: usize, number: usize) {
     }
 }
 
-/// The place of the first edge from each row, by the edges in the order of the rows that they lead from, and behind these
-/// the number of edges.
+/// Puts in each place that is less than one before it the greatest number before it.
+fn carry(numbers: &mut [usize]) {
+    let mut last = 0;
+    for number in numbers.iter_mut() {
+        last = last.max(*number);
+        *number = last;
+    }
+}
+
+/// The place of the first edge from each row, by the edges in the order of the rows that they
+/// lead from, and behind these the number of edges.
 fn first_edges(alloc: Global, edges: &[Edge], count: usize) -> Result<Vec<usize>, AllocError> {
     let mut firsts = vec![in alloc; 0; count.saturating_add(1)]?;
     for (at, edge) in edges.iter().enumerate() {
-        put(
-            &mut firsts,
-            (edge.from as usize).saturating_add(1),
-            at.saturating_add(1),
-        );
+        let next = (edge.from as usize).saturating_add(1);
+        put(&mut firsts, next, at.saturating_add(1));
     }
-    let mut last = 0;
-    for first in firsts.iter_mut() {
-        last = last.max(*first);
-        *first = last;
-    }
+    carry(firsts.as_mut_slice());
     Ok(firsts)
 }
 

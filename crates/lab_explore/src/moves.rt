@@ -149,8 +149,8 @@ impl Store {
         requires row { (w : WorldState) × IsRow self.old row w }
         ensures store { OnOk result (IsStore self.new) }
         ensures grows { OnOk result (Grows self.old self.new) }
-        ensures edge { IfOk result (λ kept. IsTrue kept → (w v : WorldState) → IsRow self.old row v → AreReached (step w pid) v
-            → HasEdge self.new at w pid) }
+        ensures edge { IfOk result (λ kept. IsTrue kept → (w v : WorldState) → IsRow self.old row v
+            → AreReached (step w pid) v → HasEdge self.new at w pid) }
     {
         let taken = row.taken;
         let Some(to) = self.keep_row(row, most)? else {

@@ -120,7 +120,8 @@ impl Search {
         requires running { All Runs processes.now }
         requires some { 1 ≤ length processes.now }
         requires few { length processes.now ≤ 64 }
-        ensures round { IfOk result (λ round. IfSome round (λ r. IsRound (first_world processes.now) r)) }
+        ensures round { IfOk result (λ round.
+            IfSome round (λ r. IsRound (first_world processes.now) r)) }
         ensures none { IfOk result (λ round. round ≡ None → AreRising self.now.store.edges.items) }
     {
         let edges = self.store.edges.as_slice();

@@ -50,7 +50,8 @@ impl Store {
         requires row { (w : WorldState) × IsRow self.old row w }
         ensures store { OnOk result (IsStore self.new) }
         ensures grows { OnOk result (Grows self.old self.new) }
-        ensures kept { IfOk result (λ kept. IfSome kept (λ i. (w : WorldState) → IsRow self.old row w → IsAt self.new i w)) }
+        ensures kept { IfOk result (λ kept. IfSome kept (λ i. (w : WorldState)
+            → IsRow self.old row w → IsAt self.new i w)) }
     {
         let hash = row_digest(&row);
         if let Some(at) = self.find_row(&row, hash) {
