@@ -11,7 +11,7 @@ use Rattle.lab_explore.specs.declared.store.Row.{Row}
 use Rattle.lab_explore.specs.declared.store.Store.{Store}
 use Rattle.lab_explore.specs.Calls.{IsAhead, Both, Alongside, IsAdvance}
 use Rattle.lab_explore.specs.Closed.{HasAdvance, IsClosed}
-use Rattle.lab_explore.specs.Stored.{IsState, IsRow, IsAt, Holds, Grows, IsExpanded, IsCome, IsBegun}
+use Rattle.lab_explore.specs.Stored.{IsState, IsRow, IsAt, Holds, Grows, IsReached, AreReached, IsSearched, IsCome, IsBegun}
 use Rattle.lab_explore.proofs.Ahead.{same_by_gets}
 use Rattle.lab_explore.proofs.Pushes.{alongside_cons, alongside_push, both_weaker}
 use Rattle.lab_explore.proofs.Growths.{state_grows}
@@ -69,13 +69,22 @@ at_unique t i w v h k =
     let same : h.0 ≡ k.0 = same_some h.0 k.0 (slice_get t.rows.items i) h.1 k.1 in
     row_unique t k.0 w v (subst (λ r. IsRow t r w) same h.2) k.2
 
+-- what is reached is an advance
+reached_advance : (w v : WorldState) → AreReached w v → IsAdvance w v
+reached_advance w v h = record {
+  kernel = h.kernel;
+  processes = λ p. both_weaker IsReached IsAhead (λ s u r. r.ahead) (slice_get w.processes p) (slice_get v.processes p) (h.processes p);
+}
+
 -- where each row was expanded, the worlds are closed
-pub all_closed : (t : Store) (start : WorldState) → HasAdvance (Holds t) start → ((i : ℕ) → i < length t.rows.items → IsExpanded t i) → IsClosed start (Holds t)
-all_closed t start begun all = record {
-  begins = begun;
+pub all_closed : (t : Store) (start : WorldState) → IsSearched start t → IsClosed start (Holds t)
+all_closed t start searched = record {
+  begins = searched.begins;
   goes_on = λ v p held effective.
       let i = held.0 in
-      let done = all i (get_past t.rows.items i held.1.0 held.1.1) in
+      let done = searched.expanded i (get_past t.rows.items i held.1.0 held.1.1) in
       let same : v ≡ done.0 = at_unique t i v done.0 held.1 done.1 in
-      subst (λ w. HasAdvance (Holds t) (step w p)) (sym same) (done.2 p (subst (λ w. IsEffective (turn_in w p)) same effective));
+      let edge = done.2 p (subst (λ w. IsEffective (turn_in w p)) same effective) in
+      let there : HasAdvance (Holds t) (step done.0 p) = (edge.2, (edge.1.to, edge.5), reached_advance (step done.0 p) edge.2 edge.6) in
+      subst (λ w. HasAdvance (Holds t) (step w p)) (sym same) there;
 }

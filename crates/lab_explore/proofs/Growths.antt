@@ -3,9 +3,10 @@ use Rattle.std.proofs.Common.{ℕ, ◌≡◌, List, [], ◌∷◌, ◌++◌, Opt
 use Rattle.std.specs.Option.{option_map}
 use Rattle.ipc_kernel.specs.Kernel.{KernelState}
 use Rattle.lab_sched.specs.declared.process.Process.{Process as Kept}
-use Rattle.lab_sched.specs.Worlds.{Process, WorldState, step}
+use Rattle.lab_sched.specs.Worlds.{Process, WorldState}
 use Rattle.lab_sched.specs.Held.{seen}
 use Rattle.lab_explore.specs.declared.store.Row.{Row}
+use Rattle.lab_explore.specs.declared.store.Edge.{Edge}
 use Rattle.lab_explore.specs.declared.store.Store.{Store}
 use Rattle.lab_explore.specs.declared.store.Next.{Next}
 use Rattle.lab_explore.specs.declared.store.Next.TheVariants.{Nothing, Limit, To}
@@ -13,17 +14,18 @@ use Rattle.lab_explore.specs.declared.known.Moves.{Moves}
 use Rattle.lab_explore.specs.Known.{AreKnown}
 use Rattle.lab_explore.specs.Calls.{Alongside}
 use Rattle.lab_explore.specs.Closed.{HasAdvance}
-use Rattle.lab_explore.specs.Stored.{Each, IsState, IsRow, IsAt, Holds, IsReady, IsStore, Grows, IsNext, IsMove, IsTried, IsExpanded}
+use Rattle.lab_explore.specs.Stored.{Each, IsState, IsRow, IsAt, Holds, IsReady, IsStore, Grows, IsNext, IsMove, HasEdge, IsTried, IsExpanded}
 use Rattle.lab_explore.proofs.Pushes.{both_weaker, keeps_push, each_push, get_pushed}
 
 pub grows_none : (t : Store) → Grows t t
-grows_none t = record { kernels = λ i x e. e; states = λ i x e. e; rows = λ i x e. e }
+grows_none t = record { kernels = λ i x e. e; states = λ i x e. e; rows = λ i x e. e; edges = λ i x e. e }
 
 pub grows_more : (t u v : Store) → Grows t u → Grows u v → Grows t v
 grows_more t u v g h = record {
   kernels = λ i x e. h.kernels i x (g.kernels i x e);
   states = λ i x e. h.states i x (g.states i x e);
   rows = λ i x e. h.rows i x (g.rows i x e);
+  edges = λ i x e. h.edges i x (g.edges i x e);
 }
 
 kept_at : (o : Option Kept) (s : Process) → option_map seen o ≡ Some s → (k : Kept) × (o ≡ Some k) × (seen k ≡ s)
@@ -62,11 +64,14 @@ next_grows t u k p s (To kernel state taken) g h = (h.0, g.kernels kernel _ h.1,
 pub move_grows : (t u : Store) (kernel p state : ℕ) (n : Next) → Grows t u → IsMove t kernel p state n → IsMove u kernel p state n
 move_grows t u kernel p state n g h = (h.0, h.1, g.kernels kernel h.0 h.2, state_grows t u state h.1 g h.3, next_grows t u h.0 p h.1 n g h.4)
 
-pub tried_grows : (t u : Store) (w : WorldState) (p : ℕ) → Grows t u → IsTried t w p → IsTried u w p
-tried_grows t u w p g h e = advance_grows t u (step w p) g (h e)
+edge_grows : (t u : Store) (i : ℕ) (w : WorldState) (p : ℕ) → Grows t u → HasEdge t i w p → HasEdge u i w p
+edge_grows t u i w p g h = (h.0, h.1, h.2, g.edges h.0 h.1 h.3, h.4, at_grows t u h.1.to h.2 g h.5, h.6)
+
+pub tried_grows : (t u : Store) (i : ℕ) (w : WorldState) (p : ℕ) → Grows t u → IsTried t i w p → IsTried u i w p
+tried_grows t u i w p g h e = edge_grows t u i w p g (h e)
 
 pub expanded_grows : (t u : Store) (i : ℕ) → Grows t u → IsExpanded t i → IsExpanded u i
-expanded_grows t u i g h = (h.0, at_grows t u i h.0 g h.1, λ p. tried_grows t u h.0 p g (h.2 p))
+expanded_grows t u i g h = (h.0, at_grows t u i h.0 g h.1, λ p. tried_grows t u i h.0 p g (h.2 p))
 
 -- a store that has more kernels, or more states
 pub store_grows : (t u : Store) → IsStore t → Grows t u → Each IsReady u.states.items → u.rows.items ≡ t.rows.items → IsStore u
@@ -77,12 +82,13 @@ store_grows t u s g ready same = record {
 
 -- one state more
 pub states_pushed : (t u : Store) (k : Kept) → IsStore t → IsReady k → u.states.items ≡ t.states.items ++ k ∷ [] → u.kernels.items ≡ t.kernels.items → u.rows.items ≡ t.rows.items
-    → Grows t u × IsStore u
-states_pushed t u k s ready states kernels rows =
+    → u.edges.items ≡ t.edges.items → Grows t u × IsStore u
+states_pushed t u k s ready states kernels rows edges =
     let g : Grows t u = record {
       kernels = λ i x e. subst (λ xs. slice_get xs i ≡ Some x) (sym kernels) e;
       states = λ i x e. subst (λ xs. slice_get xs i ≡ Some x) (sym states) (keeps_push t.states.items k i x e);
       rows = λ i x e. subst (λ xs. slice_get xs i ≡ Some x) (sym rows) e;
+      edges = λ i x e. subst (λ xs. slice_get xs i ≡ Some x) (sym edges) e;
     } in
     (g, store_grows t u s g (subst (λ xs. Each IsReady xs) (sym states) (each_push IsReady t.states.items k s.states ready)) rows)
 
@@ -93,12 +99,13 @@ state_pushed xs ys k i states is =
 
 -- one kernel more
 pub kernels_pushed : (t u : Store) (k : KernelState) → IsStore t → u.kernels.items ≡ t.kernels.items ++ k ∷ [] → u.states.items ≡ t.states.items → u.rows.items ≡ t.rows.items
-    → Grows t u × IsStore u
-kernels_pushed t u k s kernels states rows =
+    → u.edges.items ≡ t.edges.items → Grows t u × IsStore u
+kernels_pushed t u k s kernels states rows edges =
     let g : Grows t u = record {
       kernels = λ i x e. subst (λ xs. slice_get xs i ≡ Some x) (sym kernels) (keeps_push t.kernels.items k i x e);
       states = λ i x e. subst (λ xs. slice_get xs i ≡ Some x) (sym states) e;
       rows = λ i x e. subst (λ xs. slice_get xs i ≡ Some x) (sym rows) e;
+      edges = λ i x e. subst (λ xs. slice_get xs i ≡ Some x) (sym edges) e;
     } in
     (g, store_grows t u s g (subst (λ xs. Each IsReady xs) (sym states) s.states) rows)
 
@@ -108,12 +115,13 @@ kernel_pushed xs ys k i kernels is =
 
 -- one row more
 pub rows_pushed : (t u : Store) (r : Row) → IsStore t → ((w : WorldState) × IsRow t r w) → u.rows.items ≡ t.rows.items ++ r ∷ [] → u.kernels.items ≡ t.kernels.items → u.states.items ≡ t.states.items
-    → Grows t u × IsStore u
-rows_pushed t u r s stands rows kernels states =
+    → u.edges.items ≡ t.edges.items → Grows t u × IsStore u
+rows_pushed t u r s stands rows kernels states edges =
     let g : Grows t u = record {
       kernels = λ i x e. subst (λ xs. slice_get xs i ≡ Some x) (sym kernels) e;
       states = λ i x e. subst (λ xs. slice_get xs i ≡ Some x) (sym states) e;
       rows = λ i x e. subst (λ xs. slice_get xs i ≡ Some x) (sym rows) (keeps_push t.rows.items r i x e);
+      edges = λ i x e. subst (λ xs. slice_get xs i ≡ Some x) (sym edges) e;
     } in
     let here : (w : WorldState) × IsRow u r w = (stands.0, row_grows t u r stands.0 g stands.1) in
     let old : Each (λ q. (w : WorldState) × IsRow u q w) t.rows.items = λ i q e. let h = s.rows i q e in (h.0, row_grows t u q h.0 g h.1) in (
@@ -124,9 +132,21 @@ rows_pushed t u r s stands rows kernels states =
       },
     )
 
-pub row_pushed : (t u : Store) (r : Row) (w : WorldState) → Grows t u → u.rows.items ≡ t.rows.items ++ r ∷ [] → IsRow t r w → Holds u w
-row_pushed t u r w g rows h =
-    (length t.rows.items, (r, ap (λ xs. slice_get xs (length t.rows.items)) rows ∙ get_pushed t.rows.items r, row_grows t u r w g h))
+pub row_pushed : (t u : Store) (r : Row) (w : WorldState) (n : ℕ) → Grows t u → u.rows.items ≡ t.rows.items ++ r ∷ [] → n ≡ length t.rows.items → IsRow t r w → IsAt u n w
+row_pushed t u r w n g rows is h =
+    (r, ap (λ xs. slice_get xs n) rows ∙ ap (λ m. slice_get (t.rows.items ++ r ∷ []) m) is ∙ get_pushed t.rows.items r, row_grows t u r w g h)
+
+-- one edge more
+pub edges_pushed : (t u : Store) (e : Edge) → IsStore t → u.edges.items ≡ t.edges.items ++ e ∷ [] → u.kernels.items ≡ t.kernels.items → u.states.items ≡ t.states.items → u.rows.items ≡ t.rows.items
+    → Grows t u × IsStore u
+edges_pushed t u e s edges kernels states rows =
+    let g : Grows t u = record {
+      kernels = λ i x h. subst (λ xs. slice_get xs i ≡ Some x) (sym kernels) h;
+      states = λ i x h. subst (λ xs. slice_get xs i ≡ Some x) (sym states) h;
+      rows = λ i x h. subst (λ xs. slice_get xs i ≡ Some x) (sym rows) h;
+      edges = λ i x h. subst (λ xs. slice_get xs i ≡ Some x) (sym edges) (keeps_push t.edges.items e i x h);
+    } in
+    (g, store_grows t u s g (subst (λ xs. Each IsReady xs) (sym states) s.states) rows)
 
 -- rows of the same places stand for the same world
 pub same_row : (t : Store) (a b : Row) (w : WorldState) → a.kernel ≡ b.kernel → a.states.items ≡ b.states.items → IsRow t b w → IsRow t a w

@@ -7,3 +7,5 @@ mod Nexts
 mod Begins
 mod Walks
 mod Explorations
+mod Bounds
+mod Cycles

@@ -1,5 +1,5 @@
 -- What a step makes of a world that a row stands for.
-use Rattle.std.proofs.Common.{ℕ, zero, ◌≡◌, ◌<◌, ◌≤◌, length, arith, inl, inr, Option, Some, None, refl, sym, ap, subst, ◌∙◌, slice_get, set}
+use Rattle.std.proofs.Common.{ℕ, zero, ◌≡◌, ◌<◌, ◌≤◌, length, ◌++◌, [], ◌∷◌, arith, inl, inr, Option, Some, None, refl, sym, ap, subst, ◌∙◌, slice_get, set}
 use Rattle.std.specs.Option.{option_map}
 use Rattle.std.proofs.lemmas.Bool.{cases_lt}
 use Rattle.std.proofs.lemmas.Option.{slice_get_past}
@@ -13,11 +13,12 @@ use Rattle.ipc_kernel.specs.declared.call.Answer.TheVariants.{Done, Wait}
 use Rattle.lab_sched.proofs.Places.{set_same}
 use Rattle.lab_explore.specs.declared.store.Row.{Row}
 use Rattle.lab_explore.specs.declared.store.Store.{Store}
+use Rattle.lab_explore.specs.declared.store.Edge.{Edge}
 use Rattle.lab_explore.specs.declared.store.Next.{Next}
 use Rattle.lab_explore.specs.declared.store.Next.TheVariants.{Nothing, To}
-use Rattle.lab_explore.specs.Calls.{IsAtCall, IsAhead, Both, Alongside, IsAdvance}
-use Rattle.lab_explore.specs.Stored.{IsState, IsRow, IsAt, IsStore, Grows, IsNext, IsMove, IsTried, IsExpanded, IsRun}
-use Rattle.lab_explore.proofs.Pushes.{alongside_set}
+use Rattle.lab_explore.specs.Calls.{IsAtCall, IsAhead, Both, Alongside}
+use Rattle.lab_explore.specs.Stored.{IsState, IsRow, IsAt, IsStore, Grows, IsNext, IsMove, IsReached, AreReached, HasEdge, IsTried, IsExpanded, IsRun}
+use Rattle.lab_explore.proofs.Pushes.{alongside_set, get_pushed}
 use Rattle.lab_explore.proofs.Growths.{state_kept, at_grows, row_grows}
 
 pub both_left : {A B : Type 0} (R : A → B → Type 0) (x : A) (o : Option B) → Both R (Some x) o → (y : B) × (o ≡ Some y) × R x y
@@ -38,16 +39,17 @@ step_after w p s nothing at = ap (λ ps. record { processes = ps; kernel = w.ker
 step_after w p s (local_step n) at = refl
 step_after w p s (kernel_step m c a) at = refl
 
-own_at : (t : Store) → IsStore t → (a : Option ℕ) (b : Option Process) → Both (IsState t) a b → Both IsAhead b b
+own_at : (t : Store) → IsStore t → (a : Option ℕ) (b : Option Process) → Both (IsState t) a b → Both IsReached b b
 own_at t is None None h = tt
 own_at t is None (Some y) h = absurd h
 own_at t is (Some i) None h = absurd h
 own_at t is (Some i) (Some s) h =
     let k = state_kept t i s h in
-    record { taken = zero; local = refl; at_call = subst IsAtCall k.2 (is.states i k.0 k.1).1 }
+    let ahead : IsAhead s s = record { taken = zero; local = refl; at_call = subst IsAtCall k.2 (is.states i k.0 k.1).1 } in
+    record { ahead = ahead; few = omega arith }
 
 -- a world that a row stands for is its own advance
-pub own_advance : (t : Store) (r : Row) (w : WorldState) → IsStore t → IsRow t r w → Alongside IsAhead w.processes w.processes
+pub own_advance : (t : Store) (r : Row) (w : WorldState) → IsStore t → IsRow t r w → Alongside IsReached w.processes w.processes
 own_advance t r w is row p = own_at t is (slice_get r.states.items p) (slice_get w.processes p) (row.states p)
 
 -- what a move says, for a world
@@ -59,7 +61,7 @@ next_of t r w p i n s row state m =
 
 pub moved : (t : Store) (r r' : Row) (w : WorldState) (p i kernel state taken : ℕ) → IsStore t → IsRow t r w → slice_get r.states.items p ≡ Some i
     → IsMove t r.kernel p i (To kernel state taken) → r'.kernel ≡ kernel → r'.states.items ≡ set r.states.items p state
-    → (v : WorldState) × IsRow t r' v × IsAdvance (step w p) v
+    → (v : WorldState) × IsRow t r' v × AreReached (step w p) v
 moved t r r' w p i kernel state taken is row e m kernel-is states-is = (v, to, ahead)
   where
     s : Process
@@ -86,22 +88,22 @@ moved t r r' w p i kernel state taken is row e m kernel-is states-is = (v, to, a
     stepped_is : step w p ≡ record { processes = set w.processes p (process_after s turns); kernel = kernel_after w.kernel p turns }
     stepped_is = ap (λ o. after w p (turn w.kernel p o)) here ∙ step_after w p s turns here
 
-    ahead : IsAdvance (step w p) v
-    ahead = subst (λ x. IsAdvance x v) (sym stepped_is) (record {
+    ahead : AreReached (step w p) v
+    ahead = subst (λ x. AreReached x v) (sym stepped_is) (record {
       kernel = refl;
-      processes = alongside_set IsAhead w.processes w.processes p s (process_after s turns) s next.0 here here (own_advance t r w is row) next.3;
+      processes = alongside_set IsReached w.processes w.processes p s (process_after s turns) s next.0 here here (own_advance t r w is row) next.3;
     })
 
 -- a process that does nothing
-pub idles : (t : Store) (r : Row) (w : WorldState) (p i : ℕ) → IsRow t r w → slice_get r.states.items p ≡ Some i → IsMove t r.kernel p i Nothing → IsTried t w p
-idles t r w p i row e m effective =
+pub idles : (t : Store) (r : Row) (w : WorldState) (at p i : ℕ) → IsRow t r w → slice_get r.states.items p ≡ Some i → IsMove t r.kernel p i Nothing → IsTried t at w p
+idles t r w at p i row e m effective =
     let s = process_at t r w p i row e in
     let none : turn_in w p ≡ nothing = ap (λ o. turn w.kernel p o) s.1 ∙ next_of t r w p i Nothing s.0 row s.2 m in
     absurd (subst IsEffective none effective)
 
 -- a process that isn't there does nothing
-pub absent : (t : Store) (r : Row) (w : WorldState) (p : ℕ) → IsRow t r w → slice_get r.states.items p ≡ None → IsTried t w p
-absent t r w p row e effective =
+pub absent : (t : Store) (r : Row) (w : WorldState) (at p : ℕ) → IsRow t r w → slice_get r.states.items p ≡ None → IsTried t at w p
+absent t r w at p row e effective =
     let gone : slice_get w.processes p ≡ None = left (slice_get w.processes p) (subst (λ o. Both (IsState t) o (slice_get w.processes p)) e (row.states p)) in
     absurd (subst (λ o. IsEffective (turn w.kernel p o)) gone effective)
   where
@@ -134,7 +136,7 @@ placed_grows t u at p kernel i g h = (h.0, g.rows at h.0 h.1, h.2, h.3)
 -- the world after a step, by its row
 pub moved_at : (t : Store) (w : WorldState) (at p i old kernel state taken : ℕ) (next : Next) (r' : Row) → IsStore t → IsAt t at w → IsPlaced t at p old i → IsMove t old p i next
     → next ≡ To kernel state taken → r'.kernel ≡ kernel → ((r : Row) × (slice_get t.rows.items at ≡ Some r) × (r'.states.items ≡ set r.states.items p state))
-    → (v : WorldState) × IsRow t r' v × IsAdvance (step w p) v
+    → (v : WorldState) × IsRow t r' v × AreReached (step w p) v
 moved_at t w at p i old kernel state taken next r' is here placed m next-is kernel-is states =
     let r = here.0 in
     let first : placed.0 ≡ r = same_some placed.0 r (slice_get t.rows.items at) placed.1 here.1 in
@@ -145,18 +147,18 @@ moved_at t w at p i old kernel state taken next r' is here placed m next-is kern
     moved t r r' w p i kernel state taken is here.2 state-is move kernel-is (states.2 ∙ ap (λ (x : Row). set x.states.items p state) second)
 
 -- a process that does nothing in the world of a row
-pub idles_at : (t : Store) (w : WorldState) (at p i old : ℕ) (next : Next) → IsAt t at w → IsPlaced t at p old i → IsMove t old p i next → next ≡ Nothing → IsTried t w p
+pub idles_at : (t : Store) (w : WorldState) (at p i old : ℕ) (next : Next) → IsAt t at w → IsPlaced t at p old i → IsMove t old p i next → next ≡ Nothing → IsTried t at w p
 idles_at t w at p i old next here placed m next-is =
     let r = here.0 in
     let first : placed.0 ≡ r = same_some placed.0 r (slice_get t.rows.items at) placed.1 here.1 in
     let old-is : old ≡ r.kernel = sym placed.2 ∙ ap (λ (x : Row). x.kernel) first in
     let state-is : slice_get r.states.items p ≡ Some i = subst (λ (x : Row). slice_get x.states.items p ≡ Some i) first placed.3 in
     let move : IsMove t r.kernel p i Nothing = subst (λ k. IsMove t k p i Nothing) old-is (subst (λ n. IsMove t old p i n) next-is m) in
-    idles t r w p i here.2 state-is move
+    idles t r w at p i here.2 state-is move
 
 -- each process of a world was tried
 pub all_tried : (t u : Store) (at count pid : ℕ) → IsStore t → Grows t u → ((r : Row) × (slice_get t.rows.items at ≡ Some r) × (count ≡ length r.states.items)) → count ≤ pid
-    → ((w : WorldState) → IsAt t at w → (p : ℕ) → p < pid → IsTried u w p) → IsExpanded u at
+    → ((w : WorldState) → IsAt t at w → (p : ℕ) → p < pid → IsTried u at w p) → IsExpanded u at
 all_tried t u at count pid is g row all tried =
     let w = is.rows at row.0 row.1 in
     let here : IsAt t at w.0 = (row.0, row.1, w.1) in
@@ -167,6 +169,11 @@ all_tried t u at count pid is g row all tried =
         | inl below ↦ tried w.0 here p below
         | inr above ↦
             let past : length row.0.states.items ≤ p = let count-is = row.2 in omega arith in
-            absent u row.0 w.0 p (row_grows t u row.0 w.0 g w.1) (slice_get_past row.0.states.items p past)
+            absent u row.0 w.0 at p (row_grows t u row.0 w.0 g w.1) (slice_get_past row.0.states.items p past)
       ],
     )
+
+-- an edge to the world after a step
+pub edge_made : (t u : Store) (w v : WorldState) (at p : ℕ) (e : Edge) → Grows t u → u.edges.items ≡ t.edges.items ++ e ∷ [] → e.from ≡ at → IsAt t e.to v → AreReached (step w p) v → HasEdge u at w p
+edge_made t u w v at p e g edges from there reached =
+    (length t.edges.items, e, v, ap (λ xs. slice_get xs (length t.edges.items)) edges ∙ get_pushed t.edges.items e, from, at_grows t u e.to v g there, reached)

@@ -12,13 +12,13 @@ use Rattle.lab_explore.specs.Closed.{HasAdvance, IsClosed, AreAtRest, HoldsEvery
 use Rattle.lab_explore.proofs.Ahead.{stays, ahead_moves, ahead_of_ahead, rest_stays}
 
 -- a step of the same kind leaves a process in the same state, whatever the rest of the world
-same_after : (w v : WorldState) (p : ℕ) (s : Process) (t : Turn) → slice_get w.processes p ≡ Some s → slice_get v.processes p ≡ Some s
+pub same_after : (w v : WorldState) (p : ℕ) (s : Process) (t : Turn) → slice_get w.processes p ≡ Some s → slice_get v.processes p ≡ Some s
     → slice_get (after w p t).processes p ≡ slice_get (after v p t).processes p
 same_after w v p s nothing a b = a ∙ sym b
 same_after w v p s (local_step n) a b = get-set_same w.processes p (Running n) (get_past w.processes p s a) ∙ sym (get-set_same v.processes p (Running n) (get_past v.processes p s b))
 same_after w v p s (kernel_step m c r) a b = get-set_same w.processes p (told m c r) (get_past w.processes p s a) ∙ sym (get-set_same v.processes p (told m c r) (get_past v.processes p s b))
 
-kernel_after : (w v : WorldState) (p : ℕ) (t : Turn) → v.kernel ≡ w.kernel → (after v p t).kernel ≡ (after w p t).kernel
+pub kernel_after : (w v : WorldState) (p : ℕ) (t : Turn) → v.kernel ≡ w.kernel → (after v p t).kernel ≡ (after w p t).kernel
 kernel_after w v p nothing e = e
 kernel_after w v p (local_step n) e = e
 kernel_after w v p (kernel_step m c r) e = ap (λ k. (answer k p c).1) e

@@ -3,3 +3,4 @@ pub mod Closed
 pub mod Stored
 pub mod Ends
 pub mod Known
+pub mod Rounds

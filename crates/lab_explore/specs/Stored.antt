@@ -1,11 +1,12 @@
 -- What a search keeps: kernels, states of processes, and worlds as places among these.
-use Rattle.std.specs.Prelude.{ℕ, ◌≡◌, List, Option, Some, None, slice_get}
+use Rattle.std.specs.Prelude.{ℕ, ◌≡◌, ◌<◌, ◌^◌, List, Option, Some, None, length, slice_get}
 use Rattle.std.specs.Option.{option_map}
 use Rattle.ipc_kernel.specs.Kernel.{KernelState}
 use Rattle.lab_sched.specs.declared.process.Process.{Process as Kept}
 use Rattle.lab_sched.specs.Worlds.{Process, WorldState, nothing, turn, turn_in, step, IsEffective}
 use Rattle.lab_sched.specs.Held.{seen, IsHeld, process_after, kernel_after}
 use Rattle.lab_explore.specs.declared.store.Row.{Row}
+use Rattle.lab_explore.specs.declared.store.Edge.{Edge}
 use Rattle.lab_explore.specs.declared.store.Store.{Store}
 use Rattle.lab_explore.specs.declared.store.Next.{Next}
 use Rattle.lab_explore.specs.declared.store.Next.TheVariants.{Nothing, Limit, To}
@@ -54,6 +55,17 @@ pub record Grows (t u : Store) : Type 0 where
   pub kernels : Keeps t.kernels.items u.kernels.items
   pub states : Keeps t.states.items u.states.items
   pub rows : Keeps t.rows.items u.rows.items
+  pub edges : Keeps t.edges.items u.edges.items
+
+-- u is s after all its local steps, fewer than 2^32
+pub record IsReached (s u : Process) : Type 0 where
+  pub ahead : IsAhead s u
+  pub few : ahead.taken < 2 ^ 32
+
+-- v is w after all local steps of its processes, fewer than 2^32 of each
+pub record AreReached (w v : WorldState) : Type 0 where
+  pub kernel : v.kernel ≡ w.kernel
+  pub processes : Alongside IsReached w.processes v.processes
 
 -- what a step of process p makes of it and of the kernel, and of it then all its local steps
 abbrev pub IsNext : Store → KernelState → ℕ → Process → Next → Type 0
@@ -61,32 +73,42 @@ IsNext t k p s Nothing = turn k p (Some s) ≡ nothing
 IsNext t k p s Limit = Unit {0}
 IsNext t k p s (To kernel state taken) =
     (u : Process) × (slice_get t.kernels.items kernel ≡ Some (kernel_after k p (turn k p (Some s)))) × IsState t state u
-    × IsAhead (process_after s (turn k p (Some s))) u
+    × IsReached (process_after s (turn k p (Some s))) u
 
 -- the same where the kernel and the process are given by their places
 abbrev pub IsMove : Store → ℕ → ℕ → ℕ → Next → Type 0
 IsMove t kernel p state next =
     (k : KernelState) × (s : Process) × (slice_get t.kernels.items kernel ≡ Some k) × IsState t state s × IsNext t k p s next
 
--- what process p does next from the world is held
-abbrev pub IsTried : Store → WorldState → ℕ → Type 0
-IsTried t w p = IsEffective (turn_in w p) → HasAdvance (Holds t) (step w p)
+-- an edge from row number i leads to the world after a step of process p and then all its local steps
+abbrev pub HasEdge : Store → ℕ → WorldState → ℕ → Type 0
+HasEdge t i w p =
+    (k : ℕ) × (e : Edge) × (v : WorldState) × (slice_get t.edges.items k ≡ Some e) × (e.from ≡ i) × IsAt t e.to v × AreReached (step w p) v
 
--- row number i stands for a world from which each step is held
+-- the step of process p from the world of row number i, if it is effective, has an edge
+abbrev pub IsTried : Store → ℕ → WorldState → ℕ → Type 0
+IsTried t i w p = IsEffective (turn_in w p) → HasEdge t i w p
+
+-- row number i stands for a world from which each effective step has an edge
 abbrev pub IsExpanded : Store → ℕ → Type 0
-IsExpanded t i = (w : WorldState) × IsAt t i w × ((p : ℕ) → IsTried t w p)
+IsExpanded t i = (w : WorldState) × IsAt t i w × ((p : ℕ) → IsTried t i w p)
+
+-- the advance of the start is held, and so is each step from each row
+pub record IsSearched (start : WorldState) (t : Store) : Type 0 where
+  pub begins : HasAdvance (Holds t) start
+  pub expanded : (i : ℕ) → i < length t.rows.items → IsExpanded t i
 
 -- what a step of process p makes of it and of the kernel, and of it then all its local steps, as they are
 abbrev pub IsStepped : KernelState → ℕ → Process → Tried → Type 0
 IsStepped k p s Still = turn k p (Some s) ≡ nothing
 IsStepped k p s Runs = Unit {0}
 IsStepped k p s (Came made) =
-    (made.kernel ≡ kernel_after k p (turn k p (Some s))) × IsReady made.process × IsAhead (process_after s (turn k p (Some s))) (seen made.process)
+    (made.kernel ≡ kernel_after k p (turn k p (Some s))) × IsReady made.process × IsReached (process_after s (turn k p (Some s))) (seen made.process)
 
 -- all local steps of a process, if it may take so many
 abbrev pub IsRun : KernelState → Process → Option Made → Type 0
 IsRun k s None = Unit {0}
-IsRun k s (Some made) = (made.kernel ≡ k) × IsReady made.process × IsAhead s (seen made.process)
+IsRun k s (Some made) = (made.kernel ≡ k) × IsReady made.process × IsReached s (seen made.process)
 
 -- the state at a place is the process after all its local steps
 abbrev pub IsCome : Store → ℕ → Process → Type 0

@@ -28,9 +28,9 @@ pub struct End {
 
 /// A world, and the steps that led to it.
 #[derive(Drop)]
-struct Walk {
-    world: World,
-    schedule: Schedule,
+pub(crate) struct Walk {
+    pub world: World,
+    pub schedule: Schedule,
 }
 
 /// Whether a process has ended, or waits and must still wait.
@@ -53,7 +53,7 @@ fn changes(stepped: Stepped) -> bool
 }
 
 /// Takes a step, which must be effective.
-fn go(walk: &mut Walk, pid: usize) -> Result<(), ExploreFault>
+pub(crate) fn go(walk: &mut Walk, pid: usize) -> Result<(), ExploreFault>
     ensures walk { OnOk result ((start : WorldState) → IsWalk start walk.old → IsWalk start walk.new) }
 {
     if pid >= PROCESSES || walk.schedule.total() >= MOST_STEPS {
@@ -70,7 +70,7 @@ fn go(walk: &mut Walk, pid: usize) -> Result<(), ExploreFault>
 }
 
 /// Takes so many steps, each of which must be effective.
-fn go_on(walk: &mut Walk, pid: usize, count: u32) -> Result<(), ExploreFault>
+pub(crate) fn go_on(walk: &mut Walk, pid: usize, count: u32) -> Result<(), ExploreFault>
     ensures walk { OnOk result ((start : WorldState) → IsWalk start walk.old → IsWalk start walk.new) }
 {
     for _ in 0..count {
@@ -87,11 +87,11 @@ impl Store {
         let Some(row) = self.rows.get(at) else {
             return Err(ExploreFault::Unvouched);
         };
-        let Some(kernel) = self.kernels.get(row.kernel) else {
+        let Some(kernel) = self.kernels.get(row.kernel as usize) else {
             return Err(ExploreFault::Unvouched);
         };
         for (pid, state) in row.states.iter().enumerate() {
-            let Some(process) = self.states.get(*state) else {
+            let Some(process) = self.states.get(*state as usize) else {
                 return Err(ExploreFault::Unvouched);
             };
             if pid >= kernel.count() {
@@ -105,23 +105,23 @@ impl Store {
     }
 
     /// Whether a state is that of a process.
-    fn is_state(&self, state: usize, process: &Process) -> bool
+    fn is_state(&self, state: u32, process: &Process) -> bool
         ensures same { IsTrue result → IsState self.now state (seen process.now) }
     {
-        match self.states.get(state) {
+        match self.states.get(state as usize) {
             Some(kept) => kept.is_same(process),
             None => false,
         }
     }
 
     /// Whether a row stands for a world.
-    fn is_row(&self, at: usize, world: &World) -> bool
+    pub(crate) fn is_row(&self, at: usize, world: &World) -> bool
         ensures same { IsTrue result → IsAt self.now at world.now }
     {
         let Some(row) = self.rows.get(at) else {
             return false;
         };
-        let Some(kernel) = self.kernels.get(row.kernel) else {
+        let Some(kernel) = self.kernels.get(row.kernel as usize) else {
             return false;
         };
         if row.states.len() != world.count() || !kernel.is_same(world.kernel()) {
@@ -150,8 +150,8 @@ impl Store {
             let Some(row) = self.rows.get(now) else {
                 break;
             };
-            way.push((row.pid, row.taken))?;
-            now = row.before;
+            way.push((row.pid as usize, row.taken))?;
+            now = row.before as usize;
         }
         Ok(way)
     }
@@ -177,7 +177,7 @@ fn copies(alloc: Global, processes: &[Process]) -> Result<Vec<Process>, AllocErr
 }
 
 /// The world of processes before their first steps.
-fn world_of(alloc: Global, processes: &[Process]) -> Result<World, ExploreFault>
+pub(crate) fn world_of(alloc: Global, processes: &[Process]) -> Result<World, ExploreFault>
     requires running { All Runs processes.now }
     requires some { 1 ≤ length processes.now }
     requires few { length processes.now ≤ 64 }
@@ -216,7 +216,12 @@ fn go_local(walk: &mut Walk, local: &[u32]) -> Result<(), ExploreFault>
 impl Search {
     /// Goes the way to a row. The local steps of a process are taken just before its next call, and its last ones at the
     /// end.
-    fn go_to(&self, alloc: Global, at: usize, walk: &mut Walk) -> Result<(), ExploreFault>
+    pub(crate) fn go_to(
+        &self,
+        alloc: Global,
+        at: usize,
+        walk: &mut Walk,
+    ) -> Result<(), ExploreFault>
         ensures walk { OnOk result ((start : WorldState) → IsWalk start walk.old → IsWalk start walk.new) }
     {
         let way = self.store.way(alloc, at)?;

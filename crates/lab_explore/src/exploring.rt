@@ -1,20 +1,25 @@
 //! Explorations.
-ghost use Rattle.std.specs.Prelude.{◌≡◌, ◌≤◌, IsTrue, IfOk};
-ghost use Rattle.lab_explore.specs.Stored.{Each};
-ghost use Rattle.lab_explore.specs.Ends.{IsEnd, HaveAllEnds, NoneStuck, NeverStuck};
+ghost use Rattle.std.specs.Prelude.{◌≡◌, ◌≤◌, ℕ, All, IsTrue, length, None, IfOk, IfSome};
+ghost use Rattle.lab_sched.specs.Worlds.{WorldState};
+ghost use Rattle.lab_sched.specs.Starts.{Runs};
+ghost use Rattle.lab_explore.specs.Closed.{AreAtRest};
+ghost use Rattle.lab_explore.specs.Stored.{IsAt, Each};
+ghost use Rattle.lab_explore.specs.Ends.{first_world, IsEnd, HasEnd, HaveAllEnds, NoneStuck, NeverStuck};
+ghost use Rattle.lab_explore.specs.Rounds.{IsRound, AreRising, AreEndless, AreBounded};
 
-use crate::search::search_all;
+use crate::search::{Search, search_all};
 use crate::trying::discard;
-use crate::{End, ExploreFault, Limits};
+use crate::{End, ExploreFault, Limits, Round};
 use ipc_kernel::Kernel;
-use lab_sched::Fresh;
+use lab_sched::{Fresh, Process};
 use std::alloc::Global;
 
-/// What the programs of a laboratory can come to: their ends, how many worlds were visited, and
-/// whether these are all ends.
+/// What the programs of a laboratory can come to: their ends, a round, if they can go on for ever, how many worlds were
+/// visited, and whether these are all ends.
 #[derive(Drop)]
 pub struct Exploration {
     pub ends: Vec<End>,
+    pub round: Option<Round>,
     pub worlds: u32,
     pub complete: bool,
 }
@@ -22,29 +27,59 @@ pub struct Exploration {
 /// Visits every world at calls that a laboratory can come to, as far as the limits allow, those
 /// with fewer calls first. Each end has a schedule of effective steps that leads to it. Where the
 /// exploration is complete, there is no other end, whatever steps are taken, in any order; and if
-/// then no end is stuck, no such steps lead to a world that is.
+/// then no end is stuck, no such steps lead to a world that is. A round shows that some effective
+/// steps never end; where the exploration is complete and has no round, each list of effective
+/// steps ends, after no more than some number of them.
 pub fn explore(alloc: Global, fresh: Fresh, limits: Limits) -> Result<Exploration, ExploreFault>
     ensures sound { IfOk result (λ found. Each (IsEnd fresh) found.ends.items) }
     ensures complete { IfOk result (λ found. IsTrue found.complete → HaveAllEnds fresh found.ends.items) }
     ensures free { IfOk result (λ found. IsTrue found.complete → NoneStuck found.ends.items → NeverStuck fresh) }
+    ensures round { IfOk result (λ found. IfSome found.round (λ r. IsRound fresh r)) }
+    ensures endless { IfOk result (λ found. IfSome found.round (λ r. AreEndless fresh)) }
+    ensures bounded { IfOk result (λ found. IsTrue found.complete → found.round ≡ None
+        → AreBounded fresh) }
 {
     let processes = fresh.processes();
     let kernel = Kernel::new(alloc, processes.len())?;
     let search = search_all(alloc, &processes, kernel, limits)?;
-    let worlds = u32::try_from(search.store.rows.len()).unwrap_or(limits.worlds);
-    let complete = search.complete;
-    match search.ends(alloc, &processes) {
-        Ok(ends) => {
+    match search.report(alloc, &processes) {
+        Ok(found) => {
             discard(search);
-            Ok(Exploration {
-                ends,
-                worlds,
-                complete,
-            })
+            Ok(found)
         }
         Err(fault) => {
             discard(search);
             Err(fault)
         }
+    }
+}
+
+impl Search {
+    /// What was found, with the ends and a round, if there is one.
+    pub(crate) fn report(
+        &self,
+        alloc: Global,
+        processes: &[Process],
+    ) -> Result<Exploration, ExploreFault>
+        requires running { All Runs processes.now }
+        requires some { 1 ≤ length processes.now }
+        requires few { length processes.now ≤ 64 }
+        ensures ends { IfOk result (λ found.
+            Each (IsEnd (first_world processes.now)) found.ends.items) }
+        ensures all { IfOk result (λ found. (i : ℕ) (w : WorldState) → IsAt self.now.store i w
+            → AreAtRest w → HasEnd found.ends.items w) }
+        ensures round { IfOk result (λ found.
+            IfSome found.round (λ r. IsRound (first_world processes.now) r)) }
+        ensures none { IfOk result (λ found. found.round ≡ None → AreRising self.now.store.edges.items) }
+        ensures complete { IfOk result (λ found. IsTrue found.complete → IsTrue self.now.complete) }
+    {
+        let ends = self.ends(alloc, processes)?;
+        let round = self.round(alloc, processes)?;
+        Ok(Exploration {
+            ends,
+            round,
+            worlds: u32::try_from(self.store.rows.len()).unwrap_or(u32::MAX),
+            complete: self.complete,
+        })
     }
 }

@@ -11,9 +11,9 @@ use std::alloc::{AllocError, Global};
 /// What process `pid` does next in this state, over this kernel.
 #[derive(Clone, Copy, Drop)]
 pub(crate) struct Move {
-    pub kernel: usize,
-    pub pid: usize,
-    pub state: usize,
+    pub kernel: u32,
+    pub pid: u32,
+    pub state: u32,
     pub next: Next,
 }
 
@@ -25,7 +25,7 @@ pub(crate) struct Moves {
 }
 
 /// A number for the places of a move.
-fn move_digest(kernel: usize, pid: usize, state: usize) -> u64 {
+fn move_digest(kernel: u32, pid: u32, state: u32) -> u64 {
     let mut hash = (kernel as u64).wrapping_mul(0x9E37_79B9_7F4A_7C15);
     hash = (hash ^ (state as u64)).wrapping_mul(0xBF58_476D_1CE4_E5B9);
     hash ^= hash >> 31;
@@ -45,7 +45,7 @@ impl Moves {
     }
 
     /// The move from these places, if it was made.
-    pub(crate) fn find(&self, kernel: usize, pid: usize, state: usize) -> Option<Next>
+    pub(crate) fn find(&self, kernel: u32, pid: u32, state: u32) -> Option<Next>
         ensures known { (t : Kept) → AreKnown t self.now → IfSome result (λ next. IsMove t kernel pid state next) }
     {
         let mut number = self.index.newest(move_digest(kernel, pid, state));
@@ -64,9 +64,9 @@ impl Moves {
     /// Keeps a move.
     pub(crate) fn keep(
         &mut self,
-        kernel: usize,
-        pid: usize,
-        state: usize,
+        kernel: u32,
+        pid: u32,
+        state: u32,
         next: Next,
     ) -> Result<(), AllocError>
         ensures known { OnOk result ((t : Kept) → AreKnown t self.old → IsMove t kernel pid state next → AreKnown t self.new) }

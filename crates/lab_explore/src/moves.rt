@@ -1,16 +1,16 @@
 //! What each process does next.
-ghost use Rattle.std.specs.Prelude.{◌≡◌, ◌<◌, ℕ, Some, IsTrue, true, length, slice_get, IfOk, OnOk};
+ghost use Rattle.std.specs.Prelude.{◌≡◌, ◌<◌, ℕ, Some, IsTrue, true, length, slice_get, IfOk, IfSome, OnOk};
 ghost use Rattle.ipc_kernel.specs.Kernel.{KernelState};
-ghost use Rattle.lab_sched.specs.Worlds.{Process as Seen, WorldState};
+ghost use Rattle.lab_sched.specs.Worlds.{Process as Seen, WorldState, step};
 ghost use Rattle.lab_explore.specs.declared.trying.Tried.TheVariants.{Came};
 ghost use Rattle.lab_explore.specs.Known.{AreKnown};
-ghost use Rattle.lab_explore.specs.Stored.{IsState, IsReady, IsStore, Grows, IsNext, IsMove, IsStepped, IsAt, IsTried, IsExpanded};
+ghost use Rattle.lab_explore.specs.Stored.{IsState, IsReady, IsRow, IsStore, Grows, AreReached, HasEdge, IsNext, IsMove, IsStepped, IsAt, IsTried, IsExpanded};
 
 use crate::known::Moves;
-use crate::store::{Next, Store};
+use crate::store::{Edge, Next, Row, Store};
 use crate::trying::{Made, Tried, discard, try_step};
 use crate::{ExploreFault, Limits};
-use std::alloc::Global;
+use std::alloc::{AllocError, Global};
 
 /// Whether both are so.
 pub(crate) fn both(first: bool, second: bool) -> bool
@@ -20,27 +20,42 @@ pub(crate) fn both(first: bool, second: bool) -> bool
     first && second
 }
 
+/// The edge between two rows of these numbers, if they are small enough.
+fn edge_of(from: usize, to: usize, pid: u32, taken: u32) -> Option<Edge>
+    ensures from { IfSome result (λ e. e.from ≡ from) }
+    ensures to { IfSome result (λ e. e.to ≡ to) }
+{
+    let from = u32::try_from(from).ok()?;
+    let to = u32::try_from(to).ok()?;
+    Some(Edge {
+        from,
+        to,
+        pid,
+        taken,
+    })
+}
+
 impl Store {
     /// What comes of a step of process `pid` in a state that is kept, over a kernel that is kept.
     fn try_next(
         &self,
         alloc: Global,
-        kernel: usize,
-        pid: usize,
-        state: usize,
+        kernel: u32,
+        pid: u32,
+        state: u32,
         most: u32,
     ) -> Result<Tried, ExploreFault>
         requires store { IsStore self.now }
         ensures tried { IfOk result (λ tried. (k : KernelState) × (s : Seen) × (slice_get self.now.kernels.items kernel ≡ Some k)
             × IsState self.now state s × IsStepped k pid s tried) }
     {
-        let Some(kernel) = self.kernels.get(kernel) else {
+        let Some(kernel) = self.kernels.get(kernel as usize) else {
             return Err(ExploreFault::Unvouched);
         };
-        let Some(process) = self.states.get(state) else {
+        let Some(process) = self.states.get(state as usize) else {
             return Err(ExploreFault::Unvouched);
         };
-        try_step(alloc, kernel, process, pid, most)
+        try_step(alloc, kernel, process, pid as usize, most)
     }
 
     /// Keeps the kernel and the state that came of a step.
@@ -76,9 +91,9 @@ impl Store {
     fn make_next(
         &mut self,
         alloc: Global,
-        kernel: usize,
-        pid: usize,
-        state: usize,
+        kernel: u32,
+        pid: u32,
+        state: u32,
         most: u32,
     ) -> Result<Next, ExploreFault>
         requires store { IsStore self.old }
@@ -105,9 +120,9 @@ impl Store {
         &mut self,
         alloc: Global,
         moves: &mut Moves,
-        kernel: usize,
-        pid: usize,
-        state: usize,
+        kernel: u32,
+        pid: u32,
+        state: u32,
         most: u32,
     ) -> Result<Next, ExploreFault>
         requires store { IsStore self.old }
@@ -127,6 +142,27 @@ impl Store {
 }
 
 impl Store {
+    /// Keeps the world of a row, and the edge to it by a step of process `pid` from the world of another, if there are
+    /// fewer worlds than `most`; with whether both are kept now.
+    fn keep_edge(&mut self, at: usize, pid: u32, row: Row, most: u32) -> Result<bool, AllocError>
+        requires store { IsStore self.old }
+        requires row { (w : WorldState) × IsRow self.old row w }
+        ensures store { OnOk result (IsStore self.new) }
+        ensures grows { OnOk result (Grows self.old self.new) }
+        ensures edge { IfOk result (λ kept. IsTrue kept → (w v : WorldState) → IsRow self.old row v
+            → AreReached (step w pid) v → HasEdge self.new at w pid) }
+    {
+        let taken = row.taken;
+        let Some(to) = self.keep_row(row, most)? else {
+            return Ok(false);
+        };
+        let Some(edge) = edge_of(at, to, pid, taken) else {
+            return Ok(false);
+        };
+        self.edges.push(edge)?;
+        Ok(true)
+    }
+
     /// Tries process `pid` from the world of a row, and keeps the world where it comes; with whether
     /// that could be done.
     pub(crate) fn try_process(
@@ -134,7 +170,7 @@ impl Store {
         alloc: Global,
         moves: &mut Moves,
         at: usize,
-        pid: usize,
+        pid: u32,
         limits: Limits,
     ) -> Result<bool, ExploreFault>
         requires store { IsStore self.old }
@@ -142,7 +178,7 @@ impl Store {
         ensures store { OnOk result (IsStore self.new) }
         ensures known { OnOk result (AreKnown self.new moves.new) }
         ensures grows { OnOk result (Grows self.old self.new) }
-        ensures tried { IfOk result (λ whole. IsTrue whole → (w : WorldState) → IsAt self.old at w → IsTried self.new w pid) }
+        ensures tried { IfOk result (λ whole. IsTrue whole → (w : WorldState) → IsAt self.old at w → IsTried self.new at w pid) }
     {
         let Some((kernel, state)) = self.places(at, pid) else {
             return Err(ExploreFault::Unvouched);
@@ -156,7 +192,7 @@ impl Store {
                 taken,
             } => {
                 let row = self.row_after(alloc, at, pid, kernel, state, taken)?;
-                let kept = self.keep_row(row, limits.worlds)?;
+                let kept = self.keep_edge(at, pid, row, limits.worlds)?;
                 Ok(kept)
             }
         }

@@ -2,10 +2,10 @@
 ghost use Rattle.std.specs.Prelude.{◌≡◌, ◌<◌, ℕ, Some, IsTrue, true, length, slice_get, slice_set, IfOk, IfSome, OnOk};
 ghost use Rattle.lab_sched.specs.Worlds.{WorldState};
 ghost use Rattle.lab_explore.specs.declared.store.Row.{Row};
-ghost use Rattle.lab_explore.specs.Stored.{IsRow, Holds, IsStore, Grows};
+ghost use Rattle.lab_explore.specs.Stored.{IsRow, IsAt, IsStore, Grows};
 
 use crate::ExploreFault;
-use crate::store::{Row, Store};
+use crate::store::{Row, Store, place_of};
 use std::alloc::{AllocError, Global};
 
 /// Whether two rows stand for the same world.
@@ -27,59 +27,64 @@ fn row_digest(row: &Row) -> u64 {
 }
 
 impl Store {
-    /// Whether a row of the same world is kept.
-    fn has_row(&self, row: &Row, hash: u64) -> bool
-        ensures found { IsTrue result → (w : WorldState) → IsRow self.now row.now w → Holds self.now w }
+    /// The number of a row of the same world, if one is kept.
+    fn find_row(&self, row: &Row, hash: u64) -> Option<usize>
+        ensures found { IfSome result (λ i. (w : WorldState) → IsRow self.now row.now w → IsAt self.now i w) }
     {
         let mut number = self.row_index.newest(hash);
         while number > 0 {
             let at = number - 1;
             if let Some(kept) = self.rows.get(at) {
                 if is_same_row(kept, row) {
-                    return true;
+                    return Some(at);
                 }
             }
             number = self.row_index.older(number);
         }
-        false
+        None
     }
 
-    /// Keeps the world of a row, if there are fewer than `most`; with whether it is kept now.
-    pub(crate) fn keep_row(&mut self, row: Row, most: u32) -> Result<bool, AllocError>
+    /// Keeps the world of a row, if there are fewer than `most`; with its number, if it is kept now.
+    pub(crate) fn keep_row(&mut self, row: Row, most: u32) -> Result<Option<usize>, AllocError>
         requires store { IsStore self.old }
         requires row { (w : WorldState) × IsRow self.old row w }
         ensures store { OnOk result (IsStore self.new) }
         ensures grows { OnOk result (Grows self.old self.new) }
-        ensures kept { IfOk result (λ kept. IsTrue kept → (w : WorldState) → IsRow self.old row w → Holds self.new w) }
+        ensures kept { IfOk result (λ kept. IfSome kept (λ i. (w : WorldState)
+            → IsRow self.old row w → IsAt self.new i w)) }
     {
         let hash = row_digest(&row);
-        if self.has_row(&row, hash) {
-            return Ok(true);
+        if let Some(at) = self.find_row(&row, hash) {
+            return Ok(Some(at));
         }
-        if self.rows.len() >= most as usize {
-            return Ok(false);
+        let at = self.rows.len();
+        if at >= most as usize {
+            return Ok(None);
         }
         self.row_index.add(hash)?;
         self.rows.push(row)?;
-        Ok(true)
+        Ok(Some(at))
     }
 
     /// The places of the kernel and of the state of process `pid` in a row.
-    pub(crate) fn places(&self, at: usize, pid: usize) -> Option<(usize, usize)>
+    pub(crate) fn places(&self, at: usize, pid: u32) -> Option<(u32, u32)>
         ensures places { IfSome result (λ x. (r : Row) × (slice_get self.now.rows.items at ≡ Some r) × (r.kernel ≡ x.0)
             × (slice_get r.states.items pid ≡ Some x.1)) }
     {
         let row = self.rows.get(at)?;
-        let state = row.states.get(pid)?;
+        let state = row.states.get(pid as usize)?;
         Some((row.kernel, *state))
     }
 
     /// The number of processes of a row.
-    pub(crate) fn width(&self, at: usize) -> Option<usize>
+    pub(crate) fn width(&self, at: usize) -> Option<u32>
         ensures width { IfSome result (λ n. (r : Row) × (slice_get self.now.rows.items at ≡ Some r) × (n ≡ length r.states.items)) }
     {
         let row = self.rows.get(at)?;
-        Some(row.states.len())
+        match place_of(row.states.len()) {
+            Ok(count) => Some(count),
+            Err(_) => None,
+        }
     }
 
     /// The row with this kernel and this state of process `pid`, and else as a row that is kept.
@@ -87,9 +92,9 @@ impl Store {
         &self,
         alloc: Global,
         at: usize,
-        pid: usize,
-        kernel: usize,
-        state: usize,
+        pid: u32,
+        kernel: u32,
+        state: u32,
         taken: u32,
     ) -> Result<Row, ExploreFault>
         ensures kernel { IfOk result (λ row. row.kernel ≡ kernel) }
@@ -100,14 +105,15 @@ impl Store {
             return Err(ExploreFault::Unvouched);
         };
         let mut states = Vec::from_slice(alloc, row.states.as_slice())?;
-        if pid >= states.len() {
+        let place = pid as usize;
+        if place >= states.len() {
             return Err(ExploreFault::Unvouched);
         }
-        states[pid] = state;
+        states[place] = state;
         Ok(Row {
             kernel,
             states,
-            before: at,
+            before: place_of(at)?,
             pid,
             taken,
         })

@@ -2,9 +2,9 @@
 ghost use Rattle.std.specs.Prelude.{◌≡◌, ◌<◌, ℕ, All, IsTrue, length, map, IfOk, IfSome, OnOk};
 ghost use Rattle.lab_sched.specs.Worlds.{Process as Seen};
 ghost use Rattle.lab_sched.specs.Held.{seen, IsHeld};
-ghost use Rattle.lab_explore.specs.Closed.{IsClosed, HasAdvance};
+ghost use Rattle.lab_explore.specs.Closed.{HasAdvance};
 ghost use Rattle.lab_explore.specs.Known.{AreKnown};
-ghost use Rattle.lab_explore.specs.Stored.{IsState, IsReady, IsStore, Grows, IsExpanded, Holds, IsCome, IsBegun};
+ghost use Rattle.lab_explore.specs.Stored.{IsState, IsReady, IsStore, Grows, IsExpanded, IsSearched, Holds, IsCome, IsBegun};
 
 use crate::advance::{Ahead, advance};
 use crate::known::Moves;
@@ -19,14 +19,14 @@ use std::alloc::Global;
 /// The state that a process comes to by so many local steps, by its place.
 #[derive(Clone, Copy, Drop)]
 pub(crate) struct Come {
-    pub state: usize,
+    pub state: u32,
     pub taken: u32,
 }
 
 /// The states that processes begin with, at their first calls, and the local steps to them.
 #[derive(Drop)]
 pub(crate) struct Begun {
-    pub states: Vec<usize>,
+    pub states: Vec<u32>,
     pub firsts: Vec<u32>,
 }
 
@@ -144,7 +144,7 @@ fn fill(
     requires store { IsStore store.old }
     requires held { All IsHeld processes.now }
     ensures complete { IfOk result (λ r. IsTrue r.1 →
-        IsClosed (record { processes = map seen processes.now; kernel = kernel }) (Holds store.new)) }
+        IsSearched (record { processes = map seen processes.now; kernel = kernel }) store.new) }
 {
     let kernel = store.keep_kernel(kernel)?;
     let Some(begun) = store.begin(alloc, processes, limits.steps)? else {
@@ -158,10 +158,12 @@ fn fill(
         pid: 0,
         taken: 0,
     };
-    let kept = store.keep_row(first, limits.worlds)?;
+    let Some(_) = store.keep_row(first, limits.worlds)? else {
+        return Ok((firsts, false));
+    };
     let mut moves = Moves::new(alloc)?;
     let whole = store.expand_all(alloc, &mut moves, limits)?;
-    Ok((firsts, both(kept, whole)))
+    Ok((firsts, whole))
 }
 
 /// Searches every world that processes over a kernel can come to, as far as the limits allow.
@@ -173,7 +175,7 @@ pub(crate) fn search_all(
 ) -> Result<Search, ExploreFault>
     requires held { All IsHeld processes.now }
     ensures complete { IfOk result (λ s. IsTrue s.complete →
-        IsClosed (record { processes = map seen processes.now; kernel = kernel }) (Holds s.store)) }
+        IsSearched (record { processes = map seen processes.now; kernel = kernel }) s.store) }
 {
     let mut store = match Store::new(alloc) {
         Ok(store) => store,

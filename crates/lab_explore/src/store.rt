@@ -14,10 +14,10 @@ use std::alloc::{AllocError, Global};
 /// row before by the process `pid`, which then took so many local steps.
 #[derive(Drop)]
 pub(crate) struct Row {
-    pub kernel: usize,
-    pub states: Vec<usize>,
-    pub before: usize,
-    pub pid: usize,
+    pub kernel: u32,
+    pub states: Vec<u32>,
+    pub before: u32,
+    pub pid: u32,
     pub taken: u32,
 }
 
@@ -30,19 +30,37 @@ pub(crate) enum Next {
     Limit,
     /// A step of the kernel, and then so many local steps; the places of the kernel and of its state
     /// then.
-    To {
-        kernel: usize,
-        state: usize,
-        taken: u32,
-    },
+    To { kernel: u32, state: u32, taken: u32 },
 }
 
-/// Kernels, states of processes at calls, and worlds, each of which is kept once.
+/// A place, as it is kept, if it is small enough.
+pub(crate) fn place_of(at: usize) -> Result<u32, AllocError>
+    ensures value { IfOk result (λ place. place ≡ at) }
+{
+    match u32::try_from(at) {
+        Ok(place) => Ok(place),
+        Err(_) => Err(AllocError),
+    }
+}
+
+/// A step of process `pid` from the world of a row, and then so many local steps of it, to the world
+/// of a row.
+#[derive(Clone, Copy, Drop)]
+pub(crate) struct Edge {
+    pub from: u32,
+    pub to: u32,
+    pub pid: u32,
+    pub taken: u32,
+}
+
+/// Kernels, states of processes at calls, and worlds, each of which is kept once, and the edges
+/// between the worlds, in the order of those that they lead from.
 #[derive(Drop)]
 pub(crate) struct Store {
     pub kernels: Vec<Kernel>,
     pub states: Vec<Process>,
     pub rows: Vec<Row>,
+    pub edges: Vec<Edge>,
     kernel_index: Index,
     state_index: Index,
     pub row_index: Index,
@@ -57,6 +75,7 @@ impl Store {
             kernels: Vec::new(alloc),
             states: Vec::new(alloc),
             rows: Vec::new(alloc),
+            edges: Vec::new(alloc),
             kernel_index: Index::new(alloc)?,
             state_index: Index::new(alloc)?,
             row_index: Index::new(alloc)?,
@@ -98,7 +117,7 @@ impl Store {
     }
 
     /// Keeps the state of a process at a call; with its place.
-    pub(crate) fn keep_state(&mut self, process: Process) -> Result<usize, AllocError>
+    pub(crate) fn keep_state(&mut self, process: Process) -> Result<u32, AllocError>
         requires store { IsStore self.old }
         requires ready { IsReady process }
         ensures store { OnOk result (IsStore self.new) }
@@ -107,16 +126,17 @@ impl Store {
     {
         let hash = process.digest();
         if let Some(at) = self.find_state(&process, hash) {
-            return Ok(at);
+            let place = place_of(at)?;
+            return Ok(place);
         }
         self.state_index.add(hash)?;
-        let at = self.states.len();
+        let place = place_of(self.states.len())?;
         self.states.push(process)?;
-        Ok(at)
+        Ok(place)
     }
 
     /// Keeps a kernel; with its place.
-    pub(crate) fn keep_kernel(&mut self, kernel: Kernel) -> Result<usize, AllocError>
+    pub(crate) fn keep_kernel(&mut self, kernel: Kernel) -> Result<u32, AllocError>
         requires store { IsStore self.old }
         ensures store { OnOk result (IsStore self.new) }
         ensures grows { OnOk result (Grows self.old self.new) }
@@ -124,11 +144,12 @@ impl Store {
     {
         let hash = kernel.digest();
         if let Some(at) = self.find_kernel(&kernel, hash) {
-            return Ok(at);
+            let place = place_of(at)?;
+            return Ok(place);
         }
         self.kernel_index.add(hash)?;
-        let at = self.kernels.len();
+        let place = place_of(self.kernels.len())?;
         self.kernels.push(kernel)?;
-        Ok(at)
+        Ok(place)
     }
 }

@@ -1,5 +1,5 @@
 //! Steps that are tried on copies.
-ghost use Rattle.std.specs.Prelude.{◌≡◌, ◌<◌, ℕ, Some, IsTrue, length, IfOk};
+ghost use Rattle.std.specs.Prelude.{◌≡◌, ◌<◌, ◌^◌, ℕ, Some, IsTrue, length, IfOk};
 ghost use Rattle.ipc_kernel.specs.Kernel.{KernelState};
 ghost use Rattle.lab_sched.specs.Worlds.{Process as Seen, turn};
 ghost use Rattle.lab_sched.specs.Held.{seen, IsHeld, process_after, kernel_after};
@@ -39,6 +39,7 @@ pub(crate) fn discard<T: Drop>(_value: T) {}
 /// The process at its call, with its kernel, if it came there.
 fn made_of(kernel: Kernel, ahead: Ahead) -> Option<Made>
     requires held { IsHeld ahead.process }
+    requires few { ahead.taken < 2 ^ 32 }
     requires at_call { IsTrue ahead.at_call → IsAtCall (seen ahead.process) }
     ensures made { (s : Seen) → AreLocal ahead.taken s (seen ahead.process) → IsRun kernel s result }
 {

@@ -98,7 +98,7 @@ fn is_told(ends: &[ToldEnd], report: &String) -> bool {
     false
 }
 
-/// The ends, and a line that says whether these are all.
+/// The ends, a round, if there is one, and a line that says whether these are all ends.
 fn text_of(alloc: Global, ends: &[ToldEnd], found: &Exploration) -> Result<String, AllocError> {
     let mut text = String::new(alloc);
     for (at, end) in ends.iter().enumerate() {
@@ -106,6 +106,11 @@ fn text_of(alloc: Global, ends: &[ToldEnd], found: &Exploration) -> Result<Strin
         let report = end.report.as_str();
         let schedule = end.schedule.as_str();
         write!(text, "end {number}\n{report}schedule {schedule}\n")?;
+    }
+    if let Some(round) = &found.round {
+        let schedule = round.schedule.text(alloc)?;
+        let steps = round.steps.text(alloc)?;
+        write!(text, "endless\nschedule {schedule}\nround {steps}\n")?;
     }
     let worlds = found.worlds;
     let extent = if found.complete {
@@ -123,7 +128,7 @@ fn shortfall(found: &Exploration, required: Option<Verdict>) -> Option<Reason> {
     if !found.complete {
         return Some(Reason::Incomplete);
     }
-    if found.ends.is_empty() {
+    if found.round.is_some() {
         return Some(Reason::Endless);
     }
     for end in &found.ends {

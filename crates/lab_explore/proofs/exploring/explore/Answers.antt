@@ -1,8 +1,12 @@
-use Rattle.std.proofs.Common.{ap, map, length, refl, arith, ◌≡◌, ◌∙◌}
+use Rattle.std.proofs.Common.{ap, map, length, refl, sym, subst, IfSome, arith, ◌≡◌, ◌∙◌}
 use Rattle.ipc_kernel.specs.Kernel.{empty_kernel}
 use Rattle.lab_sched.specs.Worlds.{WorldState}
 use Rattle.lab_sched.specs.Held.{seen}
 use Rattle.lab_explore.specs.Ends.{first_world}
+use Rattle.lab_explore.specs.Rounds.{IsRound, AreBounded}
+use Rattle.lab_explore.proofs.Begins.{all_closed}
+use Rattle.lab_explore.proofs.Bounds.{searched_bounded}
+use Rattle.lab_explore.proofs.Cycles.{some_endless}
 use Rattle.lab_explore.proofs.Explorations.{started, same_ends, all_ends, never_stuck}
 use Rattle.lab_explore.proofs.exploring.explore.Goals as goal
 
@@ -11,7 +15,7 @@ returns-in-Ok-clause-sound c =
     let ps = c.deref-2.result.now in
     let processes = ap (map seen) c.deref-2.ensures.value ∙ c.processes-processes.ensures.processes in
     let same = started c.args.fresh ps (empty_kernel (length ps)) (length ps) processes c.processes-processes.ensures.empty refl refl in
-    same_ends c.args.fresh (first_world ps) c.in-Ok.ends.items same c.in-Ok.ensures.ends
+    same_ends c.args.fresh (first_world ps) c.in-Ok.found.ends.items same c.in-Ok.ensures.ends
 
 pub returns-in-Ok-clause-complete : goal.returns-in-Ok-clause-complete
 returns-in-Ok-clause-complete c is =
@@ -20,8 +24,28 @@ returns-in-Ok-clause-complete c is =
     let processes = ap (map seen) c.deref.ensures.value ∙ c.processes-processes.ensures.processes in
     let count : c.len.result ≡ length ps = omega (arith, ap length c.deref.ensures.value) in
     let same = started c.args.fresh ps c.in_ok-kernel.kernel c.len.result processes c.processes-processes.ensures.empty count c.in_ok-kernel.ensures.empty in
-    all_ends c.args.fresh start c.in_ok-search.search.store c.in-Ok.ends.items same (c.in_ok-search.ensures.complete is) c.in-Ok.ensures.all
+    all_ends c.args.fresh start c.in_ok-search.search.store c.in-Ok.found.ends.items same
+    (all_closed c.in_ok-search.search.store start (c.in_ok-search.ensures.complete (c.in-Ok.ensures.complete is))) c.in-Ok.ensures.all
 
 pub returns-in-Ok-clause-free : goal.returns-in-Ok-clause-free
 returns-in-Ok-clause-free c is none =
-    never_stuck c.args.fresh c.in-Ok.ends.items (returns-in-Ok-clause-sound c) (returns-in-Ok-clause-complete c is) none
+    never_stuck c.args.fresh c.in-Ok.found.ends.items (returns-in-Ok-clause-sound c) (returns-in-Ok-clause-complete c is) none
+
+pub returns-in-Ok-clause-round : goal.returns-in-Ok-clause-round
+returns-in-Ok-clause-round c =
+    let ps = c.deref-2.result.now in
+    let processes = ap (map seen) c.deref-2.ensures.value ∙ c.processes-processes.ensures.processes in
+    let same = started c.args.fresh ps (empty_kernel (length ps)) (length ps) processes c.processes-processes.ensures.empty refl refl in
+    subst (λ w. IfSome c.in-Ok.found.round (λ r. IsRound w r)) (sym same) c.in-Ok.ensures.round
+
+pub returns-in-Ok-clause-endless : goal.returns-in-Ok-clause-endless
+returns-in-Ok-clause-endless c = some_endless c.args.fresh c.in-Ok.found.round (returns-in-Ok-clause-round c)
+
+pub returns-in-Ok-clause-bounded : goal.returns-in-Ok-clause-bounded
+returns-in-Ok-clause-bounded c is none =
+    let ps = c.deref.result.now in
+    let start : WorldState = record { processes = map seen ps; kernel = c.in_ok-kernel.kernel } in
+    let processes = ap (map seen) c.deref.ensures.value ∙ c.processes-processes.ensures.processes in
+    let count : c.len.result ≡ length ps = omega (arith, ap length c.deref.ensures.value) in
+    let same = started c.args.fresh ps c.in_ok-kernel.kernel c.len.result processes c.processes-processes.ensures.empty count c.in_ok-kernel.ensures.empty in
+    subst AreBounded (sym same) (searched_bounded c.in_ok-search.search.store start (c.in_ok-search.ensures.complete (c.in-Ok.ensures.complete is)) (c.in-Ok.ensures.none none))

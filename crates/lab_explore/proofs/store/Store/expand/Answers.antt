@@ -13,8 +13,8 @@ loop-pid-preserved c =
       store = c.in_ok-tried.ensures.store;
       known = c.in_ok-tried.ensures.known;
       grows = grows_more c.args.self.now t u c.loop-pid.invariant.grows g;
-      tried = λ is w here. below_more (λ p. IsTried u w p) c.loop-pid.pid
-          (λ p below. tried_grows t u w p g (c.loop-pid.invariant.tried (c.both-whole.ensures.first is) w here p below))
+      tried = λ is w here. below_more (λ p. IsTried u c.args.at w p) c.loop-pid.pid
+          (λ p below. tried_grows t u c.args.at w p g (c.loop-pid.invariant.tried (c.both-whole.ensures.first is) w here p below))
           (c.in_ok-tried.ensures.tried (c.both-whole.ensures.second is) w (at_grows c.args.self.now t c.args.at w c.loop-pid.invariant.grows here));
     }
 

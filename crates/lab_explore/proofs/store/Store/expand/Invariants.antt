@@ -9,5 +9,5 @@ invariant-loop-pid l = record {
   store : IsStore l.self;
   known : AreKnown l.self l.moves;
   grows : Grows l.fn.self l.self;
-  tried : IsTrue l.whole → (w : WorldState) → IsAt l.fn.self l.at w → (p : ℕ) → p < l.pid → IsTried l.self w p;
+  tried : IsTrue l.whole → (w : WorldState) → IsAt l.fn.self l.at w → (p : ℕ) → p < l.pid → IsTried l.self l.at w p;
 }

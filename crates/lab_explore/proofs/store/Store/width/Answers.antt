@@ -2,8 +2,8 @@ use Rattle.std.proofs.Common.{arith}
 use Rattle.lab_explore.proofs.Pushes.{got}
 use Rattle.lab_explore.proofs.store.Store.width.Goals as goal
 
-pub returns : goal.returns
-returns c =
+pub returns-in-Ok : goal.returns-in-Ok
+returns-in-Ok c =
     let row = c.in_ok-row.ensures.lookup in
     record {
       width = (

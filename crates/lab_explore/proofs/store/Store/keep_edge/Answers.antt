@@ -1,0 +1,13 @@
+use Rattle.std.proofs.Common.{refl, subst, sym}
+use Rattle.lab_explore.specs.Stored.{IsAt}
+use Rattle.lab_explore.proofs.Growths.{edges_pushed}
+use Rattle.lab_explore.proofs.Nexts.{edge_made}
+use Rattle.lab_explore.proofs.store.Store.keep_edge.Goals as goal
+
+pub returns-clause-edge : goal.returns-clause-edge
+returns-clause-edge c is w v row reached =
+    let t = c.keep_row.new.self in
+    let e = c.in-Some-edge_of.edge in
+    let g = (edges_pushed t _ e c.in_ok-to.ensures.store c.in_ok-push.ensures.items refl refl refl).0 in
+    edge_made t _ w v c.args.at c.args.pid e g c.in_ok-push.ensures.items c.in-Some-edge_of.ensures.from
+    (subst (λ n. IsAt t n v) (sym c.in-Some-edge_of.ensures.to) ((rw c.in-Some.is at c.in_ok-to.ensures.kept) v row)) reached

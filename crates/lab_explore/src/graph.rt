@@ -1,0 +1,262 @@
+//! The order of worlds along the edges between them, and cycles. That an order is one is checked; a cycle is run again
+//! (`rounds`).
+ghost use Rattle.std.specs.Prelude.{◌≡◌, ◌<◌, ◌≤◌, ℕ, Some, IsTrue, length, slice_get};
+ghost use Rattle.lab_explore.specs.Rounds.{IsRising, Rises};
+
+use crate::store::Edge;
+use std::alloc::{AllocError, Global};
+
+/// A cycle: a row that lies on it, and the edges from there to it again, the last of which comes first.
+#[derive(Drop)]
+pub(crate) struct Cycle {
+    pub at: usize,
+    pub edges: Vec<Edge>,
+}
+
+/// The number at a place, or 0.
+fn number_at(numbers: &[usize], at: usize) -> usize {
+    match numbers.get(at) {
+        Some(number) => *number,
+        None => 0,
+    }
+}
+
+/// Puts a number in its place, if there is such a place.
+fn put(numbers: &mut Vec<usize>, at: usize, number: usize) {
+    if at < numbers.len() {
+        numbers[at] = number;
+    }
+}
+
+/// Puts in each place that is less than one before it the greatest number before it.
+fn carry(numbers: &mut [usize]) {
+    let mut last = 0;
+    for number in numbers.iter_mut() {
+        last = last.max(*number);
+        *number = last;
+    }
+}
+
+/// The place of the first edge from each row, by the edges in the order of the rows that they
+/// lead from, and behind these the number of edges.
+fn first_edges(alloc: Global, edges: &[Edge], count: usize) -> Result<Vec<usize>, AllocError> {
+    let mut firsts = vec![in alloc; 0; count.saturating_add(1)]?;
+    for (at, edge) in edges.iter().enumerate() {
+        let next = (edge.from as usize).saturating_add(1);
+        put(&mut firsts, next, at.saturating_add(1));
+    }
+    carry(firsts.as_mut_slice());
+    Ok(firsts)
+}
+
+/// How many edges lead to each row.
+fn edges_to(alloc: Global, edges: &[Edge], count: usize) -> Result<Vec<usize>, AllocError> {
+    let mut numbers = vec![in alloc; 0; count]?;
+    for edge in edges {
+        let to = edge.to as usize;
+        let number = number_at(&numbers, to);
+        put(&mut numbers, to, number.saturating_add(1));
+    }
+    Ok(numbers)
+}
+
+/// The rows to which no edge leads.
+fn rows_without(alloc: Global, numbers: &[usize]) -> Result<Vec<usize>, AllocError> {
+    let mut rows = Vec::new(alloc);
+    for (row, number) in numbers.iter().enumerate() {
+        if *number == 0 {
+            rows.push(row)?;
+        }
+    }
+    Ok(rows)
+}
+
+/// Takes the edges from a row away, and adds the rows to which then none leads.
+fn release(
+    edges: &[Edge],
+    firsts: &[usize],
+    row: usize,
+    numbers: &mut Vec<usize>,
+    rows: &mut Vec<usize>,
+) -> Result<(), AllocError> {
+    for at in number_at(firsts, row)..number_at(firsts, row.saturating_add(1)) {
+        if let Some(edge) = edges.get(at) {
+            let to = edge.to as usize;
+            let number = number_at(numbers, to);
+            put(numbers, to, number.saturating_sub(1));
+            if number == 1 {
+                rows.push(to)?;
+            }
+        }
+    }
+    Ok(())
+}
+
+/// A number for each row, from 1, with which those that lead to it have less; 0 for a row to which a cycle leads.
+pub(crate) fn order_of(
+    alloc: Global,
+    edges: &[Edge],
+    count: usize,
+) -> Result<Vec<usize>, AllocError> {
+    let firsts = first_edges(alloc, edges, count)?;
+    let mut numbers = edges_to(alloc, edges, count)?;
+    let mut rows = rows_without(alloc, numbers.as_slice())?;
+    let mut order = vec![in alloc; 0; count]?;
+    for turn in 0..count {
+        let Some(row) = rows.get(turn) else {
+            return Ok(order);
+        };
+        let row = *row;
+        put(&mut order, row, turn + 1);
+        release(edges, firsts.as_slice(), row, &mut numbers, &mut rows)?;
+    }
+    Ok(order)
+}
+
+/// Whether an edge leads to a row with a greater number, which isn't above the count of rows.
+fn is_rising(edge: &Edge, order: &[usize]) -> bool
+    ensures yes { IsTrue result → IsRising order.now edge.now }
+{
+    let Some(from) = order.get(edge.from as usize) else {
+        return false;
+    };
+    let Some(to) = order.get(edge.to as usize) else {
+        return false;
+    };
+    *from < *to && *to <= order.len()
+}
+
+/// Whether each edge does.
+pub(crate) fn is_order(order: &[usize], edges: &[Edge]) -> bool
+    ensures yes { IsTrue result → Rises order.now edges.now }
+{
+    for edge in edges {
+        if !is_rising(edge, order) {
+            return false;
+        }
+    }
+    true
+}
+
+/// For each row without a number one of those that lead to it, plus 1.
+fn rows_before(alloc: Global, edges: &[Edge], order: &[usize]) -> Result<Vec<usize>, AllocError> {
+    let mut before = vec![in alloc; 0; order.len()]?;
+    for edge in edges {
+        let from = edge.from as usize;
+        let to = edge.to as usize;
+        if number_at(order, from) == 0 && number_at(&before, to) == 0 {
+            put(&mut before, to, from.saturating_add(1));
+        }
+    }
+    Ok(before)
+}
+
+/// A row that lies on a cycle, if each row that has one before it has such a one before it.
+fn row_on_cycle(before: &[usize]) -> usize {
+    let mut row = before.iter().position(|number| *number > 0).unwrap_or(0);
+    for _ in 0..before.len() {
+        row = number_at(before, row).saturating_sub(1);
+    }
+    row
+}
+
+/// The least row of the cycle on which a row lies.
+fn least_on_cycle(before: &[usize], row: usize) -> usize {
+    let mut least = row;
+    let mut now = row;
+    for _ in 0..before.len() {
+        now = number_at(before, now).saturating_sub(1);
+        if now == row {
+            return least;
+        }
+        least = least.min(now);
+    }
+    least
+}
+
+/// Follows the edges from a row: those to rows that weren't reached are written down, with the place of the edge plus 1;
+/// with the place of an edge to the goal, if there is one.
+fn follow(
+    edges: &[Edge],
+    range: (usize, usize),
+    goal: usize,
+    reached: &mut Vec<usize>,
+    rows: &mut Vec<usize>,
+) -> Result<Option<usize>, AllocError> {
+    for at in range.0..range.1 {
+        if let Some(edge) = edges.get(at) {
+            let to = edge.to as usize;
+            if to == goal {
+                return Ok(Some(at));
+            }
+            if number_at(reached, to) == 0 {
+                put(reached, to, at.saturating_add(1));
+                rows.push(to)?;
+            }
+        }
+    }
+    Ok(None)
+}
+
+/// The edges from a row up to this edge, the last of which comes first.
+fn path_of(
+    alloc: Global,
+    edges: &[Edge],
+    reached: &[usize],
+    goal: usize,
+    last: usize,
+) -> Result<Vec<Edge>, AllocError> {
+    let mut path = Vec::new(alloc);
+    let mut at = last;
+    for _ in 0..reached.len() {
+        let Some(edge) = edges.get(at) else {
+            return Ok(path);
+        };
+        path.push(*edge)?;
+        let from = edge.from as usize;
+        if from == goal {
+            return Ok(path);
+        }
+        at = number_at(reached, from).saturating_sub(1);
+    }
+    Ok(path)
+}
+
+/// The shortest cycle through a row, if there is one.
+fn cycle_through(
+    alloc: Global,
+    edges: &[Edge],
+    count: usize,
+    goal: usize,
+) -> Result<Option<Cycle>, AllocError> {
+    let firsts = first_edges(alloc, edges, count)?;
+    let mut reached = vec![in alloc; 0; count]?;
+    let mut rows = vec![in alloc; goal]?;
+    for turn in 0..count {
+        let Some(row) = rows.get(turn) else {
+            return Ok(None);
+        };
+        let row = *row;
+        let range = (
+            number_at(&firsts, row),
+            number_at(&firsts, row.saturating_add(1)),
+        );
+        if let Some(last) = follow(edges, range, goal, &mut reached, &mut rows)? {
+            let edges = path_of(alloc, edges, reached.as_slice(), goal, last)?;
+            return Ok(Some(Cycle { at: goal, edges }));
+        }
+    }
+    Ok(None)
+}
+
+/// A cycle among the rows to which the order gives no number: the shortest through its least row.
+pub(crate) fn cycle_of(
+    alloc: Global,
+    edges: &[Edge],
+    order: &[usize],
+) -> Result<Option<Cycle>, AllocError> {
+    let before = rows_before(alloc, edges, order)?;
+    let row = row_on_cycle(before.as_slice());
+    let least = least_on_cycle(before.as_slice(), row);
+    cycle_through(alloc, edges, order.len(), least)
+}
