@@ -38,9 +38,13 @@ Without a command it reads an image as hexadecimal words from standard input, th
 Example:
   printf '3000 2002 F021 F025 0048\\n' | lc3lab";
 
+/// The version of the program; CHANGELOG.md says what each brings.
+const VERSION: &str = "0.1.0";
+
 fn program<'a>(alloc: Global) -> Result<Command<'a>, AllocError> {
     Command::new(alloc, "lc3lab")
         .about("A laboratory of LC-3 processes")
+        .version(VERSION)
         .after_help(EXAMPLE)
         .bin_name("lc3lab")?
         .no_binary_name(true)
@@ -65,6 +69,14 @@ fn asm<'a>(alloc: Global) -> Result<Command<'a>, AllocError> {
                 .long("list")
                 .action(ArgAction::SetTrue)
                 .help("Prints the listing"),
+        )?
+        .arg(
+            Arg::new(alloc, "explain")
+                .long("explain")
+                .action(ArgAction::SetTrue)
+                .help(
+                    "Shows the source line of a fault, where it is wrong and what could stand there",
+                ),
         )
 }
 
@@ -219,6 +231,7 @@ fn assembly_of<'a>(alloc: Global, words: &ArgMatches<'a>) -> Result<Request<'a>,
         source,
         object,
         list: words.get_flag("list"),
+        explain: words.get_flag("explain"),
     })
 }
 

@@ -1,10 +1,10 @@
 //! The laboratory's program.
 #![tactic(auto)]
 
-use lab_commands::{FAULT, USAGE, command};
-use lab_io::{Input, Output};
+use lab_commands::{FAULT, USAGE, command, prompt_of};
+use lab_io::{Input, Output, Prompt, Prompted};
 use std::env;
-use std::io::ErrorKind;
+use std::io::{ErrorKind, IsTerminal};
 use std::process::ExitCode;
 
 fn main(rt: HostRuntime) -> ExitCode {
@@ -25,7 +25,12 @@ fn main(rt: HostRuntime) -> ExitCode {
         let _ = errors.write_all(b"lc3lab: run: out of memory\n");
         return ExitCode::from(FAULT);
     };
-    let mut input = Input::new(rt.stdin());
+    let prompt = if rt.stdin().is_terminal() {
+        prompt_of(words.as_slice())
+    } else {
+        Prompt::Never
+    };
+    let mut input = Input::new(Prompted::new(rt.stdin(), rt.stderr(), prompt));
     let mut output = Output::new(rt.stdout());
     ExitCode::from(command(
         &rt,

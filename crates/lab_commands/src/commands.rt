@@ -5,6 +5,7 @@ mod asm;
 mod debug;
 mod dis;
 mod explore;
+mod prompts;
 mod run;
 mod step;
 
@@ -12,12 +13,13 @@ use crate::complaint::{Complaint, Reason};
 use crate::fault::CliFault;
 use crate::files::write_text;
 use crate::hex_run::hex_run;
-use asm::assemble_file;
+use asm::{Sheet, assemble_file};
 use debug::debug_programs;
 use dis::disassemble_file;
 use explore::explore_programs;
 use lab_arguments::{Refusal, Request, read_words};
 use lab_io::{Input, Output};
+pub use prompts::prompt_of;
 use run::run_programs;
 use std::alloc::Global;
 use std::io::{Read, Write};
@@ -86,7 +88,11 @@ fn perform<'a, T: Files + Threads + Wait + Sync, R: Read, W: Write>(
             source,
             object,
             list,
-        } => assemble_file(rt, alloc, source, object, list, output),
+            explain,
+        } => {
+            let sheet = Sheet { list, explain };
+            assemble_file(rt, alloc, source, object, sheet, output)
+        }
         Request::Disassemble { object } => disassemble_file(rt, alloc, object, output),
         Request::Step { ref programs } => {
             step_programs(rt, alloc, programs.as_slice(), input, output)

@@ -42,6 +42,7 @@ impl Reason {
         Complaint {
             place,
             reason: self,
+            explanation: None,
         }
     }
 }
@@ -173,16 +174,33 @@ impl fmt::Display for Reason {
 }
 
 /// A fault and where it was found: a file's name, or a part of the program's work.
-#[derive(Clone, Copy)]
+#[derive(Drop)]
 pub struct Complaint<'a> {
     place: &'a str,
     reason: Reason,
+    /// Further lines about it.
+    explanation: Option<String>,
+}
+
+impl<'a> Complaint<'a> {
+    /// The complaint with further lines about the fault.
+    pub fn explained(self, explanation: String) -> Complaint<'a> {
+        Complaint {
+            place: self.place,
+            reason: self.reason,
+            explanation: Some(explanation),
+        }
+    }
 }
 
 impl fmt::Display for Complaint<'_> {
     fn fmt<W: fmt::Write>(&self, f: &mut fmt::Formatter<W>) -> fmt::Result {
         let place = self.place;
         let reason = self.reason;
-        write!(f, "lc3lab: {place}: {reason}")
+        write!(f, "lc3lab: {place}: {reason}")?;
+        match &self.explanation {
+            Some(lines) => write!(f, "\n{lines}"),
+            None => Ok(()),
+        }
     }
 }

@@ -3,6 +3,7 @@
 
 mod commands;
 mod complaint;
+mod explanation;
 mod fault;
 mod files;
 mod hex;
@@ -10,5 +11,5 @@ pub mod hex_run;
 mod input;
 mod programs;
 
-pub use commands::{FAULT, SUCCESS, USAGE, command};
+pub use commands::{FAULT, SUCCESS, USAGE, command, prompt_of};
 pub use fault::CliFault;
