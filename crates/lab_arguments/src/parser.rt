@@ -105,7 +105,7 @@ fn run<'a>(alloc: Global) -> Result<Command<'a>, AllocError> {
     on_programs(
         alloc,
         "run",
-        "Runs programs on threads and prints a report and the interleaving that they had",
+        "Runs programs on threads and prints a report and an interleaving that leads to it",
         "Example:\n  lc3lab run producer.obj consumer.obj",
     )?
     .arg(limit(

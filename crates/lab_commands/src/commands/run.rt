@@ -15,7 +15,7 @@ use std::sync::Wait;
 use std::thread::Threads;
 
 /// Reads the files of the programs, runs them on threads for at most `limit` steps each, and writes the report and the
-/// schedule of the interleaving that the run had.
+/// schedule of an interleaving that leads to it.
 pub fn run_programs<'a, T: Files + Threads + Wait + Sync, W: Write>(
     rt: &T,
     alloc: Global,
