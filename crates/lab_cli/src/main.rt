@@ -1,11 +1,30 @@
 //! The laboratory's program.
 #![tactic(auto)]
 
-use lab_commands::{FAULT, USAGE, command, prompt_of};
+use lab_commands::{FAULT, Progress, USAGE, command, prompt_of};
 use lab_io::{Input, Output, Prompt, Prompted};
 use std::env;
-use std::io::{ErrorKind, IsTerminal};
+use std::io::{ErrorKind, IsTerminal, Stderr, Write};
 use std::process::ExitCode;
+
+/// Standard error, as the line on which a terminal shows how far a long run is.
+struct StatusLine {
+    errors: Stderr,
+    is_terminal: bool,
+}
+
+impl Progress for StatusLine {
+    fn is_shown(&self) -> bool {
+        self.is_terminal
+    }
+
+    fn show(&self, text: &str) {
+        let mut errors = self.errors;
+        // back to the line's first column, and the rest of the line cleared
+        let _ = errors.write_all(b"\r\x1b[K");
+        let _ = errors.write_all(text.as_bytes());
+    }
+}
 
 fn main(rt: HostRuntime) -> ExitCode {
     let alloc = rt.alloc();
@@ -39,5 +58,9 @@ fn main(rt: HostRuntime) -> ExitCode {
         &mut input,
         &mut output,
         &mut errors,
+        &StatusLine {
+            errors: rt.stderr(),
+            is_terminal: rt.stderr().is_terminal(),
+        },
     ))
 }

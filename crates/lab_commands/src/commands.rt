@@ -13,6 +13,7 @@ use crate::complaint::{Complaint, Reason};
 use crate::fault::CliFault;
 use crate::files::write_text;
 use crate::hex_run::hex_run;
+use crate::progress::Progress;
 use asm::{Sheet, assemble_file};
 use debug::debug_programs;
 use dis::disassemble_file;
@@ -38,14 +39,15 @@ pub const FAULT: u8 = 1;
 pub const USAGE: u8 = 2;
 
 /// Does what the words after the program's name ask for, and answers the exit status. Without words it reads an image
-/// as hexadecimal words and writes the report of its run. A fault goes to `errors`, on one line.
-pub fn command<T: Files + Threads + Wait + Sync, R: Read, W: Write, E: Write>(
+/// as hexadecimal words and writes the report of its run. A fault goes to `errors`, on one line. A long run shows on `progress` how far it is.
+pub fn command<T: Files + Threads + Wait + Sync, R: Read, W: Write, E: Write, P: Progress>(
     rt: &T,
     alloc: Global,
     words: &[String],
     input: &mut Input<R>,
     output: &mut Output<W>,
     errors: &mut Output<E>,
+    progress: &P,
 ) -> u8
     requires input_healthy { input.old.failed ≡ false }
     requires output_healthy { output.old.failed ≡ false }
@@ -57,7 +59,7 @@ pub fn command<T: Files + Threads + Wait + Sync, R: Read, W: Write, E: Write>(
     }
     match read_words(alloc, words) {
         Ok(request) => {
-            let outcome = perform(rt, alloc, &request, input, output);
+            let outcome = perform(rt, alloc, &request, input, output, progress);
             status(alloc, outcome, errors)
         }
         Err(refusal) => explain(alloc, &refusal, output, errors),
@@ -73,12 +75,13 @@ fn complaint(fault: CliFault) -> Complaint<'static> {
 }
 
 /// Does what a request asks for.
-fn perform<'a, T: Files + Threads + Wait + Sync, R: Read, W: Write>(
+fn perform<'a, T: Files + Threads + Wait + Sync, R: Read, W: Write, P: Progress>(
     rt: &T,
     alloc: Global,
     request: &Request<'a>,
     input: &mut Input<R>,
     output: &mut Output<W>,
+    progress: &P,
 ) -> Result<(), Complaint<'a>>
     requires input_healthy { input.old.failed ≡ false }
     requires output_healthy { output.old.failed ≡ false }
@@ -95,12 +98,12 @@ fn perform<'a, T: Files + Threads + Wait + Sync, R: Read, W: Write>(
         }
         Request::Disassemble { object } => disassemble_file(rt, alloc, object, output),
         Request::Step { ref programs } => {
-            step_programs(rt, alloc, programs.as_slice(), input, output)
+            step_programs(rt, alloc, programs.as_slice(), input, output, progress)
         }
         Request::Run {
             ref programs,
             limit,
-        } => run_programs(rt, alloc, programs.as_slice(), limit, output),
+        } => run_programs(rt, alloc, programs.as_slice(), limit, output, progress),
         Request::Explore {
             ref programs,
             question,

@@ -48,7 +48,8 @@ fn tell(lines: &mut String, kind: Fault, forms: &[Form]) -> Result<(), AllocErro
 /// What is wrong, where so many operands could stand.
 fn sentence(kind: Fault, forms: usize) -> &'static str {
     match kind {
-        Fault::NoOrig => "before the first statement stands .ORIG with the address of the first word",
+        Fault::NoOrig =>
+            "before the first statement stands .ORIG with the address of the first word",
         Fault::SecondOrig => "a source has one .ORIG",
         Fault::BadToken => "a word has characters from x21 to x7E alone",
         Fault::BadOperation => "this is no operation and no directive",

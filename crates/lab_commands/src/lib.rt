@@ -10,6 +10,8 @@ mod hex;
 pub mod hex_run;
 mod input;
 mod programs;
+mod progress;
 
 pub use commands::{FAULT, SUCCESS, USAGE, command, prompt_of};
 pub use fault::CliFault;
+pub use progress::{Progress, Unshown};
