@@ -1,6 +1,6 @@
 //! The words of the command line, read by a parser of commands.
 use crate::request::{Question, Refusal, Request, Rest};
-use crate::{MOST_LOCAL_STEPS, MOST_STEPS, MOST_WORLDS};
+use crate::{MOST_LOCAL_STEPS, MOST_STEPS, MOST_WORLDS, examples};
 use clap::builder::ValueParser;
 use clap::error::ErrorKind;
 use clap::{Arg, ArgAction, ArgMatches, Command, Error};
@@ -31,13 +31,6 @@ fn refusal_of(alloc: Global, error: &Error) -> Refusal {
     }
 }
 
-const EXAMPLE: &str = "\
-Without a command it reads an image as hexadecimal words from standard input, the origin first, runs it for at most \
-100,000 steps and prints a report.
-
-Example:
-  printf '3000 2002 F021 F025 0048\\n' | lc3lab";
-
 /// The version of the program; CHANGELOG.md says what each brings.
 const VERSION: &str = "0.1.0";
 
@@ -45,7 +38,7 @@ fn program<'a>(alloc: Global) -> Result<Command<'a>, AllocError> {
     Command::new(alloc, "lc3lab")
         .about("A laboratory of LC-3 processes")
         .version(VERSION)
-        .after_help(EXAMPLE)
+        .after_help(examples::PROGRAM)
         .bin_name("lc3lab")?
         .no_binary_name(true)
         .subcommand_required(true)
@@ -61,7 +54,7 @@ fn program<'a>(alloc: Global) -> Result<Command<'a>, AllocError> {
 fn asm<'a>(alloc: Global) -> Result<Command<'a>, AllocError> {
     Command::new(alloc, "asm")
         .about("Assembles a source and writes its object file")
-        .after_help("Example:\n  lc3lab asm hello.asm hello.obj --list")
+        .after_help(examples::ASSEMBLE)
         .arg(file(alloc, "SOURCE", "A source text, as UTF-8"))?
         .arg(file(alloc, "OBJECT", "The object file to write"))?
         .arg(
@@ -83,7 +76,7 @@ fn asm<'a>(alloc: Global) -> Result<Command<'a>, AllocError> {
 fn dis<'a>(alloc: Global) -> Result<Command<'a>, AllocError> {
     Command::new(alloc, "dis")
         .about("Prints the words of an object file as instructions")
-        .after_help("Example:\n  lc3lab dis hello.obj")
+        .after_help(examples::DISASSEMBLE)
         .arg(file(alloc, "OBJECT", "The object file to read"))
 }
 
@@ -97,7 +90,7 @@ fn step<'a>(alloc: Global) -> Result<Command<'a>, AllocError> {
         alloc,
         "step",
         "Runs programs by the schedule on standard input and prints a report",
-        "Example:\n  echo '0*65 1*68' | lc3lab step producer.obj consumer.obj",
+        examples::STEP,
     )
 }
 
@@ -106,7 +99,7 @@ fn run<'a>(alloc: Global) -> Result<Command<'a>, AllocError> {
         alloc,
         "run",
         "Runs programs on threads and prints a report and an interleaving that leads to it",
-        "Example:\n  lc3lab run producer.obj consumer.obj",
+        examples::RUN,
     )?
     .arg(limit(
         alloc,
@@ -122,7 +115,7 @@ fn explore<'a>(alloc: Global) -> Result<Command<'a>, AllocError> {
         alloc,
         "explore",
         "Visits every interleaving of programs and prints the ends that they can have",
-        "Example:\n  lc3lab explore one.obj two.obj",
+        examples::EXPLORE,
     )?
     .arg(limit(
         alloc,
@@ -159,7 +152,7 @@ fn debug<'a>(alloc: Global) -> Result<Command<'a>, AllocError> {
         alloc,
         "debug",
         "Runs programs by commands on standard input, which also show them",
-        "Example:\n  printf 'step 0 3\\nregs 0\\n' | lc3lab debug hello.obj",
+        examples::DEBUG,
     )
 }
 
