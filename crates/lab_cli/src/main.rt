@@ -8,6 +8,7 @@ use std::io::{ErrorKind, IsTerminal, Stderr, Write};
 use std::process::ExitCode;
 
 /// Standard error, as the line on which a terminal shows how far a long run is.
+#[derive(Drop)]
 struct StatusLine {
     errors: Stderr,
     is_terminal: bool,
