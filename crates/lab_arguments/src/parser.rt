@@ -189,7 +189,12 @@ fn number<'a>(alloc: Global, name: &'a str, value: &'a str, most: u32, help: &'a
 /// The parser has made sure that each required word is there.
 fn request_of<'a>(alloc: Global, matches: &ArgMatches<'a>) -> Result<Request<'a>, Refusal> {
     let request = match matches.subcommand() {
-        Some(("asm", words)) => assembly_of(alloc, words)?,
+        Some(("asm", words)) => Request::Assemble {
+            source: words.get_str("SOURCE").unwrap_or_default(),
+            object: words.get_str("OBJECT").unwrap_or_default(),
+            list: words.get_flag("list"),
+            explain: words.get_flag("explain"),
+        },
         Some(("step", words)) => Request::Step {
             programs: programs_of(alloc, words)?,
         },
@@ -210,22 +215,6 @@ fn request_of<'a>(alloc: Global, matches: &ArgMatches<'a>) -> Result<Request<'a>
         None => Request::Disassemble { object: "" },
     };
     Ok(request)
-}
-
-/// What the words of `asm` ask for. An object file that has the name of its source would replace it.
-fn assembly_of<'a>(alloc: Global, words: &ArgMatches<'a>) -> Result<Request<'a>, Refusal> {
-    let source = words.get_str("SOURCE").unwrap_or_default();
-    let object = words.get_str("OBJECT").unwrap_or_default();
-    if source == object {
-        let text = format!(in alloc; "error: OBJECT is the file of SOURCE: {source}\n")?;
-        return Err(Refusal::Usage(text));
-    }
-    Ok(Request::Assemble {
-        source,
-        object,
-        list: words.get_flag("list"),
-        explain: words.get_flag("explain"),
-    })
 }
 
 /// What the words of `explore` ask of the exploration.

@@ -146,5 +146,9 @@ fn status<E: Write>(
         Err(_) => errors.write_all(b"lc3lab: run: out of memory\n"),
     };
     let _ = written;
-    FAULT
+    if complaint.is_of_words() {
+        USAGE
+    } else {
+        FAULT
+    }
 }

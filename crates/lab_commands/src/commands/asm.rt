@@ -1,7 +1,7 @@
 //! The command `asm`.
 use crate::complaint::{Complaint, Reason};
 use crate::explanation::explanation;
-use crate::files::{read_source, write_object, write_text};
+use crate::files::{is_same_file, read_source, write_object, write_text};
 use lab_io::Output;
 use lc3_asm::{AsmFault, assemble, listing};
 use std::alloc::Global;
@@ -18,7 +18,7 @@ pub struct Sheet {
 }
 
 /// Assembles a source, writes its object file, and then the listing where it is asked for. The object file is made
-/// only once the source was accepted.
+/// only once the source was accepted; it can't be the source itself.
 pub fn assemble_file<'a, T: Files, W: Write>(
     rt: &T,
     alloc: Global,
@@ -27,6 +27,9 @@ pub fn assemble_file<'a, T: Files, W: Write>(
     sheet: Sheet,
     output: &mut Output<W>,
 ) -> Result<(), Complaint<'a>> {
+    if is_same_file(rt, source, object) {
+        return Err(Reason::SameFile.at(object));
+    }
     let text = read_source(rt, alloc, source).map_err(|reason| reason.at(source))?;
     let assembled = match assemble(alloc, &text) {
         Ok(assembled) => assembled,
