@@ -5,7 +5,7 @@ _lc3lab() {
     local word=${COMP_WORDS[COMP_CWORD]} command=${COMP_WORDS[1]} options=
     COMPREPLY=()
     if [ "$COMP_CWORD" -eq 1 ]; then
-        COMPREPLY=($(compgen -W "$commands --help -h" -- "$word"))
+        COMPREPLY=($(compgen -W "$commands --help -h --version -V" -- "$word"))
         return
     fi
     case ${COMP_WORDS[COMP_CWORD - 1]} in
@@ -19,7 +19,7 @@ _lc3lab() {
         ;;
     esac
     case $command in
-    asm) options='--list --help -h' ;;
+    asm) options='--list --explain --help -h' ;;
     dis | step | debug) options='--help -h' ;;
     run) options='--limit --help -h' ;;
     explore) options='--limit --worlds --require --schedule --help -h' ;;

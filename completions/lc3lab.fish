@@ -8,8 +8,10 @@ complete -c lc3lab -f -n __fish_use_subcommand -a explore -d 'Visits every inter
 complete -c lc3lab -f -n __fish_use_subcommand -a debug -d 'Runs programs by commands, which also show them'
 complete -c lc3lab -f -n __fish_use_subcommand -a help -d 'Prints help'
 complete -c lc3lab -s h -l help -d 'Prints help'
+complete -c lc3lab -n __fish_use_subcommand -s V -l version -d 'Prints the version'
 
 complete -c lc3lab -n '__fish_seen_subcommand_from asm' -l list -d 'Prints the listing'
+complete -c lc3lab -n '__fish_seen_subcommand_from asm' -l explain -d 'Shows where a fault is and what could stand there'
 complete -c lc3lab -n '__fish_seen_subcommand_from run' -x -l limit -d 'The most steps of each process'
 complete -c lc3lab -n '__fish_seen_subcommand_from explore' -x -l worlds -d 'The most worlds to visit'
 complete -c lc3lab -n '__fish_seen_subcommand_from explore' -x -l limit -d 'The most steps of a process without a call'

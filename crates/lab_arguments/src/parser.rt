@@ -1,6 +1,6 @@
 //! The words of the command line, read by a parser of commands.
 use crate::request::{Question, Refusal, Request, Rest};
-use crate::{MOST_LOCAL_STEPS, MOST_STEPS, MOST_WORLDS};
+use crate::{MOST_LOCAL_STEPS, MOST_STEPS, MOST_WORLDS, examples};
 use clap::builder::ValueParser;
 use clap::error::ErrorKind;
 use clap::{Arg, ArgAction, ArgMatches, Command, Error};
@@ -31,17 +31,14 @@ fn refusal_of(alloc: Global, error: &Error) -> Refusal {
     }
 }
 
-const EXAMPLE: &str = "\
-Without a command it reads an image as hexadecimal words from standard input, the origin first, runs it for at most \
-100,000 steps and prints a report.
-
-Example:
-  printf '3000 2002 F021 F025 0048\\n' | lc3lab";
+/// The version of the program; CHANGELOG.md says what each brings.
+const VERSION: &str = "0.1.0";
 
 fn program<'a>(alloc: Global) -> Result<Command<'a>, AllocError> {
     Command::new(alloc, "lc3lab")
         .about("A laboratory of LC-3 processes")
-        .after_help(EXAMPLE)
+        .version(VERSION)
+        .after_help(examples::PROGRAM)
         .bin_name("lc3lab")?
         .no_binary_name(true)
         .subcommand_required(true)
@@ -57,7 +54,7 @@ fn program<'a>(alloc: Global) -> Result<Command<'a>, AllocError> {
 fn asm<'a>(alloc: Global) -> Result<Command<'a>, AllocError> {
     Command::new(alloc, "asm")
         .about("Assembles a source and writes its object file")
-        .after_help("Example:\n  lc3lab asm hello.asm hello.obj --list")
+        .after_help(examples::ASSEMBLE)
         .arg(file(alloc, "SOURCE", "A source text, as UTF-8"))?
         .arg(file(alloc, "OBJECT", "The object file to write"))?
         .arg(
@@ -65,13 +62,21 @@ fn asm<'a>(alloc: Global) -> Result<Command<'a>, AllocError> {
                 .long("list")
                 .action(ArgAction::SetTrue)
                 .help("Prints the listing"),
+        )?
+        .arg(
+            Arg::new(alloc, "explain")
+                .long("explain")
+                .action(ArgAction::SetTrue)
+                .help(
+                    "Shows the source line of a fault, where it is wrong and what could stand there",
+                ),
         )
 }
 
 fn dis<'a>(alloc: Global) -> Result<Command<'a>, AllocError> {
     Command::new(alloc, "dis")
         .about("Prints the words of an object file as instructions")
-        .after_help("Example:\n  lc3lab dis hello.obj")
+        .after_help(examples::DISASSEMBLE)
         .arg(file(alloc, "OBJECT", "The object file to read"))
 }
 
@@ -85,7 +90,7 @@ fn step<'a>(alloc: Global) -> Result<Command<'a>, AllocError> {
         alloc,
         "step",
         "Runs programs by the schedule on standard input and prints a report",
-        "Example:\n  echo '0*65 1*68' | lc3lab step producer.obj consumer.obj",
+        examples::STEP,
     )
 }
 
@@ -93,8 +98,8 @@ fn run<'a>(alloc: Global) -> Result<Command<'a>, AllocError> {
     on_programs(
         alloc,
         "run",
-        "Runs programs on threads and prints a report and the interleaving that they had",
-        "Example:\n  lc3lab run producer.obj consumer.obj",
+        "Runs programs on threads and prints a report and an interleaving that leads to it",
+        examples::RUN,
     )?
     .arg(limit(
         alloc,
@@ -110,7 +115,7 @@ fn explore<'a>(alloc: Global) -> Result<Command<'a>, AllocError> {
         alloc,
         "explore",
         "Visits every interleaving of programs and prints the ends that they can have",
-        "Example:\n  lc3lab explore one.obj two.obj",
+        examples::EXPLORE,
     )?
     .arg(limit(
         alloc,
@@ -147,7 +152,7 @@ fn debug<'a>(alloc: Global) -> Result<Command<'a>, AllocError> {
         alloc,
         "debug",
         "Runs programs by commands on standard input, which also show them",
-        "Example:\n  printf 'step 0 3\\nregs 0\\n' | lc3lab debug hello.obj",
+        examples::DEBUG,
     )
 }
 
@@ -184,7 +189,12 @@ fn number<'a>(alloc: Global, name: &'a str, value: &'a str, most: u32, help: &'a
 /// The parser has made sure that each required word is there.
 fn request_of<'a>(alloc: Global, matches: &ArgMatches<'a>) -> Result<Request<'a>, Refusal> {
     let request = match matches.subcommand() {
-        Some(("asm", words)) => assembly_of(alloc, words)?,
+        Some(("asm", words)) => Request::Assemble {
+            source: words.get_str("SOURCE").unwrap_or_default(),
+            object: words.get_str("OBJECT").unwrap_or_default(),
+            list: words.get_flag("list"),
+            explain: words.get_flag("explain"),
+        },
         Some(("step", words)) => Request::Step {
             programs: programs_of(alloc, words)?,
         },
@@ -205,21 +215,6 @@ fn request_of<'a>(alloc: Global, matches: &ArgMatches<'a>) -> Result<Request<'a>
         None => Request::Disassemble { object: "" },
     };
     Ok(request)
-}
-
-/// What the words of `asm` ask for. An object file that has the name of its source would replace it.
-fn assembly_of<'a>(alloc: Global, words: &ArgMatches<'a>) -> Result<Request<'a>, Refusal> {
-    let source = words.get_str("SOURCE").unwrap_or_default();
-    let object = words.get_str("OBJECT").unwrap_or_default();
-    if source == object {
-        let text = format!(in alloc; "error: OBJECT is the file of SOURCE: {source}\n")?;
-        return Err(Refusal::Usage(text));
-    }
-    Ok(Request::Assemble {
-        source,
-        object,
-        list: words.get_flag("list"),
-    })
 }
 
 /// What the words of `explore` ask of the exploration.

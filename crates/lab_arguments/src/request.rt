@@ -8,6 +8,7 @@ pub enum Request<'a> {
         source: &'a str,
         object: &'a str,
         list: bool,
+        explain: bool,
     },
     Disassemble {
         object: &'a str,

@@ -1,11 +1,31 @@
 //! The laboratory's program.
 #![tactic(auto)]
 
-use lab_commands::{FAULT, USAGE, command};
-use lab_io::{Input, Output};
+use lab_commands::{FAULT, Progress, USAGE, command, prompt_of};
+use lab_io::{Input, Output, Prompt, Prompted};
 use std::env;
-use std::io::ErrorKind;
+use std::io::{ErrorKind, IsTerminal, Stderr, Write};
 use std::process::ExitCode;
+
+/// Standard error, as the line on which a terminal shows how far a long run is.
+#[derive(Drop)]
+struct StatusLine {
+    errors: Stderr,
+    is_terminal: bool,
+}
+
+impl Progress for StatusLine {
+    fn is_shown(&self) -> bool {
+        self.is_terminal
+    }
+
+    fn show(&self, text: &str) {
+        let mut errors = self.errors;
+        // back to the line's first column, and the rest of the line cleared
+        let _ = errors.write_all(b"\r\x1b[K");
+        let _ = errors.write_all(text.as_bytes());
+    }
+}
 
 fn main(rt: HostRuntime) -> ExitCode {
     let alloc = rt.alloc();
@@ -25,7 +45,12 @@ fn main(rt: HostRuntime) -> ExitCode {
         let _ = errors.write_all(b"lc3lab: run: out of memory\n");
         return ExitCode::from(FAULT);
     };
-    let mut input = Input::new(rt.stdin());
+    let prompt = if rt.stdin().is_terminal() {
+        prompt_of(words.as_slice())
+    } else {
+        Prompt::Never
+    };
+    let mut input = Input::new(Prompted::new(rt.stdin(), rt.stderr(), prompt));
     let mut output = Output::new(rt.stdout());
     ExitCode::from(command(
         &rt,
@@ -34,5 +59,9 @@ fn main(rt: HostRuntime) -> ExitCode {
         &mut input,
         &mut output,
         &mut errors,
+        &StatusLine {
+            errors: rt.stderr(),
+            is_terminal: rt.stderr().is_terminal(),
+        },
     ))
 }

@@ -5,6 +5,7 @@ mod asm;
 mod debug;
 mod dis;
 mod explore;
+mod prompts;
 mod run;
 mod step;
 
@@ -12,12 +13,14 @@ use crate::complaint::{Complaint, Reason};
 use crate::fault::CliFault;
 use crate::files::write_text;
 use crate::hex_run::hex_run;
-use asm::assemble_file;
+use crate::progress::Progress;
+use asm::{Sheet, assemble_file};
 use debug::debug_programs;
 use dis::disassemble_file;
 use explore::explore_programs;
 use lab_arguments::{Refusal, Request, read_words};
 use lab_io::{Input, Output};
+pub use prompts::prompt_of;
 use run::run_programs;
 use std::alloc::Global;
 use std::io::{Read, Write};
@@ -36,14 +39,15 @@ pub const FAULT: u8 = 1;
 pub const USAGE: u8 = 2;
 
 /// Does what the words after the program's name ask for, and answers the exit status. Without words it reads an image
-/// as hexadecimal words and writes the report of its run. A fault goes to `errors`, on one line.
-pub fn command<T: Files + Threads + Wait + Sync, R: Read, W: Write, E: Write>(
+/// as hexadecimal words and writes the report of its run. A fault goes to `errors`, on one line. A long run shows on `progress` how far it is.
+pub fn command<T: Files + Threads + Wait + Sync, R: Read, W: Write, E: Write, P: Progress>(
     rt: &T,
     alloc: Global,
     words: &[String],
     input: &mut Input<R>,
     output: &mut Output<W>,
     errors: &mut Output<E>,
+    progress: &P,
 ) -> u8
     requires input_healthy { input.old.failed ≡ false }
     requires output_healthy { output.old.failed ≡ false }
@@ -55,7 +59,7 @@ pub fn command<T: Files + Threads + Wait + Sync, R: Read, W: Write, E: Write>(
     }
     match read_words(alloc, words) {
         Ok(request) => {
-            let outcome = perform(rt, alloc, &request, input, output);
+            let outcome = perform(rt, alloc, &request, input, output, progress);
             status(alloc, outcome, errors)
         }
         Err(refusal) => explain(alloc, &refusal, output, errors),
@@ -71,12 +75,13 @@ fn complaint(fault: CliFault) -> Complaint<'static> {
 }
 
 /// Does what a request asks for.
-fn perform<'a, T: Files + Threads + Wait + Sync, R: Read, W: Write>(
+fn perform<'a, T: Files + Threads + Wait + Sync, R: Read, W: Write, P: Progress>(
     rt: &T,
     alloc: Global,
     request: &Request<'a>,
     input: &mut Input<R>,
     output: &mut Output<W>,
+    progress: &P,
 ) -> Result<(), Complaint<'a>>
     requires input_healthy { input.old.failed ≡ false }
     requires output_healthy { output.old.failed ≡ false }
@@ -86,15 +91,19 @@ fn perform<'a, T: Files + Threads + Wait + Sync, R: Read, W: Write>(
             source,
             object,
             list,
-        } => assemble_file(rt, alloc, source, object, list, output),
+            explain,
+        } => {
+            let sheet = Sheet { list, explain };
+            assemble_file(rt, alloc, source, object, sheet, output)
+        }
         Request::Disassemble { object } => disassemble_file(rt, alloc, object, output),
         Request::Step { ref programs } => {
-            step_programs(rt, alloc, programs.as_slice(), input, output)
+            step_programs(rt, alloc, programs.as_slice(), input, output, progress)
         }
         Request::Run {
             ref programs,
             limit,
-        } => run_programs(rt, alloc, programs.as_slice(), limit, output),
+        } => run_programs(rt, alloc, programs.as_slice(), limit, output, progress),
         Request::Explore {
             ref programs,
             question,
@@ -137,5 +146,9 @@ fn status<E: Write>(
         Err(_) => errors.write_all(b"lc3lab: run: out of memory\n"),
     };
     let _ = written;
-    FAULT
+    if complaint.is_of_words() {
+        USAGE
+    } else {
+        FAULT
+    }
 }

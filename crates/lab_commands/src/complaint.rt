@@ -12,6 +12,8 @@ use std::fmt;
 /// A fault, as the program names it.
 #[derive(Clone, Copy)]
 pub enum Reason {
+    /// The object file is the source.
+    SameFile,
     Empty,
     BadWord { at: usize },
     OddLength,
@@ -42,6 +44,7 @@ impl Reason {
         Complaint {
             place,
             reason: self,
+            explanation: None,
         }
     }
 }
@@ -146,6 +149,7 @@ fn name_of(verdict: Verdict) -> &'static str {
 impl fmt::Display for Reason {
     fn fmt<W: fmt::Write>(&self, f: &mut fmt::Formatter<W>) -> fmt::Result {
         match *self {
+            Reason::SameFile => write!(f, "OBJECT is the file of SOURCE"),
             Reason::Empty => write!(f, "Empty"),
             Reason::BadWord { at } => write!(f, "word {at}: BadWord"),
             Reason::OddLength => write!(f, "OddLength"),
@@ -173,16 +177,41 @@ impl fmt::Display for Reason {
 }
 
 /// A fault and where it was found: a file's name, or a part of the program's work.
-#[derive(Clone, Copy)]
+#[derive(Drop)]
 pub struct Complaint<'a> {
     place: &'a str,
     reason: Reason,
+    /// Further lines about it.
+    explanation: Option<String>,
+}
+
+impl<'a> Complaint<'a> {
+    /// Whether the words of the command line are wrong.
+    pub fn is_of_words(&self) -> bool {
+        matches!(self.reason, Reason::SameFile)
+    }
+
+    /// The complaint with further lines about the fault.
+    pub fn explained(self, explanation: String) -> Complaint<'a> {
+        Complaint {
+            place: self.place,
+            reason: self.reason,
+            explanation: Some(explanation),
+        }
+    }
 }
 
 impl fmt::Display for Complaint<'_> {
     fn fmt<W: fmt::Write>(&self, f: &mut fmt::Formatter<W>) -> fmt::Result {
         let place = self.place;
         let reason = self.reason;
-        write!(f, "lc3lab: {place}: {reason}")
+        if self.is_of_words() {
+            return write!(f, "error: {reason}: {place}");
+        }
+        write!(f, "lc3lab: {place}: {reason}")?;
+        match &self.explanation {
+            Some(lines) => write!(f, "\n{lines}"),
+            None => Ok(()),
+        }
     }
 }

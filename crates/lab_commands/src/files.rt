@@ -7,7 +7,16 @@ use lc3_word::Image;
 use std::alloc::Global;
 use std::fs;
 use std::io::{ErrorKind, Write};
+use std::os::unix::fs::MetadataExt;
 use std::rt::Files;
+
+/// Whether two names lead to one file, by whatever ways.
+pub fn is_same_file<T: Files>(rt: &T, one: &str, other: &str) -> bool {
+    match (fs::metadata(rt, one), fs::metadata(rt, other)) {
+        (Ok(one), Ok(other)) => one.dev() == other.dev() && one.ino() == other.ino(),
+        _ => one == other,
+    }
+}
 
 /// The text of a source file.
 pub fn read_source<T: Files>(rt: &T, alloc: Global, name: &str) -> Result<String, Reason> {

@@ -22,4 +22,4 @@ pub use stepped::Stepped;
 pub use stepping::take_step;
 pub use trace::{Told, Trace};
 pub use verdict::Verdict;
-pub use world::{RunStop, StepFault, World};
+pub use world::{RunStop, StepFault, Unwatched, Watch, World};

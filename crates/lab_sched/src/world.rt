@@ -13,7 +13,7 @@ mod settle;
 use crate::stepping::take_step;
 use crate::{Process, Stepped};
 use ipc_kernel::Kernel;
-pub use run::RunStop;
+pub use run::{RunStop, Unwatched, Watch};
 use std::marker::Model;
 
 /// Why a step wasn't taken.

@@ -1,4 +1,4 @@
-//! Processes on threads, over one book of their calls, and the interleaving that a run had.
+//! Processes on threads, over one book of their calls, and an interleaving that leads to the end of a run.
 #![tactic(auto)]
 
 mod book;

@@ -169,7 +169,7 @@ fn run_starts<R: Threads + Wait + Sync, G: Gate>(
 }
 
 /// Runs each process of a laboratory on a thread of its own, for at most `limit` steps, over one
-/// kernel under a lock, and reports one interleaving that the run had: each step of the schedule is
+/// kernel under a lock, and reports one interleaving that leads to its end: each step of the schedule is
 /// effective, they lead from the laboratory's start to the world with the history's entries, and no
 /// process could go on but those that have taken `limit` steps.
 pub fn run_threads<R: Threads + Wait + Sync, G: Gate>(

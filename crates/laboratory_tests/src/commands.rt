@@ -2,7 +2,7 @@
 ghost use Rattle.std.specs.Prelude.{◌≤◌};
 
 use lab_commands::hex_run::hex_run;
-use lab_commands::{CliFault, FAULT, SUCCESS, command};
+use lab_commands::{CliFault, FAULT, SUCCESS, Unshown, command};
 use lab_io::{Input, Output, SlowIn, SlowOut};
 use std::alloc::{AllocError, Global};
 use std::process::Abort;
@@ -40,6 +40,7 @@ fn perform_once<T: Files + AllocGlobal + Threads + Wait + Sync>(
         &mut Input::new(input),
         &mut Output::new(&mut output),
         &mut Output::new(&mut errors),
+        &Unshown,
     );
     Ok(Outcome {
         status,

@@ -12,6 +12,7 @@ mod fault;
 pub mod laws;
 mod layout;
 mod line;
+mod mark;
 mod passes;
 mod statement;
 mod symbols;
@@ -20,5 +21,6 @@ mod word;
 
 pub use assembled::{Assembled, Row, listing};
 pub use fault::AsmFault;
+pub use mark::{Mark, fault_mark};
 pub use passes::assemble;
 pub use symbols::Symbols;

@@ -27,7 +27,7 @@ pub enum Line {
 }
 
 /// Whether a word is written as a directive.
-fn begins_with_dot(word: &[u8]) -> bool
+pub fn begins_with_dot(word: &[u8]) -> bool
     ensures { result ≡ begins_with_dot word.now }
 {
     matches!(word, [b'.', ..])

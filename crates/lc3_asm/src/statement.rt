@@ -136,7 +136,7 @@ fn is_printable(word: &[u8]) -> bool
 }
 
 /// What is wrong with a token.
-fn fault_in(token: Token<'_>) -> Option<Fault>
+pub fn fault_in(token: Token<'_>) -> Option<Fault>
     ensures { result ≡ fault_in (seen token.entry) }
 {
     match token {
@@ -226,7 +226,7 @@ fn word_operand(alloc: Global, form: Form, word: &[u8]) -> Result<Operand, LineE
 }
 
 /// The token as an operand of this form.
-fn token_operand(alloc: Global, form: Form, token: Token<'_>) -> Result<Operand, LineError>
+pub fn token_operand(alloc: Global, form: Form, token: Token<'_>) -> Result<Operand, LineError>
     ensures { Gives seen_operand result (operand form (seen token.entry)) }
 {
     match (form, token) {

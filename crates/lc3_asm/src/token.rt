@@ -66,7 +66,7 @@ fn word_len(line: &[u8]) -> usize
 }
 
 /// A line from its first token on.
-fn without_separators(line: &[u8]) -> &[u8]
+pub fn without_separators(line: &[u8]) -> &[u8]
     ensures same { tokens line.now ≡ tokens result.now }
     ensures shorter { length result.now ≤ length line.now }
     ensures begun { 0 < length result.now → is_separator (slice_index result.now 0) ≡ false }
@@ -85,7 +85,7 @@ fn word(line: &[u8]) -> (Token<'_>, &[u8])
 }
 
 /// The first token of a line, and what follows it.
-fn first_token(line: &[u8]) -> Option<(Token<'_>, &[u8])>
+pub fn first_token(line: &[u8]) -> Option<(Token<'_>, &[u8])>
     ensures none { IfNone result (tokens line.now ≡ []) }
     ensures first { IfSome result (λ found. tokens line.now ≡ seen found.0 ∷ tokens found.1.now) }
     ensures shorter { IfSome result (λ found. length found.1.now < length line.now) }

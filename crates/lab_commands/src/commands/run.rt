@@ -4,10 +4,11 @@ ghost use Rattle.std.specs.Prelude.{◌≡◌, false};
 use crate::complaint::{Complaint, Reason};
 use crate::files::write_text;
 use crate::programs::{laboratory, read_programs};
+use crate::progress::{CallCount, Progress};
 use lab_arguments::MOST_STEPS;
 use lab_debug::report_text;
 use lab_io::Output;
-use lab_threads::{NoGate, Report, run_threads};
+use lab_threads::{Report, run_threads};
 use std::alloc::{AllocError, Global};
 use std::io::Write;
 use std::rt::Files;
@@ -15,21 +16,23 @@ use std::sync::Wait;
 use std::thread::Threads;
 
 /// Reads the files of the programs, runs them on threads for at most `limit` steps each, and writes the report and the
-/// schedule of the interleaving that the run had.
-pub fn run_programs<'a, T: Files + Threads + Wait + Sync, W: Write>(
+/// schedule of an interleaving that leads to it.
+pub fn run_programs<'a, T: Files + Threads + Wait + Sync, W: Write, P: Progress>(
     rt: &T,
     alloc: Global,
     programs: &[&'a str],
     limit: u32,
     output: &mut Output<W>,
+    progress: &P,
 ) -> Result<(), Complaint<'a>>
     requires output_healthy { output.old.failed ≡ false }
 {
     let programs = read_programs(rt, alloc, programs)?;
     let fresh = laboratory(alloc, programs.as_slice())?;
-    let report = run_threads(rt, alloc, fresh, limit.clamp(1, MOST_STEPS), &NoGate).map_err(
-        |fault| Reason::from(fault).at("run"),
-    )?;
+    let count = CallCount::new(alloc, progress);
+    let outcome = run_threads(rt, alloc, fresh, limit.clamp(1, MOST_STEPS), &count);
+    count.clear();
+    let report = outcome.map_err(|fault| Reason::from(fault).at("run"))?;
     let text = text_of(alloc, &report).map_err(|_| Reason::NoMemory.at("run"))?;
     write_text(&text, output)
 }

@@ -5,6 +5,7 @@ use crate::complaint::{Complaint, Reason};
 use crate::files::write_text;
 use crate::input::read_whole;
 use crate::programs::{laboratory, read_programs};
+use crate::progress::{Progress, StepCount};
 use lab_debug::report_text;
 use lab_io::{Input, Output};
 use lab_sched::{Schedule, World};
@@ -14,12 +15,13 @@ use std::rt::Files;
 
 /// Reads the files of the programs, then a schedule from the input, runs the laboratory of these programs by that
 /// schedule, and writes the report.
-pub fn step_programs<'a, T: Files, R: Read, W: Write>(
+pub fn step_programs<'a, T: Files, R: Read, W: Write, P: Progress>(
     rt: &T,
     alloc: Global,
     programs: &[&'a str],
     input: &mut Input<R>,
     output: &mut Output<W>,
+    progress: &P,
 ) -> Result<(), Complaint<'a>>
     requires input_healthy { input.old.failed ≡ false }
     requires output_healthy { output.old.failed ≡ false }
@@ -28,9 +30,10 @@ pub fn step_programs<'a, T: Files, R: Read, W: Write>(
     let schedule = read_schedule(alloc, input).map_err(|reason| reason.at("schedule"))?;
     let fresh = laboratory(alloc, programs.as_slice())?;
     let mut world = World::from(fresh);
-    world
-        .run(&schedule)
-        .map_err(|stop| Reason::from(stop).at("run"))?;
+    let mut count = StepCount::new(alloc, progress, schedule.total());
+    let outcome = world.run_watched(&schedule, &mut count);
+    count.clear();
+    outcome.map_err(|stop| Reason::from(stop).at("run"))?;
     let report = report_text(alloc, &world).map_err(|_| Reason::NoMemory.at("run"))?;
     write_text(&report, output)
 }

@@ -12,6 +12,25 @@ use crate::stepping::{local_steps, step_on};
 use crate::{Schedule, Stepped};
 use lc3_machine::Progress;
 
+/// How many local steps in a row are taken before who looks on is told of them.
+const STEPS_AT_ONCE: u32 = 10_000_000;
+
+/// Who looks on while steps are taken.
+pub trait Watch {
+    /// So many further steps were taken, those without effect too.
+    fn see(&mut self, steps: u32);
+}
+
+/// Nobody looks on.
+#[derive(Clone, Copy, Debug, PartialEq, Eq)]
+pub struct Unwatched;
+
+impl Watch for Unwatched {
+    fn see(&mut self, steps: u32) {
+        let _ = steps;
+    }
+}
+
 /// Where a run stopped: the number of steps that were taken, those without effect too, and why the
 /// next one wasn't.
 #[derive(Clone, Copy, Debug, PartialEq, Eq)]
@@ -89,8 +108,8 @@ impl World {
         Ok(stepped)
     }
 
-    /// Takes so many steps of a process.
-    fn run_block(&mut self, pid: usize, count: u32) -> Result<(), RunStop>
+    /// Takes so many steps of a process, of which it tells who looks on.
+    fn run_block<W: Watch>(&mut self, pid: usize, count: u32, watch: &mut W) -> Result<(), RunStop>
         ensures world { OnOk result (self.new ≡ run self.old (replicate count pid)) }
         ensures stop { IfErr result (λ stop. self.new ≡ run self.old (replicate stop.done pid)) }
         ensures within { IfErr result (λ stop. stop.done < count) }
@@ -98,8 +117,12 @@ impl World {
     {
         let mut left = count;
         while left > 0 {
-            match self.advance(pid, left) {
-                Ok(taken) => left -= taken,
+            let most = left.min(STEPS_AT_ONCE);
+            match self.advance(pid, most) {
+                Ok(taken) => {
+                    left -= taken;
+                    watch.see(taken);
+                }
                 Err(fault) => {
                     return Err(RunStop {
                         done: u64::from(count - left),
@@ -118,10 +141,24 @@ impl World {
         ensures within { IfErr result (λ stop. stop.done < length (steps_of schedule.now)) }
         ensures no_process { IfErr result (λ stop. (stop.fault ≡ NoProcess) ↔ (length self.old.processes ≤ slice_index (steps_of schedule.now) stop.done)) }
     {
+        self.run_watched(schedule, &mut Unwatched)
+    }
+
+    /// Takes the steps of a schedule, one after another, of which it tells who looks on.
+    pub fn run_watched<W: Watch>(
+        &mut self,
+        schedule: &Schedule,
+        watch: &mut W,
+    ) -> Result<(), RunStop>
+        ensures world { OnOk result (self.new ≡ run self.old (steps_of schedule.now)) }
+        ensures stop { IfErr result (λ stop. self.new ≡ run self.old (take stop.done (steps_of schedule.now))) }
+        ensures within { IfErr result (λ stop. stop.done < length (steps_of schedule.now)) }
+        ensures no_process { IfErr result (λ stop. (stop.fault ≡ NoProcess) ↔ (length self.old.processes ≤ slice_index (steps_of schedule.now) stop.done)) }
+    {
         let blocks = schedule.blocks();
         let mut done: u64 = 0;
         for block in blocks {
-            if let Err(stop) = self.run_block(block.pid, block.count) {
+            if let Err(stop) = self.run_block(block.pid, block.count, watch) {
                 return Err(RunStop {
                     done: done + stop.done,
                     fault: stop.fault,

@@ -1,0 +1,117 @@
+//! How far a long command is.
+use lab_sched::Watch;
+use lab_threads::Gate;
+use std::alloc::Global;
+use std::sync::atomic::{AtomicU64, Ordering};
+
+/// How many steps lie between two times that `step` shows how far it is.
+const STEPS: u64 = 50_000_000;
+
+/// How many calls lie between two times that `run` shows how far it is.
+const CALLS: u64 = 1_000_000;
+
+/// Where a command shows how far it is.
+pub trait Progress: Sync {
+    /// Whether anybody looks at it.
+    fn is_shown(&self) -> bool;
+
+    /// Shows a text in place of the one before.
+    fn show(&self, text: &str);
+}
+
+/// Nobody looks.
+#[derive(Clone, Copy, Debug, PartialEq, Eq)]
+pub struct Unshown;
+
+impl Progress for Unshown {
+    fn is_shown(&self) -> bool {
+        false
+    }
+
+    fn show(&self, text: &str) {
+        let _ = text;
+    }
+}
+
+/// Shows how many steps of a schedule are done.
+#[derive(Drop)]
+pub struct StepCount<'a, P> {
+    alloc: Global,
+    progress: &'a P,
+    total: u32,
+    done: u64,
+    shown: u64,
+}
+
+impl<'a, P: Progress> StepCount<'a, P> {
+    /// Of `total` steps none is done.
+    pub fn new(alloc: Global, progress: &'a P, total: u32) -> StepCount<'a, P> {
+        StepCount {
+            alloc,
+            progress,
+            total,
+            done: 0,
+            shown: 0,
+        }
+    }
+
+    /// Shows nothing any more.
+    pub fn clear(&self) {
+        if self.shown > 0 {
+            self.progress.show("");
+        }
+    }
+}
+
+impl<P: Progress> Watch for StepCount<'_, P> {
+    fn see(&mut self, steps: u32) {
+        self.done = self.done.saturating_add(u64::from(steps));
+        if self.done.saturating_sub(self.shown) < STEPS || !self.progress.is_shown() {
+            return;
+        }
+        self.shown = self.done;
+        if let Ok(text) = format!(in self.alloc; "lc3lab: {} of {} steps", self.done, self.total) {
+            self.progress.show(&text);
+        }
+    }
+}
+
+/// A gate that stands open, and shows how many calls have come to it.
+#[derive(Drop)]
+pub struct CallCount<'a, P> {
+    alloc: Global,
+    progress: &'a P,
+    calls: AtomicU64,
+}
+
+impl<'a, P: Progress> CallCount<'a, P> {
+    /// No call has come.
+    pub fn new(alloc: Global, progress: &'a P) -> CallCount<'a, P> {
+        CallCount {
+            alloc,
+            progress,
+            calls: AtomicU64::new(0),
+        }
+    }
+
+    /// Shows nothing any more.
+    pub fn clear(&self) {
+        if self.calls.load(Ordering::SeqCst) >= CALLS && self.progress.is_shown() {
+            self.progress.show("");
+        }
+    }
+}
+
+impl<P: Progress> Gate for CallCount<'_, P> {
+    fn arrive(&self, _pid: usize, nth: u32) {
+        if nth == 0 || !self.progress.is_shown() {
+            return;
+        }
+        let calls = self.calls.fetch_add(1, Ordering::SeqCst).wrapping_add(1);
+        if calls % CALLS == 0 {
+            if let Ok(text) = format!(in self.alloc; "lc3lab: {calls} calls") {
+                self.progress.show(&text);
+            }
+        }
+    }
+}
