@@ -107,7 +107,7 @@ fn perform<'a, T: Files + Threads + Wait + Sync, R: Read, W: Write, P: Progress>
         Request::Explore {
             ref programs,
             question,
-        } => explore_programs(rt, alloc, programs.as_slice(), question, output),
+        } => explore_programs(rt, alloc, programs.as_slice(), question, output, progress),
         Request::Debug { ref programs } => {
             debug_programs(rt, alloc, programs.as_slice(), input, output)
         }

@@ -1,4 +1,5 @@
 //! How far a long command is.
+use lab_explore::Observer;
 use lab_sched::Watch;
 use lab_threads::Gate;
 use std::alloc::Global;
@@ -9,6 +10,9 @@ const STEPS: u64 = 50_000_000;
 
 /// How many calls lie between two times that `run` shows how far it is.
 const CALLS: u64 = 1_000_000;
+
+/// How many worlds lie between two times that `explore` shows how far it is.
+const WORLDS: usize = 50_000;
 
 /// Where a command shows how far it is.
 pub trait Progress: Sync {
@@ -71,6 +75,45 @@ impl<P: Progress> Watch for StepCount<'_, P> {
         }
         self.shown = self.done;
         if let Ok(text) = format!(in self.alloc; "lc3lab: {} of {} steps", self.done, self.total) {
+            self.progress.show(&text);
+        }
+    }
+}
+
+/// Shows how many worlds were visited, and how many wait to be.
+#[derive(Drop)]
+pub struct WorldCount<'a, P> {
+    alloc: Global,
+    progress: &'a P,
+    visited: usize,
+}
+
+impl<'a, P: Progress> WorldCount<'a, P> {
+    /// No world was visited.
+    pub fn new(alloc: Global, progress: &'a P) -> WorldCount<'a, P> {
+        WorldCount {
+            alloc,
+            progress,
+            visited: 0,
+        }
+    }
+
+    /// Shows nothing any more.
+    pub fn clear(&self) {
+        if self.visited >= WORLDS && self.progress.is_shown() {
+            self.progress.show("");
+        }
+    }
+}
+
+impl<P: Progress> Observer for WorldCount<'_, P> {
+    fn see(&mut self, visited: usize, waiting: usize) {
+        self.visited = visited;
+        if visited == 0 || visited % WORLDS != 0 || !self.progress.is_shown() {
+            return;
+        }
+        let text = format!(in self.alloc; "lc3lab: {visited} worlds visited, {waiting} waiting");
+        if let Ok(text) = text {
             self.progress.show(&text);
         }
     }

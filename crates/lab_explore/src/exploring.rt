@@ -9,7 +9,7 @@ ghost use Rattle.lab_explore.specs.Rounds.{IsRound, AreRising, AreEndless, AreBo
 
 use crate::search::{Search, search_all};
 use crate::trying::discard;
-use crate::{End, ExploreFault, Limits, Round};
+use crate::{End, ExploreFault, Limits, Observer, Round};
 use ipc_kernel::Kernel;
 use lab_sched::{Fresh, Process};
 use std::alloc::Global;
@@ -29,8 +29,14 @@ pub struct Exploration {
 /// exploration is complete, there is no other end, whatever steps are taken, in any order; and if
 /// then no end is stuck, no such steps lead to a world that is. A round shows that some effective
 /// steps never end; where the exploration is complete and has no round, each list of effective
-/// steps ends, after no more than some number of them.
-pub fn explore(alloc: Global, fresh: Fresh, limits: Limits) -> Result<Exploration, ExploreFault>
+/// steps ends, after no more than some number of them. The observer is told of the worlds as they
+/// are visited.
+pub fn explore<O: Observer>(
+    alloc: Global,
+    fresh: Fresh,
+    limits: Limits,
+    observer: &mut O,
+) -> Result<Exploration, ExploreFault>
     ensures sound { IfOk result (λ found. Each (IsEnd fresh) found.ends.items) }
     ensures complete { IfOk result (λ found. IsTrue found.complete → HaveAllEnds fresh found.ends.items) }
     ensures free { IfOk result (λ found. IsTrue found.complete → NoneStuck found.ends.items → NeverStuck fresh) }
@@ -41,7 +47,7 @@ pub fn explore(alloc: Global, fresh: Fresh, limits: Limits) -> Result<Exploratio
 {
     let processes = fresh.processes();
     let kernel = Kernel::new(alloc, processes.len())?;
-    let search = search_all(alloc, &processes, kernel, limits)?;
+    let search = search_all(alloc, &processes, kernel, limits, observer)?;
     match search.report(alloc, &processes) {
         Ok(found) => {
             discard(search);

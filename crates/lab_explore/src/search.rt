@@ -11,7 +11,7 @@ use crate::known::Moves;
 use crate::moves::both;
 use crate::store::{Row, Store};
 use crate::trying::discard;
-use crate::{ExploreFault, Limits};
+use crate::{ExploreFault, Limits, Observer};
 use ipc_kernel::Kernel;
 use lab_sched::Process;
 use std::alloc::Global;
@@ -107,11 +107,12 @@ impl Store {
     }
 
     /// Tries each process from each world; with whether that could be done.
-    fn expand_all(
+    fn expand_all<O: Observer>(
         &mut self,
         alloc: Global,
         moves: &mut Moves,
         limits: Limits,
+        observer: &mut O,
     ) -> Result<bool, ExploreFault>
         requires store { IsStore self.old }
         requires known { AreKnown self.old moves.old }
@@ -125,6 +126,7 @@ impl Store {
             if at >= self.rows.len() {
                 return Ok(whole);
             }
+            observer.see(at, self.rows.len() - at);
             let expanded = self.expand(alloc, moves, at, limits)?;
             whole = both(whole, expanded);
         }
@@ -134,12 +136,13 @@ impl Store {
 
 /// Keeps every world that processes over a kernel can come to, as far as the limits allow; with the
 /// local steps of each process before its first call, and whether these worlds are all.
-fn fill(
+fn fill<O: Observer>(
     store: &mut Store,
     alloc: Global,
     processes: &[Process],
     kernel: Kernel,
     limits: Limits,
+    observer: &mut O,
 ) -> Result<(Vec<u32>, bool), ExploreFault>
     requires store { IsStore store.old }
     requires held { All IsHeld processes.now }
@@ -162,16 +165,17 @@ fn fill(
         return Ok((firsts, false));
     };
     let mut moves = Moves::new(alloc)?;
-    let whole = store.expand_all(alloc, &mut moves, limits)?;
+    let whole = store.expand_all(alloc, &mut moves, limits, observer)?;
     Ok((firsts, whole))
 }
 
 /// Searches every world that processes over a kernel can come to, as far as the limits allow.
-pub(crate) fn search_all(
+pub(crate) fn search_all<O: Observer>(
     alloc: Global,
     processes: &[Process],
     kernel: Kernel,
     limits: Limits,
+    observer: &mut O,
 ) -> Result<Search, ExploreFault>
     requires held { All IsHeld processes.now }
     ensures complete { IfOk result (λ s. IsTrue s.complete →
@@ -184,7 +188,7 @@ pub(crate) fn search_all(
             return Err(ExploreFault::NoMemory);
         }
     };
-    match fill(&mut store, alloc, processes, kernel, limits) {
+    match fill(&mut store, alloc, processes, kernel, limits, observer) {
         Ok((firsts, complete)) => Ok(Search {
             store,
             firsts,

@@ -4,6 +4,7 @@ ghost use Rattle.std.specs.Prelude.{◌≡◌, false};
 use crate::complaint::{Complaint, Reason};
 use crate::files::write_text;
 use crate::programs::{laboratory, read_programs};
+use crate::progress::{Progress, WorldCount};
 use lab_arguments::{Question, Rest};
 use lab_debug::report_text;
 use lab_explore::{End, Exploration, Limits, explore};
@@ -23,12 +24,13 @@ struct ToldEnd {
 
 /// Reads the files of the programs, visits every interleaving of them as far as the limits allow, and writes the ends
 /// that they can have, or the schedule of one of them.
-pub fn explore_programs<'a, T: Files, W: Write>(
+pub fn explore_programs<'a, T: Files, W: Write, P: Progress>(
     rt: &T,
     alloc: Global,
     programs: &[&'a str],
     question: Question,
     output: &mut Output<W>,
+    progress: &P,
 ) -> Result<(), Complaint<'a>>
     requires output_healthy { output.old.failed ≡ false }
 {
@@ -38,7 +40,10 @@ pub fn explore_programs<'a, T: Files, W: Write>(
         worlds: question.worlds,
         steps: question.steps,
     };
-    let found = explore(alloc, fresh, limits).map_err(|fault| Reason::from(fault).at("run"))?;
+    let mut count = WorldCount::new(alloc, progress);
+    let outcome = explore(alloc, fresh, limits, &mut count);
+    count.clear();
+    let found = outcome.map_err(|fault| Reason::from(fault).at("run"))?;
     let text = answer(alloc, &found, question).map_err(|reason| reason.at("explore"))?;
     write_text(&text, output)?;
     match shortfall(&found, question.required.map(verdict_of)) {

@@ -11,14 +11,14 @@ use Rattle.lab_explore.proofs.Explorations.{started, same_ends, all_ends, never_
 use Rattle.lab_explore.proofs.exploring.explore.Goals as goal
 
 pub returns-in-Ok-clause-sound : goal.returns-in-Ok-clause-sound
-returns-in-Ok-clause-sound c =
+returns-in-Ok-clause-sound g c =
     let ps = c.deref-2.result.now in
     let processes = ap (map seen) c.deref-2.ensures.value ∙ c.processes-processes.ensures.processes in
     let same = started c.args.fresh ps (empty_kernel (length ps)) (length ps) processes c.processes-processes.ensures.empty refl refl in
     same_ends c.args.fresh (first_world ps) c.in-Ok.found.ends.items same c.in-Ok.ensures.ends
 
 pub returns-in-Ok-clause-complete : goal.returns-in-Ok-clause-complete
-returns-in-Ok-clause-complete c is =
+returns-in-Ok-clause-complete g c is =
     let ps = c.deref.result.now in
     let start : WorldState = record { processes = map seen ps; kernel = c.in_ok-kernel.kernel } in
     let processes = ap (map seen) c.deref.ensures.value ∙ c.processes-processes.ensures.processes in
@@ -28,21 +28,21 @@ returns-in-Ok-clause-complete c is =
     (all_closed c.in_ok-search.search.store start (c.in_ok-search.ensures.complete (c.in-Ok.ensures.complete is))) c.in-Ok.ensures.all
 
 pub returns-in-Ok-clause-free : goal.returns-in-Ok-clause-free
-returns-in-Ok-clause-free c is none =
-    never_stuck c.args.fresh c.in-Ok.found.ends.items (returns-in-Ok-clause-sound c) (returns-in-Ok-clause-complete c is) none
+returns-in-Ok-clause-free g c is none =
+    never_stuck c.args.fresh c.in-Ok.found.ends.items (returns-in-Ok-clause-sound g c) (returns-in-Ok-clause-complete g c is) none
 
 pub returns-in-Ok-clause-round : goal.returns-in-Ok-clause-round
-returns-in-Ok-clause-round c =
+returns-in-Ok-clause-round g c =
     let ps = c.deref-2.result.now in
     let processes = ap (map seen) c.deref-2.ensures.value ∙ c.processes-processes.ensures.processes in
     let same = started c.args.fresh ps (empty_kernel (length ps)) (length ps) processes c.processes-processes.ensures.empty refl refl in
     subst (λ w. IfSome c.in-Ok.found.round (λ r. IsRound w r)) (sym same) c.in-Ok.ensures.round
 
 pub returns-in-Ok-clause-endless : goal.returns-in-Ok-clause-endless
-returns-in-Ok-clause-endless c = some_endless c.args.fresh c.in-Ok.found.round (returns-in-Ok-clause-round c)
+returns-in-Ok-clause-endless g c = some_endless c.args.fresh c.in-Ok.found.round (returns-in-Ok-clause-round g c)
 
 pub returns-in-Ok-clause-bounded : goal.returns-in-Ok-clause-bounded
-returns-in-Ok-clause-bounded c is none =
+returns-in-Ok-clause-bounded g c is none =
     let ps = c.deref.result.now in
     let start : WorldState = record { processes = map seen ps; kernel = c.in_ok-kernel.kernel } in
     let processes = ap (map seen) c.deref.ensures.value ∙ c.processes-processes.ensures.processes in

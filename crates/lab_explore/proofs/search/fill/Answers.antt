@@ -8,13 +8,13 @@ use Rattle.lab_explore.proofs.Begins.{begins}
 use Rattle.lab_explore.proofs.search.fill.Goals as goal
 
 pub keep_row-requires-clause-row : goal.keep_row-requires-clause-row
-keep_row-requires-clause-row c =
+keep_row-requires-clause-row g c =
     let first = begins c.begin.new.self (record { kernel = c.in_ok-kernel.kernel; states = c.in-Some.begun.states; before = 0; pid = 0; taken = 0 }) c.args.kernel (map seen c.args.processes.now)
     (c.in_ok-begun.ensures.grows.kernels c.in_ok-kernel.kernel c.args.kernel c.in_ok-kernel.ensures.kernel) (rw c.in-Some.is at c.in_ok-begun.ensures.begun) in
     (first.0, first.1)
 
 pub returns : goal.returns
-returns c = record {
+returns g c = record {
   complete = λ is.
       let t = c.keep_row.new.self in
       let u = c.expand_all.new.self in

@@ -4,7 +4,7 @@ use Rattle.lab_explore.proofs.Growths.{grows_more, expanded_grows}
 use Rattle.lab_explore.proofs.store.Store.expand_all.Goals as goal
 
 pub loop-at-preserved : goal.loop-at-preserved
-loop-at-preserved c =
+loop-at-preserved g c =
     let t = c.loop-at.self in
     let u = c.expand.new.self in
     let g = c.in_ok-expanded.ensures.grows in

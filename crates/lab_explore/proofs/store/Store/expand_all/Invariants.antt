@@ -4,7 +4,7 @@ use Rattle.lab_explore.specs.Stored.{IsStore, Grows, IsExpanded}
 use Rattle.lab_explore.proofs.store.Store.expand_all.Given as goal
 
 abbrev pub invariant-loop-at : goal.invariant-loop-at
-invariant-loop-at l = record {
+invariant-loop-at g l = record {
   store : IsStore l.self;
   known : AreKnown l.self l.moves;
   grows : Grows l.fn.self l.self;
