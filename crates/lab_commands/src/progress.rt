@@ -44,7 +44,8 @@ pub struct StepCount<'a, P> {
     progress: &'a P,
     total: u32,
     done: u64,
-    shown: u64,
+    /// With so many steps done it is shown again.
+    next: u64,
 }
 
 impl<'a, P: Progress> StepCount<'a, P> {
@@ -55,27 +56,32 @@ impl<'a, P: Progress> StepCount<'a, P> {
             progress,
             total,
             done: 0,
-            shown: 0,
+            next: if progress.is_shown() { STEPS } else { u64::MAX },
+        }
+    }
+
+    #[cold]
+    fn show(&mut self) {
+        self.next = self.done.saturating_add(STEPS);
+        if let Ok(text) = format!(in self.alloc; "lc3lab: {} of {} steps", self.done, self.total) {
+            self.progress.show(&text);
         }
     }
 
     /// Shows nothing any more.
     pub fn clear(&self) {
-        if self.shown > 0 {
+        if self.done >= STEPS && self.progress.is_shown() {
             self.progress.show("");
         }
     }
 }
 
 impl<P: Progress> Watch for StepCount<'_, P> {
+    #[inline(always)]
     fn see(&mut self, steps: u32) {
-        self.done = self.done.saturating_add(u64::from(steps));
-        if self.done.saturating_sub(self.shown) < STEPS || !self.progress.is_shown() {
-            return;
-        }
-        self.shown = self.done;
-        if let Ok(text) = format!(in self.alloc; "lc3lab: {} of {} steps", self.done, self.total) {
-            self.progress.show(&text);
+        self.done = self.done.wrapping_add(u64::from(steps));
+        if self.done >= self.next {
+            self.show();
         }
     }
 }
