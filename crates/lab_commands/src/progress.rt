@@ -60,14 +60,6 @@ impl<'a, P: Progress> StepCount<'a, P> {
         }
     }
 
-    #[cold]
-    fn show(&mut self) {
-        self.next = self.done.saturating_add(STEPS);
-        if let Ok(text) = format!(in self.alloc; "lc3lab: {} of {} steps", self.done, self.total) {
-            self.progress.show(&text);
-        }
-    }
-
     /// Shows nothing any more.
     pub fn clear(&self) {
         if self.done >= STEPS && self.progress.is_shown() {
@@ -77,11 +69,14 @@ impl<'a, P: Progress> StepCount<'a, P> {
 }
 
 impl<P: Progress> Watch for StepCount<'_, P> {
-    #[inline(always)]
     fn see(&mut self, steps: u32) {
         self.done = self.done.wrapping_add(u64::from(steps));
-        if self.done >= self.next {
-            self.show();
+        if self.done < self.next {
+            return;
+        }
+        self.next = self.done.saturating_add(STEPS);
+        if let Ok(text) = format!(in self.alloc; "lc3lab: {} of {} steps", self.done, self.total) {
+            self.progress.show(&text);
         }
     }
 }
