@@ -5,7 +5,7 @@ ghost use Rattle.std.specs.Prelude.{◌≤◌};
 use crate::programs::{CONSUMER, PRODUCER, fresh};
 use lab_sched::Verdict;
 use lab_threads::{Gate, Report, RunFault, run_threads};
-use std::alloc::Global;
+use std::alloc::{AllocError, Global};
 use std::process::Abort;
 use std::sync::Wait;
 use std::sync::atomic::{AtomicU64, Ordering};
@@ -180,15 +180,16 @@ fn numbers_of_the_producer(rt: HostRuntime) {
 }
 
 #[test]
-fn texts_of_faults(rt: HostRuntime) {
+fn texts_of_faults(rt: HostRuntime) -> Result<(), AllocError> {
     let text = format!(in rt.alloc();
         "{}, {}, {}",
         RunFault::NoMemory,
         RunFault::Unvouched,
         RunFault::Spawn
-    );
+    )?;
     assert!(rt;
-        text.expect(&rt, "memory").as_str() == "out of memory, Unvouched, Spawn",
+        text.as_str() == "out of memory, Unvouched, Spawn",
         "the texts"
     );
+    Ok(())
 }
