@@ -1,10 +1,10 @@
 -- Messages in buckets by priority.
-use Rattle.std.proofs.Common.{◌≡◌, ℕ, ◌+◌, ◌-◌, ◌≤◌, ◌<◌, Bool, true, false, cond, List, [], ◌∷◌, ◌++◌, length, drop, Option, Some, None, unwrap_or, IsSome, Result, Ok, Err, OnOk, OnErr, refl, sym, ap, subst, ◌∙◌, arith, All, append_assoc, append-nil, length-append, Ordering, Less, Equal, Greater, nat_cmp, is_eq}
+use Rattle.std.proofs.Common.{IfSome, IfNone, ◌≡◌, ℕ, ◌+◌, ◌-◌, ◌≤◌, ◌<◌, cond, List, [], ◌∷◌, ◌++◌, length, Option, Some, None, unwrap_or, IsSome, Result, Ok, Err, OnOk, OnErr, refl, sym, ap, subst, ◌∙◌, arith, All, append_assoc, append-nil, length-append, Ordering, Less, Equal, Greater, nat_cmp, is_eq}
 use Rattle.std.specs.Cmp.{nat_cmp_total}
 use Rattle.std.specs.Ordering.{match_ordering}
 use Rattle.std.specs.List.{slice_get, AllByRecursion}
 use Rattle.std.specs.List.Sorted.{IsStrictlySortedBy}
-use Rattle.std.specs.Map.{keys_of, lookup, remove_entry, set_value}
+use Rattle.std.specs.Map.{keys_of, lookup, set_value}
 use Rattle.std.specs.BTreeMap.{is_at, insert_entry}
 use Rattle.std.proofs.lemmas.Bool.Decides.{nat_tests}
 use Rattle.std.proofs.lemmas.List.Elements.{All-nil, All-cons, All-head, All-tail, All-append, All-weaker, All-push}
@@ -14,8 +14,8 @@ use Rattle.std.proofs.lemmas.Map.Keys.{sorted_head, sorted_tail}
 use Rattle.std.proofs.lemmas.Map.Steps.{set_value_same}
 use Rattle.ipc_objects.specs.declared.queue.Message.{Message}
 use Rattle.ipc_objects.specs.Queue.{sent}
-use Rattle.ipc_objects.specs.Buckets.{joined, bucket_at, with_message, with_rest, IsBucket, AreBuckets}
-use Rattle.ipc_objects.proofs.SentLemmas.{sent-all, sent-append-less, slice_get-append_here, slice_get-append_later}
+use Rattle.ipc_objects.specs.Buckets.{joined, bucket_at, with_message, after_greatest, AreBelow, IsBucket, AreBuckets}
+use Rattle.ipc_objects.proofs.SentLemmas.{All-sent, sent-all, sent-append-less, sent-append-greater, slice_get-append_here, slice_get-append_later}
 
 abbrev Entries : Type 0
 Entries = List (ℕ × List Message)
@@ -103,80 +103,6 @@ buckets_put m es new inv is sorted = record {
   ));
 }
 
--- where the greatest priority has a bucket, its messages are the first
-joined_rest : (p : ℕ) (b w : List Message) (es : Entries) → IsStrictlySortedBy nat_cmp (keys_of es) → All (λ q. q ≤ p) (keys_of es) → lookup (is_at (nat_cmp p)) es ≡ Some b
-    → joined (set_value (is_at (nat_cmp p)) es w) ≡ w ++ joined (remove_entry (is_at (nat_cmp p)) es)
-joined_rest p b w [] sorted top here = absurd cc
-joined_rest p b w (e ∷ es) sorted top here =
-    by (nat_cmp p e.0) refl here (joined_rest p b w es (sorted_tail nat_cmp e.0 (keys_of es) sorted) (All-tail (λ q. q ≤ p) e.0 (keys_of es) top))
-  where
-    alone : (fs : Entries) → es ≡ fs → nat_cmp p e.0 ≡ Equal → joined es ++ w ≡ w ++ joined es
-    alone [] is equal = rw is (sym (append-nil w))
-    alone (f ∷ fs) is equal =
-        let same = equal_is p e.0 equal in
-        let later : AllByRecursion (λ q. nat_cmp e.0 q ≡ Less) (keys_of (f ∷ fs)) = subst (λ gs. AllByRecursion (λ q. nat_cmp e.0 q ≡ Less) (keys_of gs)) is (sorted_head nat_cmp e.0 (keys_of es) sorted) in
-        let below = less_is e.0 f.0 later.0 in
-        let most : All (λ q. q ≤ p) (keys_of (f ∷ fs)) = subst (λ gs. All (λ q. q ≤ p) (keys_of gs)) is (All-tail (λ q. q ≤ p) e.0 (keys_of es) top) in
-        absurd (omega (arith, same, below, All-head (λ q. q ≤ p) f.0 (keys_of fs) most))
-
-    by : (r : Ordering) → nat_cmp p e.0 ≡ r → cond (is_eq r) (Some e.1) (lookup (is_at (nat_cmp p)) es) ≡ Some b
-        → (lookup (is_at (nat_cmp p)) es ≡ Some b → joined (set_value (is_at (nat_cmp p)) es w) ≡ w ++ joined (remove_entry (is_at (nat_cmp p)) es))
-        → joined (cond (is_eq r) ((e.0, w) ∷ es) (e ∷ set_value (is_at (nat_cmp p)) es w)) ≡ w ++ joined (cond (is_eq r) es (e ∷ remove_entry (is_at (nat_cmp p)) es))
-    by Less is found later = let lt = less_is p e.0 is in let le = All-head (λ q. q ≤ p) e.0 (keys_of es) top in absurd (omega arith)
-    by Equal is found later = alone es refl is
-    by Greater is found later =
-        ap (λ ms. ms ++ e.1) (later found)
-        ∙ append_assoc w (joined (remove_entry (is_at (nat_cmp p)) es)) e.1
-
--- a bucket with messages is found
-found : (x : Message) (rest : List Message) (o : Option (List Message)) → unwrap_or o [] ≡ x ∷ rest → o ≡ Some (x ∷ rest)
-found x rest None is = absurd cc
-found x rest (Some b) is = ap (λ ms. Some ms) is
-
--- the first message of the greatest priority is the first of all
-pub joined_take : (p : ℕ) (x : Message) (rest : List Message) (es : Entries) → AreBuckets es → All (λ q. q ≤ p) (keys_of es) → bucket_at es p ≡ x ∷ rest → joined es ≡ x ∷ joined (with_rest es p rest)
-joined_take p x rest es inv top has = whole ∙ by rest
-  where
-    here : lookup (is_at (nat_cmp p)) es ≡ Some (x ∷ rest)
-    here = found x rest (lookup (is_at (nat_cmp p)) es) has
-
-    whole : joined es ≡ x ∷ rest ++ joined (remove_entry (is_at (nat_cmp p)) es)
-    whole = ap joined (sym (set_value_same (is_at (nat_cmp p)) es (x ∷ rest) here)) ∙ joined_rest p (x ∷ rest) (x ∷ rest) es inv.ordered top here
-
-    by : (ms : List Message) → x ∷ ms ++ joined (remove_entry (is_at (nat_cmp p)) es) ≡ x ∷ joined (with_rest es p ms)
-    by [] = refl
-    by (m ∷ ms) = ap (λ ns. x ∷ ns) (sym (joined_rest p (x ∷ rest) (m ∷ ms) es inv.ordered top here))
-
-each_removed : (t : ℕ → Bool) (es : Entries) → All IsBucket es → All IsBucket (remove_entry t es)
-each_removed t [] each = each
-each_removed t (e ∷ es) each = by (t e.0) (each_removed t es (All-tail IsBucket e es each))
-  where
-    by : (b : Bool) → All IsBucket (remove_entry t es) → All IsBucket (cond b es (e ∷ remove_entry t es))
-    by true later = All-tail IsBucket e es each
-    by false later = All-cons IsBucket e (remove_entry t es) (All-head IsBucket e es each) later
-
-each_kept : (p : ℕ) (w : List Message) (es : Entries) → All IsBucket es → IsBucket (p, w) → All IsBucket (set_value (is_at (nat_cmp p)) es w)
-each_kept p w [] each kept = each
-each_kept p w (e ∷ es) each kept = by (nat_cmp p e.0) refl (each_kept p w es (All-tail IsBucket e es each) kept)
-  where
-    by : (r : Ordering) → nat_cmp p e.0 ≡ r → All IsBucket (set_value (is_at (nat_cmp p)) es w) → All IsBucket (cond (is_eq r) ((e.0, w) ∷ es) (e ∷ set_value (is_at (nat_cmp p)) es w))
-    by Less is later = All-cons IsBucket e (set_value (is_at (nat_cmp p)) es w) (All-head IsBucket e es each) later
-    by Equal is later = All-cons IsBucket (e.0, w) es (rw (← equal_is p e.0 is) kept) (All-tail IsBucket e es each)
-    by Greater is later = All-cons IsBucket e (set_value (is_at (nat_cmp p)) es w) (All-head IsBucket e es each) later
-
--- buckets stay buckets when the first message of one is taken out
-pub buckets_take : (p : ℕ) (x : Message) (rest : List Message) (es new : Entries) → AreBuckets es → bucket_at es p ≡ x ∷ rest → new ≡ with_rest es p rest → IsStrictlySortedBy nat_cmp (keys_of new) → AreBuckets new
-buckets_take p x rest es new inv here is sorted = record {
-  ordered = sorted;
-  each = rw is (by rest refl);
-}
-  where
-    by : (ms : List Message) → rest ≡ ms → All IsBucket (with_rest es p ms)
-    by [] e = each_removed (is_at (nat_cmp p)) es inv.each
-    by (m ∷ ms) e =
-        let all : All (λ n. n.priority ≡ p) (x ∷ m ∷ ms) = subst (λ ns. All (λ n. n.priority ≡ p) ns) (here ∙ ap (λ ns. x ∷ ns) e) (bucket_is p es inv.each) in
-        each_kept p (m ∷ ms) es inv.each (omega arith, All-tail (λ n. n.priority ≡ p) x (m ∷ ms) all)
-
 -- the last bucket has the first messages
 pub joined_last : (es : Entries) (e : ℕ × List Message) → joined (es ++ e ∷ []) ≡ e.1 ++ joined es
 joined_last [] e = sym (append-nil e.1)
@@ -222,20 +148,6 @@ put_in m b w es new sorted here is w_is =
 pub put_back : (p : ℕ) (b w : List Message) (es new : Entries) → Some b ≡ lookup (is_at (nat_cmp p)) es → new ≡ set_value (is_at (nat_cmp p)) es w → w ≡ b → new ≡ es
 put_back p b w es new here is w_is = is ∙ set_value_same (is_at (nat_cmp p)) es w (sym here ∙ ap (λ ms. Some ms) (sym w_is))
 
--- a bucket that is there has messages
-pub has_message : (p : ℕ) (es : Entries) → All IsBucket es → IsSome (lookup (is_at (nat_cmp p)) es) → 0 < length (bucket_at es p)
-has_message p [] each some = absurd cc
-has_message p (e ∷ es) each some = by (is_at (nat_cmp p) e.0) some (has_message p es (All-tail IsBucket e es each))
-  where
-    by : (b : Bool) → IsSome (cond b (Some e.1) (lookup (is_at (nat_cmp p)) es)) → (IsSome (lookup (is_at (nat_cmp p)) es) → 0 < length (bucket_at es p)) → 0 < length (unwrap_or (cond b (Some e.1) (lookup (is_at (nat_cmp p)) es)) [])
-    by true here later = (All-head IsBucket e es each).0
-    by false here later = later here
-
--- the messages of a priority whose oldest is known
-pub oldest_is : (x : Message) (ms : List Message) → slice_get ms 0 ≡ Some x → ms ≡ x ∷ drop 1 ms
-oldest_is x [] is = absurd cc
-oldest_is x (m ∷ ms) is = let same : m ≡ x = cc in rw same refl
-
 -- buckets stay buckets whether a message is put in or not
 pub buckets_pushed : {T E : Type 0} (r : Result T E) (m : Message) (es new : Entries) → AreBuckets es
     → OnOk r (new ≡ with_message es m) → OnErr r (new ≡ es) → OnOk r (IsStrictlySortedBy nat_cmp (keys_of new)) → AreBuckets new
@@ -257,3 +169,119 @@ copied_more es xs s t new e b sorted so_far s_is b_is is =
     let whole : xs ++ e ∷ t ≡ es = ap (λ zs. xs ++ zs) (sym s_is) ∙ so_far in
     let last = put_last xs t e (subst (λ zs. IsStrictlySortedBy nat_cmp (keys_of zs)) (sym whole) sorted) in
     ap (λ zs. zs ++ t) (is ∙ ap (insert_entry nat_cmp xs e.0) b_is ∙ last) ∙ append_assoc xs (e ∷ []) t ∙ whole
+
+-- where all messages are of lesser priorities, a message is the first
+sent_first : (m : Message) (ms : List Message) → All (λ x. x.priority < m.priority) ms → sent m ms ≡ m ∷ ms
+sent_first m ms less = sent-append-less m [] ms less
+
+-- a message of a priority above all others goes before them
+pub sent_above : (m : Message) (o : Option (ℕ × List Message)) (ms : List Message) → AreBelow o ms → IfSome o (λ e. e.0 < m.priority)
+    → m ∷ after_greatest o ms ≡ sent m (after_greatest o ms)
+sent_above m None ms below less = rw below refl
+sent_above m (Some e) ms below less =
+    sym (sent_first m (e.1 ++ ms) (All-append (λ x. x.priority < m.priority) e.1 ms
+    (All-weaker (λ x. x.priority ≡ e.0) (λ x. x.priority < m.priority) (λ x is. omega (arith, less)) e.1 below.0.1)
+    (All-weaker (λ x. x.priority < e.0) (λ x. x.priority < m.priority) (λ x lt. omega (arith, less)) ms below.1)))
+
+-- so it does where it is put there
+pub sent_put : {T E : Type 0} (r : Result T E) (m : Message) (o new : Option (ℕ × List Message)) (ms others whole : List Message) → AreBelow o ms → IfSome o (λ e. e.0 < m.priority)
+    → OnOk r (new ≡ Some (m.priority, m ∷ [])) → OnOk r (others ≡ after_greatest o ms) → after_greatest o ms ≡ whole → OnOk r (after_greatest new others ≡ sent m whole)
+sent_put (Ok x) m o new ms others whole below less is others_is whole_is = rw (is, others_is, ← whole_is) (sent_above m o ms below less)
+sent_put (Err x) m o new ms others whole below less is others_is whole_is = tt
+
+-- a message of the greatest priority goes to the end of its bucket
+pub sent_beside : (m : Message) (p : ℕ) (b ms : List Message) → AreBelow (Some (p, b)) ms → m.priority ≡ p → (b ++ m ∷ []) ++ ms ≡ sent m (b ++ ms)
+sent_beside m p b ms below same =
+    ap (λ xs. xs ++ ms) (sym (sent-all m b (All-weaker (λ x. x.priority ≡ p) (λ x. m.priority ≤ x.priority) (λ x is. omega (arith, same)) b below.0.1)))
+    ∙ sym (sent-append-less m b ms (All-weaker (λ x. x.priority < p) (λ x. x.priority < m.priority) (λ x lt. omega (arith, same)) ms below.1))
+
+-- a message of a lesser priority goes among those after the bucket
+pub sent_below : (m : Message) (p : ℕ) (b ms : List Message) → AreBelow (Some (p, b)) ms → m.priority < p → b ++ sent m ms ≡ sent m (b ++ ms)
+sent_below m p b ms below less = sym (sent-append-greater m b ms (All-weaker (λ x. x.priority ≡ p) (λ x. m.priority < x.priority) (λ x is. omega (arith, less)) b below.0.1))
+
+all_left : (P : Message → Type 0) (xs ys : List Message) → All P (xs ++ ys) → All P xs
+all_left P [] ys all = All-nil P
+all_left P (x ∷ xs) ys all = All-cons P x xs (All-head P x (xs ++ ys) all) (all_left P xs ys (All-tail P x (xs ++ ys) all))
+
+all_right : (P : Message → Type 0) (xs ys : List Message) → All P (xs ++ ys) → All P ys
+all_right P [] ys all = all
+all_right P (x ∷ xs) ys all = all_right P xs ys (All-tail P x (xs ++ ys) all)
+
+-- where the messages of a bucket are below a priority, its own is
+key_below : (p : ℕ) (e : ℕ × List Message) → IsBucket e → All (λ m. m.priority < p) e.1 → e.0 < p
+key_below p e is less = of e.1 is.0 is.1 less
+  where
+    of : (ms : List Message) → 0 < length ms → All (λ m. m.priority ≡ e.0) ms → All (λ m. m.priority < p) ms → e.0 < p
+    of [] some each less = absurd (omega arith)
+    of (m ∷ ms) some each less = let same = All-head (λ m. m.priority ≡ e.0) m ms each in let lt = All-head (λ m. m.priority < p) m ms less in omega (arith, same, lt)
+
+-- a key above those of all buckets goes to the end
+put_above : (p : ℕ) (b : List Message) (es : Entries) → All IsBucket es → All (λ m. m.priority < p) (joined es) → insert_entry nat_cmp es p b ≡ es ++ (p, b) ∷ []
+put_above p b [] each less = refl
+put_above p b (e ∷ es) each less =
+    by (nat_cmp p e.0) refl (put_above p b es (All-tail IsBucket e es each) (all_left (λ m. m.priority < p) (joined es) e.1 less))
+  where
+    below : e.0 < p
+    below = key_below p e (All-head IsBucket e es each) (all_right (λ m. m.priority < p) (joined es) e.1 less)
+
+    by : (r : Ordering) → nat_cmp p e.0 ≡ r → insert_entry nat_cmp es p b ≡ es ++ (p, b) ∷ [] → match_ordering r ((p, b) ∷ e ∷ es) ((e.0, b) ∷ es) (e ∷ insert_entry nat_cmp es p b) ≡ e ∷ es ++ (p, b) ∷ []
+    by Less is later = let lt = less_is p e.0 is in absurd (omega (arith, below))
+    by Equal is later = let same = equal_is p e.0 is in absurd (omega (arith, below))
+    by Greater is later = ap (λ zs. e ∷ zs) later
+
+-- buckets stay buckets whether one of another priority is put in or not
+pub buckets_with : {T E : Type 0} (r : Result T E) (p : ℕ) (b : List Message) (es new : Entries) → AreBuckets es → IsBucket (p, b)
+    → OnOk r (new ≡ insert_entry nat_cmp es p b) → OnErr r (new ≡ es) → IsStrictlySortedBy nat_cmp (keys_of new) → AreBuckets new
+buckets_with (Ok x) p b es new inv bucket is same sorted = record { ordered = sorted; each = rw is (each_put p b es inv.each bucket) }
+buckets_with (Err x) p b es new inv bucket is same sorted = rw same inv
+
+-- a bucket of a priority above all others has the first messages
+pub joined_with : (p : ℕ) (b : List Message) (es new : Entries) → AreBuckets es → All (λ m. m.priority < p) (joined es) → new ≡ insert_entry nat_cmp es p b → joined new ≡ b ++ joined es
+joined_with p b es new inv less is = ap joined (is ∙ put_above p b es inv.each less) ∙ joined_last es (p, b)
+
+-- the last bucket, and those before it
+each_before : (es : Entries) (e : ℕ × List Message) → All IsBucket (es ++ e ∷ []) → All IsBucket es × IsBucket e
+each_before [] e all = (All-nil IsBucket, All-head IsBucket e [] all)
+each_before (f ∷ es) e all =
+    let later = each_before es e (All-tail IsBucket f (es ++ e ∷ []) all) in
+    (All-cons IsBucket f es (All-head IsBucket f (es ++ e ∷ []) all) later.0, later.1)
+
+-- the messages of buckets below a priority are below it
+below : (p : ℕ) (es : Entries) → All (λ q. nat_cmp q p ≡ Less) (keys_of es) → All IsBucket es → All (λ m. m.priority < p) (joined es)
+below p [] less each = All-nil (λ m. m.priority < p)
+below p (e ∷ es) less each =
+    let here : e.0 < p = less_is e.0 p (All-head (λ q. nat_cmp q p ≡ Less) e.0 (keys_of es) less) in
+    All-append (λ m. m.priority < p) (joined es) e.1 (below p es (All-tail (λ q. nat_cmp q p ≡ Less) e.0 (keys_of es) less) (All-tail IsBucket e es each))
+    (All-weaker (λ m. m.priority ≡ e.0) (λ m. m.priority < p) (λ m is. omega (arith, here)) e.1 (All-head IsBucket e es each).1)
+
+-- what is left when the last bucket is taken out, if there is one
+pub record IsWithoutLast (r : Option (ℕ × List Message)) (es new : Entries) : Type 0 where
+  pub buckets : AreBuckets new
+  pub rest : joined es ≡ after_greatest r (joined new)
+  pub below : AreBelow r (joined new)
+
+pub without_last : (r : Option (ℕ × List Message)) (es new : Entries) → AreBuckets es → (0 < length es → IsSome r) → IfSome r (λ e. es ≡ new ++ e ∷ [])
+    → IfSome r (λ e. All (λ q. nat_cmp q e.0 ≡ Less) (keys_of new)) → IfNone r (new ≡ es) → IsStrictlySortedBy nat_cmp (keys_of new) → IsWithoutLast r es new
+without_last None [] new inv some is less same sorted = record { buckets = rw same inv; rest = rw same refl; below = rw same refl }
+without_last None (e ∷ es) new inv some is less same sorted = let never : IsSome {T = ℕ × List Message} None = some (omega arith) in absurd cc
+without_last (Some e) es new inv some is less same sorted =
+    let each = each_before new e (subst (All IsBucket) is inv.each) in
+    record {
+      buckets = record { ordered = sorted; each = each.0 };
+      rest = ap joined is ∙ joined_last new e;
+      below = (each.1, below e.0 new less each.0);
+    }
+
+-- a bucket stays one when its oldest message goes and others stay
+pub bucket_rest : (p : ℕ) (x : Message) (b new : List Message) → IsBucket (p, b) → b ≡ x ∷ new → 0 < length new → IsBucket (p, new)
+bucket_rest p x b new is parts some = (some, All-tail (λ m. m.priority ≡ p) x new (subst (All (λ m. m.priority ≡ p)) parts is.1))
+
+-- a bucket stays one when a message of its priority is added or refused
+pub bucket_pushed : {T E : Type 0} (r : Result T E) (m : Message) (p : ℕ) (b new : List Message) → IsBucket (p, b) → m.priority ≡ p → OnOk r (new ≡ b ++ m ∷ []) → OnErr r (new ≡ b) → IsBucket (p, new)
+bucket_pushed (Ok x) m p b new is same ok err = rw ok (rw length-append (omega arith), All-push (λ x. x.priority ≡ p) b m is.1 same)
+bucket_pushed (Err x) m p b new is same ok err = rw err is
+
+-- messages below a priority stay so when one below it is added or refused
+pub below_sent : {T E : Type 0} (r : Result T E) (m : Message) (p : ℕ) (ms new : List Message) → All (λ x. x.priority < p) ms → m.priority < p → OnOk r (new ≡ sent m ms) → OnErr r (new ≡ ms) → All (λ x. x.priority < p) new
+below_sent (Ok x) m p ms new each less ok err = rw ok (All-sent (λ x. x.priority < p) m ms less each)
+below_sent (Err x) m p ms new each less ok err = rw err each

@@ -82,3 +82,14 @@ sent-append-less m xs ys less =
       append-nil (filter (λ x. nat_le m.priority x.priority) xs),
     )
     (sym (append_assoc (filter (λ x. nat_le m.priority x.priority) xs) (m ∷ filter (λ x. nat_lt x.priority m.priority) xs) ys))
+
+-- a message goes behind all of greater priorities at the front
+pub sent-append-greater : (m : Message) (xs ys : List Message) → All (λ x. m.priority < x.priority) xs → sent m (xs ++ ys) ≡ xs ++ sent m ys
+sent-append-greater m xs ys greater =
+    rw (
+      filter-append (λ x. nat_le m.priority x.priority) xs ys,
+      filter-append (λ x. nat_lt x.priority m.priority) xs ys,
+      filter-all (λ x. nat_le m.priority x.priority) xs (All-weaker (λ x. m.priority < x.priority) (λ x. nat_le m.priority x.priority ≡ true) (λ x h. nat_le-true m.priority x.priority (omega arith)) xs greater),
+      filter-none (λ x. nat_lt x.priority m.priority) xs (All-weaker (λ x. m.priority < x.priority) (λ x. nat_lt x.priority m.priority ≡ false) (λ x h. nat_lt-false x.priority m.priority (omega arith)) xs greater),
+    )
+    (append_assoc xs (filter (λ x. nat_le m.priority x.priority) ys) (m ∷ filter (λ x. nat_lt x.priority m.priority) ys))

@@ -1,10 +1,10 @@
 //! Messages in the order of receive, in one bucket for each priority that has some.
-ghost use Rattle.std.specs.Prelude.{◌≡◌, ◌<◌, ◌≤◌, ◌==◌, [], ◌∷◌, length, slice_get, Some, None, IfOk, IfErr, OnOk, OnErr, IsSome, All};
+ghost use Rattle.std.specs.Prelude.{◌≡◌, ◌<◌, [], ◌++◌, slice_get, None, IfOk, IfErr, OnOk, OnErr, All};
 ghost use Rattle.std.specs.Option.{option_copied};
 ghost use Rattle.std.specs.Ordering.{nat_cmp};
-ghost use Rattle.std.specs.BTreeMap.{get, keys, IsOrdered};
+ghost use Rattle.std.specs.BTreeMap.{get, IsOrdered};
 ghost use Rattle.ipc_objects.specs.Queue.{sent};
-ghost use Rattle.ipc_objects.specs.Buckets.{joined, bucket_at, with_message, without_oldest};
+ghost use Rattle.ipc_objects.specs.Buckets.{joined, with_message, after_greatest, AreBelow, IsBucket};
 
 use crate::Message;
 use crate::bucket::Bucket;
@@ -63,59 +63,6 @@ fn put(buckets: &mut BTreeMap<u16, Bucket>, alloc: Global, message: Message) -> 
     }
 }
 
-/// The greatest priority that has messages, and whether it has a single one.
-fn greatest(buckets: &BTreeMap<u16, Bucket>) -> (u16, bool)
-    requires { 0 < length buckets.now.entries }
-    ensures some { IsSome (get nat_cmp buckets.now result.0) }
-    ensures greatest { All (λ q. q ≤ result.0) (keys buckets.now) }
-    ensures single { result.1 ≡ (length (bucket_at buckets.now.entries result.0) == 1) }
-{
-    match buckets.last_key_value() {
-        Some((priority, bucket)) => (*priority, bucket.len() == 1),
-        None => unreachable!(),
-    }
-}
-
-/// Takes out the bucket of a priority that has a single message.
-fn take_bucket(buckets: &mut BTreeMap<u16, Bucket>, priority: u16) -> Message
-    requires { length (bucket_at buckets.old.entries priority) ≡ 1 }
-    ensures first { slice_get (bucket_at buckets.old.entries priority) 0 ≡ Some result }
-    ensures rest { buckets.new.entries ≡ without_oldest buckets.old.entries priority }
-    ensures ordered { IsOrdered nat_cmp buckets.new }
-{
-    match buckets.remove(&priority) {
-        Some(bucket) => bucket.into_message(),
-        None => unreachable!(),
-    }
-}
-
-/// Takes out the oldest message of a priority that has several.
-fn take_oldest(buckets: &mut BTreeMap<u16, Bucket>, priority: u16) -> Message
-    requires { 1 < length (bucket_at buckets.old.entries priority) }
-    ensures first { slice_get (bucket_at buckets.old.entries priority) 0 ≡ Some result }
-    ensures rest { buckets.new.entries ≡ without_oldest buckets.old.entries priority }
-    ensures ordered { IsOrdered nat_cmp buckets.new }
-{
-    match buckets.get_mut(&priority) {
-        Some(bucket) => bucket.pop_front(),
-        None => unreachable!(),
-    }
-}
-
-/// Takes out the oldest message of a priority, and the bucket once it is empty.
-fn take(buckets: &mut BTreeMap<u16, Bucket>, priority: u16, single: bool) -> Message
-    requires some { 0 < length (bucket_at buckets.old.entries priority) }
-    requires single { single ≡ (length (bucket_at buckets.old.entries priority) == 1) }
-    ensures first { slice_get (bucket_at buckets.old.entries priority) 0 ≡ Some result }
-    ensures rest { buckets.new.entries ≡ without_oldest buckets.old.entries priority }
-    ensures ordered { IsOrdered nat_cmp buckets.new }
-{
-    if single {
-        return take_bucket(buckets, priority);
-    }
-    take_oldest(buckets, priority)
-}
-
 /// The message with `n` others before it, bucket by bucket.
 fn nth_of(buckets: &BTreeMap<u16, Bucket>, n: usize) -> Option<&Message>
     ensures { option_copied result ≡ slice_get (joined buckets.now.entries) n }
@@ -165,13 +112,29 @@ impl Buckets {
         put(&mut self.by_priority, self.alloc, message)
     }
 
-    /// Takes out the first message.
-    pub(crate) fn pop_front(&mut self) -> Message
-        requires { 0 < length self.old }
-        ensures { self.old ≡ result ∷ self.new }
+    /// Adds the bucket of a priority above all others. Where memory is refused it is handed back.
+    pub(crate) fn put_greatest(&mut self, priority: u16, bucket: Bucket) -> Result<(), Bucket>
+        requires bucket { IsBucket (priority, bucket) }
+        requires greatest { All (λ m. m.priority < priority) self.old }
+        ensures ok { OnOk result (self.new ≡ bucket ++ self.old) }
+        ensures err { OnErr result (self.new ≡ self.old) }
+        ensures handed_back { IfErr result (λ back. back ≡ bucket) }
     {
-        let (priority, single) = greatest(&self.by_priority);
-        take(&mut self.by_priority, priority, single)
+        match self.by_priority.insert(priority, bucket) {
+            Ok(_) => Ok(()),
+            Err(failed) => {
+                let (_, bucket) = failed.value;
+                Err(bucket)
+            }
+        }
+    }
+
+    /// Takes out the bucket of the greatest priority, if there is one.
+    pub(crate) fn pop_greatest(&mut self) -> Option<(u16, Bucket)>
+        ensures rest { self.old ≡ after_greatest result self.new }
+        ensures greatest { AreBelow result self.new }
+    {
+        self.by_priority.pop_last()
     }
 
     /// The message with `n` others before it.

@@ -4,6 +4,7 @@
 mod bucket;
 mod buckets;
 mod limits;
+mod messages;
 mod queue;
 mod semaphore;
 mod words;

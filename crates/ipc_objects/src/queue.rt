@@ -5,8 +5,8 @@ ghost use Rattle.std.specs.Option.{option_map};
 mod copies;
 
 use crate::Words;
-use crate::buckets::Buckets;
 use crate::limits::{MQ_MAXMSG_MAX, MQ_MSGSIZE_MAX, MQ_PRIO_MAX};
+use crate::messages::Messages;
 use std::alloc::{AllocError, Global};
 use std::marker::Model;
 
@@ -26,7 +26,7 @@ pub struct Queue {
     max_messages: u16,
     message_size: u16,
     count: u16,
-    messages: Buckets,
+    messages: Messages,
 }
 
 impl Model for Queue {
@@ -55,7 +55,7 @@ impl Queue {
             max_messages,
             message_size,
             count: 0,
-            messages: Buckets::new(alloc),
+            messages: Messages::new(alloc),
         })
     }
 
