@@ -91,7 +91,7 @@ pub(crate) fn ask_by(process: Process, trap: TrapAt) -> (Process, Asking)
 {
     match process {
         Process::Running(running) => ask(trap.alloc, running.stand(Want::Trap(trap.vector))),
-        other => (other, Asking::Short),
+        Process::Waiting(_, _) | Process::Ended(_) => unreachable!(),
     }
 }
 
@@ -108,7 +108,7 @@ fn replied(process: Process, reply: Reply) -> (Process, ())
             let effect = effect_of(waiting.at_call(), reply);
             (Process::Running(waiting.finish(effect)), ())
         }
-        other => (other, ()),
+        Process::Running(_) | Process::Ended(_) => unreachable!(),
     }
 }
 
@@ -132,7 +132,7 @@ fn ended(process: Process, how: How) -> (Process, ())
 {
     match process {
         Process::Running(running) => { (Process::Ended(running.stand(Want::End(how)).end()), ()) }
-        other => (other, ()),
+        Process::Waiting(_, _) | Process::Ended(_) => unreachable!(),
     }
 }
 
