@@ -1,8 +1,9 @@
 -- Pages that read the same, and memory that is made up of them.
-use Rattle.std.proofs.Common.{◌≡◌, ℕ, ◌+◌, ◌-◌, ◌*◌, ◌<◌, ◌≤◌, All, List, [], ◌++◌, length, get_or, take, flat_map, replicate, ap, sym, ◌∙◌, arith}
-use Rattle.std.proofs.lemmas.List.{ext_get_or, take_more, take_all, flat_map_more, get_or_append_left, get_or-replicate, get_or_default, replicate-append-replicate, length-replicate, append-nil}
+use Rattle.std.proofs.Common.{Option, None, Some, Box, slice_index, ◌≡◌, ℕ, ◌+◌, ◌*◌, ◌<◌, ◌≤◌, All, List, [], ◌++◌, length, get_or, take, flat_map, replicate, ap, sym, ◌∙◌, arith}
+use Rattle.std.proofs.lemmas.List.{ext_get_or, take_more, take_all, flat_map_more, get_or-replicate, get_or_default, length-replicate}
+use Rattle.std.specs.declared.alloc.Global.{Global}
 use Rattle.lc3_machine.specs.Process.{zeros}
-use Rattle.lc3_machine.specs.Pages.{PageWords, AreWhole, joined, padded_page}
+use Rattle.lc3_machine.specs.Pages.{PageWords, AreWhole, absent, joined, page_of}
 use Rattle.lc3_machine.proofs.PageLemmas.{AreOf, get_or-parts}
 
 -- where the wholes are equal, so is each part
@@ -37,29 +38,24 @@ pub same-all : (ps qs : List PageWords) (n : ℕ) → length ps ≤ n → length
 same-all ps qs n h h' same =
     sym (ap (λ xs. (joined xs).words) (take_all n ps h)) ∙ same ∙ ap (λ xs. (joined xs).words) (take_all n qs h')
 
--- a list of zeros
-zeros-all : (ws : List ℕ) → All (λ w. w ≡ 0) ws → ws ≡ replicate (length ws) 0
-zeros-all ws all = ext_get_or 0 ws (replicate (length ws) 0) (sym (length-replicate (length ws) 0)) (λ i h. all i 0 h ∙ sym (get_or-replicate (length ws) i 0 0 h))
-
--- a page is zero exactly where its kept words are
-pub padded-zero : (ws : List ℕ) → length ws ≤ 256 → All (λ w. w ≡ 0) ws → (padded_page ws).words ≡ zeros 256
+-- a list of zeros is one where each is zero
+pub all-zeros : (ws : List ℕ) → length ws ≡ 256 → All (λ w. w ≡ 0) ws → ws ≡ zeros 256
 unfolding zeros
-padded-zero ws h all =
-    let e : length ws + (256 - length ws) ≡ 256 = omega arith in
-    ap (λ xs. xs ++ replicate (256 - length ws) 0) (zeros-all ws all) ∙ replicate-append-replicate (length ws) (256 - length ws) 0 ∙ ap (λ n. replicate n 0) e
+all-zeros ws h all = ext_get_or 0 ws (replicate 256 0) (h ∙ sym (length-replicate {A = ℕ} 256 0)) (λ i inside. all i 0 inside ∙ sym (get_or-replicate 256 i 0 0 (omega (arith, h))))
 
-pub zero-padded : (ws : List ℕ) → length ws ≤ 256 → (padded_page ws).words ≡ zeros 256 → All (λ w. w ≡ 0) ws
+pub zeros-all : (ws : List ℕ) → length ws ≡ 256 → ws ≡ zeros 256 → All (λ w. w ≡ 0) ws
 unfolding zeros
-zero-padded ws h same = λ k d inside.
-    let here = get_or_append_left ws (replicate (256 - length ws) 0) 0 k inside in
-    get_or_default ws k d 0 inside ∙ sym here ∙ ap (λ xs. get_or xs k 0) same ∙ get_or-replicate 256 k 0 0 (omega arith)
+zeros-all ws h same = λ k d inside. get_or_default ws k d 0 inside ∙ ap (λ xs. get_or xs k 0) same ∙ get_or-replicate 256 k 0 0 (omega (arith, h))
 
--- a page that isn't made reads as zeros
-pub padded-none : (ws : List ℕ) → length ws ≡ 0 → (padded_page ws).words ≡ zeros 256
-padded-none ws none = padded-zero ws (omega arith) (λ k d h. absurd (omega arith))
+-- the words of a page that isn't made, and of one that is
+pub words-none : (o : Option (Box (List ℕ) Global)) (p : PageWords) → page_of o ≡ p → o ≡ None → p.words ≡ zeros 256
+unfolding zeros absent
+words-none o p is none = sym (ap (λ q. q.words) is) ∙ ap (λ x. (page_of x).words) none
 
--- a page that is made reads as it is kept
-pub padded-full : (ws : List ℕ) → length ws ≡ 256 → (padded_page ws).words ≡ ws
-padded-full ws full =
-    let e : 256 - length ws ≡ 0 = omega arith in
-    ap (λ n. ws ++ replicate n 0) e ∙ append-nil ws
+pub words-some : (o : Option (Box (List ℕ) Global)) (p : PageWords) (b : Box (List ℕ) Global) → page_of o ≡ p → o ≡ Some b → p.words ≡ b.value
+words-some o p b is some = sym (ap (λ q. q.words) is) ∙ ap (λ x. (page_of x).words) some
+
+-- a zero page reads as zero
+pub zeros-read : (ws : List ℕ) (i : ℕ) → ws ≡ zeros 256 → i < 256 → 0 ≡ slice_index ws i
+unfolding zeros
+zeros-read ws i is h = sym (ap (λ xs. get_or xs i 0) is ∙ get_or-replicate 256 i 0 0 h)

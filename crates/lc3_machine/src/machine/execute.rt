@@ -9,7 +9,7 @@ use super::{Machine, Progress};
 use crate::memory::DEVICES;
 use crate::want::{How, Want};
 use lc3_table::{Instr, Operand, decode};
-use lc3_word::{Cc, Reg, add};
+use lc3_word::{Reg, add};
 
 impl Machine {
     /// Puts a result into a register, sets the code from it, and goes on at the next instruction.
@@ -43,17 +43,31 @@ impl Machine {
         Progress::Moved
     }
 
+    /// Whether the code that is set is among these. It is asked of the last result, which takes fewer comparisons.
+    #[tactic(auto, unfolding(crate::specs::Process::cc_of))]
+    #[inline(always)]
+    fn is_among(&self, n: bool, z: bool, p: bool) -> bool
+        ensures { result ≡ is_among self.now.process.cc n z p }
+    {
+        if self.result >> 15 == 1 {
+            n
+        } else if self.result == 0 {
+            z
+        } else {
+            p
+        }
+    }
+
     /// Goes on elsewhere if the code that is set is among these, and else at the next instruction.
     #[inline(always)]
     fn branch(&mut self, n: bool, z: bool, p: bool, address: u16) -> Progress
         ensures { CarriedOut (GoesOn (if is_among self.old.process.cc n z p then jumped self.old.process address else advanced self.old.process)) self.old.process result self.new.process }
     {
-        let taken = match self.cc() {
-            Cc::N => n,
-            Cc::Z => z,
-            Cc::P => p,
+        self.pc = if self.is_among(n, z, p) {
+            address
+        } else {
+            self.next_pc()
         };
-        self.pc = if taken { address } else { self.next_pc() };
         Progress::Moved
     }
 
