@@ -13,6 +13,10 @@ _lc3lab() {
         COMPREPLY=($(compgen -W 'ended stuck' -- "$word"))
         return
         ;;
+    --profile)
+        COMPREPLY=($(compgen -W 'a b' -- "$word"))
+        return
+        ;;
     --limit | --worlds | --schedule)
         compopt +o bashdefault +o default 2>/dev/null
         return
@@ -20,9 +24,10 @@ _lc3lab() {
     esac
     case $command in
     asm) options='--list --explain --help -h' ;;
-    dis | step | debug) options='--help -h' ;;
-    run) options='--limit --help -h' ;;
-    explore) options='--limit --worlds --require --schedule --help -h' ;;
+    dis) options='--help -h' ;;
+    step | debug) options='--profile --help -h' ;;
+    run) options='--profile --limit --help -h' ;;
+    explore) options='--profile --limit --worlds --require --schedule --help -h' ;;
     help) options=$commands ;;
     esac
     case $command:$word in

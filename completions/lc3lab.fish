@@ -12,9 +12,13 @@ complete -c lc3lab -n __fish_use_subcommand -s V -l version -d 'Prints the versi
 
 complete -c lc3lab -n '__fish_seen_subcommand_from asm' -l list -d 'Prints the listing'
 complete -c lc3lab -n '__fish_seen_subcommand_from asm' -l explain -d 'Shows where a fault is and what could stand there'
+complete -c lc3lab -n '__fish_seen_subcommand_from step' -x -l profile -a 'a b' -d 'The machine: of the book, or with traps that leave R7'
+complete -c lc3lab -n '__fish_seen_subcommand_from run' -x -l profile -a 'a b' -d 'The machine: of the book, or with traps that leave R7'
 complete -c lc3lab -n '__fish_seen_subcommand_from run' -x -l limit -d 'The most steps of each process'
+complete -c lc3lab -n '__fish_seen_subcommand_from explore' -x -l profile -a 'a b' -d 'The machine: of the book, or with traps that leave R7'
 complete -c lc3lab -n '__fish_seen_subcommand_from explore' -x -l worlds -d 'The most worlds to visit'
 complete -c lc3lab -n '__fish_seen_subcommand_from explore' -x -l limit -d 'The most steps of a process without a call'
 complete -c lc3lab -n '__fish_seen_subcommand_from explore' -x -l require -a 'ended stuck' -d 'Fails unless all ends have this verdict'
 complete -c lc3lab -n '__fish_seen_subcommand_from explore' -x -l schedule -d 'Prints the schedule of this end alone'
+complete -c lc3lab -n '__fish_seen_subcommand_from debug' -x -l profile -a 'a b' -d 'The machine: of the book, or with traps that leave R7'
 complete -c lc3lab -f -n '__fish_seen_subcommand_from help' -a 'asm dis step run explore debug help'

@@ -1,10 +1,14 @@
 //! The words of the command line, read by a parser of commands.
-use crate::request::{Question, Refusal, Request, Rest};
+use crate::request::{Question, Refusal, Request, Rest, Setup};
 use crate::{MOST_LOCAL_STEPS, MOST_STEPS, MOST_WORLDS, examples};
 use clap::builder::ValueParser;
 use clap::error::ErrorKind;
 use clap::{Arg, ArgAction, ArgMatches, Command, Error};
+use lc3_table::Profile;
 use std::alloc::{AllocError, Global};
+
+/// The profiles of the machine.
+const PROFILES: &[&str] = &["a", "b"];
 
 /// The verdicts that ends can have.
 const VERDICTS: &[&str] = &["ended", "stuck"];
@@ -166,10 +170,17 @@ fn on_programs<'a>(
     let programs = Arg::new(alloc, "PROGRAM").required(true).num_args(1..).help(
         "An object file, or OBJECT=INPUT with a file of console input",
     );
+    let profile = Arg::new(alloc, "profile")
+        .long("profile")
+        .value_name("PROFILE")
+        .value_parser(ValueParser::Names(PROFILES))
+        .default_value("a")
+        .help("The machine: a is the book's; in b LEA sets no codes and a trap leaves R7");
     Command::new(alloc, name)
         .about(about)
         .after_help(example)
-        .arg(programs)
+        .arg(programs)?
+        .arg(profile)
 }
 
 /// An option with a limit, which is 100,000 where it isn't given.
@@ -196,18 +207,18 @@ fn request_of<'a>(alloc: Global, matches: &ArgMatches<'a>) -> Result<Request<'a>
             explain: words.get_flag("explain"),
         },
         Some(("step", words)) => Request::Step {
-            programs: programs_of(alloc, words)?,
+            setup: setup_of(alloc, words)?,
         },
         Some(("run", words)) => Request::Run {
-            programs: programs_of(alloc, words)?,
+            setup: setup_of(alloc, words)?,
             limit: words.get_one::<u32>("limit").unwrap_or(MOST_STEPS),
         },
         Some(("explore", words)) => Request::Explore {
-            programs: programs_of(alloc, words)?,
+            setup: setup_of(alloc, words)?,
             question: question_of(words),
         },
         Some(("debug", words)) => Request::Debug {
-            programs: programs_of(alloc, words)?,
+            setup: setup_of(alloc, words)?,
         },
         Some((_, words)) => Request::Disassemble {
             object: words.get_str("OBJECT").unwrap_or_default(),
@@ -231,7 +242,13 @@ fn question_of(words: &ArgMatches<'_>) -> Question {
     }
 }
 
-/// The words of a command that name programs.
-fn programs_of<'a>(alloc: Global, words: &ArgMatches<'a>) -> Result<Vec<&'a str>, AllocError> {
-    words.get_strs("PROGRAM").unwrap_or_default().to_vec(alloc)
+/// The programs and the profile that the words of a command name.
+fn setup_of<'a>(alloc: Global, words: &ArgMatches<'a>) -> Result<Setup<'a>, AllocError> {
+    Ok(Setup {
+        programs: words.get_strs("PROGRAM").unwrap_or_default().to_vec(alloc)?,
+        profile: match words.get_str("profile") {
+            Some("b") => Profile::B,
+            _ => Profile::A,
+        },
+    })
 }

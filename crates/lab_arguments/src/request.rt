@@ -1,4 +1,5 @@
 //! A request, or why the words make none.
+use lc3_table::Profile;
 use std::alloc::{AllocError, AllocFailed};
 
 /// What the words of a command line ask for.
@@ -14,19 +15,28 @@ pub enum Request<'a> {
         object: &'a str,
     },
     Step {
-        programs: Vec<&'a str>,
+        setup: Setup<'a>,
     },
     Run {
-        programs: Vec<&'a str>,
+        setup: Setup<'a>,
         limit: u32,
     },
     Explore {
-        programs: Vec<&'a str>,
+        setup: Setup<'a>,
         question: Question,
     },
     Debug {
-        programs: Vec<&'a str>,
+        setup: Setup<'a>,
     },
+}
+
+/// What a laboratory is made of.
+#[derive(Drop)]
+pub struct Setup<'a> {
+    /// The words that name programs, process 0's first.
+    pub programs: Vec<&'a str>,
+    /// The profile of the machines.
+    pub profile: Profile,
 }
 
 /// What is asked of an exploration.

@@ -7,6 +7,7 @@ use Rattle.lab_commands.specs.Hex.{is_bad, words_of, number_of, segment_of, imag
 use Rattle.lab_commands.specs.declared.fault.CliFault.{CliFault}
 use Rattle.lab_commands.specs.declared.fault.CliFault.TheVariants.{Empty, BadWord, TooLong, TooLarge, Read, Write, NoMemory}
 use Rattle.lc3_word.specs.Segment.{Segment}
+use Rattle.lc3_table.specs.declared.profile.Profile.TheVariants.{A}
 use Rattle.lab_sched.specs.Worlds.{WorldState, run}
 use Rattle.lab_sched.specs.Schedules.{steps_of}
 use Rattle.lab_sched.specs.Starts.{fresh}
@@ -16,7 +17,7 @@ use Rattle.lab_commands.specs.Run.{world_after}
 
 -- the one program of a laboratory, run by a schedule of n steps
 pub ran_alone : (n : ℕ) (image : Segment) (p : Program) (f w v : WorldState) (before schedule : List Block)
-    → p.image ≡ image → p.input.items ≡ [] → f ≡ fresh (p ∷ []) → w ≡ f
+    → p.image ≡ image → p.input.items ≡ [] → f ≡ fresh A (p ∷ []) → w ≡ f
     → before ≡ [] → steps_of schedule ≡ steps_of before ++ replicate n 0 → v ≡ run w (steps_of schedule)
     → v ≡ world_after n image
 unfolding world_after steps_of

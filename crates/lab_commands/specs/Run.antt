@@ -1,6 +1,7 @@
 -- The run of an image by itself.
 use Rattle.std.specs.Prelude.{ℕ, List, [], ◌∷◌, replicate}
 use Rattle.lc3_word.specs.Segment.{Segment}
+use Rattle.lc3_table.specs.declared.profile.Profile.TheVariants.{A}
 use Rattle.lc3_machine.specs.Process.{start}
 use Rattle.ipc_kernel.specs.Kernel.{empty_kernel}
 use Rattle.lab_sched.specs.Worlds.{Running, WorldState, run}
@@ -8,7 +9,7 @@ use Rattle.lab_debug.specs.Reports.{report_text}
 
 -- the world whose one process has this image and no console input
 abbrev pub alone : Segment → WorldState
-alone image = record { processes = Running (start image.origin image.words []) ∷ []; kernel = empty_kernel 1 }
+alone image = record { processes = Running (start A image.origin image.words []) ∷ []; kernel = empty_kernel 1 }
 
 -- the same after n steps
 unfoldable pub world_after : ℕ → Segment → WorldState

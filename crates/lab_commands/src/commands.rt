@@ -97,20 +97,15 @@ fn perform<'a, T: Files + Threads + Wait + Sync, R: Read, W: Write, P: Progress>
             assemble_file(rt, alloc, source, object, sheet, output)
         }
         Request::Disassemble { object } => disassemble_file(rt, alloc, object, output),
-        Request::Step { ref programs } => {
-            step_programs(rt, alloc, programs.as_slice(), input, output, progress)
+        Request::Step { ref setup } => step_programs(rt, alloc, setup, input, output, progress),
+        Request::Run { ref setup, limit } => {
+            run_programs(rt, alloc, setup, limit, output, progress)
         }
-        Request::Run {
-            ref programs,
-            limit,
-        } => run_programs(rt, alloc, programs.as_slice(), limit, output, progress),
         Request::Explore {
-            ref programs,
+            ref setup,
             question,
-        } => explore_programs(rt, alloc, programs.as_slice(), question, output, progress),
-        Request::Debug { ref programs } => {
-            debug_programs(rt, alloc, programs.as_slice(), input, output)
-        }
+        } => explore_programs(rt, alloc, setup, question, output, progress),
+        Request::Debug { ref setup } => debug_programs(rt, alloc, setup, input, output),
     }
 }
 

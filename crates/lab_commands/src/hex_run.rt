@@ -11,6 +11,7 @@ use crate::input::read_whole;
 use lab_debug::report_text;
 use lab_io::{Input, Output};
 use lab_sched::{Fresh, Program, Schedule, World};
+use lc3_table::Profile;
 use lc3_word::Image;
 use std::alloc::Global;
 use std::io::{Read, Write};
@@ -27,7 +28,7 @@ pub fn run_alone(alloc: Global, image: Image) -> Result<World, CliFault>
         image,
         input: Vec::new(alloc),
     }];
-    let Ok(fresh) = Fresh::new(alloc, programs.as_slice()) else {
+    let Ok(fresh) = Fresh::new(alloc, programs.as_slice(), Profile::A) else {
         return Err(CliFault::NoMemory);
     };
     let mut schedule = Schedule::new(alloc);

@@ -2,6 +2,7 @@
 use crate::complaint::{Complaint, Reason};
 use crate::files::{read_file, read_object};
 use lab_sched::{Fresh, FreshFault, Program};
+use lc3_table::Profile;
 use std::alloc::Global;
 use std::rt::Files;
 
@@ -40,9 +41,13 @@ fn read_program<'a, T: Files>(
     Ok(Program { image, input })
 }
 
-/// The laboratory of programs, before its first step.
-pub fn laboratory(alloc: Global, programs: &[Program]) -> Result<Fresh, Complaint<'static>> {
-    Fresh::new(alloc, programs).map_err(|fault| match fault {
+/// The laboratory of programs on machines of a profile, before its first step.
+pub fn laboratory(
+    alloc: Global,
+    programs: &[Program],
+    profile: Profile,
+) -> Result<Fresh, Complaint<'static>> {
+    Fresh::new(alloc, programs, profile).map_err(|fault| match fault {
         FreshFault::Count => Reason::Count.at("programs"),
         FreshFault::NoMemory => Reason::NoMemory.at("run"),
     })

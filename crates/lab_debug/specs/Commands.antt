@@ -8,7 +8,7 @@ use Rattle.lab_sched.specs.declared.schedule.block.Block.{Block}
 use Rattle.lab_sched.specs.declared.schedule.fault.SchedFault.{SchedFault}
 use Rattle.lab_sched.specs.ScheduleTexts.{reading}
 use Rattle.lab_debug.specs.declared.command.Command.{Command}
-use Rattle.lab_debug.specs.declared.command.Command.TheVariants.{Step, Run, Until, Regs, Mem, Dis, Procs, Mqs, Sems, Fds, Out, Quit}
+use Rattle.lab_debug.specs.declared.command.Command.TheVariants.{Step, Run, Until, Regs, Mem, Dis, Procs, Mqs, Sems, Fds, Out, Profile, Quit}
 use Rattle.lab_debug.specs.declared.command.Range.{Range}
 use Rattle.lab_debug.specs.declared.command.Refusal.{Refusal}
 use Rattle.lab_debug.specs.declared.command.Refusal.TheVariants.{UnknownCommand, BadOperands}
@@ -113,6 +113,7 @@ plain_command name ws =
     if is_named (codes "sems") name then or_bad (bare_of Sems ws) else
     if is_named (codes "fds") name then or_bad (of_process Fds ws) else
     if is_named (codes "out") name then or_bad (of_process Out ws) else
+    if is_named (codes "profile") name then or_bad (bare_of Profile ws) else
     if is_named (codes "quit") name then or_bad (bare_of Quit ws) else
     Err UnknownCommand
 

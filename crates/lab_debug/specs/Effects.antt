@@ -4,12 +4,12 @@ use Rattle.std.specs.List.{list_all}
 use Rattle.lab_sched.specs.Worlds.{Process, WorldState, turn_in, step, run}
 use Rattle.lab_sched.specs.Schedules.{steps_of}
 use Rattle.lab_debug.specs.declared.command.Command.{Command}
-use Rattle.lab_debug.specs.declared.command.Command.TheVariants.{Step, Run, Until, Regs, Mem, Dis, Procs, Mqs, Sems, Fds, Out, Quit}
+use Rattle.lab_debug.specs.declared.command.Command.TheVariants.{Step, Run, Until, Regs, Mem, Dis, Procs, Mqs, Sems, Fds, Out, Profile, Quit}
 use Rattle.lab_debug.specs.declared.command.Refusal.{Refusal}
 use Rattle.lab_debug.specs.declared.command.Refusal.TheVariants.{UnknownCommand, BadOperands, NoProcess}
 use Rattle.lab_debug.specs.Commands.{words_of, command_of}
 use Rattle.lab_debug.specs.Script.{Effect}
-use Rattle.lab_debug.specs.Texts.{machine_of, status_text, procs_text, regs_text, mem_text, dis_text, out_text}
+use Rattle.lab_debug.specs.Texts.{machine_of, status_text, procs_text, profile_text, regs_text, mem_text, dis_text, out_text}
 use Rattle.lab_debug.specs.Objects.{mqs_text, sems_text, fds_text}
 use Rattle.lab_sched.specs.Verdicts.{is_nothing}
 use Rattle.lab_debug.specs.Verdicts.{verdict_text}
@@ -53,6 +53,7 @@ carried_out w Mqs = shows mqs_text w
 carried_out w Sems = shows sems_text w
 carried_out w (Fds pid) = shows (fds_text pid) w
 carried_out w (Out pid) = shows (out_text pid) w
+carried_out w Profile = shows profile_text w
 carried_out w Quit = record { text = []; world = w; ends = true }
 
 abbrev pub is_there : WorldState → ℕ → Bool
@@ -71,6 +72,7 @@ are_there w Mqs = true
 are_there w Sems = true
 are_there w (Fds pid) = is_there w pid
 are_there w (Out pid) = is_there w pid
+are_there w Profile = true
 are_there w Quit = true
 
 abbrev pub obeyed : WorldState → Command → Effect WorldState

@@ -4,11 +4,12 @@ use Rattle.std.specs.Fmt.{decimal, digit_glyph}
 use Rattle.lc3_word.specs.Words.{hex_text, register_text}
 use Rattle.lc3_word.specs.declared.code.Cc.{Cc}
 use Rattle.lc3_word.specs.declared.code.Cc.TheVariants.{N, Z, P}
+use Rattle.lc3_table.specs.Profiles.{letter}
 use Rattle.lc3_table.specs.Text.{word_text, line_text}
 use Rattle.lc3_machine.specs.declared.want.How.{How}
 use Rattle.lc3_machine.specs.declared.want.How.TheVariants.{Halt, Illegal, Device, BadTrap, NoInput}
 use Rattle.lc3_machine.specs.Process.{Process as Machine, reg}
-use Rattle.lab_sched.specs.Worlds.{Process, Running, Waiting, Ended, WorldState}
+use Rattle.lab_sched.specs.Worlds.{first_profile, Process, Running, Waiting, Ended, WorldState}
 use Rattle.lab_debug.specs.Rows.{each}
 
 -- the machine of a process, whatever its status
@@ -53,6 +54,10 @@ status_text pid w = text_of (status_line pid) (slice_get w.processes pid)
 -- each status line
 abbrev pub procs_text : WorldState → List ℕ
 procs_text w = each (length w.processes) (λ pid. status_text pid w)
+
+-- the profile that the processes have
+abbrev pub profile_text : WorldState → List ℕ
+profile_text w = codes "profile " ++ letter (first_profile w.processes) ++ codes "\n"
 
 abbrev pub code_text : Cc → List ℕ
 code_text N = codes "N"

@@ -54,6 +54,8 @@ pub enum Command {
     Out {
         pid: usize,
     },
+    /// The profile of the machine.
+    Profile,
     /// The end of the session.
     Quit,
 }
@@ -219,6 +221,9 @@ fn read_plain(name: &[u8], operands: &[&[u8]]) -> Result<Command, Refusal>
     }
     if is_name("out", name) {
         return read_out(operands).ok_or(Refusal::BadOperands);
+    }
+    if is_name("profile", name) {
+        return read_bare(Command::Profile, operands).ok_or(Refusal::BadOperands);
     }
     if is_name("quit", name) {
         return read_bare(Command::Quit, operands).ok_or(Refusal::BadOperands);

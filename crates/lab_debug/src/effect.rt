@@ -12,8 +12,8 @@ use crate::command::{Command, Refusal, read_command};
 use crate::machine;
 use crate::operands::split_words;
 use crate::texts::{
-    dis_text, fds_text, mem_text, mqs_text, out_text, procs_text, regs_text, sems_text,
-    status_text, verdict_text,
+    dis_text, fds_text, mem_text, mqs_text, out_text, procs_text, profile_text, regs_text,
+    sems_text, status_text, verdict_text,
 };
 use lab_sched::{Block, Schedule, Stepped, World};
 use std::alloc::{AllocError, Global};
@@ -123,7 +123,7 @@ fn are_there(world: &World, command: &Command) -> bool
         | Command::Out { pid } => is_there(world, *pid),
         Command::Mem(range) | Command::Dis(range) => is_there(world, range.pid),
         Command::Run(schedule) => blocks_are_there(world, schedule.blocks()),
-        Command::Procs | Command::Mqs | Command::Sems | Command::Quit => true,
+        Command::Procs | Command::Mqs | Command::Sems | Command::Profile | Command::Quit => true,
     }
 }
 
@@ -157,6 +157,7 @@ fn carry_out(alloc: Global, world: &mut World, command: Command) -> Result<Reply
         Command::Sems => sems_text(alloc, world)?,
         Command::Fds { pid } => fds_text(alloc, world, pid)?,
         Command::Out { pid } => out_text(alloc, world, pid)?,
+        Command::Profile => profile_text(alloc, world)?,
         Command::Quit => {
             let text = String::new(alloc);
             return Ok(Reply { text, ends: true });

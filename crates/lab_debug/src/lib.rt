@@ -10,6 +10,7 @@ mod machine;
 mod memory;
 mod operands;
 mod output;
+mod profile;
 mod queues;
 mod registers;
 mod report;
@@ -21,8 +22,8 @@ mod texts;
 pub use fault::SessionFault;
 pub use script::session;
 pub use texts::{
-    dis_text, fds_text, mem_text, mqs_text, out_text, procs_text, regs_text, report_text,
-    sems_text, status_text, verdict_text,
+    dis_text, fds_text, mem_text, mqs_text, out_text, procs_text, profile_text, regs_text,
+    report_text, sems_text, status_text, verdict_text,
 };
 
 /// The most bytes of a line, without its line feed.

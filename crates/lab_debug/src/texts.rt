@@ -1,6 +1,6 @@
 //! The texts that show a world, each as whole lines.
 ghost use Rattle.std.specs.Prelude.{◌≡◌, ◌≤◌, ◌+◌, IfOk, string_bytes};
-ghost use Rattle.lab_debug.specs.Texts.{status_text, procs_text, regs_text, mem_text, dis_text, out_text};
+ghost use Rattle.lab_debug.specs.Texts.{status_text, procs_text, profile_text, regs_text, mem_text, dis_text, out_text};
 ghost use Rattle.lab_debug.specs.Objects.{mqs_text, sems_text, fds_text};
 ghost use Rattle.lab_debug.specs.Verdicts.{verdict_text};
 ghost use Rattle.lab_debug.specs.Reports.{report_text};
@@ -8,6 +8,7 @@ ghost use Rattle.lab_debug.specs.Reports.{report_text};
 use crate::descriptors::push_fds;
 use crate::memory::{push_dis, push_mem};
 use crate::output::push_out;
+use crate::profile::push_profile;
 use crate::queues::push_mqs;
 use crate::registers::push_regs;
 use crate::report::{push_report, push_verdict};
@@ -108,6 +109,15 @@ pub fn out_text(alloc: Global, world: &World, pid: usize) -> Result<String, Allo
 {
     let mut text = String::new(alloc);
     push_out(&mut text, world, pid)?;
+    Ok(text)
+}
+
+/// The profile that the processes have, as `profile a`.
+pub fn profile_text(alloc: Global, world: &World) -> Result<String, AllocError>
+    ensures text { IfOk result (λ s. string_bytes s ≡ profile_text world.now) }
+{
+    let mut text = String::new(alloc);
+    push_profile(&mut text, world)?;
     Ok(text)
 }
 

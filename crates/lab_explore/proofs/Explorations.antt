@@ -6,7 +6,7 @@ use Rattle.ipc_kernel.specs.Kernel.{KernelState, empty_kernel}
 use Rattle.lab_sched.specs.declared.process.Process.{Process as Kept}
 use Rattle.lab_sched.specs.declared.process.Process.TheVariants as kept
 use Rattle.ipc_kernel.specs.Processes.{closed_process}
-use Rattle.lab_sched.specs.Worlds.{Process, Running, Waiting, Ended, WorldState, turn, turn_in, run}
+use Rattle.lab_sched.specs.Worlds.{HaveOneProfile, Process, Running, Waiting, Ended, WorldState, turn, turn_in, run}
 use Rattle.lab_sched.specs.Finished.{IsAtRest}
 use Rattle.lab_sched.specs.Verdicts.{IsVerdict, IsWaiting, HasEnded, AreStuck}
 use Rattle.lab_sched.specs.declared.verdict.Verdict.{Verdict}
@@ -56,10 +56,11 @@ pub same_ends : (fresh start : WorldState) (ends : List End) → fresh ≡ start
 same_ends fresh start ends same each = subst (λ s. Each (IsEnd s) ends) (sym same) each
 
 -- copies of processes over the empty kernel
-pub copies_world : (ps cs : List Kept) (k : KernelState) → cs ≡ ps → All Runs ps → 1 ≤ length ps → length ps ≤ 64 → k ≡ empty_kernel (length ps) → IsWorld cs k
-copies_world ps cs k same runs some few empty =
+pub copies_world : (ps cs : List Kept) (k : KernelState) → cs ≡ ps → All Runs ps → HaveOneProfile (map seen ps) → 1 ≤ length ps → length ps ≤ 64
+    → k ≡ empty_kernel (length ps) → IsWorld cs k
+copies_world ps cs k same runs profile some few empty =
     let count : length ps ≡ length k.processes = sym (ap (λ (x : KernelState). length x.processes) empty ∙ length-replicate (length ps) closed_process) in
-    subst (λ xs. IsWorld xs k) (sym same) (fresh_world ps k (record { running = runs; some = some; few = few; count = count; empty = empty }))
+    subst (λ xs. IsWorld xs k) (sym same) (fresh_world ps k (record { running = runs; profile = profile; some = some; few = few; count = count; empty = empty }))
 
 ended_rests : (k : KernelState) (p : ℕ) (s : Process) → HasEnded s → IsAtRest k p s
 ended_rests k p (Running m) h = h

@@ -1,6 +1,6 @@
 //! The ends among the worlds of a search, each reached again from the start.
-ghost use Rattle.std.specs.Prelude.{◌≡◌, ◌<◌, ◌≤◌, ℕ, All, Some, IsTrue, false, length, IfOk, IfSome, OnOk};
-ghost use Rattle.lab_sched.specs.Worlds.{WorldState};
+ghost use Rattle.std.specs.Prelude.{◌≡◌, ◌<◌, ◌≤◌, ℕ, All, Some, IsTrue, false, length, map, IfOk, IfSome, OnOk};
+ghost use Rattle.lab_sched.specs.Worlds.{HaveOneProfile, WorldState};
 ghost use Rattle.lab_sched.specs.Held.{seen};
 ghost use Rattle.lab_sched.specs.Starts.{Runs};
 ghost use Rattle.lab_sched.specs.declared.verdict.Verdict.TheVariants.{Open};
@@ -179,6 +179,7 @@ fn copies(alloc: Global, processes: &[Process]) -> Result<Vec<Process>, AllocErr
 /// The world of processes before their first steps.
 pub(crate) fn world_of(alloc: Global, processes: &[Process]) -> Result<World, ExploreFault>
     requires running { All Runs processes.now }
+    requires profile { HaveOneProfile (map seen processes.now) }
     requires some { 1 ≤ length processes.now }
     requires few { length processes.now ≤ 64 }
     ensures world { IfOk result (λ w. w ≡ first_world processes.now) }
@@ -256,6 +257,7 @@ impl Search {
     /// The end of a row, reached again.
     fn vouched(&self, alloc: Global, processes: &[Process], at: usize) -> Result<End, ExploreFault>
         requires running { All Runs processes.now }
+        requires profile { HaveOneProfile (map seen processes.now) }
         requires some { 1 ≤ length processes.now }
         requires few { length processes.now ≤ 64 }
         ensures end { IfOk result (λ e. IsEnd (first_world processes.now) e) }
@@ -286,6 +288,7 @@ impl Search {
         ends: &mut Vec<End>,
     ) -> Result<(), ExploreFault>
         requires running { All Runs processes.now }
+        requires profile { HaveOneProfile (map seen processes.now) }
         requires some { 1 ≤ length processes.now }
         requires few { length processes.now ≤ 64 }
         ensures each { OnOk result (Each (IsEnd (first_world processes.now)) ends.old.items → Each (IsEnd (first_world processes.now)) ends.new.items) }
@@ -307,6 +310,7 @@ impl Search {
         processes: &[Process],
     ) -> Result<Vec<End>, ExploreFault>
         requires running { All Runs processes.now }
+        requires profile { HaveOneProfile (map seen processes.now) }
         requires some { 1 ≤ length processes.now }
         requires few { length processes.now ≤ 64 }
         ensures ends { IfOk result (λ ends. Each (IsEnd (first_world processes.now)) ends.items) }

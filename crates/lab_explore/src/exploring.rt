@@ -1,6 +1,7 @@
 //! Explorations.
-ghost use Rattle.std.specs.Prelude.{◌≡◌, ◌≤◌, ℕ, All, IsTrue, length, None, IfOk, IfSome};
-ghost use Rattle.lab_sched.specs.Worlds.{WorldState};
+ghost use Rattle.std.specs.Prelude.{◌≡◌, ◌≤◌, ℕ, All, IsTrue, length, map, None, IfOk, IfSome};
+ghost use Rattle.lab_sched.specs.Worlds.{HaveOneProfile, WorldState};
+ghost use Rattle.lab_sched.specs.Held.{seen};
 ghost use Rattle.lab_sched.specs.Starts.{Runs};
 ghost use Rattle.lab_explore.specs.Closed.{AreAtRest};
 ghost use Rattle.lab_explore.specs.Stored.{IsAt, Each};
@@ -68,6 +69,7 @@ impl Search {
         processes: &[Process],
     ) -> Result<Exploration, ExploreFault>
         requires running { All Runs processes.now }
+        requires profile { HaveOneProfile (map seen processes.now) }
         requires some { 1 ≤ length processes.now }
         requires few { length processes.now ≤ 64 }
         ensures ends { IfOk result (λ found.

@@ -1,6 +1,7 @@
 //! Rounds: steps that lead from a world to itself, so that some interleaving never ends.
-ghost use Rattle.std.specs.Prelude.{◌≡◌, ◌≤◌, ℕ, All, IsTrue, length, None, IfOk, IfSome, OnOk};
-ghost use Rattle.lab_sched.specs.Worlds.{WorldState};
+ghost use Rattle.std.specs.Prelude.{◌≡◌, ◌≤◌, ℕ, All, IsTrue, length, map, None, IfOk, IfSome, OnOk};
+ghost use Rattle.lab_sched.specs.Worlds.{HaveOneProfile, WorldState};
+ghost use Rattle.lab_sched.specs.Held.{seen};
 ghost use Rattle.lab_sched.specs.Starts.{Runs};
 ghost use Rattle.lab_sched.specs.Schedules.{steps_of};
 ghost use Rattle.lab_explore.specs.Stored.{IsAt};
@@ -91,6 +92,7 @@ impl Search {
         cycle: &Cycle,
     ) -> Result<Round, ExploreFault>
         requires running { All Runs processes.now }
+        requires profile { HaveOneProfile (map seen processes.now) }
         requires some { 1 ≤ length processes.now }
         requires few { length processes.now ≤ 64 }
         ensures round { IfOk result (λ r. IsRound (first_world processes.now) r) }
@@ -118,6 +120,7 @@ impl Search {
         processes: &[Process],
     ) -> Result<Option<Round>, ExploreFault>
         requires running { All Runs processes.now }
+        requires profile { HaveOneProfile (map seen processes.now) }
         requires some { 1 ≤ length processes.now }
         requires few { length processes.now ≤ 64 }
         ensures round { IfOk result (λ round.

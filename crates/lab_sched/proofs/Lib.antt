@@ -19,3 +19,4 @@ pub mod Commutes
 pub mod ScheduleEnds
 pub mod Settles
 pub mod VerdictLemmas
+pub mod Profiles

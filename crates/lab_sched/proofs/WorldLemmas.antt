@@ -3,8 +3,9 @@ use Rattle.std.proofs.Common.{ℕ, zero, suc, ◌≡◌, ◌<◌, ◌≤◌, Lis
 use Rattle.std.specs.List.{remove, insert}
 use Rattle.std.specs.Option.{option_map}
 use Rattle.std.proofs.lemmas.List.{map-set, length-map, length-set, map-append, take_more, length-replicate}
-use Rattle.std.proofs.lemmas.Option.{slice_get_read, slice_get-map}
+use Rattle.std.proofs.lemmas.Option.{slice_get_read, slice_get-map, get_or_from_slice_get}
 use Rattle.std.proofs.lemmas.List.Elements.{All-set, All-weaker}
+use Rattle.lc3_table.specs.declared.profile.Profile.{Profile}
 use Rattle.ipc_kernel.specs.Kernel.{KernelState}
 use Rattle.lab_sched.specs.declared.process.Process.{Process as Kept}
 use Rattle.lab_sched.specs.declared.process.Process.TheVariants as kept
@@ -16,9 +17,10 @@ use Rattle.lc3_machine.specs.Process.{Process as Machine, start}
 use Rattle.lab_sched.specs.declared.fresh.Program.{Program}
 use Rattle.lab_sched.specs.Segments.{IsAfterLocal}
 use Rattle.lab_sched.proofs.Runs.{run-local, run-none}
-use Rattle.lab_sched.specs.Worlds.{Process, Running, Waiting, Ended, WorldState, run, Turn, nothing, local_step, kernel_step, turn, turn_in, after, step}
+use Rattle.lab_sched.specs.Worlds.{profile_of, HasProfile, first_profile, HaveOneProfile, Process, Running, Waiting, Ended, WorldState, run, Turn, nothing, local_step, kernel_step, turn, turn_in, after, step}
 use Rattle.lab_sched.specs.Held.{seen, IsHeld, IsWorld, told_of, process_after, kernel_after, Taken, step_of}
 use Rattle.lab_sched.proofs.Places.{set_same}
+use Rattle.lab_sched.proofs.Profiles.{one_of, starts_profile}
 
 pub insert-remove : {A : Type 0} (xs : List A) (i : ℕ) (y : A) → i < length xs → insert (remove xs i) i y ≡ set xs i y
 insert-remove [] i y h = absurd (omega arith)
@@ -68,12 +70,24 @@ same_world ps ps' k k' w p s s' same within read ps-is s-is k-is =
     ap (λ xs. map seen xs) ps-is ∙ map-set seen ps p s' ∙ ap (λ x. set (map seen ps) p x) s-is ∙ set_same (map seen ps) p (seen s) (seen_at ps p s within read) in
     ap (λ xs. record { processes = xs; kernel = k' }) kept ∙ ap (λ j. record { processes = map seen ps; kernel = j }) k-is ∙ same
 
+-- a process in the place of another one of its profile
+set_profile : (ps ps' : List Kept) (p : ℕ) (s s' : Kept) → HaveOneProfile (map seen ps) → p < length ps → s ≡ get_or ps p s → ps' ≡ set ps p s'
+    → profile_of (seen s') ≡ profile_of (seen s) → HaveOneProfile (map seen ps')
+set_profile ps ps' p s s' have within read ps-is kept =
+    let profile : Profile = first_profile (map seen ps) in
+    let here : get_or (map seen ps) p (seen s) ≡ seen s = get_or_from_slice_get (map seen ps) p (seen s) (seen s) (seen_at ps p s within read) in
+    let was : profile_of (seen s) ≡ profile = subst (HasProfile profile) here (have p (seen s) (omega (arith, within, length-map ps seen))) in
+    let all : All (HasProfile profile) (set (map seen ps) p (seen s')) = All-set (HasProfile profile) (map seen ps) p (seen s') (kept ∙ was) have in
+    one_of profile (map seen ps') (subst (λ xs. All (HasProfile profile) xs) (sym (ap (λ xs. map seen xs) ps-is ∙ map-set seen ps p s')) all)
+
 -- the world's invariant, with another state of a process and of the kernel
-pub world_set : (ps ps' : List Kept) (k k' : KernelState) (p : ℕ) (s : Kept) → IsWorld ps k → p < length ps → ps' ≡ set ps p s → IsHeld s → length k'.processes ≡ length k.processes → IsWorld ps' k'
-world_set ps ps' k k' p s inv within ps-is held count =
-    let all : length ps' ≡ length ps = ap length ps-is ∙ length-set ps p s in
+pub world_set : (ps ps' : List Kept) (k k' : KernelState) (p : ℕ) (s s' : Kept) → IsWorld ps k → p < length ps → s ≡ get_or ps p s → ps' ≡ set ps p s'
+    → profile_of (seen s') ≡ profile_of (seen s) → IsHeld s' → length k'.processes ≡ length k.processes → IsWorld ps' k'
+world_set ps ps' k k' p s s' inv within read ps-is kept held count =
+    let all : length ps' ≡ length ps = ap length ps-is ∙ length-set ps p s' in
     record {
-      held = rw ps-is (All-set IsHeld ps p s held inv.held);
+      held = rw ps-is (All-set IsHeld ps p s' held inv.held);
+      profile = set_profile ps ps' p s s' inv.profile within read ps-is kept;
       some = omega (arith, inv.some);
       few = omega (arith, inv.few);
       count = all ∙ inv.count ∙ sym count;
@@ -86,7 +100,7 @@ runs_held (kept.Ended e) runs = absurd runs
 
 -- a laboratory before its first step is a world
 pub fresh_world : (ps : List Kept) (k : KernelState) → IsFresh ps k → IsWorld ps k
-fresh_world ps k inv = record { held = All-weaker Runs IsHeld runs_held ps inv.running; some = inv.some; few = inv.few; count = inv.count }
+fresh_world ps k inv = record { held = All-weaker Runs IsHeld runs_held ps inv.running; profile = inv.profile; some = inv.some; few = inv.few; count = inv.count }
 
 pub seen_within : (ps : List Kept) (k : KernelState) (w : WorldState) (p : ℕ) → record { processes = map seen ps; kernel = k } ≡ w → p < length w.processes → p < length ps
 seen_within ps k w p same below = subst (λ n. p < n) (ap (λ (x : WorldState). length x.processes) (sym same) ∙ length-map ps seen) below
@@ -113,19 +127,22 @@ ran_locally ps ps' k w p n s s' same within read ps-is local =
     ∙ after_local v p n (seen s) (seen s') (omega (arith, length-map ps seen)) (seen_at ps p s within read) local)
 
 -- a process more at its start
-pub started_more : (ks new : List Kept) (ps : List Program) (i : ℕ) (p : Program) (m : Machine) → map seen ks ≡ map start_of (take i ps) → i < length ps → p ≡ get_or ps i p
-    → m ≡ start p.image.origin p.image.words p.input.items → new ≡ ks ++ kept.Running m ∷ [] → map seen new ≡ map start_of (take (i + 1) ps)
-started_more ks new ps i p m so within read is new-is =
+pub started_more : (profile : Profile) (ks new : List Kept) (ps : List Program) (i : ℕ) (p : Program) (m : Machine) → map seen ks ≡ map (start_of profile) (take i ps) → i < length ps
+    → p ≡ get_or ps i p → m ≡ start profile p.image.origin p.image.words p.input.items → new ≡ ks ++ kept.Running m ∷ [] → map seen new ≡ map (start_of profile) (take (i + 1) ps)
+started_more profile ks new ps i p m so within read is new-is =
+    let starts : Program → Process = start_of profile in
     ap (λ xs. map seen xs) new-is ∙ map-append seen ks (kept.Running m ∷ [])
-    ∙ ap (λ xs. xs ++ Running m ∷ []) so ∙ ap (λ q. map start_of (take i ps) ++ Running q ∷ []) is
-    ∙ sym (ap (λ xs. map start_of xs) (take_more ps i p within ∙ ap (λ q. take i ps ++ q ∷ []) (sym read)) ∙ map-append start_of (take i ps) (p ∷ []))
+    ∙ ap (λ xs. xs ++ Running m ∷ []) so ∙ ap (λ q. map starts (take i ps) ++ Running q ∷ []) is
+    ∙ sym (ap (λ xs. map starts xs) (take_more ps i p within ∙ ap (λ q. take i ps ++ q ∷ []) (sym read)) ∙ map-append starts (take i ps) (p ∷ []))
 
 -- the processes of 1 to 64 programs over their kernel
-pub fresh_is : (ks : List Kept) (ps : List Program) (k : KernelState) → map seen ks ≡ map start_of ps → All Runs ks → k ≡ empty_kernel (length ps) → 1 ≤ length ps → length ps ≤ 64 → IsFresh ks k
-fresh_is ks ps k so runs k-is some few =
-    let count : length ks ≡ length ps = sym (length-map ks seen) ∙ ap length so ∙ length-map ps start_of in
+pub fresh_is : (profile : Profile) (ks : List Kept) (ps : List Program) (k : KernelState) → map seen ks ≡ map (start_of profile) ps → All Runs ks → k ≡ empty_kernel (length ps)
+    → 1 ≤ length ps → length ps ≤ 64 → IsFresh ks k
+fresh_is profile ks ps k so runs k-is some few =
+    let count : length ks ≡ length ps = sym (length-map ks seen) ∙ ap length so ∙ length-map ps (start_of profile) in
     record {
       running = runs;
+      profile = subst HaveOneProfile (sym so) (starts_profile profile ps);
       some = omega (arith, count);
       few = omega (arith, count);
       count = count ∙ sym (ap (λ (x : KernelState). length x.processes) k-is ∙ length-replicate (length ps) closed_process);

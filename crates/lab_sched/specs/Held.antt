@@ -1,5 +1,5 @@
 -- The processes that a world holds, as the definitions see them.
-use Rattle.std.specs.Prelude.{◌≡◌, ◌≤◌, ℕ, List, Some, length, All}
+use Rattle.std.specs.Prelude.{◌≡◌, ◌≤◌, ℕ, List, Some, length, map, All}
 use Rattle.ipc_kernel.specs.Kernel.{KernelState}
 use Rattle.ipc_kernel.specs.Answer.{answer}
 use Rattle.ipc_kernel.specs.declared.call.Answer.TheVariants.{Done, Wait}
@@ -9,7 +9,7 @@ use Rattle.lab_sched.specs.declared.process.Process.{Process as Kept}
 use Rattle.lab_sched.specs.declared.process.Process.TheVariants as kept
 use Rattle.lab_sched.specs.declared.stepped.Stepped.{Stepped}
 use Rattle.lab_sched.specs.declared.stepped.Stepped.TheVariants as stepped
-use Rattle.lab_sched.specs.Worlds.{Process, Running, Waiting, Ended, Turn, nothing, local_step, kernel_step, turn, told}
+use Rattle.lab_sched.specs.Worlds.{HaveOneProfile, Process, Running, Waiting, Ended, Turn, nothing, local_step, kernel_step, turn, told}
 
 -- a process without the pages of memory that are ready
 abbrev pub seen : Kept → Process
@@ -23,9 +23,10 @@ IsHeld (kept.Running m) = Unit {0}
 IsHeld (kept.Waiting h c) = (asked h.process ≡ Calls c) × IsPrepared h
 IsHeld (kept.Ended e) = Unit {0}
 
--- 1 to 64 processes, as many as the kernel knows
+-- 1 to 64 processes of one profile, as many as the kernel knows
 pub record IsWorld (ps : List Kept) (k : KernelState) : Type 0 where
   pub held : All IsHeld ps
+  pub profile : HaveOneProfile (map seen ps)
   pub some : 1 ≤ length ps
   pub few : length ps ≤ 64
   pub count : length ps ≡ length k.processes

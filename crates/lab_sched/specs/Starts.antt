@@ -1,19 +1,21 @@
 -- Laboratories before their first step.
 use Rattle.std.specs.Prelude.{◌≡◌, ◌≤◌, ℕ, List, All, length, map}
+use Rattle.lc3_table.specs.declared.profile.Profile.{Profile}
 use Rattle.lc3_machine.specs.Process.{start}
 use Rattle.ipc_kernel.specs.Kernel.{KernelState, empty_kernel}
 use Rattle.lab_sched.specs.declared.fresh.Program.{Program}
 use Rattle.lab_sched.specs.declared.process.Process.{Process as Kept}
 use Rattle.lab_sched.specs.declared.process.Process.TheVariants as kept
-use Rattle.lab_sched.specs.Worlds.{Process, Running, WorldState}
+use Rattle.lab_sched.specs.Worlds.{HaveOneProfile, Process, Running, WorldState}
+use Rattle.lab_sched.specs.Held.{seen}
 
--- a process at the start of a program
-abbrev pub start_of : Program → Process
-start_of p = Running (start p.image.origin p.image.words p.input.items)
+-- a process of a profile at the start of a program
+abbrev pub start_of : Profile → Program → Process
+start_of profile p = Running (start profile p.image.origin p.image.words p.input.items)
 
--- the processes of programs at their starts, over the empty kernel
-abbrev pub fresh : List Program → WorldState
-fresh ps = record { processes = map start_of ps; kernel = empty_kernel (length ps) }
+-- the processes of programs at their starts, all of one profile, over the empty kernel
+abbrev pub fresh : Profile → List Program → WorldState
+fresh profile ps = record { processes = map (start_of profile) ps; kernel = empty_kernel (length ps) }
 
 -- 1 to 64 programs
 abbrev pub IsCount : ℕ → Type 0
@@ -28,6 +30,7 @@ Runs (kept.Ended e) = ⊥
 -- the processes of a laboratory before its first step, and its kernel, which is empty
 pub record IsFresh (ps : List Kept) (k : KernelState) : Type 0 where
   pub running : All Runs ps
+  pub profile : HaveOneProfile (map seen ps)
   pub some : 1 ≤ length ps
   pub few : length ps ≤ 64
   pub count : length ps ≡ length k.processes

@@ -1,5 +1,7 @@
 -- Worlds: processes over one kernel, and what lists of steps of processes do.
-use Rattle.std.specs.Prelude.{ℕ, ◌-◌, ◌++◌, List, [], ◌∷◌, Option, Some, None, slice_get, slice_set}
+use Rattle.std.specs.Prelude.{ℕ, ◌≡◌, ◌-◌, ◌++◌, List, [], ◌∷◌, Option, Some, None, slice_get, slice_set, All}
+use Rattle.lc3_table.specs.declared.profile.Profile.{Profile}
+use Rattle.lc3_table.specs.declared.profile.Profile.TheVariants.{A}
 use Rattle.lc3_machine.specs.Process.{Process as Machine, EndedProcess}
 use Rattle.lc3_machine.specs.Reply.{ended}
 use Rattle.ipc_names.specs.Errno.{number_of}
@@ -24,6 +26,24 @@ pub data Process : Type 0 where
 pub record WorldState : Type 0 where
   pub processes : List Process
   pub kernel : KernelState
+
+-- the profile of the machine that a process is
+abbrev pub profile_of : Process → Profile
+profile_of (Running m) = m.profile
+profile_of (Waiting m c) = m.profile
+profile_of (Ended e) = e.process.profile
+
+abbrev pub HasProfile : Profile → Process → Type 0
+HasProfile profile s = profile_of s ≡ profile
+
+-- the profile of the first of some processes, and A where there is none
+abbrev pub first_profile : List Process → Profile
+first_profile [] = A
+first_profile (s ∷ ss) = profile_of s
+
+-- processes that all have one profile, which is that of the first
+abbrev pub HaveOneProfile : List Process → Type 0
+HaveOneProfile ps = All (HasProfile (first_profile ps)) ps
 
 -- what a running process does next: a local step to this machine, or this call of the kernel
 pub data Act : Type 0 where

@@ -3,11 +3,13 @@ ghost use Rattle.std.specs.Prelude.{◌≡◌, ◌≤◌, ◌↔◌, length, map
 ghost use Rattle.ipc_kernel.specs.Kernel.{empty_kernel};
 ghost use Rattle.lab_sched.specs.Starts.{start_of, fresh, IsCount, Runs};
 ghost use Rattle.lab_sched.specs.Held.{seen};
+ghost use Rattle.lab_sched.specs.Worlds.{HaveOneProfile};
 ghost use Rattle.lab_sched.specs.declared.fresh.FreshFault.TheVariants.{Count, NoMemory};
 
 use crate::{Process, World};
 use ipc_kernel::Kernel;
 use lc3_machine::Running;
+use lc3_table::Profile;
 use lc3_word::Image;
 use std::alloc::{AllocError, AllocFailed, Global};
 use std::marker::Model;
@@ -68,38 +70,44 @@ impl Model for Fresh {
     ghost invariant = { λ f. IsFresh f.processes.items f.kernel };
 }
 
-/// The processes of programs, each at its start.
-fn started(alloc: Global, programs: &[Program]) -> Result<Vec<Process>, AllocError>
-    ensures starts { IfOk result (λ v. map seen v.items ≡ map start_of programs.now) }
+/// The processes of programs, each at its start and of this profile.
+fn started(
+    alloc: Global,
+    programs: &[Program],
+    profile: Profile,
+) -> Result<Vec<Process>, AllocError>
+    ensures starts { IfOk result (λ v. map seen v.items ≡ map (start_of profile) programs.now) }
     ensures running { IfOk result (λ v. All Runs v.items) }
 {
     let mut processes = Vec::with_capacity(alloc, programs.len())?;
     for program in programs {
-        let running = Running::load(alloc, &program.image, program.input.as_slice())?;
+        let running = Running::load(alloc, &program.image, program.input.as_slice(), profile)?;
         processes.push(Process::Running(running))?;
     }
     Ok(processes)
 }
 
 impl Fresh {
-    /// The laboratory of 1 to 64 programs, process 0 with the first of them.
-    pub fn new(alloc: Global, programs: &[Program]) -> Result<Fresh, FreshFault>
+    /// The laboratory of 1 to 64 programs, process 0 with the first of them, on machines of this
+    /// profile.
+    pub fn new(alloc: Global, programs: &[Program], profile: Profile) -> Result<Fresh, FreshFault>
         ensures count { (result ≡ Err Count) ↔ (¬ IsCount (length programs.now)) }
-        ensures start { IfOk result (λ f. f ≡ fresh programs.now) }
+        ensures start { IfOk result (λ f. f ≡ fresh profile programs.now) }
     {
         if !matches!(programs.len(), 1..=64) {
             return Err(FreshFault::Count);
         }
-        let processes = started(alloc, programs)?;
+        let processes = started(alloc, programs, profile)?;
         let kernel = Kernel::new(alloc, programs.len())?;
         Ok(Fresh { processes, kernel })
     }
 
-    /// The processes at their starts, 1 to 64, each running. The kernel that they were to share is
-    /// empty.
+    /// The processes at their starts, 1 to 64, each running, all of one profile. The kernel that they
+    /// were to share is empty.
     pub fn processes(self) -> Vec<Process>
         ensures processes { map seen result.items ≡ self.processes }
         ensures running { All Runs result.items }
+        ensures profile { HaveOneProfile (map seen result.items) }
         ensures some { 1 ≤ length self.processes }
         ensures few { length self.processes ≤ 64 }
         ensures empty { self.kernel ≡ empty_kernel (length self.processes) }

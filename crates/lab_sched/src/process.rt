@@ -1,8 +1,10 @@
 //! Processes of a laboratory.
 ghost use Rattle.std.specs.Prelude.{◌≡◌, ◌↔◌, IfOk, IsTrue};
+ghost use Rattle.lab_sched.specs.Worlds.{profile_of};
 
 use ipc_kernel::Call;
 use lc3_machine::{Ended, Running, Waiting};
+use lc3_table::Profile;
 use std::alloc::{AllocError, Global};
 
 /// A process by its status. A waiting one is kept with the call that it asks for.
@@ -15,6 +17,17 @@ pub enum Process {
 
 impl Process {
     ghost use Rattle.lab_sched.specs.Held.{seen};
+
+    /// The profile of the machine.
+    pub fn profile(&self) -> Profile
+        ensures value { result ≡ profile_of (seen self.now) }
+    {
+        match self {
+            Process::Running(running) => running.profile(),
+            Process::Waiting(waiting, _) => waiting.profile(),
+            Process::Ended(ended) => ended.profile(),
+        }
+    }
 
     /// An equal process, of which the same can be written without taking memory.
     pub fn copy(&self, alloc: Global) -> Result<Process, AllocError>

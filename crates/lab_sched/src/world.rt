@@ -1,7 +1,7 @@
 //! Worlds of processes over one kernel.
-ghost use Rattle.std.specs.Prelude.{◌≡◌, ◌<◌, ◌≤◌, ◌↔◌, ℕ, map, length, slice_get, Err, Some, true, false, IfOk, OnOk, OnErr};
+ghost use Rattle.std.specs.Prelude.{◌≡◌, ◌<◌, ◌≤◌, ◌↔◌, ℕ, map, length, slice_get, All, Err, Some, true, false, IfOk, OnOk, OnErr};
 ghost use Rattle.std.specs.Option.{option_map, option_copied};
-ghost use Rattle.lab_sched.specs.Worlds.{Process as Seen, turn, turn_in, step, nothing, IsEffective};
+ghost use Rattle.lab_sched.specs.Worlds.{HasProfile, Process as Seen, first_profile, turn, turn_in, step, nothing, IsEffective};
 ghost use Rattle.lab_sched.specs.Verdicts.{HasEnded};
 ghost use Rattle.lab_sched.specs.Held.{seen, told_of, IsWorld};
 ghost use Rattle.lab_sched.specs.declared.world.StepFault.TheVariants.{NoProcess};
@@ -13,6 +13,7 @@ mod settle;
 use crate::stepping::take_step;
 use crate::{Process, Stepped};
 use ipc_kernel::Kernel;
+use lc3_table::Profile;
 pub use run::{RunStop, Unwatched, Watch};
 use std::marker::Model;
 
@@ -25,7 +26,7 @@ pub enum StepFault {
     NoMemory,
 }
 
-/// A world: 1 to 64 processes over one kernel.
+/// A world: 1 to 64 processes of one profile over one kernel.
 #[derive(Drop)]
 pub struct World {
     processes: Vec<Process>,
@@ -66,8 +67,8 @@ fn can_step(process: &Process, kernel: &Kernel, pid: usize) -> bool
 }
 
 impl World {
-    /// The world of these processes over this kernel. Each waiting process asks for the call that
-    /// it is kept with, and the words of the reply are ready.
+    /// The world of these processes, which have one profile, over this kernel. Each waiting process
+    /// asks for the call that it is kept with, and the words of the reply are ready.
     pub fn join(processes: Vec<Process>, kernel: Kernel) -> World
         requires world { IsWorld processes.items kernel }
         ensures processes { result.processes ≡ map seen processes.items }
@@ -83,6 +84,14 @@ impl World {
         ensures few { result ≤ 64 }
     {
         self.processes.len()
+    }
+
+    /// The profile of the machine that each process is.
+    pub fn profile(&self) -> Profile
+        ensures profile { result ≡ first_profile self.now.processes }
+        ensures all { All (HasProfile result) self.now.processes }
+    {
+        self.processes[0].profile()
     }
 
     /// A process, if it is there.

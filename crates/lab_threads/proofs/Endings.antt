@@ -7,7 +7,7 @@ use Rattle.std.proofs.lemmas.Nat.Bits.{bit_at-zero}
 use Rattle.std.proofs.lemmas.List.Elements.{All-map}
 use Rattle.std.proofs.lemmas.Option.{slice_get-map, slice_get-get_or, slice_get_within, get_or_from_slice_get}
 use Rattle.ipc_kernel.specs.Kernel.{KernelState, empty_kernel}
-use Rattle.lab_sched.specs.Worlds.{Process, WorldState, turn}
+use Rattle.lab_sched.specs.Worlds.{HasProfile, first_profile, HaveOneProfile, Process, WorldState, turn}
 use Rattle.lab_sched.specs.Course.{count, IsCourse}
 use Rattle.lab_sched.specs.Alone.{steps}
 use Rattle.lab_sched.specs.History.{IsLegal, replay}
@@ -21,6 +21,7 @@ use Rattle.lab_sched.specs.declared.process.Process.TheVariants as kept
 use Rattle.lab_sched.proofs.Courses.{count-append, course-append}
 use Rattle.lab_sched.proofs.Settles.{report, added_length}
 use Rattle.lab_sched.proofs.Rests.{at_rest}
+use Rattle.lab_sched.proofs.Profiles.{alone_profile, one_of}
 use Rattle.lab_threads.specs.declared.walk.Walk.{Walk}
 use Rattle.lab_threads.specs.Walks.{AreWalks}
 use Rattle.lab_threads.specs.Woven.{begun, ended}
@@ -112,3 +113,19 @@ walks_held limit starts walks are runs =
     let start = some_at starts p within in
     let is : get_or starts p start.0 ≡ start.0 = get_or_from_slice_get starts p start.0 start.0 start.1 in
     (are.each p start.0 (get_or walks p d) start.1 (slice_get-get_or walks p d below)).held (runs_held start.0 (subst Runs is (runs p start.0 within))))
+
+-- where the walks of processes of one profile end have it
+pub walks_profile : (limit : ℕ) (starts : List Kept) (walks : List Walk) → AreWalks limit starts walks → HaveOneProfile (map seen starts)
+    → HaveOneProfile (map seen (map (λ k. k.process) walks))
+walks_profile limit starts walks are have =
+    one_of (first_profile (map seen starts)) (map seen (map (λ k. k.process) walks))
+    (All-map (HasProfile (first_profile (map seen starts))) seen (map (λ k. k.process) walks)
+    (All-map (λ s. HasProfile (first_profile (map seen starts)) (seen s)) (λ (k : Walk). k.process) walks
+    (λ p d below.
+    let within : p < length starts = subst (λ n. p < n) are.len below in
+    let start = some_at starts p within in
+    let here : get_or (map seen starts) p (seen start.0) ≡ seen start.0 =
+    get_or_from_slice_get (map seen starts) p (seen start.0) (seen start.0) (slice_get-map seen starts p ∙ ap (λ o. option_map seen o) start.1) in
+    let was = subst (HasProfile (first_profile (map seen starts))) here (have p (seen start.0) (omega (arith, within, length-map starts seen))) in
+    let walk = get_or walks p d in
+    alone_profile (seen start.0) walk.trace (seen walk.process) (are.each p start.0 walk start.1 (slice_get-get_or walks p d below)).alone ∙ was)))

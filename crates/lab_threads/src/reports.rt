@@ -1,11 +1,11 @@
 //! Runs on threads, and what they report.
 ghost use Rattle.std.specs.Prelude.{◌≡◌, ◌<◌, ◌≤◌, ◌+◌, ℕ, List, All, Some, true, IfOk, get_or, map, length, slice_get, sum};
 ghost use Rattle.ipc_kernel.specs.Kernel.{KernelState, empty_kernel};
-ghost use Rattle.lab_sched.specs.Worlds.{WorldState, run, entries};
+ghost use Rattle.lab_sched.specs.Worlds.{HaveOneProfile, WorldState, run, entries};
 ghost use Rattle.lab_sched.specs.Alone.{steps};
 ghost use Rattle.lab_sched.specs.Course.{AreEffective, IsCourse, count};
 ghost use Rattle.lab_sched.specs.Finished.{IsFinished};
-ghost use Rattle.lab_sched.specs.Held.{IsHeld};
+ghost use Rattle.lab_sched.specs.Held.{seen, IsHeld};
 ghost use Rattle.lab_sched.specs.History.{IsLegal, replay};
 ghost use Rattle.lab_sched.specs.Schedules.{steps_of, total_of};
 ghost use Rattle.lab_sched.specs.Starts.{Runs};
@@ -131,6 +131,7 @@ fn reported(
     requires legal { IsLegal (empty_kernel (length kernel.processes)) history.items }
     requires kernel { kernel ≡ replay (empty_kernel (length kernel.processes)) history.items }
     requires held { All IsHeld (map (λ k. k.process) walks.items) }
+    requires profile { HaveOneProfile (map seen (map (λ k. k.process) walks.items)) }
     requires some { 1 ≤ length walks.items }
     requires few { length walks.items ≤ 64 }
     ensures course { IfOk result (λ r. (starts : List Kept) → AreWalks limit starts walks.items → IsCourse (begun starts) (steps_of r.schedule) r.world r.history.items) }
@@ -154,6 +155,7 @@ fn run_starts<R: Threads + Wait + Sync, G: Gate>(
     gate: &G,
 ) -> Result<Report, RunFault>
     requires runs { All Runs starts.items }
+    requires profile { HaveOneProfile (map seen starts.items) }
     requires some { 1 ≤ length starts.items }
     requires few { length starts.items ≤ 64 }
     ensures course { IfOk result (λ r. IsCourse (begun starts.items) (steps_of r.schedule) r.world r.history.items) }

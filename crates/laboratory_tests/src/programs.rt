@@ -1,5 +1,6 @@
 //! Programs for tests, as the words that the assembler makes of the repository's examples, and worlds of them.
 use lab_sched::{Fresh, FreshFault, Program, World};
+use lc3_table::Profile;
 use lc3_word::Image;
 use std::alloc::{AllocError, Global};
 
@@ -51,10 +52,10 @@ fn fresh_once(alloc: Global, programs: &[&[u16]]) -> Result<Fresh, FreshFault> {
     for words in programs {
         list.push(program(alloc, words)?)?;
     }
-    Fresh::new(alloc, list.as_slice())
+    Fresh::new(alloc, list.as_slice(), Profile::A)
 }
 
-/// The laboratory of these programs. What is refused for memory is tried once more.
+/// The laboratory of these programs in profile A. What is refused for memory is tried once more.
 pub fn fresh(alloc: Global, programs: &[&[u16]]) -> Result<Fresh, FreshFault> {
     match fresh_once(alloc, programs) {
         Err(FreshFault::NoMemory) => fresh_once(alloc, programs),

@@ -1,13 +1,20 @@
--- The console traps (appendix A, table A.2). Each is one step, which puts the incremented program counter into R7
--- and goes on there. A trap leaves the condition code as it was.
-use Rattle.std.specs.Prelude.{ℕ, ◌/◌, ◌%◌, ◌++◌, List, [], ◌∷◌, take, drop, option_map, map, flat_map, position, codes, ◌==◌, if◌then◌else◌, Option, Some, None}
+-- The console traps (appendix A, table A.2). Each is one step, which goes on at the incremented program counter and, in
+-- profile A, puts it into R7. A trap leaves the condition code as it was.
+use Rattle.std.specs.Prelude.{ℕ, ◌/◌, ◌%◌, ◌++◌, List, [], ◌∷◌, take, drop, option_map, map, flat_map, slice_set, position, codes, ◌==◌, if◌then◌else◌, Option, Some, None}
 use Rattle.lc3_machine.specs.declared.want.Want.TheVariants.{End}
 use Rattle.lc3_machine.specs.declared.want.How.TheVariants.{Device, NoInput}
+use Rattle.lc3_table.specs.declared.profile.Profile.{Profile}
+use Rattle.lc3_table.specs.declared.profile.Profile.TheVariants as profile
 use Rattle.lc3_machine.specs.Process.{Process, Outcome, GoesOn, Stops, reg, next_pc, with_reg, advanced, with_output}
+
+-- the registers after a trap that goes on at an address: it stands in R7 in profile A, and in profile B R7 is as it was
+abbrev pub linked : Profile → List ℕ → ℕ → List ℕ
+linked profile.A regs address = slice_set regs 7 address
+linked profile.B regs address = regs
 
 -- the process after a trap
 abbrev pub returned : Process → Process
-returned p = advanced (with_reg p 7 (next_pc p))
+returned p = advanced (record p { regs = linked p.profile p.regs (next_pc p) })
 
 -- the words from an address on, up to the device registers
 unfoldable pub words_from : List ℕ → ℕ → List ℕ

@@ -7,9 +7,11 @@ use Rattle.lc3_table.specs.declared.instr.Operand.TheVariants.{Register, Number}
 use Rattle.lc3_table.specs.declared.instr.Instr.{Instr}
 use Rattle.lc3_table.specs.declared.instr.Instr.TheVariants as instr
 use Rattle.lc3_table.specs.Decoding.{instruction_at}
+use Rattle.lc3_table.specs.declared.profile.Profile.{Profile}
+use Rattle.lc3_table.specs.declared.profile.Profile.TheVariants as profile
 use Rattle.lc3_machine.specs.declared.want.Want.TheVariants.{Trap, End}
 use Rattle.lc3_machine.specs.declared.want.How.TheVariants.{Halt, Illegal, BadTrap}
-use Rattle.lc3_machine.specs.Process.{Process, Outcome, GoesOn, Stops, word_sum, signed_word, reg, next_pc, target, advanced, jumped, with_reg, with_result, at_word, stored}
+use Rattle.lc3_machine.specs.Process.{Process, Outcome, GoesOn, Stops, word_sum, signed_word, cc_of, reg, next_pc, target, advanced, jumped, with_reg, with_result, at_word, stored}
 use Rattle.lc3_machine.specs.Console.{getc, out, puts, prompted, putsp}
 
 -- whether the condition code that is set is among the three flags of a branch (A.3: BR)
@@ -39,6 +41,15 @@ abbrev pub operand_value : Process → Operand → ℕ
 operand_value p (Register sr2) = reg p sr2
 operand_value p (Number imm5) = signed_word imm5
 
+-- the condition code after LEA: that of the address in profile A, and in profile B the one that was set
+abbrev pub code_after_lea : Profile → Cc → ℕ → Cc
+code_after_lea profile.A cc address = cc_of address
+code_after_lea profile.B cc address = cc
+
+-- the process with an address in a register by LEA
+abbrev pub with_address : Process → ℕ → ℕ → Process
+with_address p r address = record (with_reg p r address) { cc = code_after_lea p.profile p.cc address }
+
 -- the effect of an instruction (A.3); JSRR reads its base register before it writes R7
 unfoldable pub effect : Instr → Process → Outcome
 effect (instr.Add dr sr1 operand) p = GoesOn (advanced (with_result p dr (word_sum (reg p sr1) (operand_value p operand))))
@@ -53,7 +64,7 @@ effect (instr.Ldi dr offset) p =
     at_word p (target p offset) (λ pointer. at_word p pointer (λ word. GoesOn (advanced (with_result p dr word))))
 effect (instr.Ldr dr base offset) p =
     at_word p (word_sum (reg p base) (signed_word offset)) (λ word. GoesOn (advanced (with_result p dr word)))
-effect (instr.Lea dr offset) p = GoesOn (advanced (with_result p dr (target p offset)))
+effect (instr.Lea dr offset) p = GoesOn (advanced (with_address p dr (target p offset)))
 effect (instr.St sr offset) p = stored p (target p offset) (reg p sr)
 effect (instr.Sti sr offset) p = at_word p (target p offset) (λ pointer. stored p pointer (reg p sr))
 effect (instr.Str sr base offset) p = stored p (word_sum (reg p base) (signed_word offset)) (reg p sr)

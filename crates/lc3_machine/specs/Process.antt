@@ -5,14 +5,16 @@ use Rattle.lc3_word.specs.declared.code.Cc.{Cc}
 use Rattle.lc3_word.specs.declared.code.Cc.TheVariants.{Z}
 use Rattle.lc3_word.specs.Words.{low_bits, signed_value}
 use Rattle.lc3_word.specs.Codes.{code_of}
+use Rattle.lc3_table.specs.declared.profile.Profile.{Profile}
 use Rattle.lc3_machine.specs.declared.want.Want.{Want}
 use Rattle.lc3_machine.specs.declared.want.Want.TheVariants.{End}
 use Rattle.lc3_machine.specs.declared.want.How.{How}
 use Rattle.lc3_machine.specs.declared.want.How.TheVariants.{Device}
 
--- eight registers, the program counter, the condition code, 65,536 words of memory,
+-- the profile of the machine, eight registers, the program counter, the condition code, 65,536 words of memory,
 -- the bytes of input that are left, and the bytes of output so far (A.1)
 pub record Process : Type 0 where
+  pub profile : Profile
   pub regs : List ℕ
   pub pc : ℕ
   pub cc : Cc
@@ -44,9 +46,17 @@ unfoldable pub memory_of : ℕ → List ℕ → List ℕ
 memory_of origin words = zeros origin ++ words ++ zeros (65536 - (origin + length words))
 
 -- a process at its start
-abbrev pub start : ℕ → List ℕ → List ℕ → Process
-start origin words input =
-    record { regs = replicate 8 0; pc = origin; cc = Z; memory = memory_of origin words; input = input; output = [] }
+abbrev pub start : Profile → ℕ → List ℕ → List ℕ → Process
+start profile origin words input =
+    record {
+      profile = profile;
+      regs = replicate 8 0;
+      pc = origin;
+      cc = Z;
+      memory = memory_of origin words;
+      input = input;
+      output = [];
+    }
 
 -- the sum of two words, modulo 65,536
 abbrev pub word_sum : ℕ → ℕ → ℕ

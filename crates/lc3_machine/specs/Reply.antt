@@ -44,7 +44,7 @@ CanTake ready (Message at words prio_at prio) =
 CanTake ready (Four at words) = IsWritableIf ready at 4
 CanTake ready (One at word) = IsWritable ready at 1
 
--- the process after its end: HALT is a trap, which sets R7 and the program counter; another end changes nothing
+-- the process after its end: HALT is a trap, after which it stands at the next address; another end changes nothing
 abbrev pub ended : Process → How → Process
 ended p Halt = returned p
 ended p how = p

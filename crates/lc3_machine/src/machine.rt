@@ -13,6 +13,7 @@ use crate::input::Input;
 use crate::memory::Memory;
 use crate::registers::Registers;
 use crate::want::{How, Want};
+use lc3_table::Profile;
 use lc3_word::{Cc, Reg, add, cc_of};
 use std::alloc::{AllocError, Global};
 use std::marker::Model;
@@ -20,6 +21,7 @@ use std::marker::Model;
 /// The parts of a process, whatever its state.
 #[derive(Drop)]
 pub(crate) struct Machine {
+    profile: Profile,
     regs: Registers,
     pc: u16,
     /// The last result: the condition code is that of this word.
@@ -55,14 +57,16 @@ impl Machine {
     #[tactic(auto, unfolding(crate::specs::Process::cc_of))]
     pub(crate) fn load(
         alloc: Global,
+        profile: Profile,
         origin: u16,
         words: &[u16],
         input: &[u8],
     ) -> Result<Machine, AllocError>
         requires below_devices { origin + length words.now ≤ 0xFE00 }
-        ensures start { IfOk result (λ m. m.process ≡ start origin words.now input.now) }
+        ensures start { IfOk result (λ m. m.process ≡ start profile origin words.now input.now) }
     {
         Ok(Machine {
+            profile,
             regs: Registers::new(),
             pc: origin,
             result: 0,
@@ -70,6 +74,13 @@ impl Machine {
             input: Input::new(alloc, input)?,
             output: Vec::new(alloc),
         })
+    }
+
+    /// The profile of the machine.
+    pub(crate) fn profile(&self) -> Profile
+        ensures value { result ≡ self.now.process.profile }
+    {
+        self.profile
     }
 
     /// What a register holds.
@@ -212,13 +223,16 @@ impl Machine {
         self.pc = self.next_pc();
     }
 
-    /// Goes on after a trap, whose next address stands in R7.
+    /// Goes on after a trap; in profile A the address where it goes on stands in R7.
     #[inline(always)]
     fn return_from_trap(&mut self)
         ensures { self.new.process ≡ returned self.old.process }
     {
-        let link = self.next_pc();
-        self.regs.set(7, link);
-        self.pc = link;
+        let next = self.next_pc();
+        match self.profile {
+            Profile::A => self.regs.set(7, next),
+            Profile::B => {}
+        }
+        self.pc = next;
     }
 }

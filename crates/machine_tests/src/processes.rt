@@ -1,6 +1,7 @@
 //! Processes for the other tests: loaded, run, and stopped before a call.
 
 use lc3_machine::{AtCall, Local, Running};
+use lc3_table::Profile;
 use lc3_word::Image;
 use std::alloc::{AllocError, Global};
 use std::process::Abort;
@@ -10,7 +11,7 @@ pub fn vec_of(alloc: Global, words: &[u16]) -> Result<Vec<u16>, AllocError> {
     Ok(again!(Vec::from_slice(alloc, words)))
 }
 
-/// A process with these words at the origin.
+/// A process of profile A with these words at the origin.
 pub fn loaded(
     alloc: Global,
     origin: u16,
@@ -18,7 +19,7 @@ pub fn loaded(
     input: &[u8],
 ) -> Result<Running, AllocError> {
     match Image::new(origin, vec_of(alloc, words)?) {
-        Ok(image) => Ok(again!(Running::load(alloc, &image, input))),
+        Ok(image) => Ok(again!(Running::load(alloc, &image, input, Profile::A))),
         Err(_) => Err(AllocError),
     }
 }

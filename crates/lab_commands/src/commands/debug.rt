@@ -3,6 +3,7 @@ ghost use Rattle.std.specs.Prelude.{◌≡◌, false};
 
 use crate::complaint::{Complaint, Reason};
 use crate::programs::{laboratory, read_programs};
+use lab_arguments::Setup;
 use lab_debug::session;
 use lab_io::{Input, Output};
 use lab_sched::World;
@@ -14,15 +15,15 @@ use std::rt::Files;
 pub fn debug_programs<'a, T: Files, R: Read, W: Write>(
     rt: &T,
     alloc: Global,
-    programs: &[&'a str],
+    setup: &Setup<'a>,
     input: &mut Input<R>,
     output: &mut Output<W>,
 ) -> Result<(), Complaint<'a>>
     requires input_healthy { input.old.failed ≡ false }
     requires output_healthy { output.old.failed ≡ false }
 {
-    let programs = read_programs(rt, alloc, programs)?;
-    let fresh = laboratory(alloc, programs.as_slice())?;
+    let programs = read_programs(rt, alloc, setup.programs.as_slice())?;
+    let fresh = laboratory(alloc, programs.as_slice(), setup.profile)?;
     match session(alloc, World::from(fresh), input, output) {
         Ok(_) => Ok(()),
         Err(fault) => Err(Reason::from(fault).at("session")),

@@ -5,7 +5,7 @@ use crate::complaint::{Complaint, Reason};
 use crate::files::write_text;
 use crate::programs::{laboratory, read_programs};
 use crate::progress::{Progress, WorldCount};
-use lab_arguments::{Question, Rest};
+use lab_arguments::{Question, Rest, Setup};
 use lab_debug::report_text;
 use lab_explore::{End, Exploration, Limits, explore};
 use lab_io::Output;
@@ -27,15 +27,15 @@ struct ToldEnd {
 pub fn explore_programs<'a, T: Files, W: Write, P: Progress>(
     rt: &T,
     alloc: Global,
-    programs: &[&'a str],
+    setup: &Setup<'a>,
     question: Question,
     output: &mut Output<W>,
     progress: &P,
 ) -> Result<(), Complaint<'a>>
     requires output_healthy { output.old.failed ≡ false }
 {
-    let programs = read_programs(rt, alloc, programs)?;
-    let fresh = laboratory(alloc, programs.as_slice())?;
+    let programs = read_programs(rt, alloc, setup.programs.as_slice())?;
+    let fresh = laboratory(alloc, programs.as_slice(), setup.profile)?;
     let limits = Limits {
         worlds: question.worlds,
         steps: question.steps,

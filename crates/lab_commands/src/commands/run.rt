@@ -5,7 +5,7 @@ use crate::complaint::{Complaint, Reason};
 use crate::files::write_text;
 use crate::programs::{laboratory, read_programs};
 use crate::progress::{CallCount, Progress};
-use lab_arguments::MOST_STEPS;
+use lab_arguments::{MOST_STEPS, Setup};
 use lab_debug::report_text;
 use lab_io::Output;
 use lab_threads::{Report, run_threads};
@@ -20,15 +20,15 @@ use std::thread::Threads;
 pub fn run_programs<'a, T: Files + Threads + Wait + Sync, W: Write, P: Progress>(
     rt: &T,
     alloc: Global,
-    programs: &[&'a str],
+    setup: &Setup<'a>,
     limit: u32,
     output: &mut Output<W>,
     progress: &P,
 ) -> Result<(), Complaint<'a>>
     requires output_healthy { output.old.failed ≡ false }
 {
-    let programs = read_programs(rt, alloc, programs)?;
-    let fresh = laboratory(alloc, programs.as_slice())?;
+    let programs = read_programs(rt, alloc, setup.programs.as_slice())?;
+    let fresh = laboratory(alloc, programs.as_slice(), setup.profile)?;
     let count = CallCount::new(alloc, progress);
     let outcome = run_threads(rt, alloc, fresh, limit.clamp(1, MOST_STEPS), &count);
     count.clear();

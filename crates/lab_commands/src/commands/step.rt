@@ -6,6 +6,7 @@ use crate::files::write_text;
 use crate::input::read_whole;
 use crate::programs::{laboratory, read_programs};
 use crate::progress::{Progress, StepCount};
+use lab_arguments::Setup;
 use lab_debug::report_text;
 use lab_io::{Input, Output};
 use lab_sched::{Schedule, World};
@@ -18,7 +19,7 @@ use std::rt::Files;
 pub fn step_programs<'a, T: Files, R: Read, W: Write, P: Progress>(
     rt: &T,
     alloc: Global,
-    programs: &[&'a str],
+    setup: &Setup<'a>,
     input: &mut Input<R>,
     output: &mut Output<W>,
     progress: &P,
@@ -26,9 +27,9 @@ pub fn step_programs<'a, T: Files, R: Read, W: Write, P: Progress>(
     requires input_healthy { input.old.failed ≡ false }
     requires output_healthy { output.old.failed ≡ false }
 {
-    let programs = read_programs(rt, alloc, programs)?;
+    let programs = read_programs(rt, alloc, setup.programs.as_slice())?;
     let schedule = read_schedule(alloc, input).map_err(|reason| reason.at("schedule"))?;
-    let fresh = laboratory(alloc, programs.as_slice())?;
+    let fresh = laboratory(alloc, programs.as_slice(), setup.profile)?;
     let mut world = World::from(fresh);
     let mut count = StepCount::new(alloc, progress, schedule.total());
     let outcome = world.run_watched(&schedule, &mut count);

@@ -14,6 +14,7 @@ impl Machine {
         ensures equal { IfOk result (λ copy. copy ≡ self.now) }
     {
         Ok(Machine {
+            profile: self.profile,
             regs: self.regs.copy(),
             pc: self.pc,
             result: self.result,
@@ -28,6 +29,7 @@ impl Machine {
         ensures same { IsTrue result ↔ (self.now.process ≡ other.now.process) }
     {
         self.pc == other.pc
+            && self.profile == other.profile
             && self.cc() == other.cc()
             && self.regs.is_same(&other.regs)
             && self.input.left() == other.input.left()

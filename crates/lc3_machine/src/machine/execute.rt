@@ -2,13 +2,13 @@
 
 ghost use Rattle.std.specs.Prelude.{◌≡◌, ◌<◌, ◌≤◌, ℕ, if◌then◌else◌};
 ghost use Rattle.lc3_machine.specs.Process.{GoesOn, word_sum, next_pc, advanced, jumped, with_reg, with_result, at_word, stored};
-ghost use Rattle.lc3_machine.specs.Effects.{effect, next_step, is_among, operand_value};
+ghost use Rattle.lc3_machine.specs.Effects.{effect, next_step, is_among, operand_value, with_address};
 ghost use Rattle.lc3_machine.specs.Steps.{CarriedOut, HasRun};
 
 use super::{Machine, Progress};
 use crate::memory::DEVICES;
 use crate::want::{How, Want};
-use lc3_table::{Instr, Operand, decode};
+use lc3_table::{Instr, Operand, Profile, decode};
 use lc3_word::{Reg, add};
 
 impl Machine {
@@ -19,6 +19,20 @@ impl Machine {
     {
         self.regs.set(dr.number(), value);
         self.result = value;
+        self.advance();
+        Progress::Moved
+    }
+
+    /// Puts an address into a register, and goes on at the next instruction; in profile A it sets the code from it.
+    #[inline(always)]
+    fn give_address(&mut self, dr: Reg, address: u16) -> Progress
+        ensures { CarriedOut (GoesOn (advanced (with_address self.old.process dr address))) self.old.process result self.new.process }
+    {
+        self.regs.set(dr.number(), address);
+        match self.profile {
+            Profile::A => self.result = address,
+            Profile::B => {}
+        }
         self.advance();
         Progress::Moved
     }
@@ -154,7 +168,7 @@ impl Machine {
             Instr::Ld { dr, offset } => self.load_into(dr, self.target(offset.word())),
             Instr::Ldi { dr, offset } => self.load_indirect(dr, self.target(offset.word())),
             Instr::Ldr { dr, base, offset } => self.load_into(dr, self.at(base, offset.word())),
-            Instr::Lea { dr, offset } => self.give(dr, self.target(offset.word())),
+            Instr::Lea { dr, offset } => self.give_address(dr, self.target(offset.word())),
             Instr::St { sr, offset } => self.store(self.target(offset.word()), self.reg(sr)),
             Instr::Sti { sr, offset } => {
                 self.store_indirect(self.target(offset.word()), self.reg(sr))

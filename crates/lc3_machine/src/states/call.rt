@@ -10,6 +10,7 @@ ghost use Rattle.lc3_machine.specs.Steps.{AsksTrap, AsksEnd};
 use super::{AtCall, Ended, Running, Waiting};
 use crate::effect::Effect;
 use crate::want::Want;
+use lc3_table::Profile;
 use lc3_word::{Cc, Reg};
 use std::alloc::AllocError;
 
@@ -87,6 +88,13 @@ impl AtCall {
             }
             Want::Trap(_) => unreachable!(),
         }
+    }
+
+    /// The profile of the machine.
+    pub fn profile(&self) -> Profile
+        ensures value { result ≡ self.now.process.profile }
+    {
+        self.machine.profile()
     }
 
     /// What a register holds.

@@ -5,6 +5,7 @@ ghost use Rattle.lc3_machine.specs.Process.{reg};
 
 use super::Ended;
 use crate::want::How;
+use lc3_table::Profile;
 use lc3_word::{Cc, Reg};
 
 impl Ended {
@@ -13,6 +14,13 @@ impl Ended {
         ensures value { result ≡ self.now.how }
     {
         self.how
+    }
+
+    /// The profile of the machine.
+    pub fn profile(&self) -> Profile
+        ensures value { result ≡ self.now.process.profile }
+    {
+        self.machine.profile()
     }
 
     /// What a register holds.

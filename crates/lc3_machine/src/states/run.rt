@@ -8,18 +8,24 @@ ghost use Rattle.lc3_machine.specs.Steps.{IsStep, IsRun, HasRun};
 use super::{AtCall, Local, Running};
 use crate::machine::{Machine, Progress};
 use crate::want::Want;
+use lc3_table::Profile;
 use lc3_word::{Cc, Image, Reg};
 use std::alloc::{AllocError, Global};
 
 impl Running {
-    /// A process at its start: the image in memory and zeros around it, registers 0, code Z, the program counter at
-    /// the image's origin, this console input, and no output. An error is want of memory.
-    pub fn load(alloc: Global, image: &Image, input: &[u8]) -> Result<Running, AllocError>
-        ensures start { IfOk result (λ r. r ≡ start image.now.origin image.now.words input.now) }
+    /// A process at its start: a machine of this profile, the image in memory and zeros around it, registers 0, code Z,
+    /// the program counter at the image's origin, this console input, and no output. An error is want of memory.
+    pub fn load(
+        alloc: Global,
+        image: &Image,
+        input: &[u8],
+        profile: Profile,
+    ) -> Result<Running, AllocError>
+        ensures start { IfOk result (λ r. r ≡ start profile image.now.origin image.now.words input.now) }
     {
         let machine = Box::new(
             alloc,
-            Machine::load(alloc, image.origin(), image.words(), input)?,
+            Machine::load(alloc, profile, image.origin(), image.words(), input)?,
         )?;
         Ok(Running { machine })
     }
@@ -66,6 +72,13 @@ impl Running {
     {
         let Running { machine } = self;
         AtCall { machine, want }
+    }
+
+    /// The profile of the machine.
+    pub fn profile(&self) -> Profile
+        ensures value { result ≡ self.now.profile }
+    {
+        self.machine.profile()
     }
 
     /// What a register holds.

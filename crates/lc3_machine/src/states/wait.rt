@@ -7,6 +7,7 @@ ghost use Rattle.lc3_machine.specs.Steps.{AsksTrap};
 
 use super::{AtCall, Running, Waiting};
 use crate::effect::Effect;
+use lc3_table::Profile;
 use lc3_word::{Cc, Reg};
 
 impl Waiting {
@@ -35,6 +36,13 @@ impl Waiting {
     {
         let Waiting { call } = self;
         call.finish(effect)
+    }
+
+    /// The profile of the machine.
+    pub fn profile(&self) -> Profile
+        ensures value { result ≡ self.now.process.profile }
+    {
+        self.call.profile()
     }
 
     /// What a register holds.

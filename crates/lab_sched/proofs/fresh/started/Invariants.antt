@@ -5,6 +5,6 @@ use Rattle.lab_sched.proofs.fresh.started.Given as goal
 
 abbrev pub invariant-loop-program : goal.invariant-loop-program
 invariant-loop-program l = record {
-  starts : map seen l.processes.items ≡ map start_of (take l.program-index l.programs);
+  starts : map seen l.processes.items ≡ map (start_of l.profile) (take l.program-index l.programs);
   running : All Runs l.processes.items;
 }

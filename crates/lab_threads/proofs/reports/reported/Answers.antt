@@ -1,12 +1,31 @@
-use Rattle.std.proofs.Common.{◌≡◌, ap, sym, ◌∙◌, map, length, subst, arith}
+use Rattle.std.proofs.Common.{◌≡◌, All, ap, sym, ◌∙◌, map, length, subst, arith}
+use Rattle.std.proofs.lemmas.List.{length-map}
 use Rattle.ipc_kernel.specs.Kernel.{empty_kernel}
 use Rattle.lab_sched.specs.Course.{IsCourse}
+use Rattle.lab_sched.specs.Held.{seen, IsHeld}
+use Rattle.lab_sched.specs.Worlds.{HaveOneProfile}
 use Rattle.lab_sched.specs.History.{IsLegal, replay}
 use Rattle.lab_sched.specs.Schedules.{steps_of}
 use Rattle.lab_threads.specs.Woven.{begun, ended}
 use Rattle.lab_threads.proofs.Endings.{joined_is, from_course, from_counts, walked}
 use Rattle.lab_threads.proofs.Weaves.{ok_then}
 use Rattle.lab_threads.proofs.reports.reported.Goals as goal
+
+pub join-world-requires : goal.join-world-requires
+join-world-requires c =
+    let ps = c.in_ok-ends.field-0.items in
+    let ended_so = c.in_ok-ends.ensures in
+    let count : length ps ≡ length c.args.walks.items = ap length ended_so ∙ length-map c.args.walks.items (λ k. k.process) in
+    record {
+      world =
+          record {
+            held = subst (λ xs. All IsHeld xs) (sym ended_so) c.requires.held;
+            profile = subst (λ xs. HaveOneProfile (map seen xs)) (sym ended_so) c.requires.profile;
+            some = omega (arith, count, c.requires.some);
+            few = omega (arith, count, c.requires.few);
+            count = omega (arith, count, c.count.ensures.count, c.if-count-len.false, c.len.ensures, c.args.walks.ok.0);
+          };
+    }
 
 pub returns-clause-course : goal.returns-clause-course
 returns-clause-course c =

@@ -1,10 +1,13 @@
 use Rattle.lab_sched.proofs.Courses.{course_kernel, course_legal}
-use Rattle.lab_threads.proofs.Endings.{walks_held}
+use Rattle.lab_threads.proofs.Endings.{walks_held, walks_profile}
 use Rattle.lab_threads.proofs.Weaves.{ok_then}
 use Rattle.lab_threads.proofs.reports.run_starts.Goals as goal
 
 pub reported-requires-clause-held : goal.reported-requires-clause-held
 reported-requires-clause-held g c = walks_held c.args.limit c.args.starts.items c.in_ok-walks.walks.items c.in_ok-walks.ensures c.requires.runs
+
+pub reported-requires-clause-profile : goal.reported-requires-clause-profile
+reported-requires-clause-profile g c = walks_profile c.args.limit c.args.starts.items c.in_ok-walks.walks.items c.in_ok-walks.ensures c.requires.profile
 
 pub returns-clause-course : goal.returns-clause-course
 returns-clause-course g c = ok_then c.reported.result c.reported.ensures.course (λ r course. course c.args.starts.items c.in_ok-walks.ensures)

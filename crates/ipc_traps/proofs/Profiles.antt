@@ -1,0 +1,78 @@
+-- A process keeps its profile, whatever it asks and whatever is replied.
+use Rattle.std.proofs.Common.{◌≡◌, ℕ, ◌==◌, Bool, true, false, List, Result, Ok, Err, if◌then◌else◌, refl}
+use Rattle.lc3_machine.specs.declared.want.Want.TheVariants.{Trap, End}
+use Rattle.lc3_machine.specs.Process.{Process, Outcome, GoesOn, Stops, reg}
+use Rattle.lc3_machine.specs.Effects.{next_step}
+use Rattle.lc3_machine.proofs.Profiles.{next_profile}
+use Rattle.ipc_names.specs.declared.errno.Errno.{Errno}
+use Rattle.ipc_kernel.specs.declared.call.Call.{Call}
+use Rattle.ipc_kernel.specs.declared.call.Call.TheVariants.{MqUnlink, SemOpen, SemUnlink}
+use Rattle.ipc_kernel.specs.declared.call.Reply.{Reply}
+use Rattle.ipc_kernel.specs.declared.call.Reply.TheVariants.{Plain, Message, Attr, Value}
+use Rattle.ipc_traps.specs.Asked.{Request, Local, Refuses, Calls, Ends, asked, outcome_asks, trap_asks, within, named, name_at}
+use Rattle.ipc_traps.specs.Reply.{replied, replied_to, vector_in}
+
+-- the process after a local step has the profile of the one before
+unfoldable pub Keeps : Process → Request → Type 0
+Keeps p (Local q) = q.profile ≡ p.profile
+Keeps p (Refuses e) = Unit {0}
+Keeps p (Calls call) = Unit {0}
+Keeps p (Ends how) = Unit {0}
+
+keeps-if : (p : Process) (b : Bool) (x y : Request) → Keeps p x → Keeps p y → Keeps p (if b then x else y)
+keeps-if p true x y h h' = h
+keeps-if p false x y h h' = h'
+
+keeps-named : (p : Process) (call : List ℕ → Call) (read : Result (List ℕ) Errno) → Keeps p (named call read)
+unfolding Keeps
+keeps-named p call (Err e) = tt
+keeps-named p call (Ok name) = tt
+
+keeps-within : (p : Process) (inside : Bool) (request : Request) → Keeps p request → Keeps p (within inside request)
+unfolding Keeps
+keeps-within p true request h = h
+keeps-within p false request h = tt
+
+keeps-call : (p : Process) (call : Call) → Keeps p (Calls call)
+unfolding Keeps
+keeps-call p call = tt
+
+-- a trap is no local step
+keeps-trap : (v : ℕ) (p : Process) → Keeps p (trap_asks v p)
+unfolding trap_asks
+keeps-trap v p =
+    keeps-if p (v == 0x40) _ _ (keeps-within p _ _ (keeps-named p _ (name_at p)))
+    (keeps-if p (v == 0x41) _ _ (keeps-call p _)
+    (keeps-if p (v == 0x42) _ _ (keeps-within p true _ (keeps-named p (λ name. MqUnlink name) (name_at p)))
+    (keeps-if p (v == 0x43) _ _ (keeps-within p _ _ (keeps-call p _))
+    (keeps-if p (v == 0x44) _ _ (keeps-within p _ _ (keeps-call p _))
+    (keeps-if p (v == 0x45) _ _ (keeps-within p _ _ (keeps-call p _))
+    (keeps-if p (v == 0x46) _ _ (keeps-within p _ _ (keeps-call p _))
+    (keeps-if p (v == 0x50) _ _ (keeps-within p true _ (keeps-named p (λ name. SemOpen name (reg p 1) (reg p 2)) (name_at p)))
+    (keeps-if p (v == 0x51) _ _ (keeps-call p _)
+    (keeps-if p (v == 0x52) _ _ (keeps-within p true _ (keeps-named p (λ name. SemUnlink name) (name_at p)))
+    (keeps-if p (v == 0x53) _ _ (keeps-call p _)
+    (keeps-if p (v == 0x54) _ _ (keeps-call p _)
+    (keeps-if p (v == 0x56) _ _ (keeps-within p _ _ (keeps-call p _)) (keeps-call p _)))))))))))))
+
+keeps-outcome : (p : Process) (outcome : Outcome) → next_step p ≡ outcome → Keeps p (outcome_asks p outcome)
+unfolding Keeps
+keeps-outcome p (GoesOn q) is = next_profile p q is
+keeps-outcome p (Stops (Trap v)) is = keeps-trap v p
+keeps-outcome p (Stops (End how)) is = tt
+
+-- a process that asks for nothing goes on with its profile
+pub asked_keeps : (p : Process) → Keeps p (asked p)
+unfolding asked
+asked_keeps p = keeps-outcome p (next_step p) refl
+
+replied-to : (v : ℕ) (p : Process) (reply : Reply) → (replied_to v p reply).profile ≡ p.profile
+replied-to v p (Plain r) = refl
+replied-to v p (Message words prio) = refl
+replied-to v p (Attr words) = refl
+replied-to v p (Value value) = refl
+
+-- a reply keeps the profile
+pub replied_profile : (p : Process) (reply : Reply) → (replied p reply).profile ≡ p.profile
+unfolding replied
+replied_profile p reply = replied-to (vector_in (next_step p)) p reply

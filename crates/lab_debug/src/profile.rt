@@ -1,0 +1,17 @@
+//! The profile of a world.
+ghost use Rattle.std.specs.Prelude.{◌≡◌, ◌++◌, OnOk, string_bytes};
+ghost use Rattle.lab_debug.specs.Texts.{profile_text};
+
+use lab_sched::World;
+use std::alloc::AllocError;
+
+/// Adds the profile that the processes have.
+pub fn push_profile(text: &mut String, world: &World) -> Result<(), AllocError>
+    ensures { OnOk result (string_bytes text.new ≡ string_bytes text.old ++ profile_text world.now) }
+{
+    let profile = world.profile();
+    match write!(text, "profile {profile}\n") {
+        Ok(()) => Ok(()),
+        Err(error) => Err(error),
+    }
+}
