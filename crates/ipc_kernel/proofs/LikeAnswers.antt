@@ -1,5 +1,5 @@
 -- Kernels that are alike answer each call alike, and are alike after it.
-use Rattle.std.proofs.Common.{◌≡◌, ℕ, ◌+◌, ◌-◌, ◌==◌, nat_lt, nat_le, ◌&&◌, not, Bool, true, false, cond, option_and_then, List, [], ◌∷◌, length, Option, Some, None, Result, Ok, Err, refl, sym, ap, subst, ◌∙◌, position}
+use Rattle.std.proofs.Common.{◌≡◌, ℕ, ◌+◌, ◌-◌, ◌==◌, nat_lt, nat_le, ◌&&◌, not, Bool, true, false, cond, option_and_then, List, [], ◌∷◌, length, Option, Some, None, Result, Ok, Err, refl, sym, ap, subst, ◌∙◌}
 use Rattle.std.specs.Option.{option_map}
 use Rattle.ipc_names.specs.declared.errno.Errno.{Errno}
 use Rattle.ipc_names.specs.declared.errno.Errno.TheVariants.{NoEntry, BadDescriptor, Again, Exists, Invalid, TooManyOpen, NoSpace, Overflow, MessageSize}
@@ -17,13 +17,13 @@ use Rattle.ipc_kernel.specs.declared.call.Call.TheVariants.{MqOpen, MqClose, MqU
 use Rattle.ipc_kernel.specs.declared.call.Reply.TheVariants.{Plain, Message as received, Attr, Value}
 use Rattle.ipc_kernel.specs.Limits.{opens_max}
 use Rattle.ipc_kernel.specs.Processes.{descriptor_refers, slot_refers, with_slot, descriptor_of, slot_of, slot_for, free_descriptor_of, free_slot_of}
-use Rattle.ipc_kernel.specs.Places.{place_at, is_empty, are_sizes, queue_named, semaphore_named, queue_name, semaphore_name, queue_in, semaphore_value, empty_queue, with_message}
+use Rattle.ipc_kernel.specs.Places.{place_at, are_sizes, queue_named, semaphore_named, queue_name, semaphore_name, queue_in, empty_queue, with_message}
 use Rattle.ipc_kernel.specs.Kernel.{KernelState}
-use Rattle.ipc_kernel.specs.Outcomes.{Outcome, unlink, open_queue, open_semaphore}
+use Rattle.ipc_kernel.specs.Outcomes.{unlink, open_queue, open_semaphore}
 use Rattle.ipc_kernel.specs.Queues.{mq_send, take_first, mq_receive, attributes, mq_getattr, mq_setattr, mq_close, sizes_asked, descriptor_for, new_descriptor, mq_create_at, mq_create, mq_look_up, mq_open}
 use Rattle.ipc_kernel.specs.Semaphores.{sem_getvalue, sem_post, sem_wait, sem_trywait, sem_close, new_slot, one_more_open, sem_open_place, sem_create_at, sem_create, sem_look_up, sem_open}
-use Rattle.ipc_kernel.specs.Answer.{answer, exit}
-use Rattle.ipc_kernel.specs.Alike.{renamed_descriptor, renamed_slot, IsAlike, IsConsistent, AnswersAlike, StaysConsistent}
+use Rattle.ipc_kernel.specs.Answer.{answer}
+use Rattle.ipc_kernel.specs.Alike.{renamed_descriptor, renamed_slot, AnswersAlike, StaysConsistent}
 use Rattle.ipc_kernel.proofs.Alikes.{alike_itself}
 use Rattle.ipc_kernel.proofs.Consistents.{descriptor_unreferred, slot_unreferred}
 use Rattle.ipc_kernel.proofs.Twins.{IsTwin, AreLike, HaveRoom, like_refused, like_waiting, like_done, like_if, like_blocked, like_unlinked, twin_queue, twin_value, twin_descriptor, twin_slot, twin_closed, twin_made, made_filled, other_place, by_room, found_descriptor, found_slot, found_free_descriptor, found_free_slot, found_slot_for, found_queue, found_semaphore, found_named, name_found, not_named, renamed_held, renamed_open}

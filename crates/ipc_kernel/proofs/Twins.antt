@@ -1,5 +1,5 @@
 -- Outcomes of one call over two kernels that are alike.
-use Rattle.std.proofs.Common.{◌≡◌, ◌≢◌, ℕ, ◌+◌, ◌-◌, ◌==◌, nat_lt, nat_le, ◌&&◌, not, ◌<◌, ◌≤◌, Bool, true, false, cond, List, [], ◌∷◌, length, set, Option, Some, None, option_and_then, refl, sym, ap, subst, ◌∙◌, inl, inr, position, arith}
+use Rattle.std.proofs.Common.{◌≡◌, ℕ, ◌==◌, ◌<◌, Bool, true, false, cond, List, length, set, Option, Some, None, option_and_then, refl, sym, ap, subst, ◌∙◌, inl, inr, position, arith}
 use Rattle.std.specs.Option.{option_map}
 use Rattle.std.proofs.lemmas.Bool.Decides.{eqb_tells}
 use Rattle.std.proofs.lemmas.Option.{unwrap_or-slice_get}
@@ -9,7 +9,6 @@ use Rattle.ipc_names.specs.declared.errno.Errno.TheVariants.{Again, NoEntry}
 use Rattle.ipc_objects.specs.Queue.{QueueState}
 use Rattle.ipc_kernel.specs.declared.place.Place.{Place}
 use Rattle.ipc_kernel.specs.declared.place.Place.TheVariants.{Empty, Mq, Sem}
-use Rattle.ipc_kernel.specs.declared.process.Process.{Process}
 use Rattle.ipc_kernel.specs.declared.process.Slot.{Slot}
 use Rattle.ipc_kernel.specs.declared.process.Descriptor.{Descriptor}
 use Rattle.ipc_kernel.specs.declared.call.Reply.{Reply}
@@ -17,7 +16,7 @@ use Rattle.ipc_kernel.specs.Processes.{descriptor_of, slot_of, free_descriptor_o
 use Rattle.ipc_kernel.specs.Places.{place_at, is_empty, queue_in, semaphore_value, queue_name, semaphore_name, is_name, place_named, with_queue, with_value, unnamed}
 use Rattle.ipc_kernel.specs.Kernel.{KernelState}
 use Rattle.ipc_kernel.specs.Outcomes.{Outcome, refusal, waiting, completion, blocked, unlink, open_queue, open_semaphore, with_queue_at, with_value_at}
-use Rattle.ipc_kernel.specs.Alike.{renamed_descriptor, renamed_slot, renamed_process, IsRenaming, IsAlike, AreDistinct, IsConsistent}
+use Rattle.ipc_kernel.specs.Alike.{renamed_descriptor, renamed_slot, IsRenaming, IsAlike, AreDistinct, IsConsistent}
 use Rattle.ipc_kernel.proofs.PlaceLemmas.{first_empty_place}
 use Rattle.ipc_kernel.proofs.IndexLemmas.{place_at-set_same, is_name-true, is_name-itself, position_there, place_within}
 use Rattle.ipc_kernel.proofs.Renamings.{descriptor_of-renamed, slot_of-renamed, free_descriptor-renamed, free_slot-renamed, slot_for-renamed}

@@ -1,5 +1,5 @@
 -- Kernels that are alike: equal but for the numbers of their object places, which no reply shows.
-use Rattle.std.specs.Prelude.{◌≡◌, ◌↔◌, ℕ, ◌<◌, false, List, Option, Some, length, map}
+use Rattle.std.specs.Prelude.{◌≡◌, ◌↔◌, ℕ, ◌<◌, false, List, Option, Some, length, map, slice_get, unwrap_or}
 use Rattle.std.specs.Option.{option_map}
 use Rattle.ipc_kernel.specs.Limits.{object_places}
 use Rattle.ipc_kernel.specs.declared.place.Place.{Place}
@@ -62,3 +62,11 @@ AnswersAlike = (k j : KernelState) (p : ℕ) (c : Call) → IsConsistent k → I
 -- a kernel that is consistent is so after each call
 abbrev pub StaysConsistent : Type 0
 StaysConsistent = (k : KernelState) (p : ℕ) (c : Call) → IsConsistent k → IsConsistent (answer k p c).1
+
+-- where a list of numbers takes a place; one behind its end stays
+abbrev pub renamed_by : List ℕ → ℕ → ℕ
+renamed_by to i = unwrap_or (slice_get to i) i
+
+-- f takes the place to a place, and f and g undo each other there
+abbrev pub ExchangesAt : (ℕ → ℕ) → (ℕ → ℕ) → ℕ → Type 0
+ExchangesAt f g i = (f i < object_places) × (g (f i) ≡ i) × (f (g i) ≡ i)
