@@ -135,6 +135,41 @@ alike_itself k = (
   },
 )
 
+-- a renaming undone
+pub alike_back : (k j : KernelState) → IsAlike k j → IsAlike j k
+alike_back k j a = (
+  g,
+  f,
+  record {
+    permutation = record {
+      undone = h.redone;
+      redone = h.undone;
+      within = λ i. (λ e. subst (λ n. n < 64) (h.redone i) ((h.within (g i)).1 e), λ e. (h.within (g i)).0 (subst (λ n. n < 64) (sym (h.redone i)) e));
+    };
+    count = sym r.count;
+    places = λ i. sym (r.places (g i)) ∙ ap (place_at j.places) (h.redone i);
+    processes = sym (ap (map (renamed_process g)) r.processes ∙ renamed_twice f g k.processes ∙ map_id (renamed_process (λ i. g (f i))) process_back k.processes);
+  },
+)
+  where
+    f : ℕ → ℕ
+    f = a.0
+
+    g : ℕ → ℕ
+    g = a.1
+
+    r : IsRenaming f g k j
+    r = a.2
+
+    h : IsPermutation f g
+    h = r.permutation
+
+    process_back : (p : Process) → renamed_process (λ i. g (f i)) p ≡ p
+    process_back p =
+        ap (λ ds. tables ds (map (option_map (renamed_slot (λ i. g (f i)))) p.slots))
+            (map_id (option_map (renamed_descriptor (λ i. g (f i)))) (option_id (renamed_descriptor (λ i. g (f i))) (λ d. ap (λ n. record d { place = n }) (h.undone d.place))) p.descriptors)
+        ∙ ap (tables p.descriptors) (map_id (option_map (renamed_slot (λ i. g (f i)))) (option_id (renamed_slot (λ i. g (f i))) (λ s. ap (λ n. record s { place = n }) (h.undone s.place))) p.slots)
+
 -- two places exchanged
 abbrev pub swap : ℕ → ℕ → ℕ → ℕ
 swap x y i = if i == x then y else if i == y then x else i
