@@ -10,3 +10,4 @@ pub mod Decisions
 pub mod Replies
 pub mod Counts
 pub mod Index
+pub mod Alike

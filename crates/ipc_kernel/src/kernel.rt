@@ -21,6 +21,7 @@ use ipc_objects::Queue;
 use std::alloc::{AllocError, Global};
 use std::marker::Model;
 
+mod alike;
 mod changes;
 mod copies;
 mod decision;

@@ -2,6 +2,7 @@
 ghost use Rattle.std.specs.Prelude.{◌≡◌, ℕ, IsTrue, length};
 ghost use Rattle.ipc_kernel.specs.Kernel.{KernelState};
 ghost use Rattle.ipc_kernel.specs.Answer.{answer, may_wait};
+ghost use Rattle.ipc_kernel.specs.Alike.{AnswersAlike, StaysConsistent};
 ghost use Rattle.ipc_kernel.specs.declared.call.Call.{Call};
 ghost use Rattle.ipc_kernel.specs.declared.call.Answer.TheVariants.{Wait};
 
@@ -24,4 +25,15 @@ pub fn waiting_calls_law()
 pub fn count_law()
     ensures count { (k : KernelState) (p : ℕ) (c : Call) →
         length (answer k p c).1.processes ≡ length k.processes }
+{}
+
+/// The numbers of the object places show in no answer: kernels that are alike answer each call alike,
+/// and are alike after it.
+pub fn alike_law()
+    ensures alike { AnswersAlike }
+{}
+
+/// A kernel in which each reference is to an object, and each name to one, stays so.
+pub fn consistent_law()
+    ensures consistent { StaysConsistent }
 {}

@@ -8,6 +8,7 @@ mod place;
 mod places;
 mod process;
 mod processes;
+mod renaming;
 
 pub use call::{Answer, Call, Reply};
 pub use kernel::Kernel;

@@ -11,6 +11,7 @@ ghost use Rattle.ipc_kernel.specs.Places.{queue_in, with_queue, with_message, wi
 ghost use Rattle.ipc_kernel.specs.Places.{is_empty, semaphore_value, with_value, unnamed, queue_named, semaphore_named, queue_and_name, value_and_name, place_at, emptied};
 ghost use Rattle.ipc_kernel.specs.declared.place.Place.TheVariants.{Empty, Mq, Sem};
 
+mod alike;
 mod copies;
 
 use crate::place::Place;

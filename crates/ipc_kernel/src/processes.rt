@@ -4,6 +4,7 @@ ghost use Rattle.ipc_kernel.specs.Counts.{indicator};
 ghost use Rattle.ipc_kernel.specs.Limits.{object_places, open_max, process_max};
 ghost use Rattle.ipc_kernel.specs.Processes.{slot_refers, descriptor_refers, is_referred, with_descriptor, with_slot};
 
+mod alike;
 mod copies;
 
 use crate::places::PLACES;

@@ -6,7 +6,7 @@ use Rattle.lab_sched.specs.Worlds.{Process, Running, Waiting, Ended, WorldState,
 use Rattle.lab_sched.specs.Alone.{AreLocal}
 use Rattle.lab_sched.specs.Finished.{IsAtRest}
 use Rattle.lab_sched.proofs.Alones.{local-append}
-use Rattle.lab_explore.specs.Calls.{IsAtCall, IsAhead, Both, IsAdvance}
+use Rattle.lab_explore.specs.Calls.{AreAlike, IsAtCall, IsAhead, Both, IsAdvance}
 use Rattle.lab_explore.specs.Closed.{AreAtRest}
 
 -- a process at a call has no local step
@@ -65,9 +65,9 @@ rest_at k p None (Some u) rest h = absurd h
 rest_at k p (Some s) None rest h = absurd h
 rest_at k p (Some s) (Some u) rest h = ap (λ x. Some x) (stays s u (rest_at_call k p s (rest s refl)) h)
 
--- a world at rest is its own advance
-pub rest_stays : (w v : WorldState) → AreAtRest w → IsAdvance w v → v ≡ w
-rest_stays w v rest h =
-    let processes : v.processes ≡ w.processes =
-    same_by_gets v.processes w.processes (λ p. rest_at w.kernel p (slice_get w.processes p) (slice_get v.processes p) (rest p) (h.processes p)) in
-    ap (λ ps. record { processes = ps; kernel = v.kernel }) processes ∙ ap (λ k. record { processes = w.processes; kernel = k }) h.kernel
+-- a world at rest has the processes of its advance
+pub rest_stays : (w v : WorldState) → AreAtRest w → IsAdvance w v → AreAlike w v
+rest_stays w v rest h = record {
+  processes = same_by_gets v.processes w.processes (λ p. rest_at w.kernel p (slice_get w.processes p) (slice_get v.processes p) (rest p) (h.processes p));
+  kernel = h.kernel;
+}

@@ -11,7 +11,7 @@ use Rattle.lab_explore.specs.declared.store.Row.{Row}
 use Rattle.lab_explore.specs.declared.store.Store.{Store}
 use Rattle.lab_explore.specs.Calls.{IsAhead, Both, Alongside, IsAdvance}
 use Rattle.lab_explore.specs.Closed.{HasAdvance, IsClosed}
-use Rattle.lab_explore.specs.Stored.{IsState, IsRow, IsAt, Holds, Grows, IsReached, AreReached, IsSearched, IsCome, IsBegun}
+use Rattle.lab_explore.specs.Stored.{IsState, IsKernel, IsRow, IsAt, Holds, Grows, IsReached, AreReached, IsSearched, IsCome, IsBegun}
 use Rattle.lab_explore.proofs.Ahead.{same_by_gets}
 use Rattle.lab_explore.proofs.Pushes.{alongside_cons, alongside_push, both_weaker}
 use Rattle.lab_explore.proofs.Growths.{state_grows}
@@ -43,11 +43,11 @@ chosen t (i ∷ is) (s ∷ ss) h =
     (first.0 ∷ rest.0, alongside_cons (IsState t) i first.0 is rest.0 first.1 rest.1, alongside_cons IsAhead s first.0 ss rest.0 first.2 rest.2)
 
 -- the world at its first calls, by its row
-pub begins : (t : Store) (r : Row) (k : KernelState) (ss : List Process) → slice_get t.kernels.items r.kernel ≡ Some k → IsBegun t r.states.items ss
+pub begins : (t : Store) (r : Row) (k : KernelState) (ss : List Process) → IsKernel t r.kernel k → IsBegun t r.states.items ss
     → (v : WorldState) × IsRow t r v × IsAdvance (record { processes = ss; kernel = k }) v
 begins t r k ss kernel begun =
     let us = chosen t r.states.items ss begun in
-    (record { processes = us.0; kernel = k }, record { kernel = kernel; states = us.1 }, record { kernel = refl; processes = us.2 })
+    (record { processes = us.0; kernel = kernel.0 }, record { kernel = kernel.1; states = us.1 }, record { kernel = kernel.2; processes = us.2 })
 
 same_state : (t : Store) (o : Option ℕ) (a b : Option Process) → Both (IsState t) o a → Both (IsState t) o b → a ≡ b
 same_state t None None None h k = refl

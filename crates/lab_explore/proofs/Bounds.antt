@@ -14,7 +14,10 @@ use Rattle.lab_explore.specs.Stored.{IsAt, IsReached, AreReached, HasEdge, IsSea
 use Rattle.lab_explore.specs.Rounds.{Rises, AreRising, AreBounded}
 use Rattle.lab_explore.proofs.Ahead.{none_local}
 use Rattle.lab_explore.proofs.Begins.{at_unique}
-use Rattle.lab_explore.proofs.Simulates.{same_after, kernel_after}
+use Rattle.ipc_kernel.specs.Alike.{IsAlike, IsConsistent}
+use Rattle.ipc_kernel.proofs.Alikes.{alike_then}
+use Rattle.lab_explore.proofs.AlikeWorlds.{turn_alike, kernel_alike, consistent_after}
+use Rattle.lab_explore.proofs.Simulates.{same_after}
 
 -- the sum of a list
 total : List ℕ → ℕ
@@ -66,7 +69,8 @@ record HasLeft (t : Store) (order : List ℕ) (w : WorldState) (n : ℕ) : Type 
   advance : WorldState
   taken : List ℕ
   here : IsAt t at advance
-  kernel : advance.kernel ≡ w.kernel
+  kernel : IsAlike w.kernel advance.kernel
+  consistent : IsConsistent w.kernel
   processes : Takes taken w.processes advance.processes
   most : total taken + 4294967296 * rank (length order) (slice_get order at) ≡ n
 
@@ -141,6 +145,7 @@ module _ (t : Store) (order : List ℕ) (start : WorldState) (searched : IsSearc
         taken = set left.taken p one.0;
         here = left.here;
         kernel = left.kernel;
+        consistent = left.consistent;
         processes = λ i. elim (eqb_tells p i) [
           | inl same ↦
               subst (λ x. TakesAt (slice_get (set left.taken p one.0) x) (slice_get (set w.processes p (Running q)) x) (slice_get left.advance.processes x)) same.1
@@ -170,7 +175,7 @@ module _ (t : Store) (order : List ℕ) (start : WorldState) (searched : IsSearc
       there = found.3 ∙ ap (λ x. Some x) (none_local found.0 s found.1 at found.4)
 
       same_turn : turn_in v p ≡ turn_in w p
-      same_turn = ap (λ k. turn k p (slice_get v.processes p)) left.kernel ∙ ap (λ o. turn w.kernel p o) (there ∙ sym a)
+      same_turn = turn_alike w.kernel v.kernel p (slice_get v.processes p) left.consistent left.kernel ∙ ap (λ o. turn w.kernel p o) (there ∙ sym a)
 
       edge : HasEdge t left.at v p
       edge =
@@ -214,7 +219,8 @@ module _ (t : Store) (order : List ℕ) (start : WorldState) (searched : IsSearc
         advance = u;
         taken = set left.taken p next.0;
         here = edge.5;
-        kernel = reached.kernel ∙ kernel_after w v p (turn_in w p) left.kernel;
+        kernel = alike_then (step w p).kernel (after v p (turn_in w p)).kernel u.kernel (kernel_alike w v p (turn_in w p) left.consistent left.kernel) reached.kernel;
+        consistent = consistent_after w p (turn_in w p) left.consistent;
         processes = takes;
         most = refl;
       }
@@ -253,8 +259,8 @@ module _ (t : Store) (order : List ℕ) (start : WorldState) (searched : IsSearc
       let less = next.1 in
       omega arith
 
-  bounded : AreBounded start
-  bounded =
+  bounded : IsConsistent start.kernel → AreBounded start
+  bounded consistent =
       let begun = searched.begins in
       let taken = taken_of start.processes begun.0.processes begun.2.processes in
       let n = total taken.0 + 4294967296 * rank (length order) (slice_get order begun.1.0) in
@@ -264,11 +270,12 @@ module _ (t : Store) (order : List ℕ) (start : WorldState) (searched : IsSearc
         taken = taken.0;
         here = begun.1.1;
         kernel = begun.2.kernel;
+        consistent = consistent;
         processes = taken.1;
         most = refl;
       } in
       (n, λ ps h. within ps start n left h)
 
 -- where the rows are searched, and all edges rise, each list of effective steps has at most so many
-pub searched_bounded : (t : Store) (start : WorldState) → IsSearched start t → AreRising t.edges.items → AreBounded start
-searched_bounded t start searched rising = bounded t rising.0 start searched rising.1
+pub searched_bounded : (t : Store) (start : WorldState) → IsConsistent start.kernel → IsSearched start t → AreRising t.edges.items → AreBounded start
+searched_bounded t start consistent searched rising = bounded t rising.0 start searched rising.1 consistent

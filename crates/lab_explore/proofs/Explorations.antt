@@ -6,6 +6,10 @@ use Rattle.ipc_kernel.specs.Kernel.{KernelState, empty_kernel}
 use Rattle.lab_sched.specs.declared.process.Process.{Process as Kept}
 use Rattle.lab_sched.specs.declared.process.Process.TheVariants as kept
 use Rattle.ipc_kernel.specs.Processes.{closed_process}
+use Rattle.ipc_kernel.specs.Alike.{IsConsistent}
+use Rattle.ipc_kernel.proofs.Consistents.{consistent_empty}
+use Rattle.lab_explore.specs.Calls.{AreAlike}
+use Rattle.lab_explore.proofs.AlikeWorlds.{world_then, rest_alike, stuck_alike, consistent_run}
 use Rattle.lab_sched.specs.Worlds.{HaveOneProfile, Process, Running, Waiting, Ended, WorldState, turn, turn_in, run}
 use Rattle.lab_sched.specs.Finished.{IsAtRest}
 use Rattle.lab_sched.specs.Verdicts.{IsVerdict, IsWaiting, HasEnded, AreStuck}
@@ -19,7 +23,7 @@ use Rattle.lab_explore.specs.declared.store.Store.{Store}
 use Rattle.lab_explore.specs.declared.ends.End.{End}
 use Rattle.lab_explore.specs.declared.ends.Walk.{Walk}
 use Rattle.lab_explore.specs.Closed.{IsClosed, AreAtRest}
-use Rattle.lab_explore.specs.Stored.{IsAt, Holds, Each, Keeps}
+use Rattle.lab_explore.specs.Stored.{IsAt, IsLike, Holds, Each, Keeps}
 use Rattle.lab_explore.specs.Ends.{IsWalk, IsEnd, HasEnd, HaveAllEnds, NoneStuck, NeverStuck}
 use Rattle.lab_explore.proofs.Pushes.{get_pushed}
 use Rattle.lab_explore.proofs.Begins.{at_unique}
@@ -46,11 +50,15 @@ pub lengths : (w : WorldState) (ps : List Kept) → map seen ps ≡ w.processes 
 lengths w ps processes = ap length (sym processes) ∙ length-map ps seen
 
 -- all ends, where the worlds of a store are closed, and each of them that is at rest has its end
-pub all_ends : (fresh start : WorldState) (t : Store) (ends : List End) → fresh ≡ start → IsClosed start (Holds t) → ((i : ℕ) (w : WorldState) → IsAt t i w → AreAtRest w → HasEnd ends w)
+pub all_ends : (fresh start : WorldState) (t : Store) (ends : List End) → fresh ≡ start → IsConsistent start.kernel → IsClosed start (Holds t) → ((i : ℕ) (w : WorldState) → IsAt t i w → AreAtRest w → HasEnd ends w)
     → HaveAllEnds fresh ends
-all_ends fresh start t ends same closed all =
+all_ends fresh start t ends same consistent closed all =
     subst (λ s. HaveAllEnds s ends) (sym same)
-    (λ ps rest. let held = has_every_end start (Holds t) closed ps rest in all held.0 (run start ps) held.1 rest)
+    (λ ps rest.
+    let w = run start ps in
+    let held = has_every_end start (Holds t) consistent closed ps rest in
+    let found = all held.1.0 held.0 held.1.1 (rest_alike w held.0 (consistent_run ps start consistent) held.2 rest) in
+    (found.0, found.1, found.2, world_then w held.0 found.1.world held.2 found.3))
 
 pub same_ends : (fresh start : WorldState) (ends : List End) → fresh ≡ start → Each (IsEnd start) ends → Each (IsEnd fresh) ends
 same_ends fresh start ends same each = subst (λ s. Each (IsEnd s) ends) (sym same) each
@@ -87,9 +95,9 @@ pub end_kept : (xs ys : List End) (w : WorldState) → Keeps xs ys → HasEnd xs
 end_kept xs ys w keeps h = (h.0, h.1, keeps h.0 h.1 h.2, h.3)
 
 -- the end of a row that was pushed
-pub end_pushed : (t : Store) (i : ℕ) (w : WorldState) (e : End) (xs ys : List End) → ys ≡ xs ++ e ∷ [] → IsAt t i e.world → IsAt t i w → HasEnd ys w
+pub end_pushed : (t : Store) (i : ℕ) (w : WorldState) (e : End) (xs ys : List End) → ys ≡ xs ++ e ∷ [] → IsLike t i e.world → IsAt t i w → HasEnd ys w
 end_pushed t i w e xs ys is here there =
-    (length xs, e, ap (λ zs. slice_get zs (length xs)) is ∙ get_pushed xs e, at_unique t i e.world w here there)
+    (length xs, e, ap (λ zs. slice_get zs (length xs)) is ∙ get_pushed xs e, subst (λ v. AreAlike v e.world) (at_unique t i here.0 w here.1 there) here.2)
 
 waits_on : (s : Process) → IsWaiting s → HasEnded s → ⊥
 waits_on (Running m) waits ended = waits
@@ -103,9 +111,14 @@ stuck_verdict w verdict.Stuck stuck h = refl
 stuck_verdict w verdict.Open stuck h = absurd (h.1 stuck)
 
 -- where no end of all is stuck, no steps lead to a world that is
-pub never_stuck : (start : WorldState) (ends : List End) → Each (IsEnd start) ends → HaveAllEnds start ends → NoneStuck ends → NeverStuck start
-never_stuck start ends each all none ps stuck =
-    let rest = verdict_rests (run start ps) verdict.Stuck stuck (λ e. absurd (cc)) in
+pub never_stuck : (start : WorldState) (ends : List End) → IsConsistent start.kernel → Each (IsEnd start) ends → HaveAllEnds start ends → NoneStuck ends → NeverStuck start
+never_stuck start ends consistent each all none ps stuck =
+    let w = run start ps in
+    let rest = verdict_rests w verdict.Stuck stuck (λ e. absurd (cc)) in
     let has = all ps rest in
-    let stands = subst (λ w. IsVerdict w has.1.verdict) has.3 (each has.0 has.1 has.2).verdict in
-    none has.0 has.1 has.2 (stuck_verdict (run start ps) has.1.verdict stuck stands)
+    let stands = (each has.0 has.1 has.2).verdict in
+    none has.0 has.1 has.2 (stuck_verdict has.1.world has.1.verdict (stuck_alike w has.1.world (consistent_run ps start consistent) has.3 stuck) stands)
+
+-- the kernel of a laboratory before its first step is consistent
+pub fresh_consistent : (w : WorldState) (n : ℕ) → w.kernel ≡ empty_kernel n → IsConsistent w.kernel
+fresh_consistent w n is = subst IsConsistent (sym is) (consistent_empty n)

@@ -2,6 +2,8 @@
 use Rattle.std.proofs.Common.{ℕ, ◌≡◌, List, [], ◌∷◌, ◌++◌, Option, Some, None, refl, sym, ap, subst, ◌∙◌, slice_get, length}
 use Rattle.std.specs.Option.{option_map}
 use Rattle.ipc_kernel.specs.Kernel.{KernelState}
+use Rattle.ipc_kernel.specs.Alike.{IsAlike}
+use Rattle.ipc_kernel.proofs.Alikes.{alike_itself}
 use Rattle.lab_sched.specs.declared.process.Process.{Process as Kept}
 use Rattle.lab_sched.specs.Worlds.{Process, WorldState}
 use Rattle.lab_sched.specs.Held.{seen}
@@ -14,7 +16,7 @@ use Rattle.lab_explore.specs.declared.known.Moves.{Moves}
 use Rattle.lab_explore.specs.Known.{AreKnown}
 use Rattle.lab_explore.specs.Calls.{Alongside}
 use Rattle.lab_explore.specs.Closed.{HasAdvance}
-use Rattle.lab_explore.specs.Stored.{Each, IsState, IsRow, IsAt, Holds, IsReady, IsStore, Grows, IsNext, IsMove, HasEdge, IsTried, IsExpanded}
+use Rattle.lab_explore.specs.Stored.{Each, IsState, IsKernel, IsRow, IsAt, Holds, IsReady, IsStore, Grows, IsNext, IsMove, HasEdge, IsTried, IsExpanded}
 use Rattle.lab_explore.proofs.Pushes.{both_weaker, keeps_push, each_push, get_pushed}
 
 pub grows_none : (t : Store) → Grows t t
@@ -56,10 +58,13 @@ holds_grows t u w g h = (h.0, at_grows t u h.0 w g h.1)
 pub advance_grows : (t u : Store) (w : WorldState) → Grows t u → HasAdvance (Holds t) w → HasAdvance (Holds u) w
 advance_grows t u w g h = (h.0, holds_grows t u h.0 g h.1, h.2)
 
+pub kernel_grows : (t u : Store) (i : ℕ) (k : KernelState) → Grows t u → IsKernel t i k → IsKernel u i k
+kernel_grows t u i k g h = (h.0, g.kernels i h.0 h.1, h.2)
+
 pub next_grows : (t u : Store) (k : KernelState) (p : ℕ) (s : Process) (n : Next) → Grows t u → IsNext t k p s n → IsNext u k p s n
 next_grows t u k p s Nothing g h = h
 next_grows t u k p s Limit g h = h
-next_grows t u k p s (To kernel state taken) g h = (h.0, g.kernels kernel _ h.1, state_grows t u state h.0 g h.2, h.3)
+next_grows t u k p s (To kernel state taken) g h = (h.0, kernel_grows t u kernel _ g h.1, state_grows t u state h.0 g h.2, h.3)
 
 pub move_grows : (t u : Store) (kernel p state : ℕ) (n : Next) → Grows t u → IsMove t kernel p state n → IsMove u kernel p state n
 move_grows t u kernel p state n g h = (h.0, h.1, g.kernels kernel h.0 h.2, state_grows t u state h.1 g h.3, next_grows t u h.0 p h.1 n g h.4)
@@ -109,9 +114,12 @@ kernels_pushed t u k s kernels states rows edges =
     } in
     (g, store_grows t u s g (subst (λ xs. Each IsReady xs) (sym states) s.states) rows)
 
-pub kernel_pushed : (xs ys : List KernelState) (k : KernelState) (i : ℕ) → ys ≡ xs ++ k ∷ [] → i ≡ length xs → slice_get ys i ≡ Some k
+pub kernel_pushed : (xs ys : List KernelState) (k : KernelState) (i : ℕ) → ys ≡ xs ++ k ∷ [] → i ≡ length xs → (j : KernelState) × (slice_get ys i ≡ Some j) × IsAlike k j
 kernel_pushed xs ys k i kernels is =
-    ap (λ zs. slice_get zs i) kernels ∙ ap (λ n. slice_get (xs ++ k ∷ []) n) is ∙ get_pushed xs k
+    (k, at_end, alike_itself k)
+  where
+    at_end : slice_get ys i ≡ Some k
+    at_end = ap (λ zs. slice_get zs i) kernels ∙ ap (λ n. slice_get (xs ++ k ∷ []) n) is ∙ get_pushed xs k
 
 -- one row more
 pub rows_pushed : (t u : Store) (r : Row) → IsStore t → ((w : WorldState) × IsRow t r w) → u.rows.items ≡ t.rows.items ++ r ∷ [] → u.kernels.items ≡ t.kernels.items → u.states.items ≡ t.states.items

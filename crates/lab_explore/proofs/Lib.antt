@@ -1,3 +1,4 @@
+mod AlikeWorlds
 mod Ahead
 mod Simulates
 mod Advances

@@ -77,11 +77,11 @@ moved t r r' w p i kernel state taken is row e m kernel-is states-is = (v, to, a
     next = next_of t r w p i (To kernel state taken) s row (process_at t r w p i row e).2 m
 
     v : WorldState
-    v = record { processes = set w.processes p next.0; kernel = kernel_after w.kernel p turns }
+    v = record { processes = set w.processes p next.0; kernel = next.1.0 }
 
     to : IsRow t r' v
     to = record {
-      kernel = ap (λ n. slice_get t.kernels.items n) kernel-is ∙ next.1;
+      kernel = ap (λ n. slice_get t.kernels.items n) kernel-is ∙ next.1.1;
       states = subst (λ xs. Alongside (IsState t) xs v.processes) (sym states-is) (alongside_set (IsState t) r.states.items w.processes p i state s next.0 e here row.states next.2);
     }
 
@@ -90,7 +90,7 @@ moved t r r' w p i kernel state taken is row e m kernel-is states-is = (v, to, a
 
     ahead : AreReached (step w p) v
     ahead = subst (λ x. AreReached x v) (sym stepped_is) (record {
-      kernel = refl;
+      kernel = next.1.2;
       processes = alongside_set IsReached w.processes w.processes p s (process_after s turns) s next.0 here here (own_advance t r w is row) next.3;
     })
 

@@ -2,13 +2,15 @@
 use Rattle.std.proofs.Common.{ℕ, ◌≡◌, List, [], ◌∷◌, Option, Some, None, refl, sym, ap, subst, ◌∙◌, slice_get, inl, inr, ◌⊎◌, Contains}
 use Rattle.std.proofs.lemmas.Bool.Decides.{eqb_tells}
 use Rattle.lc3_machine.specs.Process.{Process as Machine}
-use Rattle.ipc_kernel.specs.Answer.{answer}
+use Rattle.ipc_kernel.specs.Alike.{IsConsistent}
+use Rattle.ipc_kernel.proofs.Alikes.{alike_then}
 use Rattle.lab_sched.specs.Worlds.{Process, Running, Waiting, Ended, WorldState, Act, moves, calls, act, Turn, nothing, local_step, kernel_step, turn, turn_in, told, after, step, run, IsEffective}
 use Rattle.lab_sched.proofs.Places.{get-set_same, get_past}
 use Rattle.lab_sched.proofs.Courses.{turn_local}
 use Rattle.lab_sched.proofs.Commutes.{after_other}
-use Rattle.lab_explore.specs.Calls.{IsAhead, Both, IsAdvance}
+use Rattle.lab_explore.specs.Calls.{AreAlike, IsAhead, Both, IsAdvance}
 use Rattle.lab_explore.specs.Closed.{HasAdvance, IsClosed, AreAtRest, HoldsEveryEnd}
+use Rattle.lab_explore.proofs.AlikeWorlds.{turn_alike, kernel_alike, consistent_after}
 use Rattle.lab_explore.proofs.Ahead.{stays, ahead_moves, ahead_of_ahead, rest_stays}
 
 -- a step of the same kind leaves a process in the same state, whatever the rest of the world
@@ -18,16 +20,11 @@ same_after w v p s nothing a b = a ∙ sym b
 same_after w v p s (local_step n) a b = get-set_same w.processes p (Running n) (get_past w.processes p s a) ∙ sym (get-set_same v.processes p (Running n) (get_past v.processes p s b))
 same_after w v p s (kernel_step m c r) a b = get-set_same w.processes p (told m c r) (get_past w.processes p s a) ∙ sym (get-set_same v.processes p (told m c r) (get_past v.processes p s b))
 
-pub kernel_after : (w v : WorldState) (p : ℕ) (t : Turn) → v.kernel ≡ w.kernel → (after v p t).kernel ≡ (after w p t).kernel
-kernel_after w v p nothing e = e
-kernel_after w v p (local_step n) e = e
-kernel_after w v p (kernel_step m c r) e = ap (λ k. (answer k p c).1) e
-
 -- where a process makes the same step in a world and in its advance, what is ahead of the one is ahead of the other
 both_step : (w v u : WorldState) (p : ℕ) (s : Process) (t : Turn) → slice_get w.processes p ≡ Some s → slice_get v.processes p ≡ Some s
-    → IsAdvance w v → IsAdvance (after v p t) u → IsAdvance (after w p t) u
-both_step w v u p s t a b h i = record {
-  kernel = i.kernel ∙ kernel_after w v p t h.kernel;
+    → IsConsistent w.kernel → IsAdvance w v → IsAdvance (after v p t) u → IsAdvance (after w p t) u
+both_step w v u p s t a b c h i = record {
+  kernel = alike_then (after w p t).kernel (after v p t).kernel u.kernel (kernel_alike w v p t c h.kernel) i.kernel;
   processes = λ j. elim (eqb_tells p j) [
     | inl same ↦ subst (λ n. Both IsAhead (slice_get (after w p t).processes n) (slice_get u.processes n)) same.1
         (subst (λ o. Both IsAhead o (slice_get u.processes p)) (sym (same_after w v p s t a b)) (i.processes p))
@@ -61,8 +58,8 @@ idle nothing = inl refl
 idle (local_step n) = inr tt
 idle (kernel_step m c r) = inr tt
 
-step_advance : (start : WorldState) (V : WorldState → Type 0) → IsClosed start V → (w : WorldState) (p : ℕ) → HasAdvance V w → HasAdvance V (step w p)
-step_advance start V closed w p has = by (slice_get w.processes p) (slice_get v.processes p) refl refl (h.processes p)
+step_advance : (start : WorldState) (V : WorldState → Type 0) → IsClosed start V → (w : WorldState) (p : ℕ) → IsConsistent w.kernel → HasAdvance V w → HasAdvance V (step w p)
+step_advance start V closed w p consistent has = by (slice_get w.processes p) (slice_get v.processes p) refl refl (h.processes p)
   where
     v : WorldState
     v = has.0
@@ -76,13 +73,13 @@ step_advance start V closed w p has = by (slice_get w.processes p) (slice_get v.
     -- a process at a call makes the same step in both worlds
     at_call : (s : Process) → slice_get w.processes p ≡ Some s → slice_get v.processes p ≡ Some s → HasAdvance V (step w p)
     at_call s a b =
-        let same : turn_in v p ≡ turn_in w p = ap (λ k. turn k p (slice_get v.processes p)) h.kernel ∙ ap (λ o. turn w.kernel p o) (b ∙ sym a) in
+        let same : turn_in v p ≡ turn_in w p = turn_alike w.kernel v.kernel p (slice_get v.processes p) consistent h.kernel ∙ ap (λ o. turn w.kernel p o) (b ∙ sym a) in
         elim (idle (turn_in w p)) [
           | inl none ↦ still none
           | inr effective ↦
               let next = closed.goes_on v p has.1 (subst IsEffective (sym same) effective) in
               let there = subst (λ t. IsAdvance (after v p t) next.0) same next.2 in
-              (next.0, next.1, both_step w v next.0 p s (turn_in w p) a b h there)
+              (next.0, next.1, both_step w v next.0 p s (turn_in w p) a b consistent h there)
         ]
 
     running : (m : Machine) (u : Process) (a : Act) → act m ≡ a → slice_get w.processes p ≡ Some (Running m) → slice_get v.processes p ≡ Some u → IsAhead (Running m) u → HasAdvance V (step w p)
@@ -100,16 +97,18 @@ step_advance start V closed w p has = by (slice_get w.processes p) (slice_get v.
     by (Some (Ended e)) (Some u) a b i = at_call (Ended e) a (b ∙ ap (λ x. Some x) (stays (Ended e) u tt i))
 
 -- the list has the advance of whatever world the steps lead to
-pub simulates : (start : WorldState) (V : WorldState → Type 0) → IsClosed start V → (ps : List ℕ) (w : WorldState) → HasAdvance V w → HasAdvance V (run w ps)
+pub simulates : (start : WorldState) (V : WorldState → Type 0) → IsClosed start V → (ps : List ℕ) (w : WorldState) → IsConsistent w.kernel → HasAdvance V w → HasAdvance V (run w ps)
 unfolding run
-simulates start V closed [] w has = has
-simulates start V closed (p ∷ ps) w has = simulates start V closed ps (step w p) (step_advance start V closed w p has)
+simulates start V closed [] w consistent has = has
+simulates start V closed (p ∷ ps) w consistent has =
+    simulates start V closed ps (step w p) (consistent_after w p (turn_in w p) consistent) (step_advance start V closed w p consistent has)
 
--- a closed set has each world at rest that any steps lead to
-pub has_every_end : (start : WorldState) (V : WorldState → Type 0) → IsClosed start V → (ps : List ℕ) → AreAtRest (run start ps) → V (run start ps)
-has_every_end start V closed ps rest =
-    let has = simulates start V closed ps start closed.begins in
-    subst V (rest_stays (run start ps) has.0 rest has.2) has.1
+-- a closed set has a world alike each world at rest that any steps lead to
+pub has_every_end : (start : WorldState) (V : WorldState → Type 0) → IsConsistent start.kernel → IsClosed start V → (ps : List ℕ) → AreAtRest (run start ps)
+    → (v : WorldState) × V v × AreAlike (run start ps) v
+has_every_end start V consistent closed ps rest =
+    let has = simulates start V closed ps start consistent closed.begins in
+    (has.0, has.1, rest_stays (run start ps) has.0 rest has.2)
 
 pub holds_every_end : HoldsEveryEnd
-holds_every_end start vs closed ps rest = has_every_end start (Contains vs) closed ps rest
+holds_every_end start vs consistent closed ps rest = has_every_end start (Contains vs) consistent closed ps rest

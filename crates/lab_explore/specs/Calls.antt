@@ -1,6 +1,7 @@
 -- Worlds at calls: where the local steps of their processes lead them.
 use Rattle.std.specs.Prelude.{ℕ, ◌≡◌, List, Option, Some, None, slice_get}
 use Rattle.ipc_kernel.specs.declared.call.Call.{Call}
+use Rattle.ipc_kernel.specs.Alike.{IsAlike}
 use Rattle.lab_sched.specs.Worlds.{Process, Running, Waiting, Ended, WorldState, calls, act}
 use Rattle.lab_sched.specs.Alone.{AreLocal}
 
@@ -27,7 +28,12 @@ Both R (Some x) None = ⊥
 abbrev pub Alongside : {A B : Type 0} → (A → B → Type 0) → List A → List B → Type 0
 Alongside R xs ys = (p : ℕ) → Both R (slice_get xs p) (slice_get ys p)
 
--- v is w after all local steps of its processes
+-- the same processes, over kernels that are alike
+pub record AreAlike (w v : WorldState) : Type 0 where
+  pub processes : v.processes ≡ w.processes
+  pub kernel : IsAlike w.kernel v.kernel
+
+-- v is w after all local steps of its processes, over a kernel that is alike
 pub record IsAdvance (w v : WorldState) : Type 0 where
-  pub kernel : v.kernel ≡ w.kernel
+  pub kernel : IsAlike w.kernel v.kernel
   pub processes : Alongside IsAhead w.processes v.processes

@@ -1,10 +1,11 @@
 -- Sets of worlds that hold whatever can happen from a start, and the ends that they hold.
 use Rattle.std.specs.Prelude.{ℕ, ◌≡◌, List, Some, Contains, slice_get}
+use Rattle.ipc_kernel.specs.Alike.{IsConsistent}
 use Rattle.lab_sched.specs.Worlds.{Process, WorldState, turn_in, step, run, IsEffective}
 use Rattle.lab_sched.specs.Finished.{IsAtRest}
-use Rattle.lab_explore.specs.Calls.{IsAdvance}
+use Rattle.lab_explore.specs.Calls.{AreAlike, IsAdvance}
 
--- a world of the set is the world after all local steps of its processes
+-- a world of the set is the world after all local steps of its processes, over a kernel that is alike
 abbrev pub HasAdvance : (WorldState → Type 0) → WorldState → Type 0
 HasAdvance V w = (v : WorldState) × V v × IsAdvance w v
 
@@ -17,8 +18,8 @@ pub record IsClosed (start : WorldState) (V : WorldState → Type 0) : Type 0 wh
 abbrev pub AreAtRest : WorldState → Type 0
 AreAtRest w = (p : ℕ) (s : Process) → slice_get w.processes p ≡ Some s → IsAtRest w.kernel p s
 
--- a closed list of worlds holds every end: whatever steps are taken from the start, effective or not, the world after
--- them is in the list if it is at rest
+-- a closed list of worlds holds every end: whatever steps are taken from the start, effective or not, a world alike the
+-- world after them is in the list if it is at rest
 abbrev pub HoldsEveryEnd : Type 0
-HoldsEveryEnd = (start : WorldState) (vs : List WorldState) → IsClosed start (Contains vs)
-    → (ps : List ℕ) → AreAtRest (run start ps) → Contains vs (run start ps)
+HoldsEveryEnd = (start : WorldState) (vs : List WorldState) → IsConsistent start.kernel → IsClosed start (Contains vs)
+    → (ps : List ℕ) → AreAtRest (run start ps) → (v : WorldState) × Contains vs v × AreAlike (run start ps) v

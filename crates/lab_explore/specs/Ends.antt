@@ -10,6 +10,7 @@ use Rattle.lab_sched.specs.Verdicts.{IsVerdict, AreStuck}
 use Rattle.lab_sched.specs.declared.verdict.Verdict.TheVariants.{Open, Stuck}
 use Rattle.lab_explore.specs.declared.ends.End.{End}
 use Rattle.lab_explore.specs.declared.ends.Walk.{Walk}
+use Rattle.lab_explore.specs.Calls.{AreAlike}
 use Rattle.lab_explore.specs.Closed.{AreAtRest}
 use Rattle.lab_explore.specs.Stored.{Each}
 
@@ -30,11 +31,12 @@ pub record IsEnd (start : WorldState) (e : End) : Type 0 where
   pub verdict : IsVerdict e.world e.verdict
   pub closed : e.verdict ≡ Open → ⊥
 
--- one of the ends is in the world
+-- one of the ends is in a world alike: with the same processes, over a kernel that is alike
 abbrev pub HasEnd : List End → WorldState → Type 0
-HasEnd ends w = (i : ℕ) × (e : End) × (slice_get ends i ≡ Some e) × (e.world ≡ w)
+HasEnd ends w = (i : ℕ) × (e : End) × (slice_get ends i ≡ Some e) × AreAlike w e.world
 
--- whatever steps are taken from the start, effective or not: if the world after them is at rest, one of the ends is in it
+-- whatever steps are taken from the start, effective or not: if the world after them is at rest, one of the ends is in a
+-- world alike
 abbrev pub HaveAllEnds : WorldState → List End → Type 0
 HaveAllEnds start ends = (ps : List ℕ) → AreAtRest (run start ps) → HasEnd ends (run start ps)
 

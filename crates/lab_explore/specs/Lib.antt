@@ -1,4 +1,5 @@
 pub mod Calls
+pub mod Alikes
 pub mod Closed
 pub mod Stored
 pub mod Ends

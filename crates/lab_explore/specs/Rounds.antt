@@ -1,18 +1,19 @@
--- Runs that never end: rounds, by which steps lead from a world to itself, and what shows that there is none.
+-- Runs that never end: rounds, by which steps lead from a world to one alike, and what shows that there is none.
 use Rattle.std.specs.Prelude.{ℕ, ◌≡◌, ◌<◌, ◌≤◌, List, Some, length, slice_get}
 use Rattle.lab_sched.specs.Worlds.{WorldState, run}
 use Rattle.lab_sched.specs.Course.{AreEffective}
 use Rattle.lab_sched.specs.Schedules.{steps_of}
 use Rattle.lab_explore.specs.declared.store.Edge.{Edge}
 use Rattle.lab_explore.specs.declared.rounds.Round.{Round}
+use Rattle.lab_explore.specs.Calls.{AreAlike}
 use Rattle.lab_explore.specs.Stored.{Each}
 
--- effective steps lead from the start to a world, and others, at least one, from that world to itself
+-- effective steps lead from the start to a world, and others, at least one, from that world to one alike
 pub record IsRound (start : WorldState) (r : Round) : Type 0 where
   pub effective : AreEffective start (steps_of r.schedule)
   pub some : 1 ≤ length (steps_of r.steps)
   pub goes_on : AreEffective (run start (steps_of r.schedule)) (steps_of r.steps)
-  pub returns : run (run start (steps_of r.schedule)) (steps_of r.steps) ≡ run start (steps_of r.schedule)
+  pub returns : AreAlike (run start (steps_of r.schedule)) (run (run start (steps_of r.schedule)) (steps_of r.steps))
 
 -- there are lists of effective steps as long as one likes
 abbrev pub AreEndless : WorldState → Type 0

@@ -2,6 +2,7 @@
 use Rattle.std.specs.Prelude.{ℕ, ◌≡◌, ◌<◌, ◌^◌, List, Option, Some, None, length, slice_get}
 use Rattle.std.specs.Option.{option_map}
 use Rattle.ipc_kernel.specs.Kernel.{KernelState}
+use Rattle.ipc_kernel.specs.Alike.{IsAlike}
 use Rattle.lab_sched.specs.declared.process.Process.{Process as Kept}
 use Rattle.lab_sched.specs.Worlds.{Process, WorldState, nothing, turn, turn_in, step, IsEffective}
 use Rattle.lab_sched.specs.Held.{seen, IsHeld, process_after, kernel_after}
@@ -13,7 +14,7 @@ use Rattle.lab_explore.specs.declared.store.Next.TheVariants.{Nothing, Limit, To
 use Rattle.lab_explore.specs.declared.trying.Made.{Made}
 use Rattle.lab_explore.specs.declared.trying.Tried.{Tried}
 use Rattle.lab_explore.specs.declared.trying.Tried.TheVariants.{Still, Runs, Came}
-use Rattle.lab_explore.specs.Calls.{IsAtCall, IsAhead, Alongside}
+use Rattle.lab_explore.specs.Calls.{AreAlike, IsAtCall, IsAhead, Alongside}
 use Rattle.lab_explore.specs.Closed.{HasAdvance}
 
 -- P holds of each element
@@ -36,6 +37,10 @@ pub record IsRow (t : Store) (r : Row) (w : WorldState) : Type 0 where
 -- row number i stands for the world
 abbrev pub IsAt : Store → ℕ → WorldState → Type 0
 IsAt t i w = (r : Row) × (slice_get t.rows.items i ≡ Some r) × IsRow t r w
+
+-- row number i stands for a world that the world is alike
+abbrev pub IsLike : Store → ℕ → WorldState → Type 0
+IsLike t i w = (v : WorldState) × IsAt t i v × AreAlike v w
 
 -- some row stands for the world
 abbrev pub Holds : Store → WorldState → Type 0
@@ -62,17 +67,21 @@ pub record IsReached (s u : Process) : Type 0 where
   pub ahead : IsAhead s u
   pub few : ahead.taken < 2 ^ 32
 
--- v is w after all local steps of its processes, fewer than 2^32 of each
+-- v is w after all local steps of its processes, fewer than 2^32 of each, over a kernel that is alike
 pub record AreReached (w v : WorldState) : Type 0 where
-  pub kernel : v.kernel ≡ w.kernel
+  pub kernel : IsAlike w.kernel v.kernel
   pub processes : Alongside IsReached w.processes v.processes
+
+-- the kernel at a place is alike a kernel
+abbrev pub IsKernel : Store → ℕ → KernelState → Type 0
+IsKernel t i k = (j : KernelState) × (slice_get t.kernels.items i ≡ Some j) × IsAlike k j
 
 -- what a step of process p makes of it and of the kernel, and of it then all its local steps
 abbrev pub IsNext : Store → KernelState → ℕ → Process → Next → Type 0
 IsNext t k p s Nothing = turn k p (Some s) ≡ nothing
 IsNext t k p s Limit = Unit {0}
 IsNext t k p s (To kernel state taken) =
-    (u : Process) × (slice_get t.kernels.items kernel ≡ Some (kernel_after k p (turn k p (Some s)))) × IsState t state u
+    (u : Process) × IsKernel t kernel (kernel_after k p (turn k p (Some s))) × IsState t state u
     × IsReached (process_after s (turn k p (Some s))) u
 
 -- the same where the kernel and the process are given by their places

@@ -7,7 +7,7 @@ ghost use Rattle.lab_sched.specs.declared.verdict.Verdict.TheVariants.{Open};
 ghost use Rattle.lab_sched.specs.declared.stepped.Stepped.TheVariants.{Same};
 ghost use Rattle.lab_sched.specs.Finished.{IsAtRest};
 ghost use Rattle.lab_explore.specs.Closed.{AreAtRest};
-ghost use Rattle.lab_explore.specs.Stored.{IsState, IsAt, Each, Keeps};
+ghost use Rattle.lab_explore.specs.Stored.{IsState, IsAt, IsLike, Each, Keeps};
 ghost use Rattle.lab_explore.specs.Ends.{first_world, IsWalk, IsEnd, HasEnd};
 
 use crate::ExploreFault;
@@ -114,9 +114,9 @@ impl Store {
         }
     }
 
-    /// Whether a row stands for a world.
+    /// Whether a row stands for a world alike.
     pub(crate) fn is_row(&self, at: usize, world: &World) -> bool
-        ensures same { IsTrue result → IsAt self.now at world.now }
+        ensures alike { IsTrue result → IsLike self.now at world.now }
     {
         let Some(row) = self.rows.get(at) else {
             return false;
@@ -124,7 +124,7 @@ impl Store {
         let Some(kernel) = self.kernels.get(row.kernel as usize) else {
             return false;
         };
-        if row.states.len() != world.count() || !kernel.is_same(world.kernel()) {
+        if row.states.len() != world.count() || !kernel.is_alike(world.kernel()) {
             return false;
         }
         for (pid, state) in row.states.iter().enumerate() {
@@ -235,10 +235,10 @@ impl Search {
         go_local(walk, local.as_slice())
     }
 
-    /// The end that a walk came to, which must be that of a row.
+    /// The end that a walk came to, which must be alike that of a row.
     fn end_of(&self, at: usize, walk: Walk) -> Result<End, ExploreFault>
         ensures end { IfOk result (λ e. (start : WorldState) → IsWalk start walk → IsEnd start e) }
-        ensures row { IfOk result (λ e. IsAt self.now.store at e.world) }
+        ensures row { IfOk result (λ e. IsLike self.now.store at e.world) }
     {
         let Walk { world, schedule } = walk;
         let verdict = world.verdict();
@@ -261,7 +261,7 @@ impl Search {
         requires some { 1 ≤ length processes.now }
         requires few { length processes.now ≤ 64 }
         ensures end { IfOk result (λ e. IsEnd (first_world processes.now) e) }
-        ensures row { IfOk result (λ e. IsAt self.now.store at e.world) }
+        ensures row { IfOk result (λ e. IsLike self.now.store at e.world) }
     {
         let mut walk = Walk {
             world: world_of(alloc, processes)?,

@@ -1,10 +1,10 @@
-//! Rounds: steps that lead from a world to itself, so that some interleaving never ends.
+//! Rounds: steps that lead from a world to one alike, so that some interleaving never ends.
 ghost use Rattle.std.specs.Prelude.{◌≡◌, ◌≤◌, ℕ, All, IsTrue, length, map, None, IfOk, IfSome, OnOk};
 ghost use Rattle.lab_sched.specs.Worlds.{HaveOneProfile, WorldState};
 ghost use Rattle.lab_sched.specs.Held.{seen};
 ghost use Rattle.lab_sched.specs.Starts.{Runs};
 ghost use Rattle.lab_sched.specs.Schedules.{steps_of};
-ghost use Rattle.lab_explore.specs.Stored.{IsAt};
+ghost use Rattle.lab_explore.specs.Stored.{IsLike};
 ghost use Rattle.lab_explore.specs.Ends.{first_world, IsWalk};
 ghost use Rattle.lab_explore.specs.Rounds.{IsRound, AreRising};
 
@@ -17,7 +17,7 @@ use crate::trying::discard;
 use lab_sched::{Process, Schedule};
 use std::alloc::Global;
 
-/// A schedule that leads to a world, and steps from that world to itself, at least one. They can be repeated for ever.
+/// A schedule that leads to a world, and steps from that world to one alike, at least one. They can be repeated for ever.
 #[derive(Drop)]
 pub struct Round {
     pub schedule: Schedule,
@@ -36,12 +36,12 @@ fn go_edges(walk: &mut Walk, edges: &[Edge]) -> Result<(), ExploreFault>
 }
 
 impl Search {
-    /// The round by a schedule that led to the world of a row, and by steps from there, which must have led to it again.
+    /// The round by a schedule that led to the world of a row, and by steps from there, which must have led to a world alike.
     fn closed(&self, at: usize, schedule: Schedule, walk: Walk) -> Result<Round, ExploreFault>
         ensures schedule { IfOk result (λ r. r.schedule ≡ schedule) }
         ensures steps { IfOk result (λ r. r.steps ≡ walk.schedule) }
         ensures some { IfOk result (λ r. 1 ≤ length (steps_of r.steps)) }
-        ensures row { IfOk result (λ r. IsAt self.now.store at walk.world) }
+        ensures row { IfOk result (λ r. IsLike self.now.store at walk.world) }
     {
         let Walk {
             world,

@@ -3,7 +3,7 @@ ghost use Rattle.std.specs.Prelude.{◌≡◌, ◌<◌, ℕ, Some, IsTrue, true,
 ghost use Rattle.std.specs.Option.{option_map};
 ghost use Rattle.lab_sched.specs.Worlds.{WorldState};
 ghost use Rattle.lab_sched.specs.Held.{seen, IsHeld};
-ghost use Rattle.lab_explore.specs.Stored.{IsState, IsRow, IsAt, Holds, IsReady, IsStore, Grows, IsMove, IsTried, IsExpanded};
+ghost use Rattle.lab_explore.specs.Stored.{IsState, IsKernel, IsRow, IsAt, Holds, IsReady, IsStore, Grows, IsMove, IsTried, IsExpanded};
 
 use crate::index::Index;
 use ipc_kernel::Kernel;
@@ -99,15 +99,15 @@ impl Store {
         None
     }
 
-    /// The place of a kernel, if it is kept.
+    /// The place of a kernel that is alike, if one is kept.
     fn find_kernel(&self, kernel: &Kernel, hash: u64) -> Option<usize>
-        ensures found { IfSome result (λ i. slice_get self.now.kernels.items i ≡ Some kernel.now) }
+        ensures found { IfSome result (λ i. IsKernel self.now i kernel.now) }
     {
         let mut number = self.kernel_index.newest(hash);
         while number > 0 {
             let at = number - 1;
             if let Some(kept) = self.kernels.get(at) {
-                if kept.is_same(kernel) {
+                if kernel.is_alike(kept) {
                     return Some(at);
                 }
             }
@@ -135,12 +135,12 @@ impl Store {
         Ok(place)
     }
 
-    /// Keeps a kernel; with its place.
+    /// Keeps a kernel, if none is kept that is alike; with the place.
     pub(crate) fn keep_kernel(&mut self, kernel: Kernel) -> Result<u32, AllocError>
         requires store { IsStore self.old }
         ensures store { OnOk result (IsStore self.new) }
         ensures grows { OnOk result (Grows self.old self.new) }
-        ensures kernel { IfOk result (λ i. slice_get self.new.kernels.items i ≡ Some kernel) }
+        ensures kernel { IfOk result (λ i. IsKernel self.new i kernel) }
     {
         let hash = kernel.digest();
         if let Some(at) = self.find_kernel(&kernel, hash) {

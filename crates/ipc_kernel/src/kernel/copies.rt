@@ -5,6 +5,15 @@ use super::Kernel;
 use std::alloc::{AllocError, Global};
 use std::hash::{FoldHasher, Hasher};
 
+/// The sum of numbers, whatever their order.
+fn sum_of(numbers: &[u64]) -> u64 {
+    let mut sum = 0_u64;
+    for number in numbers {
+        sum = sum.wrapping_add(*number);
+    }
+    sum
+}
+
 impl Kernel {
     /// An equal kernel.
     pub fn copy(&self, alloc: Global) -> Result<Kernel, AllocError>
@@ -22,11 +31,12 @@ impl Kernel {
         self.processes.is_same(&other.processes) && self.places.is_same(&other.places)
     }
 
-    /// A number that is the same for equal kernels and, as a rule, another for others.
+    /// A number that is the same for kernels that are alike and, as a rule, another for others.
     pub fn digest(&self) -> u64 {
+        let objects = self.places.digests();
         let mut hasher = FoldHasher::default();
-        self.places.feed(&mut hasher);
-        self.processes.feed(&mut hasher);
+        hasher.write_u64(sum_of(&objects));
+        self.processes.feed(&objects, &mut hasher);
         hasher.finish()
     }
 }

@@ -80,9 +80,9 @@ impl Place {
     }
 
     /// Adds what the place holds to a digest.
-    pub(crate) fn feed(&self, hasher: &mut FoldHasher) {
+    fn feed(&self, hasher: &mut FoldHasher) {
         match self {
-            Place::Empty => hasher.write_u8(0),
+            Place::Empty => {}
             Place::Mq { name, queue } => {
                 hasher.write_u8(1);
                 feed_name(name, hasher);
@@ -94,5 +94,15 @@ impl Place {
                 hasher.write_u16(semaphore.value());
             }
         }
+    }
+
+    /// A number for what the place holds, and 0 for an empty place.
+    pub(crate) fn digest(&self) -> u64 {
+        if self.is_empty() {
+            return 0;
+        }
+        let mut hasher = FoldHasher::default();
+        self.feed(&mut hasher);
+        hasher.finish()
     }
 }

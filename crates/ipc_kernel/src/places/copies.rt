@@ -1,10 +1,9 @@
 //! Copies of the places, and whether they hold the same.
 ghost use Rattle.std.specs.Prelude.{◌≡◌, ◌↔◌, IfOk, IsTrue};
 
-use super::Places;
+use super::{PLACES, Places};
 use crate::place::Place;
 use std::alloc::{AllocError, Global};
-use std::hash::FoldHasher;
 
 fn copies_of(alloc: Global, places: &[Place]) -> Result<Vec<Place>, AllocError>
     ensures { IfOk result (λ copies. copies.items ≡ places.now) }
@@ -53,10 +52,14 @@ impl Places {
         are_same(self.places.as_slice(), other.places.as_slice())
     }
 
-    /// Adds what the places hold to a digest.
-    pub(crate) fn feed(&self, hasher: &mut FoldHasher) {
-        for place in &self.places {
-            place.feed(hasher);
+    /// A number for what each place holds, and 0 for an empty place.
+    pub(crate) fn digests(&self) -> [u64; PLACES] {
+        let mut digests = [0; PLACES];
+        for (at, place) in self.places.iter().enumerate() {
+            if at < PLACES {
+                digests[at] = place.digest();
+            }
         }
+        digests
     }
 }

@@ -6,12 +6,20 @@ use crate::process::Process;
 use std::alloc::{AllocError, Global};
 use std::hash::{FoldHasher, Hasher};
 
-/// Adds the open descriptors and slots of a process to a digest.
-fn feed_process(process: &Process, hasher: &mut FoldHasher) {
+/// The number of the object in a place.
+fn object_at(objects: &[u64], place: u8) -> u64 {
+    match objects.get(place as usize) {
+        Some(object) => *object,
+        None => 0,
+    }
+}
+
+/// Adds the open descriptors and slots of a process to a digest, each with the number of its object.
+fn feed_process(process: &Process, objects: &[u64], hasher: &mut FoldHasher) {
     for (i, descriptor) in process.descriptors.iter().enumerate() {
         if let Some(descriptor) = descriptor {
             hasher.write_usize(i);
-            hasher.write_u8(descriptor.place);
+            hasher.write_u64(object_at(objects, descriptor.place));
             hasher.write_u8(descriptor.access);
             hasher.write_u8(descriptor.nonblock as u8);
         }
@@ -19,7 +27,7 @@ fn feed_process(process: &Process, hasher: &mut FoldHasher) {
     for (i, slot) in process.slots.iter().enumerate() {
         if let Some(slot) = slot {
             hasher.write_usize(i);
-            hasher.write_u8(slot.place);
+            hasher.write_u64(object_at(objects, slot.place));
             hasher.write_u8(slot.opens);
         }
     }
@@ -44,11 +52,11 @@ impl Processes {
         self.tables.as_slice() == other.tables.as_slice()
     }
 
-    /// Adds the tables to a digest.
-    pub(crate) fn feed(&self, hasher: &mut FoldHasher) {
+    /// Adds the tables to a digest, by the numbers of the objects to which they refer.
+    pub(crate) fn feed(&self, objects: &[u64], hasher: &mut FoldHasher) {
         for process in &self.tables {
             hasher.write_u8(0);
-            feed_process(process, hasher);
+            feed_process(process, objects, hasher);
         }
     }
 }

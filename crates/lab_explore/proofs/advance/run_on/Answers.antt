@@ -1,4 +1,4 @@
-use Rattle.std.proofs.Common.{arith, ◌+◌, subst, sym}
+use Rattle.std.proofs.Common.{arith, subst, sym}
 use Rattle.lab_sched.specs.Held.{seen}
 use Rattle.lab_sched.specs.Alone.{AreLocal}
 use Rattle.lab_sched.proofs.Alones.{local-append}

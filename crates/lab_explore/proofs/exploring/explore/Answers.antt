@@ -7,7 +7,7 @@ use Rattle.lab_explore.specs.Rounds.{IsRound, AreBounded}
 use Rattle.lab_explore.proofs.Begins.{all_closed}
 use Rattle.lab_explore.proofs.Bounds.{searched_bounded}
 use Rattle.lab_explore.proofs.Cycles.{some_endless}
-use Rattle.lab_explore.proofs.Explorations.{started, same_ends, all_ends, never_stuck}
+use Rattle.lab_explore.proofs.Explorations.{started, same_ends, all_ends, never_stuck, fresh_consistent}
 use Rattle.lab_explore.proofs.exploring.explore.Goals as goal
 
 pub returns-in-Ok-clause-sound : goal.returns-in-Ok-clause-sound
@@ -24,12 +24,12 @@ returns-in-Ok-clause-complete g c is =
     let processes = ap (map seen) c.deref.ensures.value ∙ c.processes-processes.ensures.processes in
     let count : c.len.result ≡ length ps = omega (arith, ap length c.deref.ensures.value) in
     let same = started c.args.fresh ps c.in_ok-kernel.kernel c.len.result processes c.processes-processes.ensures.empty count c.in_ok-kernel.ensures.empty in
-    all_ends c.args.fresh start c.in_ok-search.search.store c.in-Ok.found.ends.items same
+    all_ends c.args.fresh start c.in_ok-search.search.store c.in-Ok.found.ends.items same (fresh_consistent start c.len.result c.in_ok-kernel.ensures.empty)
     (all_closed c.in_ok-search.search.store start (c.in_ok-search.ensures.complete (c.in-Ok.ensures.complete is))) c.in-Ok.ensures.all
 
 pub returns-in-Ok-clause-free : goal.returns-in-Ok-clause-free
 returns-in-Ok-clause-free g c is none =
-    never_stuck c.args.fresh c.in-Ok.found.ends.items (returns-in-Ok-clause-sound g c) (returns-in-Ok-clause-complete g c is) none
+    never_stuck c.args.fresh c.in-Ok.found.ends.items (fresh_consistent c.args.fresh _ c.processes-processes.ensures.empty) (returns-in-Ok-clause-sound g c) (returns-in-Ok-clause-complete g c is) none
 
 pub returns-in-Ok-clause-round : goal.returns-in-Ok-clause-round
 returns-in-Ok-clause-round g c =
@@ -39,7 +39,7 @@ returns-in-Ok-clause-round g c =
     subst (λ w. IfSome c.in-Ok.found.round (λ r. IsRound w r)) (sym same) c.in-Ok.ensures.round
 
 pub returns-in-Ok-clause-endless : goal.returns-in-Ok-clause-endless
-returns-in-Ok-clause-endless g c = some_endless c.args.fresh c.in-Ok.found.round (returns-in-Ok-clause-round g c)
+returns-in-Ok-clause-endless g c = some_endless c.args.fresh c.in-Ok.found.round (fresh_consistent c.args.fresh _ c.processes-processes.ensures.empty) (returns-in-Ok-clause-round g c)
 
 pub returns-in-Ok-clause-bounded : goal.returns-in-Ok-clause-bounded
 returns-in-Ok-clause-bounded g c is none =
@@ -48,4 +48,4 @@ returns-in-Ok-clause-bounded g c is none =
     let processes = ap (map seen) c.deref.ensures.value ∙ c.processes-processes.ensures.processes in
     let count : c.len.result ≡ length ps = omega (arith, ap length c.deref.ensures.value) in
     let same = started c.args.fresh ps c.in_ok-kernel.kernel c.len.result processes c.processes-processes.ensures.empty count c.in_ok-kernel.ensures.empty in
-    subst AreBounded (sym same) (searched_bounded c.in_ok-search.search.store start (c.in_ok-search.ensures.complete (c.in-Ok.ensures.complete is)) (c.in-Ok.ensures.none none))
+    subst AreBounded (sym same) (searched_bounded c.in_ok-search.search.store start (fresh_consistent start c.len.result c.in_ok-kernel.ensures.empty) (c.in_ok-search.ensures.complete (c.in-Ok.ensures.complete is)) (c.in-Ok.ensures.none none))

@@ -1,0 +1,165 @@
+-- Consistent kernels, and what each change makes of one.
+use Rattle.std.proofs.Common.{◌≡◌, ◌≢◌, ℕ, Bool, true, false, cond, ◌||◌, List, [], ◌∷◌, length, set, length-set, Option, Some, None, unwrap_or, slice_get, zero, suc, replicate, refl, sym, ap, subst, ◌∙◌, ◌⊎◌, inl, inr, arith}
+use Rattle.std.specs.List.{list_any}
+use Rattle.std.proofs.lemmas.Bool.{cases_lt}
+use Rattle.std.proofs.lemmas.Bool.Decides.{eqb_tells}
+use Rattle.std.proofs.lemmas.Option.{unwrap_or-slice_get}
+use Rattle.std.proofs.lemmas.List.{get_or-replicate, get_or_past, length-replicate}
+use Rattle.ipc_kernel.specs.declared.place.Place.{Place}
+use Rattle.ipc_kernel.specs.declared.place.Place.TheVariants.{Empty}
+use Rattle.ipc_kernel.specs.declared.process.Process.{Process}
+use Rattle.ipc_kernel.specs.declared.process.Slot.{Slot}
+use Rattle.ipc_kernel.specs.declared.process.Descriptor.{Descriptor}
+use Rattle.ipc_kernel.specs.Processes.{process_at, descriptor_of, slot_of, slot_refers, descriptor_refers, process_refers, is_referred, with_descriptor, with_slot, closed_process}
+use Rattle.ipc_kernel.specs.Places.{place_at, has_name, kept, queue_name, semaphore_name}
+use Rattle.ipc_kernel.specs.Kernel.{KernelState, empty_kernel}
+use Rattle.ipc_kernel.specs.Alike.{AreDistinct, IsConsistent}
+use Rattle.ipc_kernel.proofs.PlaceLemmas.{length-emptied}
+use Rattle.ipc_kernel.proofs.IndexLemmas.{place_at-set_same, place_at-set_other, place_at-past}
+use Rattle.ipc_kernel.proofs.Alikes.{done, place_at-emptied}
+
+or_false : (a b : Bool) → (a || b) ≡ false → (a ≡ false) × (b ≡ false)
+or_false true b e = cc
+or_false false b e = (refl, e)
+
+none_at : {A : Type 0} (q : A → Bool) (d : A) → q d ≡ false → (xs : List A) (i : ℕ) → list_any q xs ≡ false → q (unwrap_or (slice_get xs i) d) ≡ false
+none_at q d is [] i e = is
+none_at q d is (x ∷ xs) zero e = (or_false (q x) (list_any q xs) e).0
+none_at q d is (x ∷ xs) (suc i) e = none_at q d is xs i (or_false (q x) (list_any q xs) e).1
+
+none_set : {A : Type 0} (q : A → Bool) (xs : List A) (i : ℕ) (y : A) → list_any q xs ≡ false → q y ≡ false → list_any q (set xs i y) ≡ false
+none_set q [] i y e d = refl
+none_set q (x ∷ xs) zero y e d = rw d (or_false (q x) (list_any q xs) e).1
+none_set q (x ∷ xs) (suc i) y e d = let first = or_false (q x) (list_any q xs) e in rw first.0 (none_set q xs i y first.1 d)
+
+abbrev nobody : Process
+nobody = record { descriptors = []; slots = [] }
+
+-- the tables of one process, where none refers to a place
+tables_unreferred : (ps : List Process) (p i : ℕ) → is_referred ps i ≡ false
+    → (list_any (descriptor_refers i) (process_at ps p).descriptors ≡ false) × (list_any (slot_refers i) (process_at ps p).slots ≡ false)
+tables_unreferred ps p i e = or_false _ _ (none_at (process_refers i) nobody refl ps p e)
+
+pub descriptor_unreferred : (ps : List Process) (p d i : ℕ) → is_referred ps i ≡ false → descriptor_refers i (descriptor_of ps p d) ≡ false
+descriptor_unreferred ps p d i e = none_at (descriptor_refers i) None refl (process_at ps p).descriptors d (tables_unreferred ps p i e).0
+
+pub slot_unreferred : (ps : List Process) (p s i : ℕ) → is_referred ps i ≡ false → slot_refers i (slot_of ps p s) ≡ false
+slot_unreferred ps p s i e = none_at (slot_refers i) None refl (process_at ps p).slots s (tables_unreferred ps p i e).1
+
+with_descriptor_unreferred : (ps : List Process) (p d i : ℕ) (v : Option Descriptor) → is_referred ps i ≡ false → descriptor_refers i v ≡ false → is_referred (with_descriptor ps p d v) i ≡ false
+with_descriptor_unreferred ps p d i v e n =
+    let tables = tables_unreferred ps p i e in
+    none_set (process_refers i) ps p _ e (rw (none_set (descriptor_refers i) (process_at ps p).descriptors d v tables.0 n, tables.1) refl)
+
+with_slot_unreferred : (ps : List Process) (p s i : ℕ) (v : Option Slot) → is_referred ps i ≡ false → slot_refers i v ≡ false → is_referred (with_slot ps p s v) i ≡ false
+with_slot_unreferred ps p s i v e n =
+    let tables = tables_unreferred ps p i e in
+    none_set (process_refers i) ps p _ e (rw (tables.0, none_set (slot_refers i) (process_at ps p).slots s v tables.1 n) refl)
+
+-- a place that the rule leaves is the place, or it is empty
+kept_name : (name_of : Place → Option (List ℕ)) → name_of Empty ≡ None → (processes : List Process) (i : ℕ) (p : Place) (n : List ℕ) → name_of (kept processes i p) ≡ Some n → name_of p ≡ Some n
+kept_name name_of nameless processes i p n e = by_case (has_name p || is_referred processes i) e
+  where
+    by_case : (b : Bool) → name_of (cond b p Empty) ≡ Some n → name_of p ≡ Some n
+    by_case true h = h
+    by_case false h = cc
+
+kept_referred : (processes : List Process) (i : ℕ) (p : Place) → kept processes i p ≡ Empty → (p ≡ Empty → is_referred processes i ≡ false) → is_referred processes i ≡ false
+kept_referred processes i p e h = by_case (is_referred processes i) refl
+  where
+    or_true : (b : Bool) → (b || true) ≡ true
+    or_true true = refl
+    or_true false = refl
+
+    by_case : (b : Bool) → is_referred processes i ≡ b → is_referred processes i ≡ false
+    by_case false same = same
+    by_case true same = h (subst (λ b. cond b p Empty ≡ Empty) (or_true (has_name p)) (subst (λ b. cond (has_name p || b) p Empty ≡ Empty) same e))
+
+distinct_done : (name_of : Place → Option (List ℕ)) → name_of Empty ≡ None → (k : KernelState) → AreDistinct name_of k.places → AreDistinct name_of (done k).places
+distinct_done name_of nameless k s i j n a b = s i j n (here i a) (here j b)
+  where
+    here : (m : ℕ) → name_of (place_at (done k).places m) ≡ Some n → name_of (place_at k.places m) ≡ Some n
+    here m e = kept_name name_of nameless k.processes m (place_at k.places m) n (sym (ap name_of (place_at-emptied k.processes k.places m)) ∙ e)
+
+pub consistent_done : (k : KernelState) → IsConsistent k → IsConsistent (done k)
+consistent_done k s = record {
+  count = length-emptied k.processes k.places ∙ s.count;
+  referred = λ i e. kept_referred k.processes i (place_at k.places i) (sym (place_at-emptied k.processes k.places i) ∙ e) (s.referred i);
+  queues = distinct_done queue_name refl k s.queues;
+  semaphores = distinct_done semaphore_name refl k s.semaphores;
+}
+
+-- no place but a has the name of x
+abbrev pub IsFree : (Place → Option (List ℕ)) → List Place → ℕ → Place → Type 0
+IsFree name_of ps a x = (i : ℕ) (n : List ℕ) → name_of x ≡ Some n → name_of (place_at ps i) ≡ Some n → i ≡ a
+
+distinct_set : (name_of : Place → Option (List ℕ)) → name_of Empty ≡ None → (ps : List Place) (a : ℕ) (x : Place) → AreDistinct name_of ps → IsFree name_of ps a x → AreDistinct name_of (set ps a x)
+distinct_set name_of nameless ps a x s free i j n ei ej = go (named i ei) (named j ej)
+  where
+    named : (m : ℕ) → name_of (place_at (set ps a x) m) ≡ Some n → ((m ≡ a) × (name_of x ≡ Some n)) ⊎ ((m ≢ a) × (name_of (place_at ps m) ≡ Some n))
+    named m e = elim (eqb_tells m a) [
+      | inr apart ↦ inr (apart.1, sym (ap name_of (place_at-set_other ps m a x apart.1)) ∙ e)
+      | inl same ↦ elim (cases_lt a (length ps)) [
+        | inl less ↦ inl (same.1, sym (ap name_of (ap (place_at (set ps a x)) same.1 ∙ place_at-set_same ps a x less)) ∙ e)
+        | inr past ↦ (let empty = ap (place_at (set ps a x)) same.1 ∙ place_at-past (set ps a x) a (omega (arith, length-set ps a x)) in let f = sym nameless ∙ sym (ap name_of empty) ∙ e in absurd (cc))
+      ]
+    ]
+
+    go : ((i ≡ a) × (name_of x ≡ Some n)) ⊎ ((i ≢ a) × (name_of (place_at ps i) ≡ Some n)) → ((j ≡ a) × (name_of x ≡ Some n)) ⊎ ((j ≢ a) × (name_of (place_at ps j) ≡ Some n)) → i ≡ j
+    go (inl p) (inl q) = p.0 ∙ sym q.0
+    go (inl p) (inr q) = p.0 ∙ sym (free j n p.1 q.1)
+    go (inr p) (inl q) = free i n q.1 p.1 ∙ sym q.0
+    go (inr p) (inr q) = s i j n p.1 q.1
+
+-- place a is written, and isn't emptied by that
+pub consistent_place : (k : KernelState) → IsConsistent k → (a : ℕ) (x : Place) → (x ≡ Empty → place_at k.places a ≡ Empty) → IsFree queue_name k.places a x → IsFree semaphore_name k.places a x
+    → IsConsistent (record k { places = set k.places a x })
+consistent_place k s a x filled queues semaphores = record {
+  count = length-set k.places a x ∙ s.count;
+  referred = λ i e. elim (eqb_tells i a) [
+    | inr apart ↦ s.referred i (sym (place_at-set_other k.places i a x apart.1) ∙ e)
+    | inl same ↦ elim (cases_lt a (length k.places)) [
+      | inl less ↦ s.referred i (ap (place_at k.places) same.1 ∙ filled (sym (ap (place_at (set k.places a x)) same.1 ∙ place_at-set_same k.places a x less) ∙ e))
+      | inr past ↦ s.referred i (ap (place_at k.places) same.1 ∙ place_at-past k.places a past)
+    ]
+  ];
+  queues = distinct_set queue_name refl k.places a x s.queues queues;
+  semaphores = distinct_set semaphore_name refl k.places a x s.semaphores semaphores;
+}
+
+-- the tables of the processes are written, and refer to no empty place
+consistent_processes : (k : KernelState) → IsConsistent k → (ps : List Process) → ((i : ℕ) → place_at k.places i ≡ Empty → is_referred ps i ≡ false) → IsConsistent (record k { processes = ps })
+consistent_processes k s ps referred = record { count = s.count; referred = referred; queues = s.queues; semaphores = s.semaphores }
+
+pub consistent_descriptor : (k : KernelState) → IsConsistent k → (p d : ℕ) (v : Option Descriptor) → ((i : ℕ) → place_at k.places i ≡ Empty → descriptor_refers i v ≡ false)
+    → IsConsistent (record k { processes = with_descriptor k.processes p d v })
+consistent_descriptor k s p d v refers = consistent_processes k s _ (λ i e. with_descriptor_unreferred k.processes p d i v (s.referred i e) (refers i e))
+
+pub consistent_slot : (k : KernelState) → IsConsistent k → (p t : ℕ) (v : Option Slot) → ((i : ℕ) → place_at k.places i ≡ Empty → slot_refers i v ≡ false)
+    → IsConsistent (record k { processes = with_slot k.processes p t v })
+consistent_slot k s p t v refers = consistent_processes k s _ (λ i e. with_slot_unreferred k.processes p t i v (s.referred i e) (refers i e))
+
+pub consistent_closed : (k : KernelState) → IsConsistent k → (p : ℕ) → IsConsistent (record k { processes = set k.processes p closed_process })
+consistent_closed k s p = consistent_processes k s _ (λ i e. none_set (process_refers i) k.processes p closed_process (s.referred i e) refl)
+
+all_closed : (n i : ℕ) → is_referred (replicate n closed_process) i ≡ false
+all_closed zero i = refl
+all_closed (suc n) i = all_closed n i
+
+-- in the kernel in which nothing is made every place is empty
+pub empty_places : (n i : ℕ) → place_at (empty_kernel n).places i ≡ Empty
+empty_places n i = unwrap_or-slice_get (replicate 64 Empty) i Empty ∙ elim (cases_lt i 64) [
+  | inl less ↦ get_or-replicate 64 i Empty Empty less
+  | inr past ↦ get_or_past (replicate 64 Empty) i Empty (omega (arith, length-replicate 64 Empty))
+]
+
+no_name : (name_of : Place → Option (List ℕ)) → name_of Empty ≡ None → (k i : ℕ) (n : List ℕ) → name_of (place_at (empty_kernel k).places i) ≡ Some n → ⊥
+no_name name_of nameless k i n e = let f = sym nameless ∙ sym (ap name_of (empty_places k i)) ∙ e in cc
+
+pub consistent_empty : (n : ℕ) → IsConsistent (empty_kernel n)
+consistent_empty n = record {
+  count = length-replicate 64 Empty;
+  referred = λ i e. all_closed n i;
+  queues = λ i j m a b. absurd (no_name queue_name refl n i m a);
+  semaphores = λ i j m a b. absurd (no_name semaphore_name refl n i m a);
+}

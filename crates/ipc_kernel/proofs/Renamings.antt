@@ -1,0 +1,131 @@
+-- Kernels whose places are renamed, and what a change of each does.
+use Rattle.std.proofs.Common.{◌≡◌, ℕ, ◌==◌, Bool, List, [], ◌∷◌, map, set, Option, Some, None, unwrap_or, slice_get, refl, sym, ap, ◌∙◌, inl, inr, position, is_none}
+use Rattle.std.specs.Option.{option_map}
+use Rattle.std.specs.List.{list_any, position_or_len}
+use Rattle.std.proofs.lemmas.Bool.{eq-eqb}
+use Rattle.std.proofs.lemmas.Bool.Decides.{eqb_tells}
+use Rattle.std.proofs.lemmas.Option.{slice_get-map}
+use Rattle.std.proofs.lemmas.List.{map-set, length-map}
+use Rattle.ipc_kernel.specs.declared.process.Process.{Process}
+use Rattle.ipc_kernel.specs.declared.process.Slot.{Slot}
+use Rattle.ipc_kernel.specs.declared.process.Descriptor.{Descriptor}
+use Rattle.ipc_kernel.specs.Processes.{process_at, descriptor_of, slot_of, free_descriptor_of, free_slot_of, slot_for, slot_refers, descriptor_refers, process_refers, is_referred, with_descriptor, with_slot, closed_process}
+use Rattle.ipc_kernel.specs.Alike.{renamed_descriptor, renamed_slot, renamed_process, IsPermutation}
+
+abbrev tables : List (Option Descriptor) → List (Option Slot) → Process
+tables descriptors slots = record { descriptors = descriptors; slots = slots }
+
+-- a map after a map
+pub map_twice : {A B C : Type 0} (h : B → C) (i : A → B) (j : A → C) → ((x : A) → h (i x) ≡ j x) → (xs : List A) → map h (map i xs) ≡ map j xs
+map_twice h i j same [] = refl
+map_twice h i j same (x ∷ xs) = rw (same x, map_twice h i j same xs) refl
+
+option_twice : {A B C : Type 0} (h : B → C) (i : A → B) (j : A → C) → ((x : A) → h (i x) ≡ j x) → (o : Option A) → option_map h (option_map i o) ≡ option_map j o
+option_twice h i j same None = refl
+option_twice h i j same (Some x) = ap (λ y. Some y) (same x)
+
+pub renamed_twice : (f h : ℕ → ℕ) (ps : List Process) → map (renamed_process h) (map (renamed_process f) ps) ≡ map (renamed_process (λ i. h (f i))) ps
+renamed_twice f h ps = map_twice (renamed_process h) (renamed_process f) (renamed_process (λ i. h (f i))) (λ p.
+    ap (λ ds. tables ds (map (option_map (renamed_slot h)) (map (option_map (renamed_slot f)) p.slots)))
+    (map_twice (option_map (renamed_descriptor h)) (option_map (renamed_descriptor f)) (option_map (renamed_descriptor (λ i. h (f i))))
+    (option_twice (renamed_descriptor h) (renamed_descriptor f) (renamed_descriptor (λ i. h (f i))) (λ x. refl)) p.descriptors)
+    ∙ ap (tables (map (option_map (renamed_descriptor (λ i. h (f i)))) p.descriptors))
+    (map_twice (option_map (renamed_slot h)) (option_map (renamed_slot f)) (option_map (renamed_slot (λ i. h (f i))))
+    (option_twice (renamed_slot h) (renamed_slot f) (renamed_slot (λ i. h (f i))) (λ x. refl)) p.slots)) ps
+
+unwrap_map : {A B : Type 0} (h : A → B) (d : A) (o : Option A) → unwrap_or (option_map h o) (h d) ≡ h (unwrap_or o d)
+unwrap_map h d None = refl
+unwrap_map h d (Some x) = refl
+
+-- the tables of a process, renamed
+process_at-renamed : (f : ℕ → ℕ) (ps : List Process) (p : ℕ) → process_at (map (renamed_process f) ps) p ≡ renamed_process f (process_at ps p)
+process_at-renamed f ps p = ap (λ o. unwrap_or o (tables [] [])) (slice_get-map (renamed_process f) ps p) ∙ unwrap_map (renamed_process f) (tables [] []) (slice_get ps p)
+
+pub descriptor_of-renamed : (f : ℕ → ℕ) (ps : List Process) (p d : ℕ) → descriptor_of (map (renamed_process f) ps) p d ≡ option_map (renamed_descriptor f) (descriptor_of ps p d)
+descriptor_of-renamed f ps p d =
+    ap (λ (x : Process). unwrap_or (slice_get x.descriptors d) None) (process_at-renamed f ps p)
+    ∙ ap (λ o. unwrap_or o None) (slice_get-map (option_map (renamed_descriptor f)) (process_at ps p).descriptors d)
+    ∙ unwrap_map (option_map (renamed_descriptor f)) None (slice_get (process_at ps p).descriptors d)
+
+pub slot_of-renamed : (f : ℕ → ℕ) (ps : List Process) (p s : ℕ) → slot_of (map (renamed_process f) ps) p s ≡ option_map (renamed_slot f) (slot_of ps p s)
+slot_of-renamed f ps p s =
+    ap (λ (x : Process). unwrap_or (slice_get x.slots s) None) (process_at-renamed f ps p)
+    ∙ ap (λ o. unwrap_or o None) (slice_get-map (option_map (renamed_slot f)) (process_at ps p).slots s)
+    ∙ unwrap_map (option_map (renamed_slot f)) None (slice_get (process_at ps p).slots s)
+
+pub with_descriptor-renamed : (f : ℕ → ℕ) (ps : List Process) (p d : ℕ) (v : Option Descriptor)
+    → with_descriptor (map (renamed_process f) ps) p d (option_map (renamed_descriptor f) v) ≡ map (renamed_process f) (with_descriptor ps p d v)
+with_descriptor-renamed f ps p d v =
+    let old = process_at ps p in
+    let to = option_map (renamed_descriptor f) in
+    ap (λ (x : Process). set (map (renamed_process f) ps) p (tables (set x.descriptors d (to v)) x.slots)) (process_at-renamed f ps p)
+    ∙ ap (λ ds. set (map (renamed_process f) ps) p (tables ds (map (option_map (renamed_slot f)) old.slots))) (sym (map-set to old.descriptors d v))
+    ∙ sym (map-set (renamed_process f) ps p (tables (set old.descriptors d v) old.slots))
+
+pub with_slot-renamed : (f : ℕ → ℕ) (ps : List Process) (p s : ℕ) (v : Option Slot)
+    → with_slot (map (renamed_process f) ps) p s (option_map (renamed_slot f) v) ≡ map (renamed_process f) (with_slot ps p s v)
+with_slot-renamed f ps p s v =
+    let old = process_at ps p in
+    let to = option_map (renamed_slot f) in
+    ap (λ (x : Process). set (map (renamed_process f) ps) p (tables x.descriptors (set x.slots s (to v)))) (process_at-renamed f ps p)
+    ∙ ap (λ ss. set (map (renamed_process f) ps) p (tables (map (option_map (renamed_descriptor f)) old.descriptors) ss)) (sym (map-set to old.slots s v))
+    ∙ sym (map-set (renamed_process f) ps p (tables old.descriptors (set old.slots s v)))
+
+pub closed-renamed : (f : ℕ → ℕ) (ps : List Process) (p : ℕ) → set (map (renamed_process f) ps) p closed_process ≡ map (renamed_process f) (set ps p closed_process)
+closed-renamed f ps p = sym (map-set (renamed_process f) ps p closed_process)
+
+-- a test that an element passes as what it is mapped to does
+list_any-map : {A B : Type 0} (q : B → Bool) (r : A → Bool) (h : A → B) → ((x : A) → q (h x) ≡ r x) → (xs : List A) → list_any q (map h xs) ≡ list_any r xs
+list_any-map q r h same [] = refl
+list_any-map q r h same (x ∷ xs) = rw (same x, list_any-map q r h same xs) refl
+
+prefix-map : {A B : Type 0} (q : B → Bool) (r : A → Bool) (h : A → B) → ((x : A) → q (h x) ≡ r x) → (xs : List A) → position_or_len q (map h xs) ≡ position_or_len r xs
+prefix-map q r h same [] = refl
+prefix-map q r h same (x ∷ xs) = rw (same x, prefix-map q r h same xs) refl
+
+position-map : {A B : Type 0} (q : B → Bool) (r : A → Bool) (h : A → B) → ((x : A) → q (h x) ≡ r x) → (xs : List A) → position q (map h xs) ≡ position r xs
+position-map q r h same xs = rw (prefix-map q r h same xs, length-map xs h) refl
+
+none_is_none : {A B : Type 0} (h : A → B) (o : Option A) → is_none (option_map h o) ≡ is_none o
+none_is_none h None = refl
+none_is_none h (Some x) = refl
+
+pub free_descriptor-renamed : (f : ℕ → ℕ) (ps : List Process) (p : ℕ) → free_descriptor_of (map (renamed_process f) ps) p ≡ free_descriptor_of ps p
+free_descriptor-renamed f ps p =
+    ap (λ (x : Process). position is_none x.descriptors) (process_at-renamed f ps p)
+    ∙ position-map is_none is_none (option_map (renamed_descriptor f)) (none_is_none (renamed_descriptor f)) (process_at ps p).descriptors
+
+pub free_slot-renamed : (f : ℕ → ℕ) (ps : List Process) (p : ℕ) → free_slot_of (map (renamed_process f) ps) p ≡ free_slot_of ps p
+free_slot-renamed f ps p =
+    ap (λ (x : Process). position is_none x.slots) (process_at-renamed f ps p)
+    ∙ position-map is_none is_none (option_map (renamed_slot f)) (none_is_none (renamed_slot f)) (process_at ps p).slots
+
+-- a renaming keeps places apart
+same_test : (f g : ℕ → ℕ) → IsPermutation f g → (a b : ℕ) → (f a == f b) ≡ (a == b)
+same_test f g h a b = elim (eqb_tells a b) [
+  | inl same ↦ eq-eqb (f a) (f b) (ap f same.1) ∙ sym same.0
+  | inr apart ↦ elim (eqb_tells (f a) (f b)) [
+    | inl met ↦ absurd (apart.1 (sym (h.undone a) ∙ ap g met.1 ∙ h.undone b))
+    | inr different ↦ different.0 ∙ sym apart.0
+  ]
+]
+
+slot_refers-renamed : (f g : ℕ → ℕ) → IsPermutation f g → (i : ℕ) (o : Option Slot) → slot_refers (f i) (option_map (renamed_slot f) o) ≡ slot_refers i o
+slot_refers-renamed f g h i None = refl
+slot_refers-renamed f g h i (Some s) = same_test f g h s.place i
+
+descriptor_refers-renamed : (f g : ℕ → ℕ) → IsPermutation f g → (i : ℕ) (o : Option Descriptor) → descriptor_refers (f i) (option_map (renamed_descriptor f) o) ≡ descriptor_refers i o
+descriptor_refers-renamed f g h i None = refl
+descriptor_refers-renamed f g h i (Some d) = same_test f g h d.place i
+
+pub slot_for-renamed : (f g : ℕ → ℕ) → IsPermutation f g → (ps : List Process) (p i : ℕ) → slot_for (map (renamed_process f) ps) p (f i) ≡ slot_for ps p i
+slot_for-renamed f g h ps p i =
+    ap (λ (x : Process). position (slot_refers (f i)) x.slots) (process_at-renamed f ps p)
+    ∙ position-map (slot_refers (f i)) (slot_refers i) (option_map (renamed_slot f)) (slot_refers-renamed f g h i) (process_at ps p).slots
+
+pub is_referred-renamed : (f g : ℕ → ℕ) → IsPermutation f g → (ps : List Process) (i : ℕ) → is_referred (map (renamed_process f) ps) (f i) ≡ is_referred ps i
+is_referred-renamed f g h ps i = list_any-map (process_refers (f i)) (process_refers i) (renamed_process f) (λ p.
+    rw (
+      list_any-map (descriptor_refers (f i)) (descriptor_refers i) (option_map (renamed_descriptor f)) (descriptor_refers-renamed f g h i) p.descriptors,
+      list_any-map (slot_refers (f i)) (slot_refers i) (option_map (renamed_slot f)) (slot_refers-renamed f g h i) p.slots,
+    ) refl) ps

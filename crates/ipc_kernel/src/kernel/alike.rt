@@ -1,0 +1,35 @@
+//! Whether two kernels are alike: equal but for the numbers of the places.
+ghost use Rattle.std.specs.Prelude.{◌≡◌, IsTrue};
+ghost use Rattle.ipc_kernel.specs.Alike.{IsAlike, IsRenaming, renamed_by};
+
+use super::Kernel;
+use crate::renaming::Renaming;
+
+impl Kernel {
+    /// The renaming that takes each place with a name to the place of that name, and what a process
+    /// has open to what it has open in the other kernel.
+    fn renaming_to(&self, other: &Kernel) -> Renaming {
+        let mut pairs = Renaming::new();
+        self.places.pair_names(&other.places, &mut pairs);
+        self.processes.pair_open(&other.processes, &mut pairs);
+        pairs.pair_rest();
+        pairs
+    }
+
+    /// Whether another kernel is this one with its places renamed so.
+    fn is_renamed(&self, other: &Kernel, renaming: &Renaming) -> bool
+        ensures yes { IsTrue result → IsRenaming (renamed_by renaming.now.to) (renamed_by renaming.now.from) self.now other.now }
+    {
+        renaming.is_permutation()
+            && self.places.are_renamed(&other.places, &renaming.to)
+            && self.processes.are_renamed(&other.processes, &renaming.to)
+    }
+
+    /// Whether another kernel is this one with its places renamed. Then no answer tells them apart
+    /// (`laws::alike_law`).
+    pub fn is_alike(&self, other: &Kernel) -> bool
+        ensures alike { IsTrue result → IsAlike self.now other.now }
+    {
+        self.is_renamed(other, &self.renaming_to(other))
+    }
+}
