@@ -1,0 +1,4 @@
+pub mod NameLemmas
+pub mod SceneLemmas
+pub mod WrittenLemmas
+pub mod MissingLemmas
