@@ -1,4 +1,4 @@
 pub mod NameLemmas
+pub mod BelowLemmas
 pub mod SceneLemmas
-pub mod WrittenLemmas
 pub mod MissingLemmas

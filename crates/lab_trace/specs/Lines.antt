@@ -57,10 +57,13 @@ abbrev pub level_note : KernelState → Option ℕ → List ℕ
 level_note k None = []
 level_note k (Some place) = separator false ++ level_text k place
 
+unfoldable pub waited_text : ℕ → List ℕ
+waited_text since = codes "waited since " ++ decimal since
+
 -- since when the process waited; `begun` says whether another note stands before it
 abbrev pub wait_note : Bool → Option ℕ → List ℕ
 wait_note begun None = []
-wait_note begun (Some n) = separator begun ++ codes "waited since " ++ decimal n
+wait_note begun (Some n) = separator begun ++ waited_text n
 
 -- the notes of a call
 abbrev pub notes : KernelState → Account → Option ℕ → List ℕ

@@ -100,13 +100,11 @@ fn push_attributes(text: &mut String, held: Descriptor, queue: &Queue) -> Result
     let (most, size, count) = queue.attr();
     text.push_str(" {mq_flags=")?;
     push_flag_word(text, if held.nonblock { O_NONBLOCK } else { 0 })?;
-    match write!(
+    write!(
         text,
-        ", mq_maxmsg={most}, mq_msgsize={size}, mq_curmsgs={count}}}"
-    ) {
-        Ok(()) => Ok(()),
-        Err(error) => Err(error),
-    }
+        ", mq_maxmsg={most}, mq_msgsize={size}, mq_curmsgs={count}"
+    )?;
+    text.push_str("}")
 }
 
 /// Adds what a call of process `pid` that isn't refused answers behind its result, by the kernel before it.

@@ -20,10 +20,9 @@ use std::alloc::{AllocError, Global};
 fn push_sizes(text: &mut String, most: u16, size: u16) -> Result<(), AllocError>
     ensures { OnOk result (string_bytes text.new ≡ string_bytes text.old ++ sizes_text most size) }
 {
-    match write!(text, "{{mq_maxmsg={most}, mq_msgsize={size}}}") {
-        Ok(()) => Ok(()),
-        Err(error) => Err(error),
-    }
+    text.push_str("{mq_maxmsg=")?;
+    write!(text, "{most}, mq_msgsize={size}")?;
+    text.push_str("}")
 }
 
 /// Adds the attributes for mq_open at an address.

@@ -1,10 +1,10 @@
 //! The line of a step.
-ghost use Rattle.std.specs.Prelude.{◌≡◌, ◌≤◌, ◌<◌, ◌++◌, OnOk, IfOk, length, string_bytes, drop};
+ghost use Rattle.std.specs.Prelude.{◌≡◌, ◌≤◌, ◌<◌, ◌^◌, ◌++◌, OnOk, IfOk, length, string_bytes, drop};
 ghost use Rattle.std.specs.Fmt.{decimal};
 ghost use Rattle.lab_sched.specs.Held.{seen};
 ghost use Rattle.lab_debug.specs.Texts.{machine_of};
 ghost use Rattle.lab_trace.specs.Questions.{question_of};
-ghost use Rattle.lab_trace.specs.Lines.{widths_for, process_column, local_column, head, opened_place, told_place, separator, level_note, wait_note, notes, call_line, output_text, end_text};
+ghost use Rattle.lab_trace.specs.Lines.{widths_for, process_column, local_column, head, opened_place, told_place, separator, level_note, waited_text, wait_note, notes, call_line, output_text, end_text};
 
 use crate::answers::{push_answer, result_of};
 use crate::asking::{Asking, Observed};
@@ -33,7 +33,8 @@ pub struct Widths {
 
 /// The number of decimal digits of a number.
 fn digits(alloc: Global, number: usize) -> Result<usize, AllocError>
-    ensures { IfOk result (λ n. n ≡ length (decimal number)) }
+    ensures count { IfOk result (λ n. n ≡ length (decimal number)) }
+    ensures small { IfOk result (λ n. n < 2 ^ 63) }
 {
     let text = format!(in alloc; "{number}")?;
     Ok(text.len())
@@ -137,6 +138,17 @@ fn separator(begun: bool) -> &'static str
     if begun { ", " } else { " ; " }
 }
 
+/// Adds since when a process waited.
+#[tactic(auto, unfolding(crate::specs::Lines::waited_text))]
+fn push_waited(text: &mut String, since: u32) -> Result<(), AllocError>
+    ensures { OnOk result (string_bytes text.new ≡ string_bytes text.old ++ waited_text since) }
+{
+    match write!(text, "waited since {since}") {
+        Ok(()) => Ok(()),
+        Err(error) => Err(error),
+    }
+}
+
 /// Adds since when a process waited, where it did.
 fn push_wait_note(text: &mut String, begun: bool, since: Option<u32>) -> Result<(), AllocError>
     ensures { OnOk result (string_bytes text.new ≡ string_bytes text.old ++ wait_note begun since) }
@@ -145,10 +157,7 @@ fn push_wait_note(text: &mut String, begun: bool, since: Option<u32>) -> Result<
         return Ok(());
     };
     text.push_str(separator(begun))?;
-    match write!(text, "waited since {since}") {
-        Ok(()) => Ok(()),
-        Err(error) => Err(error),
-    }
+    push_waited(text, since)
 }
 
 /// Adds the notes of a call.

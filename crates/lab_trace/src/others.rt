@@ -39,6 +39,7 @@ fn refers(held: Option<Slot>, place: u8) -> bool
 }
 
 /// Whether process `pid` has a queue open other than by one access alone.
+#[tactic(auto, using(crate::proofs::BelowLemmas::any_below_none, crate::proofs::BelowLemmas::any_below_more))]
 fn has_queue(kernel: &Kernel, pid: usize, place: u8, other: u8) -> bool
     requires process { pid < length kernel.now.processes }
     ensures value { result ≡ has_queue kernel.now pid place other }
@@ -51,6 +52,7 @@ fn has_queue(kernel: &Kernel, pid: usize, place: u8, other: u8) -> bool
 }
 
 /// Whether process `pid` has a semaphore open.
+#[tactic(auto, using(crate::proofs::BelowLemmas::any_below_none, crate::proofs::BelowLemmas::any_below_more))]
 fn has_semaphore(kernel: &Kernel, pid: usize, place: u8) -> bool
     requires process { pid < length kernel.now.processes }
     ensures value { result ≡ has_semaphore kernel.now pid place }
@@ -98,7 +100,7 @@ fn push_other(
 }
 
 /// The other processes that could serve a call of process `pid`, each with a blank before it.
-#[tactic(auto, using(lab_debug::proofs::RowLemmas::each_none))]
+#[tactic(auto, unfolding(lab_debug::specs::Rows::each))]
 fn others(
     alloc: Global,
     world: &World,

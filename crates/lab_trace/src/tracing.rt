@@ -1,5 +1,5 @@
 //! A whole trace.
-ghost use Rattle.std.specs.Prelude.{◌≡◌, ◌<◌, ◌≤◌, ◌+◌, ℕ, Some, Err, All, IsTrue, IfOk, IfErr, OnOk, OnErr, length, replicate, string_bytes, ◌++◌};
+ghost use Rattle.std.specs.Prelude.{◌≡◌, ◌<◌, ◌≤◌, ◌+◌, ℕ, Some, Err, IfNone, IsTrue, IfOk, IfErr, OnOk, OnErr, length, replicate, string_bytes, ◌++◌};
 ghost use Rattle.std.specs.Io.KnownBytes.{Appends};
 ghost use Rattle.lab_io.specs.Device.{AppendsPrefix};
 ghost use Rattle.lab_sched.specs.Worlds.{run};
@@ -7,7 +7,7 @@ ghost use Rattle.lab_sched.specs.Schedules.{steps_of, total_of};
 ghost use Rattle.lab_sched.specs.declared.schedule.block.TheConstants.{MOST_STEPS};
 ghost use Rattle.lab_sched.specs.declared.stepped.Stepped.TheVariants.{Same};
 ghost use Rattle.lab_trace.specs.Scenes.{events, scene_after, IsKept};
-ghost use Rattle.lab_trace.specs.Traces.{ending, trace_text, missing_after, Explains, IsFault};
+ghost use Rattle.lab_trace.specs.Traces.{ending, trace_text, missing_after, AreThere, Explains, IsFault};
 ghost use Rattle.lab_trace.specs.declared.fault.TraceFault.TheVariants.{NoProcess, Write};
 
 use crate::ends::push_ends;
@@ -24,6 +24,7 @@ use std::io::Write;
 /// How many steps come before the first of a process that isn't there, if there is one.
 fn missing_after(world: &World, schedule: &Schedule) -> Option<u64>
     ensures missing { result ≡ missing_after world.now (steps_of schedule.now) }
+    ensures there { IfNone result (AreThere world.now schedule.now) }
 {
     let mut done = 0;
     for block in schedule.blocks() {
@@ -102,7 +103,7 @@ fn trace_blocks<W: Write>(
 ) -> Result<(), TraceFault>
     requires kept { IsKept (record { number = 1; world = world.old; tally = tally.old }) }
     requires room { total_of blocks.now ≤ MOST_STEPS }
-    requires there { All (λ b. b.pid < length world.old.processes) blocks.now }
+    requires there { AreThere world.old blocks.now }
     ensures scene { OnOk result ((number : ℕ) × (record { number = number; world = world.new; tally = tally.new }
         ≡ scene_after (record { number = 1; world = world.old; tally = tally.old }) (steps_of blocks.now))) }
     ensures written { OnOk result (Appends (W.contents output.old.device) (W.contents output.new.device)
