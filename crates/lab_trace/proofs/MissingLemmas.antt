@@ -1,9 +1,10 @@
 -- Steps of processes that aren't there.
-use Rattle.std.proofs.Common.{◌≡◌, ℕ, ◌+◌, ◌-◌, ◌<◌, ◌≤◌, nat_le, nat_lt, Bool, true, false, List, Some, None, position, length, take, get_or, arith}
+use Rattle.std.proofs.Common.{◌≡◌, ℕ, zero, suc, [], ◌∷◌, ◌+◌, ◌-◌, ◌<◌, ◌≤◌, nat_le, nat_lt, Bool, true, false, List, Some, None, position, length, take, get_or, arith}
 use Rattle.std.proofs.lemmas.Bool.Decides.{nat_tests}
 use Rattle.std.proofs.lemmas.List.Sums.{position_or_len_is}
+use Rattle.std.specs.List.{AllByRecursion}
 use Rattle.lab_sched.specs.Worlds.{WorldState}
-use Rattle.lab_sched.specs.Schedules.{steps_of}
+use Rattle.lab_sched.specs.Schedules.{steps_of, IsBlock, IsSchedule}
 use Rattle.lab_sched.specs.declared.schedule.block.Block.{Block}
 use Rattle.lab_sched.proofs.ScheduleRuns.{next-step}
 use Rattle.lab_trace.specs.Traces.{missing_after}
@@ -37,3 +38,12 @@ there-more count bs i done d within is there before k h = by (nat_lt k done) (gr
         let here : done + (k - done) ≡ k = omega arith in
         let process : get_or (steps_of bs) k 0 ≡ (get_or bs i d).pid = rw here at at in
         rw process (grind (arith, nat_tests, there))
+
+-- each block has a step
+pub block-some : (bs : List Block) (i : ℕ) (d : Block) → IsSchedule bs → i < length bs → 1 ≤ (get_or bs i d).count
+block-some bs i d is within = (by bs i is.valid within).some
+  where
+    by : (xs : List Block) (j : ℕ) → AllByRecursion IsBlock xs → j < length xs → IsBlock (get_or xs j d)
+    by [] j all h = absurd (omega arith)
+    by (x ∷ xs) zero all h = all.0
+    by (x ∷ xs) (suc j) all h = by xs j all.1 (omega arith)

@@ -14,7 +14,7 @@ use Rattle.ipc_kernel.specs.Kernel.{KernelState}
 use Rattle.ipc_kernel.specs.Outcomes.{open_queue, open_semaphore}
 use Rattle.lab_sched.specs.Worlds.{Process, Running, Waiting, Ended}
 use Rattle.lab_trace.specs.Words.{message_text}
-use Rattle.lab_trace.specs.Flags.{flag_word}
+use Rattle.lab_trace.specs.Attributes.{attributes_text}
 use Rattle.lab_trace.specs.declared.service.Service.{Service}
 use Rattle.lab_trace.specs.declared.service.Service.TheVariants.{MqReceive, MqGetattr, MqSetattr, SemGetvalue}
 
@@ -47,12 +47,6 @@ is_refusal result = is_some (error_in result)
 abbrev pub received_text : List Message → List ℕ
 received_text [] = []
 received_text (m ∷ rest) = codes " " ++ message_text m.words ++ codes " prio " ++ decimal m.priority
-
--- the attributes of a queue and a descriptor
-unfoldable pub attributes_text : Descriptor → QueueState → List ℕ
-attributes_text d q =
-    codes " {mq_flags=" ++ flag_word (if d.nonblock then 0x800 else 0) ++ codes ", mq_maxmsg=" ++ decimal q.max_messages
-    ++ codes ", mq_msgsize=" ++ decimal q.message_size ++ codes ", mq_curmsgs=" ++ decimal (length q.messages) ++ codes "}"
 
 abbrev pub received_of : Option (Descriptor × QueueState) → List ℕ
 received_of None = []

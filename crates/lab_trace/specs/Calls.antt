@@ -6,8 +6,9 @@ use Rattle.ipc_names.specs.Flags.{has_flag}
 use Rattle.ipc_kernel.specs.Kernel.{KernelState}
 use Rattle.ipc_traps.specs.Names.{is_in_memory, words_at}
 use Rattle.lab_debug.specs.Texts.{address_text}
+use Rattle.lab_trace.specs.Attributes.{sizes_text, flags_text}
 use Rattle.lab_trace.specs.Words.{pointer_text, name_text, message_text}
-use Rattle.lab_trace.specs.Flags.{mq_flags, sem_flags, flag_word}
+use Rattle.lab_trace.specs.Flags.{mq_flags, sem_flags}
 use Rattle.lab_trace.specs.Objects.{handle_text}
 use Rattle.lab_trace.specs.Services.{service_name}
 use Rattle.lab_trace.specs.declared.service.Service.{Service}
@@ -15,10 +16,6 @@ use Rattle.lab_trace.specs.declared.service.Service.TheVariants.{MqOpen, MqClose
 
 abbrev pub comma : List ℕ
 comma = codes ", "
-
--- mq_maxmsg and mq_msgsize
-unfoldable pub sizes_text : ℕ → ℕ → List ℕ
-sizes_text most size = codes "{mq_maxmsg=" ++ decimal most ++ codes ", mq_msgsize=" ++ decimal size ++ codes "}"
 
 -- the attributes for mq_open at an address, where their four words lie in memory
 unfoldable pub attributes_asked : Machine → ℕ → List ℕ
@@ -44,7 +41,7 @@ buffer_text m at len = if is_in_memory at len then message_text (words_at m.memo
 
 -- the new mq_flags, where the four words of the attributes lie in memory, else their address
 unfoldable pub flags_asked : Machine → ℕ → List ℕ
-flags_asked m at = if is_in_memory at 4 then codes "{mq_flags=" ++ flag_word (slice_index m.memory at) ++ codes "}" else address_text at
+flags_asked m at = if is_in_memory at 4 then flags_text (slice_index m.memory at) else address_text at
 
 -- what stands behind the descriptor or the slot
 unfoldable pub further_arguments : Machine → Service → List ℕ

@@ -1,6 +1,7 @@
 pub mod Services
 pub mod Words
 pub mod Flags
+pub mod Attributes
 pub mod Objects
 pub mod Calls
 pub mod Answers

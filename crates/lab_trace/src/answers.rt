@@ -5,9 +5,9 @@ ghost use Rattle.lab_sched.specs.Held.{seen};
 ghost use Rattle.lab_debug.specs.Texts.{machine_of};
 ghost use Rattle.ipc_kernel.specs.Limits.{object_places};
 ghost use Rattle.ipc_kernel.specs.Outcomes.{open_queue, open_semaphore};
-ghost use Rattle.lab_trace.specs.Answers.{error_name, error_in, attributes_text, received_text, received_of, attributes_of, value_of, reply_text, result_text, answer_text, result_of};
+ghost use Rattle.lab_trace.specs.Answers.{error_name, error_in, received_text, received_of, attributes_of, value_of, reply_text, result_text, answer_text, result_of};
 
-use crate::flags::{O_NONBLOCK, push_flag_word};
+use crate::attributes::push_attributes;
 use crate::message::push_message;
 use crate::service::Service;
 use crate::words::register;
@@ -90,21 +90,6 @@ fn push_first(text: &mut String, queue: &Queue) -> Result<(), AllocError>
         Ok(()) => Ok(()),
         Err(error) => Err(error),
     }
-}
-
-/// Adds the attributes of a queue and a descriptor.
-#[tactic(auto, unfolding(crate::specs::Answers::attributes_text))]
-fn push_attributes(text: &mut String, held: Descriptor, queue: &Queue) -> Result<(), AllocError>
-    ensures { OnOk result (string_bytes text.new ≡ string_bytes text.old ++ attributes_text held queue.now) }
-{
-    let (most, size, count) = queue.attr();
-    text.push_str(" {mq_flags=")?;
-    push_flag_word(text, if held.nonblock { O_NONBLOCK } else { 0 })?;
-    write!(
-        text,
-        ", mq_maxmsg={most}, mq_msgsize={size}, mq_curmsgs={count}"
-    )?;
-    text.push_str("}")
 }
 
 /// Adds what a call of process `pid` that isn't refused answers behind its result, by the kernel before it.

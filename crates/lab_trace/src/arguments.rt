@@ -3,9 +3,10 @@ ghost use Rattle.std.specs.Prelude.{◌≡◌, ◌<◌, ◌++◌, OnOk, length, 
 ghost use Rattle.lab_sched.specs.Held.{seen};
 ghost use Rattle.lab_debug.specs.Texts.{machine_of};
 ghost use Rattle.lab_trace.specs.declared.service.Service.TheVariants.{MqSend, MqReceive};
-ghost use Rattle.lab_trace.specs.Calls.{sizes_text, attributes_asked, mq_open_arguments, sem_open_arguments, flags_asked, further_arguments, arguments, call_text};
+ghost use Rattle.lab_trace.specs.Calls.{attributes_asked, mq_open_arguments, sem_open_arguments, flags_asked, further_arguments, arguments, call_text};
 
-use crate::flags::{O_CREAT, has_flag, push_flag_word, push_mq_flags, push_sem_flags};
+use crate::attributes::{push_flags, push_sizes};
+use crate::flags::{O_CREAT, has_flag, push_mq_flags, push_sem_flags};
 use crate::handles::push_handle;
 use crate::message::push_buffer;
 use crate::service::Service;
@@ -15,19 +16,9 @@ use lab_debug::machine;
 use lab_sched::Process;
 use std::alloc::{AllocError, Global};
 
-/// Adds mq_maxmsg and mq_msgsize.
-#[tactic(auto, unfolding(crate::specs::Calls::sizes_text))]
-fn push_sizes(text: &mut String, most: u16, size: u16) -> Result<(), AllocError>
-    ensures { OnOk result (string_bytes text.new ≡ string_bytes text.old ++ sizes_text most size) }
-{
-    text.push_str("{mq_maxmsg=")?;
-    write!(text, "{most}, mq_msgsize={size}")?;
-    text.push_str("}")
-}
-
 /// Adds the attributes for mq_open at an address.
 #[tactic(auto, unfolding(crate::specs::Calls::attributes_asked))]
-fn push_attributes(text: &mut String, process: &Process, at: u16) -> Result<(), AllocError>
+fn push_sizes_at(text: &mut String, process: &Process, at: u16) -> Result<(), AllocError>
     ensures { OnOk result (string_bytes text.new ≡ string_bytes text.old ++ attributes_asked (machine_of (seen process.now)) at) }
 {
     if at == 0 || !is_in_memory(at, 4) {
@@ -53,7 +44,7 @@ fn push_mq_open(alloc: Global, text: &mut String, process: &Process) -> Result<(
         return Ok(());
     }
     text.push_str(", ")?;
-    push_attributes(text, process, register(process, 2))
+    push_sizes_at(text, process, register(process, 2))
 }
 
 /// Adds the arguments of sem_open.
@@ -83,9 +74,7 @@ fn push_flags_asked(text: &mut String, process: &Process, at: u16) -> Result<(),
     if !is_in_memory(at, 4) {
         return push_address(text, at);
     }
-    text.push_str("{mq_flags=")?;
-    push_flag_word(text, machine::word(process, at))?;
-    text.push_str("}")
+    push_flags(text, machine::word(process, at))
 }
 
 /// Adds what stands behind the descriptor of mq_send.

@@ -5,6 +5,7 @@
 mod answers;
 mod arguments;
 mod asking;
+mod attributes;
 mod ends;
 mod fault;
 mod flags;

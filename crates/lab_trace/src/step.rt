@@ -10,7 +10,6 @@ ghost use Rattle.lab_trace.specs.Lines.{what, event_line};
 ghost use Rattle.lab_trace.specs.Scenes.{has_effect, line_by, tally_by, line, tallied};
 
 use crate::asking::{Observed, observe};
-use crate::fault::TraceFault;
 use crate::lines::{Widths, new_output, push_call_line, push_end, push_head, push_output};
 use crate::tally::{Account, Tally};
 use ipc_kernel::Kernel;
@@ -165,7 +164,7 @@ pub fn trace_step(
     widths: Widths,
     number: u32,
     pid: usize,
-) -> Result<Traced, TraceFault>
+) -> Result<Traced, AllocError>
     requires process { pid < length world.old.processes }
     requires account { pid < length tally.old }
     requires room { (account_of tally.old pid).local < number }
@@ -176,7 +175,7 @@ pub fn trace_step(
 {
     let before = observe(alloc, world, pid)?;
     let Ok(stepped) = world.step(pid) else {
-        return Err(TraceFault::NoMemory);
+        return Err(AllocError);
     };
     if !has_effect(stepped) {
         return Ok(Traced {
