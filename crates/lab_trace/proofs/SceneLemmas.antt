@@ -1,6 +1,6 @@
 -- The scenes of a trace, one after another.
 use Rattle.std.proofs.Common.{◌≡◌, ℕ, zero, suc, ◌+◌, ◌-◌, ◌<◌, ◌≤◌, Bool, true, false, if◌then◌else◌, List, [], ◌∷◌, ◌++◌, Option, Some, None, length, replicate, slice_get, set, refl, sym, ap, subst, ◌∙◌, append_assoc, append-nil, arith}
-use Rattle.std.proofs.lemmas.List.{length-set, replicate-append-replicate}
+use Rattle.std.proofs.lemmas.List.{length-set, length-replicate, replicate-append-replicate}
 use Rattle.ipc_kernel.specs.declared.call.Answer.TheVariants.{Done, Wait}
 use Rattle.lab_sched.specs.Worlds.{Process, WorldState, Turn, nothing, local_step, kernel_step, turn_in, after, step, run}
 use Rattle.lab_sched.specs.Held.{told_of}
@@ -9,8 +9,8 @@ use Rattle.lab_sched.specs.declared.stepped.Stepped.TheVariants as stepped
 use Rattle.lab_sched.proofs.Runs.{run-one, length-run}
 use Rattle.lab_trace.specs.Events.{Event, local, calls, writes, ends, event_of}
 use Rattle.lab_trace.specs.Questions.{Before}
-use Rattle.lab_trace.specs.Tallies.{account_of, account_after, AreBelow}
-use Rattle.lab_trace.specs.Scenes.{Scene, has_effect, line_by, tally_by, before_at, line, tallied, next, events, scene_after, IsKept}
+use Rattle.lab_trace.specs.Tallies.{new_account, account_of, account_after, AreBelow}
+use Rattle.lab_trace.specs.Scenes.{Scene, first_scene, has_effect, line_by, tally_by, before_at, line, tallied, next, events, scene_after, IsKept}
 use Rattle.lab_trace.specs.declared.lines.Widths.{Widths}
 use Rattle.lab_trace.specs.declared.tally.Account.{Account}
 
@@ -202,3 +202,11 @@ kept-after s (p ∷ ps) kept = kept-after (next s p) ps (kept-next s p kept)
 -- as many processes as before
 pub length-scene : (s : Scene) (ps : List ℕ) → length (scene_after s ps).world.processes ≡ length s.world.processes
 length-scene s ps = ap (λ (w : WorldState). length w.processes) (scene-world s ps) ∙ length-run s.world ps
+
+below-first : (n p : ℕ) → (account_of (replicate n new_account) p).local < 1
+below-first zero p = omega arith
+below-first (suc n) zero = omega arith
+below-first (suc n) (suc p) = below-first n p
+
+pub kept-first : (w : WorldState) → IsKept (first_scene w)
+kept-first w = record { accounts = length-replicate (length w.processes) new_account; below = below-first (length w.processes) }

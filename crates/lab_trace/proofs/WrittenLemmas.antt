@@ -2,14 +2,17 @@
 use Rattle.std.proofs.Common.{◌≡◌, ℕ, suc, ◌+◌, ◌-◌, ◌<◌, ◌≤◌, List, [], ◌++◌, Option, Result, Ok, Err, length, replicate, take, drop, get_or, refl, sym, ap, subst, ◌∙◌, arith}
 use Rattle.std.specs.Prelude.{OnErr}
 use Rattle.std.specs.Io.KnownBytes.{Appends}
-use Rattle.std.proofs.KnownBytes.{Appends-trans}
+use Rattle.std.proofs.KnownBytes.{Appends-trans, Appends-nil}
 use Rattle.lab_io.specs.Device.{AppendsPrefix}
 use Rattle.lab_io.proofs.Prefixes.{AppendsPrefix-after}
 use Rattle.lab_sched.specs.Worlds.{WorldState, step}
 use Rattle.lab_sched.specs.Schedules.{steps_of}
 use Rattle.lab_sched.specs.declared.schedule.block.Block.{Block}
 use Rattle.lab_sched.proofs.ScheduleRuns.{steps-more, steps-split}
-use Rattle.lab_trace.specs.Scenes.{Scene, line, tallied, next, events, scene_after, IsKept}
+use Rattle.lab_trace.specs.Scenes.{Scene, first_scene, line, tallied, next, events, scene_after, IsKept}
+use Rattle.lab_trace.specs.Lines.{widths_for}
+use Rattle.lab_trace.specs.Tallies.{new_account}
+use Rattle.lab_trace.specs.Traces.{trace_with, trace_text}
 use Rattle.lab_trace.specs.declared.lines.Widths.{Widths}
 use Rattle.lab_trace.specs.declared.tally.Account.{Account}
 use Rattle.lab_trace.proofs.SceneLemmas.{Stands, events-append, scene-append, events-from, events-at, events-more, scene-more}
@@ -79,3 +82,14 @@ prefix-block v s u bs i d a b c within is sent part =
     (ap (events v s) (steps-split bs i d within) ∙ events-append v s (steps_of (take i bs)) (steps ++ rest)
     ∙ ap (λ (y : Scene). events v s (steps_of (take i bs)) ++ events v y (steps ++ rest)) (sym is)
     ∙ ap (λ (l : List ℕ). events v s (steps_of (take i bs)) ++ l) (events-append v u steps rest))
+
+-- nothing was written yet
+pub prefix-none : (a : Option (List ℕ)) (whole : List ℕ) → AppendsPrefix a a whole
+prefix-none a whole = record { sent = []; unsent = whole; whole = refl; appended = Appends-nil a }
+
+-- a whole trace, by its parts
+pub trace-parts : (w : WorldState) (ps : List ℕ) (v : Widths) (t : List Account) → v ≡ widths_for (length ps) (length w.processes) → t ≡ replicate (length w.processes) new_account
+    → trace_text w ps ≡ trace_with v (scene 1 w t) ps
+unfolding trace_text
+trace-parts w ps v t v-is t-is =
+    ap (λ x. trace_with x (first_scene w) ps) (sym v-is) ∙ ap (λ x. trace_with v (scene 1 w x) ps) (sym t-is)

@@ -8,15 +8,16 @@ use Rattle.lab_trace.specs.Lines.{widths_for}
 use Rattle.lab_trace.specs.Scenes.{Scene, first_scene, events, scene_after}
 use Rattle.lab_trace.specs.Ends.{end_lines}
 use Rattle.lab_trace.specs.declared.lines.Widths.{Widths}
+use Rattle.lab_trace.specs.declared.tally.Account.{Account}
 use Rattle.lab_trace.specs.declared.fault.TraceFault.{TraceFault}
 use Rattle.lab_trace.specs.declared.fault.TraceFault.TheVariants.{NoProcess, Write, NoMemory}
 
 -- what follows the lines of the steps
-abbrev pub ending : Widths → Scene → List ℕ
-ending v s = end_lines v s.world s.tally ++ report_text s.world
+abbrev pub ending : Widths → WorldState → List Account → List ℕ
+ending v w t = end_lines v w t ++ report_text w
 
 abbrev pub trace_with : Widths → Scene → List ℕ → List ℕ
-trace_with v s ps = events v s ps ++ ending v (scene_after s ps)
+trace_with v s ps = events v s ps ++ ending v (scene_after s ps).world (scene_after s ps).tally
 
 -- the trace of a world by these steps
 unfoldable pub trace_text : WorldState → List ℕ → List ℕ

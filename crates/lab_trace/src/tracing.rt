@@ -1,6 +1,6 @@
 //! A whole trace.
 ghost use Rattle.std.specs.Prelude.{◌≡◌, ◌<◌, ◌≤◌, ◌+◌, ℕ, Some, Err, IfNone, IsTrue, IfOk, IfErr, OnOk, OnErr, length, replicate, string_bytes, ◌++◌};
-ghost use Rattle.std.specs.Io.KnownBytes.{Appends};
+ghost use Rattle.std.specs.Io.KnownBytes.{Appends, Keeps};
 ghost use Rattle.lab_io.specs.Device.{AppendsPrefix};
 ghost use Rattle.lab_sched.specs.Worlds.{run};
 ghost use Rattle.lab_sched.specs.Schedules.{steps_of, total_of};
@@ -127,7 +127,7 @@ fn ending(
     tally: &Tally,
     widths: Widths,
 ) -> Result<String, AllocError>
-    ensures text { (number : ℕ) → IfOk result (λ s. string_bytes s ≡ ending widths (record { number = number; world = world.now; tally = tally.now })) }
+    ensures text { IfOk result (λ s. string_bytes s ≡ ending widths world.now tally.now) }
 {
     let mut text = String::new(alloc);
     push_ends(alloc, &mut text, world, widths, tally)?;
@@ -141,31 +141,26 @@ fn ending(
 /// nothing.
 pub fn trace<W: Write>(
     alloc: Global,
-    world: World,
+    world: &mut World,
     schedule: &Schedule,
     output: &mut Output<W>,
-) -> Result<World, TraceFault>
-    ensures written { OnOk result (Appends (W.contents output.old.device) (W.contents output.new.device) (trace_text world (steps_of schedule.now))) }
-    ensures world { IfOk result (λ last. last ≡ run world (steps_of schedule.now)) }
-    ensures prefix { OnErr result (AppendsPrefix (W.contents output.old.device) (W.contents output.new.device) (trace_text world (steps_of schedule.now))) }
-    ensures fault { IfErr result (λ e. Explains e world (steps_of schedule.now) output.new.failed) }
-    ensures no_process { (done : ℕ) → missing_after world (steps_of schedule.now) ≡ Some done → result ≡ Err (NoProcess done) }
+) -> Result<(), TraceFault>
+    ensures written { OnOk result
+        (Appends (W.contents output.old.device) (W.contents output.new.device) (trace_text world.old (steps_of schedule.now))) }
+    ensures world { OnOk result (world.new ≡ run world.old (steps_of schedule.now)) }
+    ensures prefix { OnErr result
+        (AppendsPrefix (W.contents output.old.device) (W.contents output.new.device) (trace_text world.old (steps_of schedule.now))) }
+    ensures fault { IfErr result (λ e. Explains e world.old (steps_of schedule.now) output.new.failed) }
+    ensures no_process { (done : ℕ) → missing_after world.old (steps_of schedule.now) ≡ Some done → result ≡ Err (NoProcess done) }
+    ensures nothing { (done : ℕ) → result ≡ Err (NoProcess done)
+        → Keeps (W.contents output.old.device) (W.contents output.new.device) }
 {
-    let mut world = world;
-    if let Some(done) = missing_after(&world, schedule) {
+    if let Some(done) = missing_after(world, schedule) {
         return Err(TraceFault::NoProcess { done });
     }
     let widths = Widths::new(alloc, schedule.total(), world.count())?;
     let mut tally = Tally::new(alloc, world.count())?;
-    trace_blocks(
-        alloc,
-        &mut world,
-        &mut tally,
-        widths,
-        schedule.blocks(),
-        output,
-    )?;
-    let text = ending(alloc, &world, &tally, widths)?;
-    write_text(&text, output)?;
-    Ok(world)
+    trace_blocks(alloc, world, &mut tally, widths, schedule.blocks(), output)?;
+    let text = ending(alloc, world, &tally, widths)?;
+    write_text(&text, output)
 }
