@@ -1,7 +1,7 @@
 # Completions of lc3lab for bash. README.md beside this file says how to install them.
 
 _lc3lab() {
-    local commands='asm dis step run explore debug help'
+    local commands='asm dis step trace run explore debug help'
     local word=${COMP_WORDS[COMP_CWORD]} command=${COMP_WORDS[1]} options=
     COMPREPLY=()
     if [ "$COMP_CWORD" -eq 1 ]; then
@@ -20,7 +20,7 @@ _lc3lab() {
     esac
     case $command in
     asm) options='--list --explain --help -h' ;;
-    dis | step | debug) options='--help -h' ;;
+    dis | step | trace | debug) options='--help -h' ;;
     run) options='--limit --help -h' ;;
     explore) options='--limit --worlds --require --schedule --help -h' ;;
     help) options=$commands ;;

@@ -3,6 +3,7 @@
 complete -c lc3lab -f -n __fish_use_subcommand -a asm -d 'Assembles a source and writes its object file'
 complete -c lc3lab -f -n __fish_use_subcommand -a dis -d 'Prints the words of an object file as instructions'
 complete -c lc3lab -f -n __fish_use_subcommand -a step -d 'Runs programs by the schedule on standard input'
+complete -c lc3lab -f -n __fish_use_subcommand -a trace -d 'Shows what happens in a run by a schedule'
 complete -c lc3lab -f -n __fish_use_subcommand -a run -d 'Runs programs on threads'
 complete -c lc3lab -f -n __fish_use_subcommand -a explore -d 'Visits every interleaving of programs'
 complete -c lc3lab -f -n __fish_use_subcommand -a debug -d 'Runs programs by commands, which also show them'
@@ -17,4 +18,4 @@ complete -c lc3lab -n '__fish_seen_subcommand_from explore' -x -l worlds -d 'The
 complete -c lc3lab -n '__fish_seen_subcommand_from explore' -x -l limit -d 'The most steps of a process without a call'
 complete -c lc3lab -n '__fish_seen_subcommand_from explore' -x -l require -a 'ended stuck' -d 'Fails unless all ends have this verdict'
 complete -c lc3lab -n '__fish_seen_subcommand_from explore' -x -l schedule -d 'Prints the schedule of this end alone'
-complete -c lc3lab -f -n '__fish_seen_subcommand_from help' -a 'asm dis step run explore debug help'
+complete -c lc3lab -f -n '__fish_seen_subcommand_from help' -a 'asm dis step trace run explore debug help'

@@ -16,6 +16,9 @@ pub enum Request<'a> {
     Step {
         programs: Vec<&'a str>,
     },
+    Trace {
+        programs: Vec<&'a str>,
+    },
     Run {
         programs: Vec<&'a str>,
         limit: u32,

@@ -8,6 +8,7 @@ mod explore;
 mod prompts;
 mod run;
 mod step;
+mod trace;
 
 use crate::complaint::{Complaint, Reason};
 use crate::fault::CliFault;
@@ -28,6 +29,7 @@ use std::rt::Files;
 use std::sync::Wait;
 use std::thread::Threads;
 use step::step_programs;
+use trace::trace_programs;
 
 /// The program did what its words ask for.
 pub const SUCCESS: u8 = 0;
@@ -99,6 +101,9 @@ fn perform<'a, T: Files + Threads + Wait + Sync, R: Read, W: Write, P: Progress>
         Request::Disassemble { object } => disassemble_file(rt, alloc, object, output),
         Request::Step { ref programs } => {
             step_programs(rt, alloc, programs.as_slice(), input, output, progress)
+        }
+        Request::Trace { ref programs } => {
+            trace_programs(rt, alloc, programs.as_slice(), input, output)
         }
         Request::Run {
             ref programs,

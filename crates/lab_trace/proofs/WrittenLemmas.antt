@@ -1,10 +1,10 @@
 -- What is written of a trace.
 use Rattle.std.proofs.Common.{◌≡◌, ℕ, suc, ◌+◌, ◌-◌, ◌<◌, ◌≤◌, List, [], ◌++◌, Option, Result, Ok, Err, length, replicate, take, drop, get_or, refl, sym, ap, subst, ◌∙◌, arith}
-use Rattle.std.specs.Prelude.{OnErr}
+use Rattle.std.specs.Prelude.{OnErr, OnOk}
 use Rattle.std.specs.Io.KnownBytes.{Appends}
-use Rattle.std.proofs.KnownBytes.{Appends-trans, Appends-nil}
+use Rattle.std.proofs.KnownBytes.{Appends-trans}
 use Rattle.lab_io.specs.Device.{AppendsPrefix}
-use Rattle.lab_io.proofs.Prefixes.{AppendsPrefix-after}
+use Rattle.lab_io.proofs.Prefixes.{AppendsPrefix-after, AppendsPrefix-longer}
 use Rattle.lab_sched.specs.Worlds.{WorldState, step}
 use Rattle.lab_sched.specs.Schedules.{steps_of}
 use Rattle.lab_sched.specs.declared.schedule.block.Block.{Block}
@@ -12,7 +12,7 @@ use Rattle.lab_sched.proofs.ScheduleRuns.{steps-more, steps-split}
 use Rattle.lab_trace.specs.Scenes.{Scene, first_scene, line, tallied, next, events, scene_after, IsKept}
 use Rattle.lab_trace.specs.Lines.{widths_for}
 use Rattle.lab_trace.specs.Tallies.{new_account}
-use Rattle.lab_trace.specs.Traces.{trace_with, trace_text}
+use Rattle.lab_trace.specs.Traces.{ending, trace_with, trace_text}
 use Rattle.lab_trace.specs.declared.lines.Widths.{Widths}
 use Rattle.lab_trace.specs.declared.tally.Account.{Account}
 use Rattle.lab_trace.proofs.SceneLemmas.{Stands, events-append, scene-append, events-from, events-at, events-more, scene-more}
@@ -83,9 +83,19 @@ prefix-block v s u bs i d a b c within is sent part =
     ∙ ap (λ (y : Scene). events v s (steps_of (take i bs)) ++ events v y (steps ++ rest)) (sym is)
     ∙ ap (λ (l : List ℕ). events v s (steps_of (take i bs)) ++ l) (events-append v u steps rest))
 
--- nothing was written yet
-pub prefix-none : (a : Option (List ℕ)) (whole : List ℕ) → AppendsPrefix a a whole
-prefix-none a whole = record { sent = []; unsent = whole; whole = refl; appended = Appends-nil a }
+-- what holds, holds on an Ok
+pub on_ok : {T E : Type 0} (r : Result T E) (P : Type 0) → P → OnOk r P
+on_ok (Ok x) P p = p
+on_ok (Err e) P p = tt
+
+-- what an error brings, where the parts of a whole were written before it
+pub on_err-map : {T E : Type 0} (r : Result T E) (P Q : Type 0) → (P → Q) → OnErr r P → OnErr r Q
+on_err-map (Ok x) P Q f p = tt
+on_err-map (Err e) P Q f p = f p
+
+pub on_ok-map : {T E : Type 0} (r : Result T E) (P Q : Type 0) → (P → Q) → OnOk r P → OnOk r Q
+on_ok-map (Ok x) P Q f p = f p
+on_ok-map (Err e) P Q f p = tt
 
 -- a whole trace, by its parts
 pub trace-parts : (w : WorldState) (ps : List ℕ) (v : Widths) (t : List Account) → v ≡ widths_for (length ps) (length w.processes) → t ≡ replicate (length w.processes) new_account
@@ -93,3 +103,27 @@ pub trace-parts : (w : WorldState) (ps : List ℕ) (v : Widths) (t : List Accoun
 unfolding trace_text
 trace-parts w ps v t v-is t-is =
     ap (λ x. trace_with x (first_scene w) ps) (sym v-is) ∙ ap (λ x. trace_with v (scene 1 w x) ps) (sym t-is)
+
+-- what stands behind the lines, by the world and the tally that the steps led to
+pub trace-whole : (w u : WorldState) (ps : List ℕ) (v : Widths) (t r : List Account) (n : ℕ) → v ≡ widths_for (length ps) (length w.processes) → t ≡ replicate (length w.processes) new_account
+    → scene n u r ≡ scene_after (scene 1 w t) ps → trace_text w ps ≡ events v (scene 1 w t) ps ++ ending v u r
+trace-whole w u ps v t r n v-is t-is led =
+    trace-parts w ps v t v-is t-is ∙ ap (λ (x : Scene). events v (scene 1 w t) ps ++ ending v x.world x.tally) (sym led)
+
+-- all the lines are a beginning of the trace
+pub lines-prefix : (w : WorldState) (ps : List ℕ) (v : Widths) (t : List Account) (a b : Option (List ℕ)) → v ≡ widths_for (length ps) (length w.processes)
+    → t ≡ replicate (length w.processes) new_account → Appends a b (events v (scene 1 w t) ps) → AppendsPrefix a b (trace_text w ps)
+lines-prefix w ps v t a b v-is t-is sent =
+    let last : Scene = scene_after (scene 1 w t) ps in
+    record { sent = events v (scene 1 w t) ps; unsent = ending v last.world last.tally; whole = trace-parts w ps v t v-is t-is; appended = sent }
+
+-- a beginning of the lines is one of the trace
+pub prefix-lines : (w : WorldState) (ps : List ℕ) (v : Widths) (t : List Account) (a b : Option (List ℕ)) → v ≡ widths_for (length ps) (length w.processes)
+    → t ≡ replicate (length w.processes) new_account → AppendsPrefix a b (events v (scene 1 w t) ps) → AppendsPrefix a b (trace_text w ps)
+prefix-lines w ps v t a b v-is t-is part =
+    subst (λ (l : List ℕ). AppendsPrefix a b l) (sym (trace-parts w ps v t v-is t-is)) (AppendsPrefix-longer a b (events v (scene 1 w t) ps) _ part)
+
+-- the widths, by the schedule and the world
+pub widths-are : (v : Widths) (total count : ℕ) (ps : List ℕ) (w : WorldState) → v ≡ widths_for total count → total ≡ length ps → count ≡ length w.processes
+    → v ≡ widths_for (length ps) (length w.processes)
+widths-are v total count ps w is steps processes = is ∙ ap (λ n. widths_for n count) steps ∙ ap (widths_for (length ps)) processes
