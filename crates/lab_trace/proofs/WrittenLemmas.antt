@@ -1,5 +1,5 @@
 -- What is written of a trace.
-use Rattle.std.proofs.Common.{◌≡◌, ℕ, suc, ◌+◌, ◌-◌, ◌<◌, ◌≤◌, List, [], ◌++◌, Option, Result, Ok, Err, length, replicate, take, drop, get_or, refl, sym, ap, subst, ◌∙◌, arith}
+use Rattle.std.proofs.Common.{◌≡◌, ℕ, suc, ◌+◌, ◌-◌, ◌<◌, ◌≤◌, List, ◌++◌, Option, Result, Ok, Err, length, replicate, take, drop, get_or, sym, ap, subst, ◌∙◌, arith}
 use Rattle.std.specs.Prelude.{OnErr, OnOk}
 use Rattle.std.specs.Io.KnownBytes.{Appends}
 use Rattle.std.proofs.KnownBytes.{Appends-trans}
@@ -9,7 +9,7 @@ use Rattle.lab_sched.specs.Worlds.{WorldState, step}
 use Rattle.lab_sched.specs.Schedules.{steps_of}
 use Rattle.lab_sched.specs.declared.schedule.block.Block.{Block}
 use Rattle.lab_sched.proofs.ScheduleRuns.{steps-more, steps-split}
-use Rattle.lab_trace.specs.Scenes.{Scene, first_scene, line, tallied, next, events, scene_after, IsKept}
+use Rattle.lab_trace.specs.Scenes.{Scene, first_scene, line, tallied, next, events, scene_after}
 use Rattle.lab_trace.specs.Lines.{widths_for}
 use Rattle.lab_trace.specs.Tallies.{new_account}
 use Rattle.lab_trace.specs.Traces.{ending, trace_with, trace_text}

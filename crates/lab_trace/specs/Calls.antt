@@ -12,7 +12,7 @@ use Rattle.lab_trace.specs.Flags.{mq_flags, sem_flags}
 use Rattle.lab_trace.specs.Objects.{handle_text}
 use Rattle.lab_trace.specs.Services.{service_name}
 use Rattle.lab_trace.specs.declared.service.Service.{Service}
-use Rattle.lab_trace.specs.declared.service.Service.TheVariants.{MqOpen, MqClose, MqUnlink, MqSend, MqReceive, MqGetattr, MqSetattr, SemOpen, SemClose, SemUnlink, SemWait, SemTrywait, SemPost, SemGetvalue}
+use Rattle.lab_trace.specs.declared.service.Service.TheVariants.{MqOpen, MqUnlink, MqSend, MqReceive, MqGetattr, MqSetattr, SemOpen, SemUnlink, SemGetvalue}
 
 abbrev pub comma : List ℕ
 comma = codes ", "

@@ -1,5 +1,5 @@
 -- Where the processes stand that haven't ended.
-use Rattle.std.specs.Prelude.{ℕ, zero, suc, ◌==◌, ◌&&◌, ◌||◌, not, Bool, true, false, if◌then◌else◌, Option, Some, None, List, [], ◌++◌, codes, length, slice_get}
+use Rattle.std.specs.Prelude.{ℕ, zero, suc, ◌==◌, ◌&&◌, ◌||◌, not, Bool, false, if◌then◌else◌, Option, Some, None, List, [], ◌++◌, codes, length, slice_get}
 use Rattle.std.specs.Fmt.{decimal}
 use Rattle.lc3_machine.specs.Process.{Process as Machine, reg}
 use Rattle.ipc_kernel.specs.Kernel.{KernelState}

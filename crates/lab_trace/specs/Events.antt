@@ -2,7 +2,6 @@
 use Rattle.std.specs.Prelude.{ℕ, Bool, true, false, Option, Some, None, List, [], ◌∷◌, drop}
 use Rattle.lc3_machine.specs.declared.want.How.{How}
 use Rattle.lab_sched.specs.Worlds.{Process, Running, Waiting, Ended}
-use Rattle.lab_debug.specs.Texts.{machine_of}
 use Rattle.lab_trace.specs.Questions.{Question, Before}
 
 -- a counted step, a call, bytes of output, or the end of the process

@@ -1,10 +1,8 @@
 -- What a trace looks at before a step.
-use Rattle.std.specs.Prelude.{ℕ, Option, Some, None, List, length, slice_index, string_bytes}
+use Rattle.std.specs.Prelude.{ℕ, Option, List, length, slice_index, string_bytes}
 use Rattle.std.specs.Option.{option_map}
 use Rattle.lc3_machine.specs.Process.{Process as Machine, reg}
 use Rattle.ipc_kernel.specs.Kernel.{KernelState}
-use Rattle.lab_sched.specs.Worlds.{Process}
-use Rattle.lab_debug.specs.Texts.{machine_of}
 use Rattle.lab_trace.specs.Answers.{reply_text}
 use Rattle.lab_trace.specs.Calls.{call_text}
 use Rattle.lab_trace.specs.Objects.{held_place}

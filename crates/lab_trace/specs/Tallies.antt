@@ -1,5 +1,5 @@
 -- What a trace keeps beside the world: of each process its counted steps since its last line, and since when it waits.
-use Rattle.std.specs.Prelude.{ℕ, ◌+◌, ◌<◌, Option, Some, None, List, replicate, slice_get, slice_set, unwrap_or}
+use Rattle.std.specs.Prelude.{ℕ, ◌+◌, ◌<◌, Option, Some, None, List, slice_get, unwrap_or}
 use Rattle.lab_sched.specs.Worlds.{Process, Running, Waiting, Ended}
 use Rattle.lab_trace.specs.Events.{Event, local, calls, writes, ends}
 use Rattle.lab_trace.specs.declared.tally.Account.{Account}

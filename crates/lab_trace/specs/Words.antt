@@ -2,7 +2,6 @@
 use Rattle.std.specs.Prelude.{ℕ, ◌-◌, ◌==◌, ◌&&◌, nat_le, nat_lt, not, Bool, if◌then◌else◌, Option, Some, None, position, List, [], ◌∷◌, ◌++◌, codes, length, take, replicate, flat_map}
 use Rattle.std.specs.List.{list_any}
 use Rattle.std.specs.Fmt.{decimal}
-use Rattle.lc3_word.specs.Words.{hex_text}
 use Rattle.ipc_traps.specs.Names.{window, words_at}
 use Rattle.lab_debug.specs.Texts.{address_text, is_plain, escape_text}
 

@@ -106,7 +106,12 @@ fn push_received(text: &mut String, process: &Process) -> Result<(), AllocError>
 
 /// Adds what stands behind the descriptor or the slot.
 #[tactic(auto, unfolding(crate::specs::Calls::further_arguments))]
-fn push_further(alloc: Global, text: &mut String, process: &Process, service: Service) -> Result<(), AllocError>
+fn push_further(
+    alloc: Global,
+    text: &mut String,
+    process: &Process,
+    service: Service,
+) -> Result<(), AllocError>
     ensures { OnOk result (string_bytes text.new ≡ string_bytes text.old ++ further_arguments (machine_of (seen process.now)) service) }
 {
     match service {
@@ -141,7 +146,12 @@ fn push_arguments(
     match service {
         Service::MqOpen => push_mq_open(alloc, text, process),
         Service::SemOpen => push_sem_open(alloc, text, process),
-        Service::MqUnlink | Service::SemUnlink => push_name(alloc, text, process, register(process, 0)),
+        Service::MqUnlink | Service::SemUnlink => push_name(
+            alloc,
+            text,
+            process,
+            register(process, 0),
+        ),
         _ => {
             push_handle(text, kernel, pid, service, register(process, 0))?;
             push_further(alloc, text, process, service)

@@ -12,7 +12,6 @@ mod flags;
 mod handles;
 mod lines;
 mod message;
-
 mod others;
 mod service;
 mod step;

@@ -54,7 +54,12 @@ impl Widths {
 
 /// Adds a process and a blank, in the width of the column.
 #[tactic(auto, unfolding(crate::specs::Lines::process_column))]
-fn push_process(alloc: Global, text: &mut String, width: usize, pid: usize) -> Result<(), AllocError>
+fn push_process(
+    alloc: Global,
+    text: &mut String,
+    width: usize,
+    pid: usize,
+) -> Result<(), AllocError>
     ensures { OnOk result (string_bytes text.new ≡ string_bytes text.old ++ process_column width pid) }
 {
     let process = format!(in alloc; "P{pid}")?;
@@ -94,7 +99,12 @@ pub fn push_head(
 }
 
 /// The place of the object that an open opened, by its result.
-fn opened_place(kernel: &Kernel, pid: usize, service: Service, result_word: Option<u16>) -> Option<u8>
+fn opened_place(
+    kernel: &Kernel,
+    pid: usize,
+    service: Service,
+    result_word: Option<u16>,
+) -> Option<u8>
     requires process { pid < length kernel.now.processes }
     ensures place { result ≡ opened_place kernel.now pid service result_word }
 {
@@ -161,7 +171,12 @@ fn push_wait_note(text: &mut String, begun: bool, since: Option<u32>) -> Result<
 }
 
 /// Adds the notes of a call.
-fn push_notes(text: &mut String, kernel: &Kernel, account: Account, place: Option<u8>) -> Result<(), AllocError>
+fn push_notes(
+    text: &mut String,
+    kernel: &Kernel,
+    account: Account,
+    place: Option<u8>,
+) -> Result<(), AllocError>
     ensures { OnOk result (string_bytes text.new ≡ string_bytes text.old ++ notes kernel.now account place) }
 {
     push_level_note(text, kernel, place)?;
@@ -183,7 +198,12 @@ pub fn push_call_line(
 {
     text.push_str(&asking.call)?;
     push_answer(text, after, &asking.reply)?;
-    push_notes(text, kernel, account, told_place(kernel, pid, asking, after))
+    push_notes(
+        text,
+        kernel,
+        account,
+        told_place(kernel, pid, asking, after),
+    )
 }
 
 /// Adds the text of the instruction and the bytes that it wrote.

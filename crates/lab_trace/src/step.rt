@@ -89,7 +89,15 @@ fn line_of(
         return Ok(line);
     }
     let number = format!(in alloc; "{number}")?;
-    push_head(alloc, &mut line, widths, &number, pid, before.pc, account.local)?;
+    push_head(
+        alloc,
+        &mut line,
+        widths,
+        &number,
+        pid,
+        before.pc,
+        account.local,
+    )?;
     push_what(&mut line, kernel, account, pid, before, after)?;
     line.push_str("\n")?;
     Ok(line)
@@ -110,7 +118,16 @@ fn shown(
 {
     let kernel = world.kernel();
     match world.process(pid) {
-        Some(after) => line_of(alloc, kernel, tally.account(pid), widths, number, pid, before, after),
+        Some(after) => line_of(
+            alloc,
+            kernel,
+            tally.account(pid),
+            widths,
+            number,
+            pid,
+            before,
+            after,
+        ),
         None => Ok(String::new(alloc)),
     }
 }

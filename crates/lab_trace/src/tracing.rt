@@ -121,12 +121,7 @@ fn trace_blocks<W: Write>(
 }
 
 /// Where the processes stand that haven't ended, and the report.
-fn ending(
-    alloc: Global,
-    world: &World,
-    tally: &Tally,
-    widths: Widths,
-) -> Result<String, AllocError>
+fn ending(alloc: Global, world: &World, tally: &Tally, widths: Widths) -> Result<String, AllocError>
     ensures text { IfOk result (λ s. string_bytes s ≡ ending widths world.now tally.now) }
 {
     let mut text = String::new(alloc);

@@ -182,7 +182,12 @@ fn push_characters(text: &mut String, words: &[u16]) -> Result<(), AllocError>
 }
 
 /// Adds the name at an address of a process, or the address where no zero word ends one.
-pub fn push_name(alloc: Global, text: &mut String, process: &Process, at: u16) -> Result<(), AllocError>
+pub fn push_name(
+    alloc: Global,
+    text: &mut String,
+    process: &Process,
+    at: u16,
+) -> Result<(), AllocError>
     ensures { OnOk result (string_bytes text.new ≡ string_bytes text.old ++ name_text (machine_of (seen process.now)).memory at) }
 {
     let Some(len) = name_end(process, at) else {

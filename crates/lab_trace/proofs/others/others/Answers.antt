@@ -1,4 +1,4 @@
-use Rattle.std.proofs.Common.{ℕ, List, [], ◌++◌, ap, ◌∙◌, string_bytes}
+use Rattle.std.proofs.Common.{ℕ, List, [], ◌++◌, ap, ◌∙◌}
 use Rattle.lab_trace.specs.Ends.{other_text}
 use Rattle.lab_debug.proofs.RowLemmas.{each_more}
 use Rattle.lab_trace.proofs.others.others.Goals as goal

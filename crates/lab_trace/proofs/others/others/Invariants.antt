@@ -1,4 +1,4 @@
-use Rattle.std.proofs.Common.{◌≡◌, ◌++◌, string_bytes}
+use Rattle.std.proofs.Common.{◌≡◌, string_bytes}
 use Rattle.lab_debug.specs.Rows.{each}
 use Rattle.lab_trace.specs.Ends.{other_text}
 use Rattle.lab_trace.proofs.others.others.Given as goal

@@ -1,12 +1,10 @@
-use Rattle.std.proofs.Common.{◌≡◌, ℕ, List, [], ◌++◌, length, replicate, refl, sym, ap, subst, ◌∙◌, append-nil}
+use Rattle.std.proofs.Common.{ℕ, List, [], ◌++◌, replicate, sym, ap, subst, ◌∙◌, append-nil}
 use Rattle.std.specs.Io.KnownBytes.{Appends}
 use Rattle.std.proofs.KnownBytes.{Appends-trans}
 use Rattle.lab_io.proofs.Prefixes.{AppendsPrefix-after}
 use Rattle.lab_sched.specs.Schedules.{steps_of}
-use Rattle.lab_sched.specs.Worlds.{run}
 use Rattle.lab_trace.specs.Scenes.{Scene, events}
 use Rattle.lab_trace.specs.Tallies.{new_account}
-use Rattle.lab_trace.specs.Traces.{ending}
 use Rattle.lab_trace.proofs.SceneLemmas.{scene-world}
 use Rattle.lab_trace.proofs.WrittenLemmas.{on_err, on_ok, on_err-map, on_ok-map, scene, trace-whole, lines-prefix, prefix-lines, widths-are}
 use Rattle.lab_trace.proofs.tracing.trace.Goals as goal
@@ -39,10 +37,10 @@ returns-clause-written g c =
     let led = rw c.blocks-2.ensures.value at c.in_ok-trace_blocks.ensures.scene in
     let s = scene 1 c.args.world.now c.in_ok-tally.tally in
     let whole = trace-whole c.args.world.now c.trace_blocks.new.world ps v c.in_ok-tally.tally c.trace_blocks.new.tally led.0 wide first led.1
-        ∙ ap (λ (l : List ℕ). events v s ps ++ l) (sym (c.deref.ensures ∙ c.in_ok-text.ensures.text)) in
+    ∙ ap (λ (l : List ℕ). events v s ps ++ l) (sym (c.deref.ensures ∙ c.in_ok-text.ensures.text)) in
     on_ok-map c.write_text.result _ _
     (λ more. subst (λ (l : List ℕ). Appends (g.W.Write.contents c.args.output.now.device) (g.W.Write.contents c.write_text.new.output.device) l) (sym whole)
-        (Appends-trans _ _ _ (events v s ps) c.deref.result.now sent more))
+    (Appends-trans _ _ _ (events v s ps) c.deref.result.now sent more))
     c.write_text.ensures.written
 
 pub returns-clause-world : goal.returns-clause-world
@@ -61,7 +59,7 @@ returns-clause-prefix g c =
     let led = rw c.blocks-2.ensures.value at c.in_ok-trace_blocks.ensures.scene in
     let s = scene 1 c.args.world.now c.in_ok-tally.tally in
     let whole = trace-whole c.args.world.now c.trace_blocks.new.world ps v c.in_ok-tally.tally c.trace_blocks.new.tally led.0 wide first led.1
-        ∙ ap (λ (l : List ℕ). events v s ps ++ l) (sym (append-nil c.deref.result.now ∙ c.deref.ensures ∙ c.in_ok-text.ensures.text)) in
+    ∙ ap (λ (l : List ℕ). events v s ps ++ l) (sym (append-nil c.deref.result.now ∙ c.deref.ensures ∙ c.in_ok-text.ensures.text)) in
     on_err-map c.write_text.result _ _
     (λ part. AppendsPrefix-after _ _ _ (events v s ps) c.deref.result.now [] _ sent part whole)
     c.write_text.ensures.prefix

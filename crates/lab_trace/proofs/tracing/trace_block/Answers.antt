@@ -1,7 +1,7 @@
-use Rattle.std.proofs.Common.{◌≡◌, ℕ, ◌+◌, length, replicate, refl, sym, ap, subst, ◌∙◌, arith}
+use Rattle.std.proofs.Common.{◌≡◌, ◌+◌, length, replicate, sym, ap, subst, ◌∙◌, arith}
 use Rattle.std.proofs.KnownBytes.{Appends-nil}
 use Rattle.lab_sched.specs.Worlds.{WorldState}
-use Rattle.lab_trace.specs.Scenes.{Scene, events, IsKept}
+use Rattle.lab_trace.specs.Scenes.{IsKept}
 use Rattle.lab_trace.proofs.SceneLemmas.{scene-none, events-none, stands, kept-after, length-step}
 use Rattle.lab_trace.proofs.WrittenLemmas.{on_err, scene, prefix-from, prefix-at, written-more, scene-told}
 use Rattle.lab_trace.proofs.tracing.trace_block.Goals as goal
@@ -37,7 +37,7 @@ loop-done-preserved g c =
     let k = c.steps_done-done.result in
     let stand = stands c.args.widths u c.args.block.pid k c.in_ok-traced.traced.stepped c.in_ok-traced.ensures.told c.steps_done-done.ensures.other in
     let told = scene-told c.args.widths s c.args.first c.loop-done.done k c.args.block.pid c.loop-done.world c.trace_step.new.world c.loop-done.tally c.trace_step.new.tally
-        c.loop-done.invariant.scene stand c.in_ok-traced.ensures.world c.in_ok-traced.ensures.tally in
+    c.loop-done.invariant.scene stand c.in_ok-traced.ensures.world c.in_ok-traced.ensures.tally in
     let len = ap (λ (w : WorldState). length w.processes) c.in_ok-traced.ensures.world ∙ length-step c.loop-done.world c.args.block.pid in
     record {
       within = omega arith;

@@ -1,4 +1,4 @@
-use Rattle.std.proofs.Common.{◌≡◌, ℕ, ◌+◌, ◌-◌, ◌<◌, ◌≤◌, length, replicate}
+use Rattle.std.proofs.Common.{◌≡◌, ◌+◌, ◌-◌, ◌<◌, ◌≤◌, length, replicate}
 use Rattle.std.specs.Io.KnownBytes.{Appends}
 use Rattle.lab_trace.specs.Scenes.{events, scene_after, IsKept}
 use Rattle.lab_trace.proofs.tracing.trace_block.Given as goal

@@ -1,4 +1,4 @@
-use Rattle.std.proofs.Common.{◌≡◌, ℕ, ◌+◌, length, take}
+use Rattle.std.proofs.Common.{◌≡◌, ◌+◌, length, take}
 use Rattle.std.specs.Io.KnownBytes.{Appends}
 use Rattle.lab_sched.specs.Schedules.{steps_of}
 use Rattle.lab_trace.specs.Scenes.{events, scene_after, IsKept}

@@ -1,4 +1,4 @@
-use Rattle.std.proofs.Common.{◌≡◌, sym, arith}
+use Rattle.std.proofs.Common.{sym, arith}
 use Rattle.lab_sched.specs.Held.{seen}
 use Rattle.lab_debug.specs.Texts.{machine_of}
 use Rattle.lab_trace.proofs.NameLemmas.{name_end-some, name_end-none}
