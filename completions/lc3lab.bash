@@ -1,7 +1,7 @@
 # Completions of lc3lab for bash. README.md beside this file says how to install them.
 
 _lc3lab() {
-    local commands='asm dis step run explore debug help'
+    local commands='asm dis step trace run explore debug help'
     local word=${COMP_WORDS[COMP_CWORD]} command=${COMP_WORDS[1]} options=
     COMPREPLY=()
     if [ "$COMP_CWORD" -eq 1 ]; then
@@ -25,7 +25,7 @@ _lc3lab() {
     case $command in
     asm) options='--list --explain --help -h' ;;
     dis) options='--help -h' ;;
-    step | debug) options='--profile --help -h' ;;
+    step | trace | debug) options='--profile --help -h' ;;
     run) options='--profile --limit --help -h' ;;
     explore) options='--profile --limit --worlds --require --schedule --help -h' ;;
     help) options=$commands ;;

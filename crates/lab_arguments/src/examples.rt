@@ -27,6 +27,13 @@ Example:
   lc3lab asm halt.asm halt.obj
   echo '0 1' | lc3lab step halt.obj halt.obj";
 
+/// Of `trace`.
+pub const TRACE: &str = "\
+Example:
+  printf '.ORIG x3000\\nHALT\\n' > halt.asm
+  lc3lab asm halt.asm halt.obj
+  echo '0 1' | lc3lab trace halt.obj halt.obj";
+
 /// Of `run`.
 pub const RUN: &str = "\
 Example:

@@ -50,6 +50,7 @@ fn program<'a>(alloc: Global) -> Result<Command<'a>, AllocError> {
         .subcommand(asm(alloc)?)?
         .subcommand(dis(alloc)?)?
         .subcommand(step(alloc)?)?
+        .subcommand(trace(alloc)?)?
         .subcommand(run(alloc)?)?
         .subcommand(explore(alloc)?)?
         .subcommand(debug(alloc)?)
@@ -95,6 +96,15 @@ fn step<'a>(alloc: Global) -> Result<Command<'a>, AllocError> {
         "step",
         "Runs programs by the schedule on standard input and prints a report",
         examples::STEP,
+    )
+}
+
+fn trace<'a>(alloc: Global) -> Result<Command<'a>, AllocError> {
+    on_programs(
+        alloc,
+        "trace",
+        "Runs programs by the schedule on standard input and prints what happened",
+        examples::TRACE,
     )
 }
 
@@ -207,6 +217,9 @@ fn request_of<'a>(alloc: Global, matches: &ArgMatches<'a>) -> Result<Request<'a>
             explain: words.get_flag("explain"),
         },
         Some(("step", words)) => Request::Step {
+            setup: setup_of(alloc, words)?,
+        },
+        Some(("trace", words)) => Request::Trace {
             setup: setup_of(alloc, words)?,
         },
         Some(("run", words)) => Request::Run {

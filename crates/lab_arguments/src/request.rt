@@ -17,6 +17,9 @@ pub enum Request<'a> {
     Step {
         setup: Setup<'a>,
     },
+    Trace {
+        setup: Setup<'a>,
+    },
     Run {
         setup: Setup<'a>,
         limit: u32,

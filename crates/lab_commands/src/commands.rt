@@ -8,6 +8,7 @@ mod explore;
 mod prompts;
 mod run;
 mod step;
+mod trace;
 
 use crate::complaint::{Complaint, Reason};
 use crate::fault::CliFault;
@@ -28,6 +29,7 @@ use std::rt::Files;
 use std::sync::Wait;
 use std::thread::Threads;
 use step::step_programs;
+use trace::trace_programs;
 
 /// The program did what its words ask for.
 pub const SUCCESS: u8 = 0;
@@ -101,6 +103,7 @@ fn perform<'a, T: Files + Threads + Wait + Sync, R: Read, W: Write, P: Progress>
         Request::Run { ref setup, limit } => {
             run_programs(rt, alloc, setup, limit, output, progress)
         }
+        Request::Trace { ref setup } => trace_programs(rt, alloc, setup, input, output),
         Request::Explore {
             ref setup,
             question,

@@ -4,6 +4,7 @@ use lab_debug::SessionFault;
 use lab_explore::ExploreFault;
 use lab_sched::{RunStop, SchedFault, StepFault, Verdict};
 use lab_threads::RunFault;
+use lab_trace::TraceFault;
 use lc3_asm::AsmFault;
 use lc3_obj::ObjFault;
 use lc3_table::Fault;
@@ -133,6 +134,16 @@ impl From<SessionFault> for Reason {
             SessionFault::TooManyLines => Reason::TooManyLines,
             SessionFault::LineTooLong => Reason::LineTooLong,
             SessionFault::NoMemory => Reason::NoMemory,
+        }
+    }
+}
+
+impl From<TraceFault> for Reason {
+    fn from(fault: TraceFault) -> Reason {
+        match fault {
+            TraceFault::NoProcess { done } => Reason::NoProcess { done },
+            TraceFault::Write => Reason::CannotWrite,
+            TraceFault::NoMemory => Reason::NoMemory,
         }
     }
 }

@@ -6,7 +6,7 @@ mod descriptors;
 mod effect;
 mod fault;
 mod lines;
-mod machine;
+pub mod machine;
 mod memory;
 mod operands;
 mod output;
@@ -20,7 +20,9 @@ mod status;
 mod texts;
 
 pub use fault::SessionFault;
+pub use output::Escape;
 pub use script::session;
+pub use status::how_name;
 pub use texts::{
     dis_text, fds_text, mem_text, mqs_text, out_text, procs_text, profile_text, regs_text,
     report_text, sems_text, status_text, verdict_text,

@@ -43,6 +43,7 @@ pub fn cc(process: &Process) -> Cc
 /// The word at an address.
 pub fn word(process: &Process, address: u16) -> u16
     ensures word { result ≡ slice_index (machine_of (seen process.now)).memory address }
+    ensures whole { length (machine_of (seen process.now)).memory ≡ 65536 }
 {
     match process {
         Process::Running(running) => running.word(address),

@@ -19,7 +19,7 @@ fn is_plain_byte(byte: u8) -> bool
 
 /// A byte by its two hexadecimal digits.
 #[derive(Clone, Copy)]
-struct Escape(u8);
+pub struct Escape(pub u8);
 
 impl fmt::Display for Escape {
     ghost output = { λ e. Some (escape_text e.0) };

@@ -34,7 +34,7 @@ impl fmt::Display for Place<'_> {
 }
 
 /// How a process ended, in a word.
-fn how_name(how: How) -> &'static str
+pub fn how_name(how: How) -> &'static str
     ensures text { result.now ≡ how_text how }
 {
     match how {

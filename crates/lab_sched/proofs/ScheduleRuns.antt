@@ -18,7 +18,7 @@ unfolding steps_of
 steps_of-cons b bs = refl
 
 -- the steps before block i, those of block i, and the rest
-steps-split : (bs : List Block) (i : ℕ) (d : Block) → i < length bs
+pub steps-split : (bs : List Block) (i : ℕ) (d : Block) → i < length bs
     → steps_of bs ≡ steps_of (take i bs) ++ (replicate (get_or bs i d).count (get_or bs i d).pid ++ steps_of (drop (suc i) bs))
 steps-split bs i d within =
     ap steps_of (sym (take-append-drop i bs) ∙ ap (λ ys. take i bs ++ ys) (drop-cons bs i d within))

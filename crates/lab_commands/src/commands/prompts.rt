@@ -10,7 +10,7 @@ pub fn prompt_of(words: &[String]) -> Prompt {
         );
     };
     match word.as_str() {
-        "step" => Prompt::Once("lc3lab: waiting for a schedule; Ctrl-D ends it\n"),
+        "step" | "trace" => Prompt::Once("lc3lab: waiting for a schedule; Ctrl-D ends it\n"),
         "debug" => Prompt::Always("> "),
         _ => Prompt::Never,
     }

@@ -40,7 +40,7 @@ pub fn step_programs<'a, T: Files, R: Read, W: Write, P: Progress>(
 }
 
 /// The schedule that a whole input writes.
-fn read_schedule<R: Read>(alloc: Global, input: &mut Input<R>) -> Result<Schedule, Reason>
+pub fn read_schedule<R: Read>(alloc: Global, input: &mut Input<R>) -> Result<Schedule, Reason>
     requires input_healthy { input.old.failed ≡ false }
 {
     let bytes = read_whole(alloc, input)?;

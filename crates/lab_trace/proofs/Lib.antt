@@ -1,0 +1,5 @@
+pub mod NameLemmas
+pub mod BelowLemmas
+pub mod SceneLemmas
+pub mod WrittenLemmas
+pub mod MissingLemmas

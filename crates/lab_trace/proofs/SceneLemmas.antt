@@ -1,0 +1,212 @@
+-- The scenes of a trace, one after another.
+use Rattle.std.proofs.Common.{◌≡◌, ℕ, zero, suc, ◌+◌, ◌-◌, ◌<◌, ◌≤◌, Bool, true, false, if◌then◌else◌, List, [], ◌∷◌, ◌++◌, Option, Some, None, length, replicate, slice_get, set, refl, sym, ap, subst, ◌∙◌, append_assoc, append-nil, arith}
+use Rattle.std.proofs.lemmas.List.{length-set, length-replicate, replicate-append-replicate}
+use Rattle.ipc_kernel.specs.declared.call.Answer.TheVariants.{Done, Wait}
+use Rattle.lab_sched.specs.Worlds.{Process, WorldState, Turn, nothing, local_step, kernel_step, turn_in, after, step, run}
+use Rattle.lab_sched.specs.Held.{told_of}
+use Rattle.lab_sched.specs.declared.stepped.Stepped.{Stepped}
+use Rattle.lab_sched.specs.declared.stepped.Stepped.TheVariants as stepped
+use Rattle.lab_sched.proofs.Runs.{run-one, length-run}
+use Rattle.lab_trace.specs.Events.{Event, local, calls, writes, ends, event_of}
+use Rattle.lab_trace.specs.Questions.{Before}
+use Rattle.lab_trace.specs.Tallies.{new_account, account_of, account_after, AreBelow}
+use Rattle.lab_trace.specs.Scenes.{Scene, first_scene, has_effect, line_by, tally_by, before_at, line, tallied, next, events, scene_after, IsKept}
+use Rattle.lab_trace.specs.declared.lines.Widths.{Widths}
+use Rattle.lab_trace.specs.declared.tally.Account.{Account}
+
+pub events-append : (v : Widths) (s : Scene) (xs ys : List ℕ) → events v s (xs ++ ys) ≡ events v s xs ++ events v (scene_after s xs) ys
+unfolding events scene_after
+events-append v s [] ys = refl
+events-append v s (x ∷ xs) ys =
+    ap (λ t. line v s x ++ t) (events-append v (next s x) xs ys) ∙ sym (append_assoc (line v s x) (events v (next s x) xs) (events v (scene_after (next s x) xs) ys))
+
+pub scene-append : (s : Scene) (xs ys : List ℕ) → scene_after s (xs ++ ys) ≡ scene_after (scene_after s xs) ys
+unfolding scene_after
+scene-append s [] ys = refl
+scene-append s (x ∷ xs) ys = scene-append (next s x) xs ys
+
+-- the world that the steps lead to
+pub scene-world : (s : Scene) (ps : List ℕ) → (scene_after s ps).world ≡ run s.world ps
+unfolding run scene_after
+scene-world s [] = refl
+scene-world s (p ∷ ps) = scene-world (next s p) ps
+
+pub scene-none : (s : Scene) → scene_after s [] ≡ s
+unfolding scene_after
+scene-none s = refl
+
+pub events-none : (v : Widths) (s : Scene) → events v s [] ≡ []
+unfolding events
+events-none v s = refl
+
+-- one step
+events-one : (v : Widths) (s : Scene) (p : ℕ) → events v s (p ∷ []) ≡ line v s p
+unfolding events
+events-one v s p = append-nil (line v s p)
+
+scene-one : (s : Scene) (p : ℕ) → scene_after s (p ∷ []) ≡ next s p
+unfolding scene_after
+scene-one s p = refl
+
+-- a scene with another number
+abbrev pub renumbered : Scene → ℕ → Scene
+renumbered s n = record { number = n; world = s.world; tally = s.tally }
+
+-- a step without effect has no line, and changes nothing but the number
+line-still : (v : Widths) (s : Scene) (p : ℕ) → turn_in s.world p ≡ nothing → line v s p ≡ []
+unfolding line
+line-still v s p e =
+    ap (λ (b : Bool). if b then line_by v s.number (step s.world p).kernel s.tally p (before_at s p) (slice_get (step s.world p).processes p) else [])
+    (ap (λ t. has_effect (told_of t)) e)
+
+tallied-still : (s : Scene) (p : ℕ) → turn_in s.world p ≡ nothing → tallied s p ≡ s.tally
+unfolding tallied
+tallied-still s p e =
+    ap (λ (b : Bool). if b then tally_by s.number s.tally p (before_at s p) (slice_get (step s.world p).processes p) else s.tally)
+    (ap (λ t. has_effect (told_of t)) e)
+
+next-still : (s : Scene) (p : ℕ) → turn_in s.world p ≡ nothing → next s p ≡ renumbered s (s.number + 1)
+next-still s p e =
+    let as_scene : WorldState → List Account → Scene = λ w t. record { number = s.number + 1; world = w; tally = t } in
+    ap (λ w. as_scene w (tallied s p)) (ap (λ t. after s.world p t) e) ∙ ap (λ t. as_scene s.world t) (tallied-still s p e)
+
+-- so do n of them
+events-still : (n : ℕ) (v : Widths) (s : Scene) (p : ℕ) → turn_in s.world p ≡ nothing → events v s (replicate n p) ≡ []
+unfolding events
+events-still zero v s p e = refl
+events-still (suc n) v s p e =
+    ap (λ l. l ++ events v (next s p) (replicate n p)) (line-still v s p e)
+    ∙ ap (λ x. events v x (replicate n p)) (next-still s p e)
+    ∙ events-still n v (renumbered s (s.number + 1)) p e
+
+scene-still : (n : ℕ) (s : Scene) (p : ℕ) → turn_in s.world p ≡ nothing → scene_after s (replicate n p) ≡ renumbered s (s.number + n)
+unfolding scene_after
+scene-still zero s p e = let same : s.number ≡ s.number + 0 = omega arith in ap (λ n. renumbered s n) same
+scene-still (suc n) s p e =
+    let same : (s.number + 1) + n ≡ s.number + suc n = omega arith in
+    ap (λ x. scene_after x (replicate n p)) (next-still s p e) ∙ scene-still n (renumbered s (s.number + 1)) p e ∙ ap (λ k. renumbered s k) same
+
+-- what a step is told as stands for: itself, or so many steps without effect
+pub record Stands (v : Widths) (s : Scene) (p k : ℕ) : Type 0 where
+  pub lines : events v s (replicate k p) ≡ line v s p
+  pub scene : scene_after s (replicate k p) ≡ renumbered (next s p) (s.number + k)
+
+stands-one : (v : Widths) (s : Scene) (p k : ℕ) → k ≡ 1 → Stands v s p k
+stands-one v s p k one =
+    subst (λ n. Stands v s p n) (sym one) (record { lines = events-one v s p; scene = scene-one s p })
+
+stands-still : (v : Widths) (s : Scene) (p k : ℕ) → turn_in s.world p ≡ nothing → Stands v s p k
+stands-still v s p k e = record {
+  lines = events-still k v s p e ∙ sym (line-still v s p e);
+  scene = scene-still k s p e ∙ sym (ap (λ x. renumbered x (s.number + k)) (next-still s p e));
+}
+
+pub stands : (v : Widths) (s : Scene) (p k : ℕ) (t : Stepped) → t ≡ told_of (turn_in s.world p) → ((t ≡ stepped.Same → ⊥) → k ≡ 1) → Stands v s p k
+stands v s p k t is one = by (turn_in s.world p) refl
+  where
+    other : (u : Turn) → turn_in s.world p ≡ u → (told_of u ≡ stepped.Same → ⊥) → Stands v s p k
+    other u at ne = stands-one v s p k (one (λ e. ne (ap told_of (sym at) ∙ sym is ∙ e)))
+
+    by : (u : Turn) → turn_in s.world p ≡ u → Stands v s p k
+    by nothing at = stands-still v s p k at
+    by (local_step m) at = other (local_step m) at (λ e. cc)
+    by (kernel_step m c (Done r)) at = other (kernel_step m c (Done r)) at (λ e. cc)
+    by (kernel_step m c Wait) at = other (kernel_step m c Wait) at (λ e. cc)
+
+-- the lines of a block from its step number k on
+pub events-from : (v : Widths) (s : Scene) (n k p : ℕ) → k ≤ n
+    → events v s (replicate n p) ≡ events v s (replicate k p) ++ events v (scene_after s (replicate k p)) (replicate (n - k) p)
+events-from v s n k p h =
+    let parts : k + (n - k) ≡ n = omega arith in
+    ap (λ (m : ℕ). events v s (replicate m p)) (sym parts) ∙ ap (events v s) (sym (replicate-append-replicate k (n - k) p)) ∙ events-append v s (replicate k p) (replicate (n - k) p)
+
+events-first : (v : Widths) (s : Scene) (n p : ℕ) → events v s (replicate (suc n) p) ≡ line v s p ++ events v (next s p) (replicate n p)
+unfolding events
+events-first v s n p = refl
+
+-- the line of step number k of a block, and those behind it
+pub events-at : (v : Widths) (s u : Scene) (n k p : ℕ) → k < n → u ≡ scene_after s (replicate k p)
+    → events v s (replicate n p) ≡ events v s (replicate k p) ++ (line v u p ++ events v (next u p) (replicate (n - k - 1) p))
+events-at v s u n k p h is =
+    let parts : n - k ≡ suc (n - k - 1) = omega arith in
+    events-from v s n k p (omega arith)
+    ∙ ap (λ (x : Scene). events v s (replicate k p) ++ events v x (replicate (n - k) p)) (sym is)
+    ∙ ap (λ (m : ℕ). events v s (replicate k p) ++ events v u (replicate m p)) parts
+    ∙ ap (λ (l : List ℕ). events v s (replicate k p) ++ l) (events-first v u (n - k - 1) p)
+
+-- k steps of a block more
+pub events-more : (v : Widths) (s u : Scene) (done k p : ℕ) → u ≡ scene_after s (replicate done p) → Stands v u p k
+    → events v s (replicate (done + k) p) ≡ events v s (replicate done p) ++ line v u p
+events-more v s u done k p is stand =
+    ap (events v s) (sym (replicate-append-replicate done k p)) ∙ events-append v s (replicate done p) (replicate k p)
+    ∙ ap (λ (x : Scene). events v s (replicate done p) ++ events v x (replicate k p)) (sym is)
+    ∙ ap (λ (l : List ℕ). events v s (replicate done p) ++ l) stand.lines
+
+pub scene-more : (v : Widths) (s u : Scene) (done k p : ℕ) → u ≡ scene_after s (replicate done p) → Stands v u p k
+    → renumbered (next u p) (u.number + k) ≡ scene_after s (replicate (done + k) p)
+scene-more v s u done k p is stand =
+    sym stand.scene ∙ ap (λ (x : Scene). scene_after x (replicate k p)) is ∙ sym (scene-append s (replicate done p) (replicate k p))
+    ∙ ap (scene_after s) (replicate-append-replicate done k p)
+
+-- what is kept of the accounts
+below-set : (n : ℕ) (t : List Account) (p : ℕ) (a : Account) → a.local < n → AreBelow n t → AreBelow n (set t p a)
+below-set n [] p a h b q = b q
+below-set n (x ∷ xs) zero a h b zero = h
+below-set n (x ∷ xs) zero a h b (suc q) = b (suc q)
+below-set n (x ∷ xs) (suc p) a h b zero = b 0
+below-set n (x ∷ xs) (suc p) a h b (suc q) = below-set n xs p a h (λ r. b (suc r)) q
+
+after-below : (n : ℕ) (u : Process) (e : Event) (a : Account) → a.local < n → (account_after n u e a).local < n + 1
+after-below n u local a h = omega arith
+after-below n u (calls q) a h = omega arith
+after-below n u (writes bytes) a h = omega arith
+after-below n u (ends how) a h = omega arith
+
+abbrev IsKeptTally : ℕ → ℕ → List Account → Type 0
+IsKeptTally n count t = (length t ≡ count) × AreBelow (n + 1) t
+
+kept-still : (n count : ℕ) (t : List Account) → length t ≡ count → AreBelow n t → IsKeptTally n count t
+kept-still n count t l b = (l, λ p. let h = b p in omega arith)
+
+kept-by : (n count : ℕ) (t : List Account) (p : ℕ) (b : Before) (u : Option Process) → length t ≡ count → AreBelow n t → IsKeptTally n count (tally_by n t p b u)
+kept-by n count t p b None l h = kept-still n count t l h
+kept-by n count t p b (Some u) l h =
+    let a : Account = account_after n u (event_of b u) (account_of t p) in
+    (length-set t p a ∙ l, below-set (n + 1) t p a (after-below n u (event_of b u) (account_of t p) (h p)) (λ q. let x = h q in omega arith))
+
+kept-if : (n count : ℕ) (effect : Bool) (t u : List Account) → IsKeptTally n count u → IsKeptTally n count t → IsKeptTally n count (if effect then t else u)
+kept-if n count true t u still moved = moved
+kept-if n count false t u still moved = still
+
+kept-tallied : (s : Scene) (p : ℕ) → IsKept s → IsKeptTally s.number (length s.world.processes) (tallied s p)
+unfolding tallied
+kept-tallied s p kept =
+    kept-if s.number (length s.world.processes) (has_effect (told_of (turn_in s.world p)))
+    (tally_by s.number s.tally p (before_at s p) (slice_get (step s.world p).processes p)) s.tally
+    (kept-still s.number (length s.world.processes) s.tally kept.accounts kept.below)
+    (kept-by s.number (length s.world.processes) s.tally p (before_at s p) (slice_get (step s.world p).processes p) kept.accounts kept.below)
+
+pub length-step : (w : WorldState) (p : ℕ) → length (step w p).processes ≡ length w.processes
+length-step w p = sym (ap (λ (x : WorldState). length x.processes) (run-one w p)) ∙ length-run w (p ∷ [])
+
+kept-next : (s : Scene) (p : ℕ) → IsKept s → IsKept (next s p)
+kept-next s p kept =
+    let t = kept-tallied s p kept in
+    record { accounts = t.0 ∙ sym (length-step s.world p); below = t.1 }
+
+pub kept-after : (s : Scene) (ps : List ℕ) → IsKept s → IsKept (scene_after s ps)
+unfolding scene_after
+kept-after s [] kept = kept
+kept-after s (p ∷ ps) kept = kept-after (next s p) ps (kept-next s p kept)
+
+-- as many processes as before
+pub length-scene : (s : Scene) (ps : List ℕ) → length (scene_after s ps).world.processes ≡ length s.world.processes
+length-scene s ps = ap (λ (w : WorldState). length w.processes) (scene-world s ps) ∙ length-run s.world ps
+
+below-first : (n p : ℕ) → (account_of (replicate n new_account) p).local < 1
+below-first zero p = omega arith
+below-first (suc n) zero = omega arith
+below-first (suc n) (suc p) = below-first n p
+
+pub kept-first : (w : WorldState) → IsKept (first_scene w)
+kept-first w = record { accounts = length-replicate (length w.processes) new_account; below = below-first (length w.processes) }

@@ -1,0 +1,92 @@
+-- Where the processes stand that haven't ended.
+use Rattle.std.specs.Prelude.{ℕ, zero, suc, ◌==◌, ◌&&◌, ◌||◌, not, Bool, false, if◌then◌else◌, Option, Some, None, List, [], ◌++◌, codes, length, slice_get}
+use Rattle.std.specs.Fmt.{decimal}
+use Rattle.lc3_machine.specs.Process.{Process as Machine, reg}
+use Rattle.ipc_kernel.specs.Kernel.{KernelState}
+use Rattle.ipc_kernel.specs.Limits.{open_max}
+use Rattle.ipc_kernel.specs.Processes.{descriptor_of, slot_of, slot_refers}
+use Rattle.ipc_kernel.specs.declared.process.Descriptor.{Descriptor}
+use Rattle.lab_sched.specs.Worlds.{Process, Running, Waiting, Ended, WorldState}
+use Rattle.lab_debug.specs.Rows.{each}
+use Rattle.lab_trace.specs.Calls.{call_text}
+use Rattle.lab_trace.specs.Objects.{held_place, level_text}
+use Rattle.lab_trace.specs.Services.{service_at}
+use Rattle.lab_trace.specs.Lines.{head, process_text}
+use Rattle.lab_trace.specs.Tallies.{account_of}
+use Rattle.lab_trace.specs.declared.lines.Widths.{Widths}
+use Rattle.lab_trace.specs.declared.tally.Account.{Account}
+use Rattle.lab_trace.specs.declared.service.Service.{Service}
+use Rattle.lab_trace.specs.declared.service.Service.TheVariants.{MqSend, MqReceive}
+
+-- whether a test holds for one of the numbers below n
+unfoldable pub any_below : ℕ → (ℕ → Bool) → Bool
+any_below zero test = false
+any_below (suc n) test = any_below n test || test n
+
+-- whether a descriptor refers to a place, and its access isn't this one
+abbrev pub can_do : ℕ → ℕ → Option Descriptor → Bool
+can_do place other None = false
+can_do place other (Some d) = (d.place == place) && not (d.access == other)
+
+-- whether process p has a queue open other than by one access alone
+abbrev pub has_queue : KernelState → ℕ → ℕ → ℕ → Bool
+has_queue k p place other = any_below open_max (λ d. can_do place other (descriptor_of k.processes p d))
+
+-- whether process p has a semaphore open
+abbrev pub has_semaphore : KernelState → ℕ → ℕ → Bool
+has_semaphore k p place = any_below open_max (λ s. slot_refers place (slot_of k.processes p s))
+
+-- whether process p could serve a call on the object in a place: it has the queue open to send or to receive, or the semaphore
+abbrev pub has_open : KernelState → ℕ → Service → ℕ → Bool
+has_open k place MqReceive p = has_queue k p place 0
+has_open k place MqSend p = has_queue k p place 1
+has_open k place s p = has_semaphore k p place
+
+-- process q, where it could serve a call of process p
+unfoldable pub other_text : KernelState → ℕ → ℕ → Service → ℕ → List ℕ
+other_text k p place s q = if not (q == p) && has_open k place s q then codes " " ++ process_text q else []
+
+-- processes, each with a blank before it, or nobody
+abbrev pub or_nobody : List ℕ → List ℕ
+or_nobody found = if length found == 0 then codes " nobody" else found
+
+-- the other processes that could serve a call of process p
+unfoldable pub others_text : WorldState → ℕ → ℕ → Service → List ℕ
+others_text w p place s = or_nobody (each (length w.processes) (other_text w.kernel p place s))
+
+-- what stands before those who could serve a call
+abbrev pub others_title : Service → List ℕ
+others_title MqReceive = codes ", senders"
+others_title MqSend = codes ", receivers"
+others_title s = codes ", open in"
+
+-- the object that a process waits for, and who could serve its call
+abbrev pub object_part : WorldState → ℕ → Service → Option ℕ → List ℕ
+object_part w p s None = []
+object_part w p s (Some place) = level_text w.kernel place ++ others_title s ++ others_text w p place s
+
+abbrev pub since_part : Option ℕ → List ℕ
+since_part None = []
+since_part (Some n) = codes " since " ++ decimal n
+
+-- what a process waits for
+abbrev pub wait_text : WorldState → Account → ℕ → Machine → Option Service → List ℕ
+wait_text w a p m None = []
+wait_text w a p m (Some s) =
+    codes "waits" ++ since_part a.since ++ codes " in " ++ call_text w.kernel p m s ++ codes ": "
+    ++ object_part w p s (held_place w.kernel p s (reg m 0))
+
+-- the line of a process with this account, if it hasn't ended
+abbrev pub stand : Widths → WorldState → Account → ℕ → Process → List ℕ
+stand v w a p (Running m) = head v (codes "end") p m.pc a.local ++ codes "runs" ++ codes "\n"
+stand v w a p (Waiting m c) = head v (codes "end") p m.pc a.local ++ wait_text w a p m (service_at m) ++ codes "\n"
+stand v w a p (Ended e) = []
+
+-- where process p stands, if it hasn't ended
+abbrev pub stand_line : Widths → WorldState → List Account → ℕ → Option Process → List ℕ
+stand_line v w t p None = []
+stand_line v w t p (Some s) = stand v w (account_of t p) p s
+
+-- where each process stands that hasn't ended
+unfoldable pub end_lines : Widths → WorldState → List Account → List ℕ
+end_lines v w t = each (length w.processes) (λ p. stand_line v w t p (slice_get w.processes p))

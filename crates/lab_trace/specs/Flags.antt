@@ -1,0 +1,40 @@
+-- Flags by their names in POSIX.1-2017, <fcntl.h>.
+use Rattle.std.specs.Prelude.{ℕ, ◌-◌, ◌==◌, Bool, true, false, if◌then◌else◌, List, [], ◌++◌, codes, bit_and}
+use Rattle.ipc_names.specs.Flags.{has_flag}
+use Rattle.lab_debug.specs.Texts.{address_text}
+
+-- what stands between two flags
+abbrev pub bar : Bool → List ℕ
+bar true = codes "|"
+bar false = []
+
+-- a flag where it is set; `begun` says whether another stands before it
+unfoldable pub flag_part : Bool → ℕ → List ℕ → ℕ → List ℕ
+flag_part begun flag name w = if has_flag flag w then bar begun ++ name else []
+
+-- the bits of a word that have no name, as one word, where there are any
+unfoldable pub rest_part : Bool → ℕ → ℕ → List ℕ
+rest_part begun unnamed w = if has_flag unnamed w then bar begun ++ address_text (bit_and w unnamed) else []
+
+-- the access that bits 1 and 0 ask for
+abbrev pub access_text : ℕ → List ℕ
+access_text access =
+    if access == 0 then codes "O_RDONLY" else
+    if access == 1 then codes "O_WRONLY" else
+    if access == 2 then codes "O_RDWR" else codes "x0003"
+
+-- the flags of mq_open
+unfoldable pub mq_flags : ℕ → List ℕ
+mq_flags w =
+    access_text (bit_and w 3) ++ flag_part true 0x40 (codes "O_CREAT") w ++ flag_part true 0x80 (codes "O_EXCL") w
+    ++ flag_part true 0x800 (codes "O_NONBLOCK") w ++ rest_part true (0xffff - 0x8c3) w
+
+-- the flags of sem_open
+unfoldable pub sem_flags : ℕ → List ℕ
+sem_flags w =
+    if w == 0 then codes "0" else
+    flag_part false 0x40 (codes "O_CREAT") w ++ flag_part (has_flag 0x40 w) 0x80 (codes "O_EXCL") w ++ rest_part (has_flag 0xc0 w) (0xffff - 0xc0) w
+
+-- mq_flags of the attributes of a queue
+unfoldable pub flag_word : ℕ → List ℕ
+flag_word w = if w == 0 then codes "0" else flag_part false 0x800 (codes "O_NONBLOCK") w ++ rest_part (has_flag 0x800 w) (0xffff - 0x800) w

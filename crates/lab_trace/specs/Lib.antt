@@ -1,0 +1,14 @@
+pub mod Services
+pub mod Words
+pub mod Flags
+pub mod Attributes
+pub mod Objects
+pub mod Calls
+pub mod Answers
+pub mod Questions
+pub mod Events
+pub mod Tallies
+pub mod Lines
+pub mod Scenes
+pub mod Ends
+pub mod Traces

@@ -1,0 +1,93 @@
+-- The line of a step.
+use Rattle.std.specs.Prelude.{ℕ, ◌+◌, ◌-◌, max, Bool, true, false, if◌then◌else◌, Option, Some, None, is_some, List, [], ◌++◌, codes, length}
+use Rattle.std.specs.Fmt.{decimal}
+use Rattle.lc3_table.specs.Text.{word_text}
+use Rattle.lc3_machine.specs.declared.want.How.{How}
+use Rattle.ipc_kernel.specs.Kernel.{KernelState}
+use Rattle.lab_sched.specs.Worlds.{Process}
+use Rattle.lab_debug.specs.Texts.{address_text, how_text}
+use Rattle.lab_trace.specs.Words.{bytes_text, at_left, at_right}
+use Rattle.lab_trace.specs.Answers.{answer_text, result_of}
+use Rattle.lab_trace.specs.Objects.{held_place, level_text}
+use Rattle.lab_trace.specs.Services.{is_open, is_on_level}
+use Rattle.lab_trace.specs.Questions.{Question, Before}
+use Rattle.lab_trace.specs.Events.{Event, local, calls, writes, ends, has_line}
+use Rattle.lab_trace.specs.declared.lines.Widths.{Widths}
+use Rattle.lab_trace.specs.declared.tally.Account.{Account}
+use Rattle.lab_trace.specs.declared.service.Service.{Service}
+
+-- the widths for a schedule of so many steps of so many processes
+abbrev pub widths_for : ℕ → ℕ → Widths
+widths_for total count = record { step = max 3 (length (decimal total)); process = 1 + length (decimal (count - 1)) }
+
+-- process p by its number
+abbrev pub process_text : ℕ → List ℕ
+process_text p = codes "P" ++ decimal p
+
+-- a process and a blank, in the width of the column
+unfoldable pub process_column : ℕ → ℕ → List ℕ
+process_column width p = at_left width (process_text p) ++ codes " "
+
+-- counted steps and a blank, in the width of the column
+unfoldable pub local_column : ℕ → List ℕ
+local_column count = at_right 5 (codes "+" ++ decimal count) ++ codes " "
+
+-- the columns before what happened: step, process, address, and the counted steps of the process since its last line
+unfoldable pub head : Widths → List ℕ → ℕ → ℕ → ℕ → List ℕ
+head v step p address count =
+    at_right v.step step ++ codes " " ++ process_column v.process p ++ address_text address ++ codes " " ++ local_column count
+
+-- the place of the object whose level is told: of an open that isn't refused the one that it opened
+abbrev pub opened_place : KernelState → ℕ → Service → Option ℕ → Option ℕ
+opened_place k p s None = None
+opened_place k p s (Some result) = held_place k p s result
+
+unfoldable pub told_place : KernelState → ℕ → Question → Process → Option ℕ
+told_place k p q after =
+    if is_open q.service then opened_place k p q.service (result_of after) else
+    if is_on_level q.service then q.place else None
+
+-- what stands before a note
+abbrev pub separator : Bool → List ℕ
+separator true = codes ", "
+separator false = codes " ; "
+
+-- the level after the step
+abbrev pub level_note : KernelState → Option ℕ → List ℕ
+level_note k None = []
+level_note k (Some place) = separator false ++ level_text k place
+
+unfoldable pub waited_text : ℕ → List ℕ
+waited_text since = codes "waited since " ++ decimal since
+
+-- since when the process waited; `begun` says whether another note stands before it
+abbrev pub wait_note : Bool → Option ℕ → List ℕ
+wait_note begun None = []
+wait_note begun (Some n) = separator begun ++ waited_text n
+
+-- the notes of a call
+abbrev pub notes : KernelState → Account → Option ℕ → List ℕ
+notes k a place = level_note k place ++ wait_note (is_some place) a.since
+
+-- a call of process p; k is the kernel after it
+unfoldable pub call_line : KernelState → Account → ℕ → Question → Process → List ℕ
+call_line k a p q after = q.call ++ answer_text after q.reply ++ notes k a (told_place k p q after)
+
+-- bytes of output behind the text of the instruction that wrote them
+unfoldable pub output_text : ℕ → List ℕ → List ℕ
+output_text word bytes = word_text word ++ codes " " ++ bytes_text bytes
+
+abbrev pub end_text : How → List ℕ
+end_text how = codes "ends " ++ how_text how
+
+-- what happened
+abbrev pub what : KernelState → Account → ℕ → Before → Process → Event → List ℕ
+what k a p b after local = []
+what k a p b after (calls q) = call_line k a p q after
+what k a p b after (writes bytes) = output_text b.word bytes
+what k a p b after (ends how) = end_text how
+
+-- the line of process p in step n, where its event has one
+abbrev pub event_line : Widths → ℕ → KernelState → Account → ℕ → Before → Process → Event → List ℕ
+event_line v n k a p b after e =
+    if has_line e then head v (decimal n) p b.pc a.local ++ what k a p b after e ++ codes "\n" else []

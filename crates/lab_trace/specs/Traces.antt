@@ -1,0 +1,44 @@
+-- The trace of a schedule: the lines of its steps, where the processes stand at its end, and the report.
+use Rattle.std.specs.Prelude.{◌≡◌, ◌<◌, ℕ, nat_le, slice_index_or, Bool, IsTrue, Option, Some, List, ◌++◌, length, position, ⊤}
+use Rattle.lab_sched.specs.Worlds.{WorldState}
+use Rattle.lab_sched.specs.Schedules.{block}
+use Rattle.lab_sched.specs.declared.schedule.block.Block.{Block}
+use Rattle.lab_debug.specs.Reports.{report_text}
+use Rattle.lab_trace.specs.Lines.{widths_for}
+use Rattle.lab_trace.specs.Scenes.{Scene, first_scene, events, scene_after}
+use Rattle.lab_trace.specs.Ends.{end_lines}
+use Rattle.lab_trace.specs.declared.lines.Widths.{Widths}
+use Rattle.lab_trace.specs.declared.tally.Account.{Account}
+use Rattle.lab_trace.specs.declared.fault.TraceFault.{TraceFault}
+use Rattle.lab_trace.specs.declared.fault.TraceFault.TheVariants.{NoProcess, Write, NoMemory}
+
+-- what follows the lines of the steps
+abbrev pub ending : Widths → WorldState → List Account → List ℕ
+ending v w t = end_lines v w t ++ report_text w
+
+abbrev pub trace_with : Widths → Scene → List ℕ → List ℕ
+trace_with v s ps = events v s ps ++ ending v (scene_after s ps).world (scene_after s ps).tally
+
+-- the trace of a world by these steps
+unfoldable pub trace_text : WorldState → List ℕ → List ℕ
+trace_text w ps = trace_with (widths_for (length ps) (length w.processes)) (first_scene w) ps
+
+-- how many steps come before the first of a process that isn't there, if there is one
+unfoldable pub missing_after : WorldState → List ℕ → Option ℕ
+missing_after w ps = position (λ p. nat_le (length w.processes) p) ps
+
+-- each block is of a process that is there
+abbrev pub AreThere : WorldState → List Block → Type 0
+AreThere w bs = (i : ℕ) → i < length bs → (slice_index_or bs i (block 0 0)).pid < length w.processes
+
+-- why a trace broke off: a process that isn't there, or a writer that failed
+abbrev pub Explains : TraceFault → WorldState → List ℕ → Bool → Type 0
+Explains (NoProcess done) w ps failed = missing_after w ps ≡ Some done
+Explains Write w ps failed = IsTrue failed
+Explains NoMemory w ps failed = ⊤
+
+-- why a part of a trace broke off
+abbrev pub IsFault : TraceFault → Bool → Type 0
+IsFault (NoProcess done) failed = ⊥
+IsFault Write failed = IsTrue failed
+IsFault NoMemory failed = ⊤

@@ -1,0 +1,179 @@
+//! A call with its arguments.
+ghost use Rattle.std.specs.Prelude.{◌≡◌, ◌<◌, ◌++◌, OnOk, length, string_bytes};
+ghost use Rattle.lab_sched.specs.Held.{seen};
+ghost use Rattle.lab_debug.specs.Texts.{machine_of};
+ghost use Rattle.lab_trace.specs.declared.service.Service.TheVariants.{MqSend, MqReceive};
+ghost use Rattle.lab_trace.specs.Calls.{attributes_asked, mq_open_arguments, sem_open_arguments, flags_asked, further_arguments, arguments, call_text};
+
+use crate::attributes::{push_flags, push_sizes};
+use crate::flags::{O_CREAT, has_flag, push_mq_flags, push_sem_flags};
+use crate::handles::push_handle;
+use crate::message::push_buffer;
+use crate::service::Service;
+use crate::words::{is_in_memory, push_address, push_name, push_pointer, register};
+use ipc_kernel::Kernel;
+use lab_debug::machine;
+use lab_sched::Process;
+use std::alloc::{AllocError, Global};
+
+/// Adds the attributes for mq_open at an address.
+#[tactic(auto, unfolding(crate::specs::Calls::attributes_asked))]
+fn push_sizes_at(text: &mut String, process: &Process, at: u16) -> Result<(), AllocError>
+    ensures { OnOk result (string_bytes text.new ≡ string_bytes text.old ++ attributes_asked (machine_of (seen process.now)) at) }
+{
+    if at == 0 || !is_in_memory(at, 4) {
+        return push_pointer(text, at);
+    }
+    push_sizes(
+        text,
+        machine::word(process, at + 1),
+        machine::word(process, at + 2),
+    )
+}
+
+/// Adds the arguments of mq_open.
+#[tactic(auto, unfolding(crate::specs::Calls::mq_open_arguments))]
+fn push_mq_open(alloc: Global, text: &mut String, process: &Process) -> Result<(), AllocError>
+    ensures { OnOk result (string_bytes text.new ≡ string_bytes text.old ++ mq_open_arguments (machine_of (seen process.now))) }
+{
+    let flags = register(process, 1);
+    push_name(alloc, text, process, register(process, 0))?;
+    text.push_str(", ")?;
+    push_mq_flags(text, flags)?;
+    if !has_flag(O_CREAT, flags) {
+        return Ok(());
+    }
+    text.push_str(", ")?;
+    push_sizes_at(text, process, register(process, 2))
+}
+
+/// Adds the arguments of sem_open.
+#[tactic(auto, unfolding(crate::specs::Calls::sem_open_arguments))]
+fn push_sem_open(alloc: Global, text: &mut String, process: &Process) -> Result<(), AllocError>
+    ensures { OnOk result (string_bytes text.new ≡ string_bytes text.old ++ sem_open_arguments (machine_of (seen process.now))) }
+{
+    let flags = register(process, 1);
+    push_name(alloc, text, process, register(process, 0))?;
+    text.push_str(", ")?;
+    push_sem_flags(text, flags)?;
+    if !has_flag(O_CREAT, flags) {
+        return Ok(());
+    }
+    let value = register(process, 2);
+    match write!(text, ", {value}") {
+        Ok(()) => Ok(()),
+        Err(error) => Err(error),
+    }
+}
+
+/// Adds the new mq_flags at an address.
+#[tactic(auto, unfolding(crate::specs::Calls::flags_asked))]
+fn push_flags_asked(text: &mut String, process: &Process, at: u16) -> Result<(), AllocError>
+    ensures { OnOk result (string_bytes text.new ≡ string_bytes text.old ++ flags_asked (machine_of (seen process.now)) at) }
+{
+    if !is_in_memory(at, 4) {
+        return push_address(text, at);
+    }
+    push_flags(text, machine::word(process, at))
+}
+
+/// Adds what stands behind the descriptor of mq_send.
+#[tactic(auto, unfolding(crate::specs::Calls::further_arguments))]
+fn push_sent(alloc: Global, text: &mut String, process: &Process) -> Result<(), AllocError>
+    ensures { OnOk result (string_bytes text.new ≡ string_bytes text.old ++ further_arguments (machine_of (seen process.now)) MqSend) }
+{
+    let len = register(process, 2);
+    let priority = register(process, 3);
+    text.push_str(", ")?;
+    push_buffer(alloc, text, process, register(process, 1), len)?;
+    match write!(text, ", {len}, {priority}") {
+        Ok(()) => Ok(()),
+        Err(error) => Err(error),
+    }
+}
+
+/// Adds what stands behind the descriptor of mq_receive.
+#[tactic(auto, unfolding(crate::specs::Calls::further_arguments))]
+fn push_received(text: &mut String, process: &Process) -> Result<(), AllocError>
+    ensures { OnOk result (string_bytes text.new ≡ string_bytes text.old ++ further_arguments (machine_of (seen process.now)) MqReceive) }
+{
+    let len = register(process, 2);
+    text.push_str(", ")?;
+    push_address(text, register(process, 1))?;
+    write!(text, ", {len}, ")?;
+    push_pointer(text, register(process, 3))
+}
+
+/// Adds what stands behind the descriptor or the slot.
+#[tactic(auto, unfolding(crate::specs::Calls::further_arguments))]
+fn push_further(
+    alloc: Global,
+    text: &mut String,
+    process: &Process,
+    service: Service,
+) -> Result<(), AllocError>
+    ensures { OnOk result (string_bytes text.new ≡ string_bytes text.old ++ further_arguments (machine_of (seen process.now)) service) }
+{
+    match service {
+        Service::MqSend => push_sent(alloc, text, process),
+        Service::MqReceive => push_received(text, process),
+        Service::MqGetattr | Service::SemGetvalue => {
+            text.push_str(", ")?;
+            push_address(text, register(process, 1))
+        }
+        Service::MqSetattr => {
+            text.push_str(", ")?;
+            push_flags_asked(text, process, register(process, 1))?;
+            text.push_str(", ")?;
+            push_pointer(text, register(process, 2))
+        }
+        _ => Ok(()),
+    }
+}
+
+/// Adds the arguments of a call of process `pid`.
+fn push_arguments(
+    alloc: Global,
+    text: &mut String,
+    kernel: &Kernel,
+    pid: usize,
+    process: &Process,
+    service: Service,
+) -> Result<(), AllocError>
+    requires process { pid < length kernel.now.processes }
+    ensures { OnOk result (string_bytes text.new ≡ string_bytes text.old ++ arguments kernel.now pid (machine_of (seen process.now)) service) }
+{
+    match service {
+        Service::MqOpen => push_mq_open(alloc, text, process),
+        Service::SemOpen => push_sem_open(alloc, text, process),
+        Service::MqUnlink | Service::SemUnlink => push_name(
+            alloc,
+            text,
+            process,
+            register(process, 0),
+        ),
+        _ => {
+            push_handle(text, kernel, pid, service, register(process, 0))?;
+            push_further(alloc, text, process, service)
+        }
+    }
+}
+
+/// Adds a call of process `pid`.
+#[tactic(auto, unfolding(crate::specs::Calls::call_text))]
+pub fn push_call(
+    alloc: Global,
+    text: &mut String,
+    kernel: &Kernel,
+    pid: usize,
+    process: &Process,
+    service: Service,
+) -> Result<(), AllocError>
+    requires process { pid < length kernel.now.processes }
+    ensures { OnOk result (string_bytes text.new ≡ string_bytes text.old ++ call_text kernel.now pid (machine_of (seen process.now)) service) }
+{
+    text.push_str(service.name())?;
+    text.push_str("(")?;
+    push_arguments(alloc, text, kernel, pid, process, service)?;
+    text.push_str(")")
+}

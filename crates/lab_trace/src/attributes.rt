@@ -1,0 +1,101 @@
+//! The attributes of a queue by their names.
+ghost use Rattle.std.specs.Prelude.{◌≡◌, ◌++◌, OnOk, string_bytes};
+ghost use Rattle.lab_trace.specs.Attributes.{flags_field, most_field, size_field, count_field, sizes_text, flags_text, descriptor_field, queue_fields, attributes_text};
+
+use crate::flags::{O_NONBLOCK, push_flag_word};
+use ipc_kernel::Descriptor;
+use ipc_objects::Queue;
+use std::alloc::AllocError;
+
+/// Adds mq_flags.
+#[tactic(auto, unfolding(crate::specs::Attributes::flags_field))]
+fn push_flags_field(text: &mut String, word: u16) -> Result<(), AllocError>
+    ensures { OnOk result (string_bytes text.new ≡ string_bytes text.old ++ flags_field word) }
+{
+    text.push_str("mq_flags=")?;
+    push_flag_word(text, word)
+}
+
+/// Adds mq_maxmsg.
+#[tactic(auto, unfolding(crate::specs::Attributes::most_field))]
+fn push_most(text: &mut String, number: u16) -> Result<(), AllocError>
+    ensures { OnOk result (string_bytes text.new ≡ string_bytes text.old ++ most_field number) }
+{
+    match write!(text, "mq_maxmsg={number}") {
+        Ok(()) => Ok(()),
+        Err(error) => Err(error),
+    }
+}
+
+/// Adds mq_msgsize.
+#[tactic(auto, unfolding(crate::specs::Attributes::size_field))]
+fn push_size(text: &mut String, number: u16) -> Result<(), AllocError>
+    ensures { OnOk result (string_bytes text.new ≡ string_bytes text.old ++ size_field number) }
+{
+    match write!(text, ", mq_msgsize={number}") {
+        Ok(()) => Ok(()),
+        Err(error) => Err(error),
+    }
+}
+
+/// Adds mq_curmsgs.
+#[tactic(auto, unfolding(crate::specs::Attributes::count_field))]
+fn push_count(text: &mut String, number: u16) -> Result<(), AllocError>
+    ensures { OnOk result (string_bytes text.new ≡ string_bytes text.old ++ count_field number) }
+{
+    match write!(text, ", mq_curmsgs={number}") {
+        Ok(()) => Ok(()),
+        Err(error) => Err(error),
+    }
+}
+
+/// Adds the attributes that mq_open asks for.
+pub fn push_sizes(text: &mut String, most: u16, size: u16) -> Result<(), AllocError>
+    ensures { OnOk result (string_bytes text.new ≡ string_bytes text.old ++ sizes_text most size) }
+{
+    text.push_str("{")?;
+    push_most(text, most)?;
+    push_size(text, size)?;
+    text.push_str("}")
+}
+
+/// Adds the attribute that mq_setattr sets.
+pub fn push_flags(text: &mut String, word: u16) -> Result<(), AllocError>
+    ensures { OnOk result (string_bytes text.new ≡ string_bytes text.old ++ flags_text word) }
+{
+    text.push_str("{")?;
+    push_flags_field(text, word)?;
+    text.push_str("}")
+}
+
+/// Adds the flags of a descriptor.
+fn push_descriptor(text: &mut String, held: Descriptor) -> Result<(), AllocError>
+    ensures { OnOk result (string_bytes text.new ≡ string_bytes text.old ++ descriptor_field held) }
+{
+    if held.nonblock {
+        push_flags_field(text, O_NONBLOCK)
+    } else {
+        push_flags_field(text, 0)
+    }
+}
+
+/// Adds the limits of a queue, and how many messages it has.
+fn push_queue(text: &mut String, queue: &Queue) -> Result<(), AllocError>
+    ensures { OnOk result (string_bytes text.new ≡ string_bytes text.old ++ queue_fields queue.now) }
+{
+    let (most, size, count) = queue.attr();
+    push_most(text, most)?;
+    push_size(text, size)?;
+    push_count(text, count)
+}
+
+/// Adds the attributes of a queue and a descriptor.
+pub fn push_attributes(text: &mut String, held: Descriptor, queue: &Queue) -> Result<(), AllocError>
+    ensures { OnOk result (string_bytes text.new ≡ string_bytes text.old ++ attributes_text held queue.now) }
+{
+    text.push_str(" {")?;
+    push_descriptor(text, held)?;
+    text.push_str(", ")?;
+    push_queue(text, queue)?;
+    text.push_str("}")
+}

@@ -1,0 +1,138 @@
+//! Where the processes stand that haven't ended.
+ghost use Rattle.std.specs.Prelude.{◌≡◌, ◌<◌, ◌++◌, OnOk, IfOk, length, string_bytes, slice_get};
+ghost use Rattle.lab_sched.specs.Held.{seen};
+ghost use Rattle.lab_debug.specs.Texts.{machine_of};
+ghost use Rattle.lab_trace.specs.Services.{service_at};
+ghost use Rattle.lab_trace.specs.Ends.{object_part, since_part, wait_text, stand, stand_line, end_lines};
+
+use crate::arguments::push_call;
+use crate::handles::{held_place, push_level};
+use crate::lines::{Widths, push_head};
+use crate::others::{others_title, push_others};
+use crate::service::{Service, service_at};
+use crate::tally::{Account, Tally};
+use crate::words::register;
+use lab_debug::machine;
+use lab_sched::{Process, World};
+use std::alloc::{AllocError, Global};
+
+/// Adds the object in a place, and who could serve a call of process `pid` on it.
+fn push_object(
+    alloc: Global,
+    text: &mut String,
+    world: &World,
+    pid: usize,
+    service: Service,
+    place: Option<u8>,
+) -> Result<(), AllocError>
+    ensures { OnOk result (string_bytes text.new ≡ string_bytes text.old ++ object_part world.now pid service place) }
+{
+    let Some(place) = place else {
+        return Ok(());
+    };
+    push_level(text, world.kernel(), place)?;
+    text.push_str(others_title(service))?;
+    push_others(alloc, text, world, pid, place, service)
+}
+
+/// Adds since when a process waits.
+fn push_since(text: &mut String, since: Option<u32>) -> Result<(), AllocError>
+    ensures { OnOk result (string_bytes text.new ≡ string_bytes text.old ++ since_part since) }
+{
+    match since {
+        Some(since) => match write!(text, " since {since}") {
+            Ok(()) => Ok(()),
+            Err(error) => Err(error),
+        },
+        None => Ok(()),
+    }
+}
+
+/// Adds what process `pid` waits for.
+fn push_wait(
+    alloc: Global,
+    text: &mut String,
+    world: &World,
+    account: Account,
+    pid: usize,
+    process: &Process,
+) -> Result<(), AllocError>
+    requires process { pid < length world.now.processes }
+    ensures { OnOk result (string_bytes text.new ≡ string_bytes text.old ++ wait_text world.now account pid (machine_of (seen process.now)) (service_at (machine_of (seen process.now)))) }
+{
+    let Some(service) = service_at(process) else {
+        return Ok(());
+    };
+    let kernel = world.kernel();
+    text.push_str("waits")?;
+    push_since(text, account.since)?;
+    text.push_str(" in ")?;
+    push_call(alloc, text, kernel, pid, process, service)?;
+    text.push_str(": ")?;
+    let place = held_place(kernel, pid, service, register(process, 0));
+    push_object(alloc, text, world, pid, service, place)
+}
+
+/// Adds the line of process `pid`, if it hasn't ended.
+fn push_stand(
+    alloc: Global,
+    text: &mut String,
+    world: &World,
+    widths: Widths,
+    account: Account,
+    pid: usize,
+    process: &Process,
+) -> Result<(), AllocError>
+    requires process { pid < length world.now.processes }
+    ensures { OnOk result (string_bytes text.new ≡ string_bytes text.old ++ stand widths world.now account pid (seen process.now)) }
+{
+    let pc = machine::pc(process);
+    match process {
+        Process::Running(_) => {
+            push_head(alloc, text, widths, "end", pid, pc, account.local)?;
+            text.push_str("runs")?;
+            text.push_str("\n")
+        }
+        Process::Waiting(_, _) => {
+            push_head(alloc, text, widths, "end", pid, pc, account.local)?;
+            push_wait(alloc, text, world, account, pid, process)?;
+            text.push_str("\n")
+        }
+        Process::Ended(_) => Ok(()),
+    }
+}
+
+/// Adds where process `pid` stands, if it hasn't ended.
+fn push_stand_line(
+    alloc: Global,
+    text: &mut String,
+    world: &World,
+    widths: Widths,
+    tally: &Tally,
+    pid: usize,
+) -> Result<(), AllocError>
+    requires process { pid < length world.now.processes }
+    ensures { OnOk result (string_bytes text.new ≡ string_bytes text.old ++ stand_line widths world.now tally.now pid (slice_get world.now.processes pid)) }
+{
+    match world.process(pid) {
+        Some(process) => push_stand(alloc, text, world, widths, tally.account(pid), pid, process),
+        None => Ok(()),
+    }
+}
+
+/// Adds where each process stands that hasn't ended.
+#[tactic(auto, using(lab_debug::proofs::RowLemmas::each_none), unfolding(crate::specs::Ends::end_lines))]
+pub fn push_ends(
+    alloc: Global,
+    text: &mut String,
+    world: &World,
+    widths: Widths,
+    tally: &Tally,
+) -> Result<(), AllocError>
+    ensures { OnOk result (string_bytes text.new ≡ string_bytes text.old ++ end_lines widths world.now tally.now) }
+{
+    for pid in 0..world.count() {
+        push_stand_line(alloc, text, world, widths, tally, pid)?;
+    }
+    Ok(())
+}

@@ -1,0 +1,23 @@
+//! The trace of a schedule: a line for each call, each piece of output and each end of a process, where the processes
+//! stand at the end, and the report.
+#![tactic(auto)]
+
+mod answers;
+mod arguments;
+mod asking;
+mod attributes;
+mod ends;
+mod fault;
+mod flags;
+mod handles;
+mod lines;
+mod message;
+mod others;
+mod service;
+mod step;
+mod tally;
+mod tracing;
+mod words;
+
+pub use fault::TraceFault;
+pub use tracing::trace;

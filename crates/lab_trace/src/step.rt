@@ -1,0 +1,206 @@
+//! One step of a trace.
+ghost use Rattle.std.specs.Prelude.{◌≡◌, ◌<◌, ◌++◌, IfOk, OnOk, length, string_bytes, slice_get};
+ghost use Rattle.std.specs.Fmt.{decimal};
+ghost use Rattle.lab_sched.specs.Worlds.{step, turn_in};
+ghost use Rattle.lab_sched.specs.Held.{seen, told_of};
+ghost use Rattle.lab_trace.specs.Questions.{question_of, before_of};
+ghost use Rattle.lab_trace.specs.Events.{event_of, has_line};
+ghost use Rattle.lab_trace.specs.Tallies.{account_of, account_after, waits_from};
+ghost use Rattle.lab_trace.specs.Lines.{what, event_line};
+ghost use Rattle.lab_trace.specs.Scenes.{has_effect, line_by, tally_by, line, tallied};
+
+use crate::asking::{Observed, observe};
+use crate::lines::{Widths, new_output, push_call_line, push_end, push_head, push_output};
+use crate::tally::{Account, Tally};
+use ipc_kernel::Kernel;
+use lab_sched::{Process, Stepped, World};
+use std::alloc::{AllocError, Global};
+
+/// The line of a step, or no text, and what the step was.
+#[derive(Drop)]
+pub struct Traced {
+    pub line: String,
+    pub stepped: Stepped,
+}
+
+/// Whether a step has an effect.
+fn has_effect(stepped: Stepped) -> bool
+    ensures value { result ≡ has_effect stepped }
+{
+    match stepped {
+        Stepped::Same => false,
+        Stepped::Moved | Stepped::Called | Stepped::Waits => true,
+    }
+}
+
+/// Whether a step with an effect has a line.
+fn has_line(before: &Observed, after: &Process) -> bool
+    ensures value { result ≡ has_line (event_of (before_of before.now) (seen after.now)) }
+{
+    match (&before.asking, after) {
+        (Some(_), _) => true,
+        (None, Process::Ended(_)) => true,
+        (None, _) => !new_output(before, after).is_empty(),
+    }
+}
+
+/// Adds what happened in a step.
+fn push_what(
+    text: &mut String,
+    kernel: &Kernel,
+    account: Account,
+    pid: usize,
+    before: &Observed,
+    after: &Process,
+) -> Result<(), AllocError>
+    requires process { pid < length kernel.now.processes }
+    ensures { OnOk result (string_bytes text.new ≡ string_bytes text.old ++ what kernel.now account pid (before_of before.now) (seen after.now) (event_of (before_of before.now) (seen after.now))) }
+{
+    match (&before.asking, after) {
+        (Some(asking), _) => push_call_line(text, kernel, account, pid, asking, after),
+        (None, Process::Ended(ended)) => push_end(text, ended.how()),
+        (None, _) => {
+            let bytes = new_output(before, after);
+            if bytes.is_empty() {
+                Ok(())
+            } else {
+                push_output(text, before.word, bytes)
+            }
+        }
+    }
+}
+
+/// The line of a step with an effect, or no text.
+fn line_of(
+    alloc: Global,
+    kernel: &Kernel,
+    account: Account,
+    widths: Widths,
+    number: u32,
+    pid: usize,
+    before: &Observed,
+    after: &Process,
+) -> Result<String, AllocError>
+    requires process { pid < length kernel.now.processes }
+    ensures line { IfOk result (λ s. string_bytes s ≡ event_line widths number kernel.now account pid (before_of before.now) (seen after.now) (event_of (before_of before.now) (seen after.now))) }
+{
+    let mut line = String::new(alloc);
+    if !has_line(before, after) {
+        return Ok(line);
+    }
+    let number = format!(in alloc; "{number}")?;
+    push_head(
+        alloc,
+        &mut line,
+        widths,
+        &number,
+        pid,
+        before.pc,
+        account.local,
+    )?;
+    push_what(&mut line, kernel, account, pid, before, after)?;
+    line.push_str("\n")?;
+    Ok(line)
+}
+
+/// The line of a step with an effect of process `pid`, by the world after it.
+fn shown(
+    alloc: Global,
+    world: &World,
+    tally: &Tally,
+    widths: Widths,
+    number: u32,
+    pid: usize,
+    before: &Observed,
+) -> Result<String, AllocError>
+    requires process { pid < length world.now.processes }
+    ensures line { IfOk result (λ s. string_bytes s ≡ line_by widths number world.now.kernel tally.now pid (before_of before.now) (slice_get world.now.processes pid)) }
+{
+    let kernel = world.kernel();
+    match world.process(pid) {
+        Some(after) => line_of(
+            alloc,
+            kernel,
+            tally.account(pid),
+            widths,
+            number,
+            pid,
+            before,
+            after,
+        ),
+        None => Ok(String::new(alloc)),
+    }
+}
+
+/// The step since which a process waits, where it waits after step `number`.
+fn waits_from(number: u32, after: &Process) -> Option<u32>
+    ensures value { result ≡ waits_from number (seen after.now) }
+{
+    match after {
+        Process::Waiting(_, _) => Some(number),
+        Process::Running(_) | Process::Ended(_) => None,
+    }
+}
+
+/// The account of a process after step `number`, which had an effect.
+fn account_after(number: u32, before: &Observed, after: &Process, account: Account) -> Account
+    requires room { account.local < number }
+    ensures account { result ≡ account_after number (seen after.now) (event_of (before_of before.now) (seen after.now)) account }
+{
+    if has_line(before, after) {
+        Account {
+            local: 0,
+            since: waits_from(number, after),
+        }
+    } else {
+        Account {
+            local: account.local + 1,
+            since: account.since,
+        }
+    }
+}
+
+/// Keeps a step with an effect of process `pid`, by the world after it.
+fn keep(world: &World, tally: &mut Tally, number: u32, pid: usize, before: &Observed)
+    requires process { pid < length tally.old }
+    requires room { (account_of tally.old pid).local < number }
+    ensures kept { tally.new ≡ tally_by number tally.old pid (before_of before.now) (slice_get world.now.processes pid) }
+{
+    if let Some(after) = world.process(pid) {
+        let account = account_after(number, before, after, tally.account(pid));
+        tally.keep(pid, account);
+    }
+}
+
+/// Takes step number `number`, of process `pid`, and tells its line; the tally keeps it.
+#[tactic(auto, unfolding(crate::specs::Scenes::line, crate::specs::Scenes::tallied))]
+pub fn trace_step(
+    alloc: Global,
+    world: &mut World,
+    tally: &mut Tally,
+    widths: Widths,
+    number: u32,
+    pid: usize,
+) -> Result<Traced, AllocError>
+    requires process { pid < length world.old.processes }
+    requires account { pid < length tally.old }
+    requires room { (account_of tally.old pid).local < number }
+    ensures line { IfOk result (λ r. string_bytes r.line ≡ line widths (record { number = number; world = world.old; tally = tally.old }) pid) }
+    ensures world { OnOk result (world.new ≡ step world.old pid) }
+    ensures tally { OnOk result (tally.new ≡ tallied (record { number = number; world = world.old; tally = tally.old }) pid) }
+    ensures told { IfOk result (λ r. r.stepped ≡ told_of (turn_in world.old pid)) }
+{
+    let before = observe(alloc, world, pid)?;
+    let Ok(stepped) = world.step(pid) else {
+        return Err(AllocError);
+    };
+    if !has_effect(stepped) {
+        return Ok(Traced {
+            line: String::new(alloc),
+            stepped,
+        });
+    }
+    let line = shown(alloc, world, tally, widths, number, pid, &before)?;
+    keep(world, tally, number, pid, &before);
+    Ok(Traced { line, stepped })
+}

@@ -1,0 +1,161 @@
+//! A whole trace.
+ghost use Rattle.std.specs.Prelude.{◌≡◌, ◌<◌, ◌≤◌, ◌+◌, ℕ, Some, Err, IfNone, IsTrue, IfOk, IfErr, OnOk, OnErr, length, replicate, string_bytes, ◌++◌};
+ghost use Rattle.std.specs.Io.KnownBytes.{Appends, Keeps};
+ghost use Rattle.lab_io.specs.Device.{AppendsPrefix};
+ghost use Rattle.lab_sched.specs.Worlds.{run};
+ghost use Rattle.lab_sched.specs.Schedules.{steps_of, total_of};
+ghost use Rattle.lab_sched.specs.declared.schedule.block.TheConstants.{MOST_STEPS};
+ghost use Rattle.lab_sched.specs.declared.stepped.Stepped.TheVariants.{Same};
+ghost use Rattle.lab_trace.specs.Scenes.{events, scene_after, IsKept};
+ghost use Rattle.lab_trace.specs.Traces.{ending, trace_text, missing_after, AreThere, Explains, IsFault};
+ghost use Rattle.lab_trace.specs.declared.fault.TraceFault.TheVariants.{NoProcess, Write};
+
+use crate::ends::push_ends;
+use crate::fault::TraceFault;
+use crate::lines::Widths;
+use crate::step::trace_step;
+use crate::tally::Tally;
+use lab_debug::report_text;
+use lab_io::Output;
+use lab_sched::{Block, Schedule, Stepped, World};
+use std::alloc::{AllocError, Global};
+use std::io::Write;
+
+/// How many steps come before the first of a process that isn't there, if there is one.
+fn missing_after(world: &World, schedule: &Schedule) -> Option<u64>
+    ensures missing { result ≡ missing_after world.now (steps_of schedule.now) }
+    ensures there { IfNone result (AreThere world.now schedule.now) }
+{
+    let mut done = 0;
+    for block in schedule.blocks() {
+        if block.pid >= world.count() {
+            return Some(done);
+        }
+        done += u64::from(block.count);
+    }
+    None
+}
+
+/// Writes a text.
+fn write_text<W: Write>(text: &str, output: &mut Output<W>) -> Result<(), TraceFault>
+    ensures written { OnOk result (Appends (W.contents output.old.device) (W.contents output.new.device) text.now) }
+    ensures prefix { OnErr result (AppendsPrefix (W.contents output.old.device) (W.contents output.new.device) text.now) }
+    ensures failed { OnErr result (IsTrue output.new.failed) }
+    ensures fault { IfErr result (λ e. e ≡ Write) }
+{
+    match output.write_all(text.as_bytes()) {
+        Ok(()) => Ok(()),
+        Err(_) => Err(TraceFault::Write),
+    }
+}
+
+/// How many of a block's steps a step stands for: one without effect for the rest of them.
+fn steps_done(stepped: Stepped, most: u32) -> u32
+    requires some { 1 ≤ most }
+    ensures other { (stepped ≡ Same → ⊥) → result ≡ 1 }
+    ensures some { 1 ≤ result }
+    ensures within { result ≤ most }
+{
+    match stepped {
+        Stepped::Same => most,
+        Stepped::Moved | Stepped::Called | Stepped::Waits => 1,
+    }
+}
+
+/// Takes the steps of a block, of which the first has number `first`, and writes their lines.
+fn trace_block<W: Write>(
+    alloc: Global,
+    world: &mut World,
+    tally: &mut Tally,
+    widths: Widths,
+    first: u32,
+    block: Block,
+    output: &mut Output<W>,
+) -> Result<(), TraceFault>
+    requires process { block.pid < length world.old.processes }
+    requires room { first + block.count ≤ 1_000_000_000 }
+    requires kept { IsKept (record { number = first; world = world.old; tally = tally.old }) }
+    ensures scene { OnOk result (record { number = first + block.count; world = world.new; tally = tally.new }
+        ≡ scene_after (record { number = first; world = world.old; tally = tally.old }) (replicate block.count block.pid)) }
+    ensures written { OnOk result (Appends (W.contents output.old.device) (W.contents output.new.device)
+        (events widths (record { number = first; world = world.old; tally = tally.old }) (replicate block.count block.pid))) }
+    ensures prefix { OnErr result (AppendsPrefix (W.contents output.old.device) (W.contents output.new.device)
+        (events widths (record { number = first; world = world.old; tally = tally.old }) (replicate block.count block.pid))) }
+    ensures fault { IfErr result (λ e. IsFault e output.new.failed) }
+{
+    let mut done = 0;
+    while done < block.count {
+        let traced = trace_step(alloc, world, tally, widths, first + done, block.pid)?;
+        write_text(&traced.line, output)?;
+        done += steps_done(traced.stepped, block.count - done);
+    }
+    Ok(())
+}
+
+/// Takes the steps of blocks, of which the first has number 1, and writes their lines.
+fn trace_blocks<W: Write>(
+    alloc: Global,
+    world: &mut World,
+    tally: &mut Tally,
+    widths: Widths,
+    blocks: &[Block],
+    output: &mut Output<W>,
+) -> Result<(), TraceFault>
+    requires kept { IsKept (record { number = 1; world = world.old; tally = tally.old }) }
+    requires room { total_of blocks.now ≤ MOST_STEPS }
+    requires there { AreThere world.old blocks.now }
+    ensures scene { OnOk result ((number : ℕ) × (record { number = number; world = world.new; tally = tally.new }
+        ≡ scene_after (record { number = 1; world = world.old; tally = tally.old }) (steps_of blocks.now))) }
+    ensures written { OnOk result (Appends (W.contents output.old.device) (W.contents output.new.device)
+        (events widths (record { number = 1; world = world.old; tally = tally.old }) (steps_of blocks.now))) }
+    ensures prefix { OnErr result (AppendsPrefix (W.contents output.old.device) (W.contents output.new.device)
+        (events widths (record { number = 1; world = world.old; tally = tally.old }) (steps_of blocks.now))) }
+    ensures fault { IfErr result (λ e. IsFault e output.new.failed) }
+{
+    let mut number = 1;
+    for block in blocks {
+        trace_block(alloc, world, tally, widths, number, *block, output)?;
+        number += block.count;
+    }
+    Ok(())
+}
+
+/// Where the processes stand that haven't ended, and the report.
+fn ending(alloc: Global, world: &World, tally: &Tally, widths: Widths) -> Result<String, AllocError>
+    ensures text { IfOk result (λ s. string_bytes s ≡ ending widths world.now tally.now) }
+{
+    let mut text = String::new(alloc);
+    push_ends(alloc, &mut text, world, widths, tally)?;
+    let report = report_text(alloc, world)?;
+    text.push_str(&report)?;
+    Ok(text)
+}
+
+/// Takes the steps of a schedule and writes what happened: the line of each step as it is taken, then where each process
+/// stands that hasn't ended, then the report. A schedule that names a process that isn't there takes no step and writes
+/// nothing.
+pub fn trace<W: Write>(
+    alloc: Global,
+    world: &mut World,
+    schedule: &Schedule,
+    output: &mut Output<W>,
+) -> Result<(), TraceFault>
+    ensures written { OnOk result
+        (Appends (W.contents output.old.device) (W.contents output.new.device) (trace_text world.old (steps_of schedule.now))) }
+    ensures world { OnOk result (world.new ≡ run world.old (steps_of schedule.now)) }
+    ensures prefix { OnErr result
+        (AppendsPrefix (W.contents output.old.device) (W.contents output.new.device) (trace_text world.old (steps_of schedule.now))) }
+    ensures fault { IfErr result (λ e. Explains e world.old (steps_of schedule.now) output.new.failed) }
+    ensures no_process { (done : ℕ) → missing_after world.old (steps_of schedule.now) ≡ Some done → result ≡ Err (NoProcess done) }
+    ensures nothing { (done : ℕ) → result ≡ Err (NoProcess done)
+        → Keeps (W.contents output.old.device) (W.contents output.new.device) }
+{
+    if let Some(done) = missing_after(world, schedule) {
+        return Err(TraceFault::NoProcess { done });
+    }
+    let widths = Widths::new(alloc, schedule.total(), world.count())?;
+    let mut tally = Tally::new(alloc, world.count())?;
+    trace_blocks(alloc, world, &mut tally, widths, schedule.blocks(), output)?;
+    let text = ending(alloc, world, &tally, widths)?;
+    write_text(&text, output)
+}

@@ -1,0 +1,226 @@
+//! Words, names and bytes, as a trace shows them.
+ghost use Rattle.std.specs.Prelude.{◌≡◌, ◌<◌, ◌++◌, true, IfOk, IfSome, OnOk, IsTrue, string_bytes, flat_map};
+ghost use Rattle.lab_sched.specs.Held.{seen};
+ghost use Rattle.lab_debug.specs.Texts.{machine_of, address_text};
+ghost use Rattle.lc3_machine.specs.Process.{reg};
+ghost use Rattle.ipc_traps.specs.Names.{is_in_memory, words_at};
+ghost use Rattle.lab_trace.specs.Words.{pointer_text, signed_text, is_quotable, character_text, string_text, byte_text, bytes_text, name_end, name_text, blanks, at_left, at_right};
+
+use crate::service::DEVICES;
+use lab_debug::{Escape, machine};
+use lab_sched::Process;
+use lc3_word::{Hex, Reg};
+use std::alloc::{AllocError, Global};
+
+/// The most words that are looked at for a name.
+const NAME_WINDOW: u16 = 256;
+
+/// What a register of a process holds.
+pub fn register(process: &Process, number: u16) -> u16
+    requires { number < 8 }
+    ensures value { result ≡ reg (machine_of (seen process.now)) number }
+{
+    machine::reg(process, Reg::of_low_bits(number))
+}
+
+/// Whether a range lies below the device registers.
+pub fn is_in_memory(at: u16, len: u16) -> bool
+    ensures value { result ≡ is_in_memory at len }
+{
+    len == 0 || u32::from(at) + u32::from(len) <= u32::from(DEVICES)
+}
+
+/// Adds an address.
+pub fn push_address(text: &mut String, address: u16) -> Result<(), AllocError>
+    ensures { OnOk result (string_bytes text.new ≡ string_bytes text.old ++ address_text address) }
+{
+    let address = Hex(address);
+    match write!(text, "{address}") {
+        Ok(()) => Ok(()),
+        Err(error) => Err(error),
+    }
+}
+
+/// Adds an address, of which 0 stands for none.
+pub fn push_pointer(text: &mut String, address: u16) -> Result<(), AllocError>
+    ensures { OnOk result (string_bytes text.new ≡ string_bytes text.old ++ pointer_text address) }
+{
+    if address == 0 {
+        text.push_str("NULL")
+    } else {
+        push_address(text, address)
+    }
+}
+
+/// Adds a word as a signed number.
+#[tactic(auto, unfolding(crate::specs::Words::signed_text))]
+pub fn push_signed(text: &mut String, word: u16) -> Result<(), AllocError>
+    ensures { OnOk result (string_bytes text.new ≡ string_bytes text.old ++ signed_text word) }
+{
+    let written = if word < 0x8000 {
+        write!(text, "{word}")
+    } else {
+        let size = word.wrapping_neg();
+        write!(text, "-{size}")
+    };
+    match written {
+        Ok(()) => Ok(()),
+        Err(error) => Err(error),
+    }
+}
+
+/// Whether a character stands for itself between quotation marks.
+#[tactic(auto, unfolding(crate::specs::Words::is_quotable, lab_debug::specs::Texts::is_plain))]
+pub fn is_quotable(word: u16) -> bool
+    ensures value { result ≡ is_quotable word }
+    ensures ascii { IsTrue result → word < 128 }
+{
+    32 <= word && word <= 126 && word != 92 && word != 34
+}
+
+/// Adds a word between quotation marks.
+#[tactic(auto, unfolding(crate::specs::Words::character_text))]
+fn push_character(text: &mut String, word: u16) -> Result<(), AllocError>
+    ensures { OnOk result (string_bytes text.new ≡ string_bytes text.old ++ character_text word) }
+{
+    if is_quotable(word) {
+        text.push(char::from(word as u8))
+    } else {
+        text.push_str("\\")?;
+        push_address(text, word)
+    }
+}
+
+/// Adds a byte between quotation marks.
+#[tactic(auto, unfolding(crate::specs::Words::byte_text))]
+fn push_byte(text: &mut String, byte: u8) -> Result<(), AllocError>
+    ensures { OnOk result (string_bytes text.new ≡ string_bytes text.old ++ byte_text byte) }
+{
+    if is_quotable(u16::from(byte)) {
+        return text.push(char::from(byte));
+    }
+    let escape = Escape(byte);
+    match write!(text, "{escape}") {
+        Ok(()) => Ok(()),
+        Err(error) => Err(error),
+    }
+}
+
+/// Adds bytes, each as it stands between quotation marks.
+fn push_each_byte(text: &mut String, bytes: &[u8]) -> Result<(), AllocError>
+    ensures { OnOk result (string_bytes text.new ≡ string_bytes text.old ++ flat_map byte_text bytes.now) }
+{
+    for byte in bytes {
+        push_byte(text, *byte)?;
+    }
+    Ok(())
+}
+
+/// Adds bytes between quotation marks.
+#[tactic(auto, unfolding(crate::specs::Words::bytes_text))]
+pub fn push_bytes(text: &mut String, bytes: &[u8]) -> Result<(), AllocError>
+    ensures { OnOk result (string_bytes text.new ≡ string_bytes text.old ++ bytes_text bytes.now) }
+{
+    text.push_str("\"")?;
+    push_each_byte(text, bytes)?;
+    text.push_str("\"")
+}
+
+/// The words of a range of a process.
+pub fn read_words(
+    alloc: Global,
+    process: &Process,
+    at: u16,
+    len: u16,
+) -> Result<Vec<u16>, AllocError>
+    requires inside { is_in_memory at len ≡ true }
+    ensures words { IfOk result (λ v. v.items ≡ words_at (machine_of (seen process.now)).memory at len) }
+{
+    let mut words = Vec::with_capacity(alloc, len as usize)?;
+    for k in 0..len {
+        words.push(machine::word(process, at + k))?;
+    }
+    Ok(words)
+}
+
+/// How many words of a process stand before the zero word that ends a name, where there is one.
+fn name_end(process: &Process, at: u16) -> Option<u16>
+    ensures length { result ≡ name_end (machine_of (seen process.now)).memory at }
+    ensures inside { IfSome result (λ n. is_in_memory at n ≡ true) }
+{
+    // A look at memory, whose contract says that there are 65,536 words.
+    let _ = machine::word(process, at);
+    for k in 0..NAME_WINDOW {
+        if u32::from(at) + u32::from(k) >= u32::from(DEVICES) {
+            return None;
+        }
+        if machine::word(process, at + k) == 0 {
+            return Some(k);
+        }
+    }
+    None
+}
+
+/// Adds words between quotation marks.
+#[tactic(auto, unfolding(crate::specs::Words::string_text))]
+fn push_string(text: &mut String, words: &[u16]) -> Result<(), AllocError>
+    ensures { OnOk result (string_bytes text.new ≡ string_bytes text.old ++ string_text words.now) }
+{
+    text.push_str("\"")?;
+    push_characters(text, words)?;
+    text.push_str("\"")
+}
+
+/// Adds words, each as it stands between quotation marks.
+fn push_characters(text: &mut String, words: &[u16]) -> Result<(), AllocError>
+    ensures { OnOk result (string_bytes text.new ≡ string_bytes text.old ++ flat_map character_text words.now) }
+{
+    for word in words {
+        push_character(text, *word)?;
+    }
+    Ok(())
+}
+
+/// Adds the name at an address of a process, or the address where no zero word ends one.
+pub fn push_name(
+    alloc: Global,
+    text: &mut String,
+    process: &Process,
+    at: u16,
+) -> Result<(), AllocError>
+    ensures { OnOk result (string_bytes text.new ≡ string_bytes text.old ++ name_text (machine_of (seen process.now)).memory at) }
+{
+    let Some(len) = name_end(process, at) else {
+        return push_address(text, at);
+    };
+    let words = read_words(alloc, process, at, len)?;
+    push_string(text, words.as_slice())
+}
+
+/// Adds so many blanks.
+fn push_blanks(text: &mut String, count: usize) -> Result<(), AllocError>
+    ensures { OnOk result (string_bytes text.new ≡ string_bytes text.old ++ blanks count) }
+{
+    for _ in 0..count {
+        text.push_str(" ")?;
+    }
+    Ok(())
+}
+
+/// Adds a text with blanks before it up to a width.
+#[tactic(auto, unfolding(crate::specs::Words::at_right))]
+pub fn push_at_right(text: &mut String, width: usize, part: &str) -> Result<(), AllocError>
+    ensures { OnOk result (string_bytes text.new ≡ string_bytes text.old ++ at_right width part.now) }
+{
+    push_blanks(text, width.saturating_sub(part.len()))?;
+    text.push_str(part)
+}
+
+/// Adds a text with blanks behind it up to a width.
+#[tactic(auto, unfolding(crate::specs::Words::at_left))]
+pub fn push_at_left(text: &mut String, width: usize, part: &str) -> Result<(), AllocError>
+    ensures { OnOk result (string_bytes text.new ≡ string_bytes text.old ++ at_left width part.now) }
+{
+    text.push_str(part)?;
+    push_blanks(text, width.saturating_sub(part.len()))
+}
