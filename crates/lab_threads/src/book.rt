@@ -8,7 +8,7 @@ ghost use Rattle.ipc_kernel.specs.Replies.{IsAnswerTo};
 ghost use Rattle.ipc_kernel.specs.declared.call.Call.{Call as CallValue};
 ghost use Rattle.ipc_kernel.specs.declared.call.Answer.TheVariants.{Wait};
 ghost use Rattle.lab_sched.specs.History.{IsLegal, replay, waits, still};
-ghost use Rattle.lab_threads.specs.Pages.{added, MayCall};
+ghost use Rattle.lab_threads.specs.BookState.{added, MayCall};
 
 use ipc_kernel::{Answer, Call, Kernel};
 use lab_sched::Entry;
@@ -26,14 +26,14 @@ pub struct Book {
 
 impl Model for Book {
     ghost use Rattle.std.specs.Prelude.{length};
-    ghost use Rattle.lab_threads.specs.Pages.{Pages};
-    ghost use Rattle.lab_threads.specs.Kept.{IsKept};
+    ghost use Rattle.lab_threads.specs.BookState.{BookState};
+    ghost use Rattle.lab_threads.specs.BookInvariant.{BookInvariant};
 
-    ghost Value = { Pages };
+    ghost Value = { BookState };
 
     ghost view = { λ b. record { count = length b.waiting.items; history = b.history.items } };
 
-    ghost invariant = { λ b. IsKept b.kernel b.history.items b.waiting.items };
+    ghost invariant = { λ b. BookInvariant b.kernel b.history.items b.waiting.items };
 }
 
 /// The entry of a call with its answer.
@@ -48,7 +48,7 @@ fn entry_of(alloc: Global, pid: usize, call: &Call, answer: Answer) -> Result<En
 }
 
 /// The call that waits after this answer.
-fn still(alloc: Global, call: &Call, answer: &Answer) -> Result<Option<Call>, AllocError>
+fn pending_call(alloc: Global, call: &Call, answer: &Answer) -> Result<Option<Call>, AllocError>
     ensures { IfOk result (λ o. o ≡ still call.now answer.now) }
 {
     match answer {
@@ -152,7 +152,7 @@ impl Book {
         if !self.has_entry(pid, &preview) {
             return Ok(Answer::Wait);
         }
-        let waits = still(alloc, call, &preview)?;
+        let waits = pending_call(alloc, call, &preview)?;
         let entry = entry_of(alloc, pid, call, preview)?;
         self.history.reserve(1)?;
         let answer = self.kernel.call(pid, call)?;

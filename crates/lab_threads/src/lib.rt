@@ -2,14 +2,14 @@
 #![tactic(auto)]
 
 mod book;
-mod crew;
-mod desk;
 mod fault;
 mod gate;
+mod merging;
+mod monitor;
 mod reports;
-mod walk;
-mod weaving;
+mod spawning;
 mod worker;
+mod worker_result;
 
 pub use book::Book;
 pub use fault::RunFault;

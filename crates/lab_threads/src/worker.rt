@@ -9,12 +9,12 @@ ghost use Rattle.ipc_traps.specs.Reply.{HasRoom, IsPrepared, replied};
 ghost use Rattle.lab_sched.specs.Worlds.{Process as Seen, Running as RunningSeen, act, moves};
 ghost use Rattle.lab_sched.specs.Held.{seen, IsHeld};
 ghost use Rattle.lab_sched.specs.Alone.{Alone, AreLocal, steps};
-ghost use Rattle.lab_threads.specs.Came.{IsCame};
-ghost use Rattle.lab_threads.specs.Walks.{IsWalk};
+ghost use Rattle.lab_threads.specs.CallOutcome.{IsCallOutcome};
+ghost use Rattle.lab_threads.specs.WorkerResults.{IsWorkerResult};
 
 use crate::Gate;
-use crate::desk::{Came, Office};
-use crate::walk::Walk;
+use crate::monitor::{CallOutcome, Monitor};
+use crate::worker_result::WorkerResult;
 use ipc_kernel::{Answer, Call, Reply};
 use ipc_names::Errno;
 use ipc_traps::{Asked, effect_of, prepare, read_call};
@@ -23,10 +23,10 @@ use lc3_machine::{AtCall, Local, Running, Want};
 use std::alloc::Global;
 use std::sync::Wait;
 
-/// Where a worker stands: the office where it makes the calls of its process, and its gate.
+/// Where a worker stands: the monitor where it makes the calls of its process, and its gate.
 #[derive(Drop)]
-struct Seat<'s, G> {
-    office: &'s Office,
+struct WorkerContext<'s, G> {
+    monitor: &'s Monitor,
     gate: &'s G,
     alloc: Global,
     pid: usize,
@@ -35,19 +35,19 @@ struct Seat<'s, G> {
 /// A process after some steps, and how many they were: none where memory was refused, or the book
 /// didn't fit its call.
 #[derive(Drop)]
-struct Went {
+struct Progress {
     process: Process,
     taken: u32,
     fits: bool,
 }
 
 /// A process that has taken no step, for want of memory.
-fn stays(process: Running) -> Went
+fn stays(process: Running) -> Progress
     ensures process { seen result.process ≡ RunningSeen process }
     ensures held { IsHeld result.process }
     ensures taken { result.taken ≡ 0 }
 {
-    Went {
+    Progress {
         process: Process::Running(process),
         taken: 0,
         fits: true,
@@ -70,7 +70,12 @@ fn run_on(running: Running, most: u32) -> (Running, u32)
 
 /// Writes down the local step that led to `next`, and goes on with its local segment. The gate is
 /// passed after the first step of the segment.
-fn follow<G: Gate>(seat: &Seat<'_, G>, next: Running, trace: &mut Trace, left: u32) -> Went
+fn follow<G: Gate>(
+    context: &WorkerContext<'_, G>,
+    next: Running,
+    trace: &mut Trace,
+    left: u32,
+) -> Progress
     requires some { 0 < left }
     requires few { steps trace.old + left < 2 ^ 32 }
     ensures alone { (s : Seen) (m : Machine) → Alone s trace.old (RunningSeen m) → act m ≡ moves next → Alone s trace.new (seen result.process) }
@@ -81,11 +86,11 @@ fn follow<G: Gate>(seat: &Seat<'_, G>, next: Running, trace: &mut Trace, left: u
     let is_first = trace.after == 0;
     trace.add_local(1);
     if is_first {
-        seat.gate.arrive(seat.pid, 0);
+        context.gate.arrive(context.pid, 0);
     }
     let (process, more) = run_on(next, left - 1);
     trace.add_local(more);
-    Went {
+    Progress {
         process: Process::Running(process),
         taken: more + 1,
         fits: true,
@@ -96,12 +101,12 @@ fn follow<G: Gate>(seat: &Seat<'_, G>, next: Running, trace: &mut Trace, left: u
 /// may.
 fn advance<R: Wait, G: Gate>(
     rt: &R,
-    seat: &Seat<'_, G>,
+    context: &WorkerContext<'_, G>,
     running: Running,
     trace: &mut Trace,
     left: u32,
     nth: &mut u32,
-) -> Went
+) -> Progress
     requires some { 0 < left }
     requires few { steps trace.old + left < 2 ^ 32 }
     ensures alone { (s : Seen) → Alone s trace.old (RunningSeen running) → Alone s trace.new (seen result.process) }
@@ -110,11 +115,11 @@ fn advance<R: Wait, G: Gate>(
     ensures left { result.taken ≤ left }
 {
     match running.step() {
-        Local::Running(next) => follow(seat, next, trace, left),
+        Local::Running(next) => follow(context, next, trace, left),
         Local::Short(same) => stays(same),
         Local::AtCall(call) => match call.want() {
-            Want::End(_) => end_process(rt, seat, call, trace, nth),
-            Want::Trap(_) => step_trap(rt, seat, call, trace, left, nth),
+            Want::End(_) => end_process(rt, context, call, trace, nth),
+            Want::Trap(_) => step_trap(rt, context, call, trace, left, nth),
         },
     }
 }
@@ -122,11 +127,11 @@ fn advance<R: Wait, G: Gate>(
 /// Ends a process.
 fn end_process<R: Wait, G: Gate>(
     rt: &R,
-    seat: &Seat<'_, G>,
+    context: &WorkerContext<'_, G>,
     call: AtCall,
     trace: &mut Trace,
     nth: &mut u32,
-) -> Went
+) -> Progress
     requires end { AsksEnd call.process }
     requires few { steps trace.old + 1 < 2 ^ 32 }
     ensures alone { (s : Seen) → Alone s trace.old (RunningSeen call.process) → Alone s trace.new (seen result.process) }
@@ -138,27 +143,27 @@ fn end_process<R: Wait, G: Gate>(
         return stays(call.back());
     }
     *nth = nth.saturating_add(1);
-    seat.gate.arrive(seat.pid, *nth);
-    match seat
-        .office
-        .call(rt, seat.alloc, seat.pid, &Call::Exit, false)
+    context.gate.arrive(context.pid, *nth);
+    match context
+        .monitor
+        .call(rt, context.alloc, context.pid, &Call::Exit, false)
     {
-        Came::Done { reply: _, copy } => {
+        CallOutcome::Answered { reply: _, copy } => {
             trace.add_call(Call::Exit, Answer::Done(copy));
-            Went {
+            Progress {
                 process: Process::Ended(call.end()),
                 taken: 1,
                 fits: true,
             }
         }
-        Came::Refused => stays(call.back()),
-        _ => misfit(call),
+        CallOutcome::NoMemory => stays(call.back()),
+        _ => rejected(call),
     }
 }
 
 /// The process after the reply to its call, `taken` steps later.
 #[tactic(auto, using(ipc_traps::proofs::Laws::room_prepared))]
-fn replied(call: AtCall, reply: Reply, taken: u32) -> Went
+fn replied(call: AtCall, reply: Reply, taken: u32) -> Progress
     requires trap { AsksTrap call.process }
     requires room { HasRoom call reply }
     ensures process { seen result.process ≡ RunningSeen (replied call.process reply) }
@@ -166,7 +171,7 @@ fn replied(call: AtCall, reply: Reply, taken: u32) -> Went
     ensures taken { result.taken ≡ taken }
 {
     let effect = effect_of(&call, reply);
-    Went {
+    Progress {
         process: Process::Running(call.finish(effect)),
         taken,
         fits: true,
@@ -174,12 +179,12 @@ fn replied(call: AtCall, reply: Reply, taken: u32) -> Went
 }
 
 /// A process that has taken no step, as its call doesn't fit the book.
-fn misfit(call: AtCall) -> Went
+fn rejected(call: AtCall) -> Progress
     ensures process { seen result.process ≡ RunningSeen call.process }
     ensures held { IsHeld result.process }
     ensures taken { result.taken ≡ 0 }
 {
-    Went {
+    Progress {
         process: Process::Running(call.back()),
         taken: 0,
         fits: false,
@@ -199,12 +204,12 @@ fn refused(call: AtCall, e: Errno) -> Running
 /// The step of a process that stands before a trap of the kernel.
 fn step_trap<R: Wait, G: Gate>(
     rt: &R,
-    seat: &Seat<'_, G>,
+    context: &WorkerContext<'_, G>,
     call: AtCall,
     trace: &mut Trace,
     left: u32,
     nth: &mut u32,
-) -> Went
+) -> Progress
     requires trap { AsksTrap call.process }
     requires some { 0 < left }
     requires few { steps trace.old + left < 2 ^ 32 }
@@ -213,10 +218,10 @@ fn step_trap<R: Wait, G: Gate>(
     ensures steps { steps trace.new ≡ steps trace.old + result.taken }
     ensures left { result.taken ≤ left }
 {
-    match read_call(seat.alloc, &call) {
+    match read_call(context.alloc, &call) {
         Err(_) => stays(call.back()),
-        Ok(Asked::Refused(e)) => follow(seat, refused(call, e), trace, left),
-        Ok(Asked::Kernel(request)) => { make_call(rt, seat, call, request, trace, left, nth) }
+        Ok(Asked::Refused(e)) => follow(context, refused(call, e), trace, left),
+        Ok(Asked::Kernel(request)) => { make_call(rt, context, call, request, trace, left, nth) }
     }
 }
 
@@ -225,15 +230,15 @@ fn write_down(
     call: AtCall,
     request: Call,
     copy: Call,
-    came: Came,
+    outcome: CallOutcome,
     may_wait: bool,
     trace: &mut Trace,
-) -> Went
+) -> Progress
     requires trap { AsksTrap call.process }
     requires request { asked call.process ≡ Calls request }
     requires prepared { IsPrepared call }
     requires copy { copy ≡ request }
-    requires came { IsCame request may_wait came }
+    requires outcome { IsCallOutcome request may_wait outcome }
     requires room { vec_len trace.old.calls + 2 ≤ vec_capacity trace.old.calls }
     ensures alone { (s : Seen) → Alone s trace.old (RunningSeen call.process) → Alone s trace.new (seen result.process) }
     ensures held { IsHeld result.process }
@@ -241,22 +246,22 @@ fn write_down(
     ensures once { may_wait ≡ false → result.taken ≤ 1 }
     ensures twice { result.taken ≤ 2 }
 {
-    match came {
-        Came::Refused => stays(call.back()),
-        Came::Misfit => misfit(call),
-        Came::Waits { fits } => {
+    match outcome {
+        CallOutcome::NoMemory => stays(call.back()),
+        CallOutcome::Rejected => rejected(call),
+        CallOutcome::Blocked { fits } => {
             trace.add_call(copy, Answer::Wait);
-            Went {
+            Progress {
                 process: Process::Waiting(call.wait(), request),
                 taken: 1,
                 fits,
             }
         }
-        Came::Done { reply, copy: told } => {
+        CallOutcome::Answered { reply, copy: told } => {
             trace.add_call(copy, Answer::Done(told));
             replied(call, reply, 1)
         }
-        Came::Waited { reply, copy: told } => {
+        CallOutcome::AnsweredAfterWait { reply, copy: told } => {
             trace.add_call(copy, Answer::Wait);
             trace.add_call(request, Answer::Done(told));
             replied(call, reply, 2)
@@ -267,13 +272,13 @@ fn write_down(
 /// The step of a process that makes a call of the kernel.
 fn make_call<R: Wait, G: Gate>(
     rt: &R,
-    seat: &Seat<'_, G>,
+    context: &WorkerContext<'_, G>,
     mut call: AtCall,
     request: Call,
     trace: &mut Trace,
     left: u32,
     nth: &mut u32,
-) -> Went
+) -> Progress
     requires trap { AsksTrap call.process }
     requires request { asked call.process ≡ Calls request }
     requires some { 0 < left }
@@ -286,16 +291,16 @@ fn make_call<R: Wait, G: Gate>(
     if trace.reserve().is_err() || prepare(&mut call).is_err() {
         return stays(call.back());
     }
-    let Ok(copy) = request.copy(seat.alloc) else {
+    let Ok(copy) = request.copy(context.alloc) else {
         return stays(call.back());
     };
     *nth = nth.saturating_add(1);
-    seat.gate.arrive(seat.pid, *nth);
+    context.gate.arrive(context.pid, *nth);
     let may_wait = left > 1;
-    let came = seat
-        .office
-        .call(rt, seat.alloc, seat.pid, &request, may_wait);
-    write_down(call, request, copy, came, may_wait, trace)
+    let outcome = context
+        .monitor
+        .call(rt, context.alloc, context.pid, &request, may_wait);
+    write_down(call, request, copy, outcome, may_wait, trace)
 }
 
 /// Steps a process until it has ended, waits for good, has taken `limit` steps or was refused
@@ -303,16 +308,16 @@ fn make_call<R: Wait, G: Gate>(
 pub(crate) fn work<R: Wait, G: Gate>(
     rt: &R,
     alloc: Global,
-    office: &Office,
+    monitor: &Monitor,
     gate: &G,
     pid: usize,
     start: Process,
     limit: u32,
-) -> Walk
-    ensures walk { IsWalk limit start result }
+) -> WorkerResult
+    ensures worker { IsWorkerResult limit start result }
 {
-    let seat = Seat {
-        office,
+    let context = WorkerContext {
+        monitor,
         gate,
         alloc,
         pid,
@@ -328,19 +333,19 @@ pub(crate) fn work<R: Wait, G: Gate>(
         }
         match process {
             Process::Running(running) => {
-                let went = advance(rt, &seat, running, &mut trace, left, &mut nth);
-                process = went.process;
-                fits = went.fits;
-                left -= went.taken;
-                if went.taken == 0 {
+                let progress = advance(rt, &context, running, &mut trace, left, &mut nth);
+                process = progress.process;
+                fits = progress.fits;
+                left -= progress.taken;
+                if progress.taken == 0 {
                     break;
                 }
             }
             Process::Waiting(..) | Process::Ended(_) => break,
         }
     }
-    office.stop(rt);
-    Walk {
+    monitor.stop(rt);
+    WorkerResult {
         process,
         trace,
         left,

@@ -1,12 +1,12 @@
-//! Crews: a worker for each process, on threads of their own.
+//! How the workers are started, each on a thread of its own, and joined.
 ghost use Rattle.std.specs.Prelude.{◌≡◌, ℕ, List, map, IfOk};
-ghost use Rattle.lab_sched.specs.declared.process.Process.{Process as Kept};
+ghost use Rattle.lab_sched.specs.declared.process.Process.{Process as ProcessValue};
 ghost use Rattle.lab_threads.specs.Promised.{promised, due};
-ghost use Rattle.lab_threads.specs.Walks.{AreWalks};
+ghost use Rattle.lab_threads.specs.WorkerResults.{AreWorkerResults};
 
-use crate::desk::Office;
-use crate::walk::{Walk, Walks};
+use crate::monitor::Monitor;
 use crate::worker::work;
+use crate::worker_result::{WorkerPromise, WorkerResult};
 use crate::{Gate, RunFault};
 use lab_sched::Process;
 use std::alloc::Global;
@@ -21,11 +21,11 @@ fn spawn_all<'s, E, R: Threads + Wait + Sync, G: Gate>(
     scope: &Scope<'s, E>,
     rt: &'s R,
     alloc: Global,
-    office: &'s Office,
+    monitor: &'s Monitor,
     gate: &'s G,
     starts: Vec<Process>,
     limit: u32,
-) -> Result<Vec<PromisedHandle<Walk, Walks>>, RunFault>
+) -> Result<Vec<PromisedHandle<WorkerResult, WorkerPromise>>, RunFault>
     ensures { IfOk result (λ hs. map promised hs.items ≡ map (due limit) starts.items) }
 {
     let count = starts.len();
@@ -36,13 +36,13 @@ fn spawn_all<'s, E, R: Threads + Wait + Sync, G: Gate>(
     let mut pid = 0;
     while !starts.is_empty() {
         let start = starts.remove(0);
-        let promise = Walks {
+        let promise = WorkerPromise {
             start: Snapshot::of(&start),
             limit,
         };
-        let worker = move || work(rt, alloc, office, gate, pid, start, limit);
+        let worker = move || work(rt, alloc, monitor, gate, pid, start, limit);
         let Ok(handle) = scope.spawn_with(promise, worker) else {
-            stop_rest(rt, office, count - pid);
+            stop_rest(rt, monitor, count - pid);
             return Err(RunFault::Spawn);
         };
         handles.push_reserved(handle);
@@ -52,43 +52,43 @@ fn spawn_all<'s, E, R: Threads + Wait + Sync, G: Gate>(
 }
 
 /// Counts so many workers as stopped.
-fn stop_rest<R: Wait>(rt: &R, office: &Office, count: usize) {
+fn stop_rest<R: Wait>(rt: &R, monitor: &Monitor, count: usize) {
     for _ in 0..count {
-        office.stop(rt);
+        monitor.stop(rt);
     }
 }
 
 /// What the workers bring back, each of which keeps its promise.
 fn joined<R: Threads>(
     rt: &R,
-    handles: Vec<PromisedHandle<Walk, Walks>>,
-) -> Result<Vec<Walk>, RunFault>
-    ensures { IfOk result (λ ws. (starts : List Kept) (limit : ℕ) → map promised handles.items ≡ map (due limit) starts → AreWalks limit starts ws.items) }
+    handles: Vec<PromisedHandle<WorkerResult, WorkerPromise>>,
+) -> Result<Vec<WorkerResult>, RunFault>
+    ensures { IfOk result (λ ws. (starts : List ProcessValue) (limit : ℕ) → map promised handles.items ≡ map (due limit) starts → AreWorkerResults limit starts ws.items) }
 {
     match thread::join_promised(rt, handles) {
-        Ok(walks) => Ok(walks),
+        Ok(workers) => Ok(workers),
         Err(_) => Err(RunFault::NoMemory),
     }
 }
 
 /// Runs a worker for each process, and joins them all.
-pub(crate) fn walk_all<R: Threads + Wait + Sync, G: Gate>(
+pub(crate) fn run_workers<R: Threads + Wait + Sync, G: Gate>(
     rt: &R,
     alloc: Global,
-    office: &Office,
+    monitor: &Monitor,
     gate: &G,
     starts: Vec<Process>,
     limit: u32,
-) -> Result<Vec<Walk>, RunFault>
-    ensures { IfOk result (λ ws. AreWalks limit starts.items ws.items) }
+) -> Result<Vec<WorkerResult>, RunFault>
+    ensures { IfOk result (λ ws. AreWorkerResults limit starts.items ws.items) }
 {
     thread::scope(
         thread::scope_env(),
         rt,
-        |scope| -> Result<Vec<Walk>, RunFault>
-            ensures { IfOk result (λ ws. AreWalks limit starts.items ws.items) }
+        |scope| -> Result<Vec<WorkerResult>, RunFault>
+            ensures { IfOk result (λ ws. AreWorkerResults limit starts.items ws.items) }
         {
-            let handles = spawn_all(scope, rt, alloc, office, gate, starts, limit)?;
+            let handles = spawn_all(scope, rt, alloc, monitor, gate, starts, limit)?;
             joined(rt, handles)
         },
     )

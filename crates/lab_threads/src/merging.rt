@@ -1,4 +1,4 @@
-//! One list of steps for all walks, in which the calls stand as in the history.
+//! One list of the steps of all workers, in which the calls stand as in the history.
 ghost use Rattle.std.specs.Prelude.{◌≡◌, ◌+◌, ◌++◌, ◌^◌, ◌<◌, ◌≤◌, [], ℕ, List, Some, true, IfOk, IfSome, slice_get, slice_index, length, replicate, IsTrue};
 ghost use Rattle.ipc_kernel.specs.Kernel.{empty_kernel};
 ghost use Rattle.lab_sched.specs.Alone.{steps};
@@ -6,12 +6,12 @@ ghost use Rattle.lab_sched.specs.Course.{IsCourse, count};
 ghost use Rattle.lab_sched.specs.History.{IsLegal};
 ghost use Rattle.lab_sched.specs.Schedules.{steps_of};
 ghost use Rattle.lab_sched.specs.declared.entry.Entry.{Entry as EntryValue};
-ghost use Rattle.lab_sched.specs.declared.process.Process.{Process as Kept};
-ghost use Rattle.lab_threads.specs.declared.walk.Walk.{Walk as WalkValue};
-ghost use Rattle.lab_threads.specs.Walks.{AreWalks};
-ghost use Rattle.lab_threads.specs.Woven.{begun, ended, IsFound, IsItem, IsWoven, AreCounted};
+ghost use Rattle.lab_sched.specs.declared.process.Process.{Process as ProcessValue};
+ghost use Rattle.lab_threads.specs.declared.worker_result.WorkerResult.{WorkerResult as WorkerResultValue};
+ghost use Rattle.lab_threads.specs.WorkerResults.{AreWorkerResults};
+ghost use Rattle.lab_threads.specs.Merged.{initial_world, final_world, IsFound, IsItem, IsMerged, AreCounted};
 
-use crate::walk::Walk;
+use crate::worker_result::WorkerResult;
 use ipc_kernel::{Answer, Reply};
 use lab_sched::{Entry, MOST_STEPS, Schedule, Told};
 use std::alloc::{AllocError, Global};
@@ -68,17 +68,17 @@ fn find(calls: &[Told], at: usize, entry: &Entry) -> Option<u32>
 
 /// The number of local steps before the next call of the entry's process, if that call is the
 /// entry's.
-fn item(walks: &[Walk], next: &[usize], entry: &Entry) -> Option<u32>
-    requires { length next.now ≡ length walks.now }
-    ensures item { IfSome result (λ n. IsItem walks.now next.now entry.now n) }
+fn item(workers: &[WorkerResult], next: &[usize], entry: &Entry) -> Option<u32>
+    requires { length next.now ≡ length workers.now }
+    ensures item { IfSome result (λ n. IsItem workers.now next.now entry.now n) }
     ensures few { IfSome result (λ n. n + 1 < 2 ^ 32) }
     ensures within { IfSome result (λ n. entry.now.pid < length next.now) }
     ensures fits { IfSome result (λ n. slice_index next.now entry.now.pid + 1 < 2 ^ 64) }
 {
-    if entry.pid >= walks.len() {
+    if entry.pid >= workers.len() {
         return None;
     }
-    let calls = walks[entry.pid].trace.calls.as_slice();
+    let calls = workers[entry.pid].trace.calls.as_slice();
     find(calls, next[entry.pid], entry)
 }
 
@@ -98,26 +98,26 @@ fn add(schedule: &mut Schedule, pid: usize, n: u32) -> Result<bool, AllocError>
 }
 
 /// A schedule, and the number of calls of each process in it.
-struct Braid {
+struct PartialMerge {
     schedule: Schedule,
     next: Vec<usize>,
 }
 
-/// The calls of a history with the local steps before each, as long as they are the walks'.
-fn weave_calls(
+/// The calls of a history with the local steps before each, as long as they are the traces'.
+fn merge_calls(
     alloc: Global,
-    walks: &[Walk],
+    workers: &[WorkerResult],
     history: &[Entry],
-) -> Result<Option<Braid>, AllocError>
-    requires few { length walks.now ≤ 64 }
-    ensures woven { IfOk result (λ o. IfSome o (λ b. (starts : List Kept) (limit : ℕ) → AreWalks limit starts walks.now → IsLegal (empty_kernel (length starts)) history.now → IsWoven starts walks.now b.next.items (steps_of b.schedule) history.now [])) }
-    ensures counted { IfOk result (λ o. IfSome o (λ b. AreCounted walks.now b.next.items (steps_of b.schedule))) }
-    ensures len { IfOk result (λ o. IfSome o (λ b. length b.next.items ≡ length walks.now)) }
+) -> Result<Option<PartialMerge>, AllocError>
+    requires few { length workers.now ≤ 64 }
+    ensures merged { IfOk result (λ o. IfSome o (λ b. (starts : List ProcessValue) (limit : ℕ) → AreWorkerResults limit starts workers.now → IsLegal (empty_kernel (length starts)) history.now → IsMerged starts workers.now b.next.items (steps_of b.schedule) history.now [])) }
+    ensures counted { IfOk result (λ o. IfSome o (λ b. AreCounted workers.now b.next.items (steps_of b.schedule))) }
+    ensures len { IfOk result (λ o. IfSome o (λ b. length b.next.items ≡ length workers.now)) }
 {
     let mut schedule = Schedule::new(alloc);
-    let mut next: Vec<usize> = vec![in alloc; 0; walks.len()]?;
+    let mut next: Vec<usize> = vec![in alloc; 0; workers.len()]?;
     for entry in history {
-        let Some(before) = item(walks, &next, entry) else {
+        let Some(before) = item(workers, &next, entry) else {
             return Ok(None);
         };
         if !add(&mut schedule, entry.pid, before + 1)? {
@@ -125,19 +125,22 @@ fn weave_calls(
         }
         next[entry.pid] += 1;
     }
-    Ok(Some(Braid { schedule, next }))
+    Ok(Some(PartialMerge { schedule, next }))
 }
 
-/// Adds the local steps after the last call of each walk, where no walk has a call left.
-fn weave_ends(walks: &[Walk], braid: Braid) -> Result<Option<Schedule>, AllocError>
-    requires few { length walks.now ≤ 64 }
-    requires len { length braid.next.items ≡ length walks.now }
-    ensures course { IfOk result (λ o. IfSome o (λ s. (starts : List Kept) (history : List EntryValue) → IsWoven starts walks.now braid.next.items (steps_of braid.schedule) history [] → IsCourse (begun starts) (steps_of s) (ended (length starts) walks.now history) history)) }
-    ensures counts { IfOk result (λ o. IfSome o (λ s. AreCounted walks.now braid.next.items (steps_of braid.schedule) → (p : ℕ) (k : WalkValue) → slice_get walks.now p ≡ Some k → count p (steps_of s) ≡ steps k.trace)) }
+/// Adds the local steps after the last call of each trace, where no trace has a call left.
+fn merge_ends(
+    workers: &[WorkerResult],
+    partial: PartialMerge,
+) -> Result<Option<Schedule>, AllocError>
+    requires few { length workers.now ≤ 64 }
+    requires len { length partial.next.items ≡ length workers.now }
+    ensures course { IfOk result (λ o. IfSome o (λ s. (starts : List ProcessValue) (history : List EntryValue) → IsMerged starts workers.now partial.next.items (steps_of partial.schedule) history [] → IsCourse (initial_world starts) (steps_of s) (final_world (length starts) workers.now history) history)) }
+    ensures counts { IfOk result (λ o. IfSome o (λ s. AreCounted workers.now partial.next.items (steps_of partial.schedule) → (p : ℕ) (k : WorkerResultValue) → slice_get workers.now p ≡ Some k → count p (steps_of s) ≡ steps k.trace)) }
 {
-    let Braid { mut schedule, next } = braid;
-    for pid in 0..walks.len() {
-        let trace = &walks[pid].trace;
+    let PartialMerge { mut schedule, next } = partial;
+    for pid in 0..workers.len() {
+        let trace = &workers[pid].trace;
         if next[pid] != trace.calls.len() || !add(&mut schedule, pid, trace.after)? {
             return Ok(None);
         }
@@ -145,20 +148,20 @@ fn weave_ends(walks: &[Walk], braid: Braid) -> Result<Option<Schedule>, AllocErr
     Ok(Some(schedule))
 }
 
-/// One list of steps for all walks, in which the calls stand as in the history. There is none where
-/// the history's calls and answers aren't the walks', or where the steps are too many for a
+/// One list of the steps of all workers, in which the calls stand as in the history. There is none
+/// where the history's calls and answers aren't the traces', or where the steps are too many for a
 /// schedule.
-pub(crate) fn weave(
+pub(crate) fn merge(
     alloc: Global,
-    walks: &[Walk],
+    workers: &[WorkerResult],
     history: &[Entry],
 ) -> Result<Option<Schedule>, AllocError>
-    requires few { length walks.now ≤ 64 }
-    ensures course { IfOk result (λ o. IfSome o (λ s. (starts : List Kept) (limit : ℕ) → AreWalks limit starts walks.now → IsLegal (empty_kernel (length starts)) history.now → IsCourse (begun starts) (steps_of s) (ended (length starts) walks.now history.now) history.now)) }
-    ensures counts { IfOk result (λ o. IfSome o (λ s. (p : ℕ) (k : WalkValue) → slice_get walks.now p ≡ Some k → count p (steps_of s) ≡ steps k.trace)) }
+    requires few { length workers.now ≤ 64 }
+    ensures course { IfOk result (λ o. IfSome o (λ s. (starts : List ProcessValue) (limit : ℕ) → AreWorkerResults limit starts workers.now → IsLegal (empty_kernel (length starts)) history.now → IsCourse (initial_world starts) (steps_of s) (final_world (length starts) workers.now history.now) history.now)) }
+    ensures counts { IfOk result (λ o. IfSome o (λ s. (p : ℕ) (k : WorkerResultValue) → slice_get workers.now p ≡ Some k → count p (steps_of s) ≡ steps k.trace)) }
 {
-    match weave_calls(alloc, walks, history)? {
+    match merge_calls(alloc, workers, history)? {
         None => Ok(None),
-        Some(braid) => weave_ends(walks, braid),
+        Some(partial) => merge_ends(workers, partial),
     }
 }

@@ -7,7 +7,7 @@ use Rattle.lab_sched.specs.History.{IsLegal, replay, waits}
 
 -- The history is legal, the kernel is its replay, and beside each process stands the call that it waits for.
 -- There are as many processes as the kernel knows.
-pub record IsKept (k : KernelState) (history : List Entry) (waiting : List (Option Call)) : Type 0 where
+pub record BookInvariant (k : KernelState) (history : List Entry) (waiting : List (Option Call)) : Type 0 where
   pub legal : IsLegal (empty_kernel (length waiting)) history
   pub kernel : k ≡ replay (empty_kernel (length waiting)) history
   pub calls : (p : ℕ) → p < length waiting → slice_get waiting p ≡ Some (waits history p)

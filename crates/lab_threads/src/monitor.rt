@@ -1,6 +1,6 @@
-//! The desk: the book, and what the workers tell one another beside it, under one lock.
+//! The monitor: the book, and what the workers tell one another beside it, under one lock.
 ghost use Rattle.std.specs.Prelude.{◌≡◌, false};
-ghost use Rattle.lab_threads.specs.Came.{IsCame};
+ghost use Rattle.lab_threads.specs.CallOutcome.{IsCallOutcome};
 
 use crate::Book;
 use ipc_kernel::{Answer, Call, Reply};
@@ -9,83 +9,83 @@ use std::sync::{Condvar, Mutex, Wait};
 
 /// The book, and what the workers tell one another. No contract rests on the numbers.
 #[derive(Drop)]
-pub(crate) struct Desk {
+pub(crate) struct SharedState {
     book: Book,
     /// How many calls were answered.
     answered: u64,
     /// How many workers have stopped.
     stopped: usize,
     /// How many workers wait, and have tried since the last answered call.
-    asleep: usize,
+    waiting: usize,
 }
 
-/// The desk under its lock.
+/// The state under its lock.
 #[derive(Drop)]
-pub(crate) struct Office {
-    desk: Mutex<Desk>,
+pub(crate) struct Monitor {
+    state: Mutex<SharedState>,
     changed: Condvar,
 }
 
 /// What comes of a call. A reply comes with a copy, made before the call.
 #[derive(Drop)]
-pub(crate) enum Came {
+pub(crate) enum CallOutcome {
     /// The call doesn't fit the book.
-    Misfit,
+    Rejected,
     /// Memory was refused.
-    Refused,
+    NoMemory,
     /// The process waits. `fits` is false where a later try didn't fit the book.
-    Waits { fits: bool },
+    Blocked { fits: bool },
     /// The first try was answered.
-    Done { reply: Reply, copy: Reply },
+    Answered { reply: Reply, copy: Reply },
     /// The process waited, and then a try was answered.
-    Waited { reply: Reply, copy: Reply },
+    AnsweredAfterWait { reply: Reply, copy: Reply },
 }
 
-impl Desk {
+impl SharedState {
     /// Tries a call.
-    fn try_call(&mut self, alloc: Global, pid: usize, call: &Call) -> Came
-        ensures { IsCame call.now false result }
+    fn try_call(&mut self, alloc: Global, pid: usize, call: &Call) -> CallOutcome
+        ensures { IsCallOutcome call.now false result }
     {
         if !self.book.fits(pid, call) {
-            return Came::Misfit;
+            return CallOutcome::Rejected;
         }
         let Ok(copy) = self.book.kernel().answer(alloc, pid, call) else {
-            return Came::Refused;
+            return CallOutcome::NoMemory;
         };
         let Ok(answer) = self.book.call(alloc, pid, call) else {
-            return Came::Refused;
+            return CallOutcome::NoMemory;
         };
         match (answer, copy) {
             (Answer::Done(reply), Answer::Done(copy)) => {
                 self.answered = self.answered.wrapping_add(1);
-                self.asleep = 0;
-                Came::Done { reply, copy }
+                self.waiting = 0;
+                CallOutcome::Answered { reply, copy }
             }
-            _ => Came::Waits { fits: true },
+            _ => CallOutcome::Blocked { fits: true },
         }
     }
 
     /// Counts a worker that waits, and tells how many calls were answered by then.
-    fn fall_asleep(&mut self) -> u64 {
-        self.asleep = self.asleep.saturating_add(1);
+    fn begin_wait(&mut self) -> u64 {
+        self.waiting = self.waiting.saturating_add(1);
         self.answered
     }
 
     /// Whether a worker that waits may still be woken.
-    fn may_wake(&self) -> bool {
-        self.asleep.saturating_add(self.stopped) < self.book.count()
+    fn can_be_woken(&self) -> bool {
+        self.waiting.saturating_add(self.stopped) < self.book.count()
     }
 }
 
-impl Office {
-    /// An office with this book, where no worker has stopped or waits.
-    pub(crate) fn new(book: Book) -> Office {
-        Office {
-            desk: Mutex::new(Desk {
+impl Monitor {
+    /// A monitor with this book, where no worker has stopped or waits.
+    pub(crate) fn new(book: Book) -> Monitor {
+        Monitor {
+            state: Mutex::new(SharedState {
                 book,
                 answered: 0,
                 stopped: 0,
-                asleep: 0,
+                waiting: 0,
             }),
             changed: Condvar::new(),
         }
@@ -93,8 +93,8 @@ impl Office {
 
     /// The book, once all workers have gone.
     pub(crate) fn into_book(self) -> Book {
-        let Office { desk, changed: _ } = self;
-        let Desk { book, .. } = desk.into_inner();
+        let Monitor { state, changed: _ } = self;
+        let SharedState { book, .. } = state.into_inner();
         book
     }
 
@@ -108,50 +108,52 @@ impl Office {
         pid: usize,
         call: &Call,
         may_wait: bool,
-    ) -> Came
-        ensures { IsCame call.now may_wait result }
+    ) -> CallOutcome
+        ensures { IsCallOutcome call.now may_wait result }
     {
-        let mut desk = self.desk.lock(rt);
-        match desk.try_call(alloc, pid, call) {
-            Came::Waits { .. } => {}
-            came => {
+        let mut state = self.state.lock(rt);
+        match state.try_call(alloc, pid, call) {
+            CallOutcome::Blocked { .. } => {}
+            outcome => {
                 self.changed.notify_all();
-                return came;
+                return outcome;
             }
         }
         if !may_wait {
-            return Came::Waits { fits: true };
+            return CallOutcome::Blocked { fits: true };
         }
         for _ in rt.forever() {
-            let seen = desk.fall_asleep();
-            if !desk.may_wake() {
+            let seen = state.begin_wait();
+            if !state.can_be_woken() {
                 self.changed.notify_all();
                 break;
             }
-            desk = self
-                .changed
-                .wait_while(rt, desk, |desk| desk.answered == seen && desk.may_wake());
-            if desk.answered == seen {
-                desk.asleep = desk.asleep.saturating_sub(1);
+            state = self.changed.wait_while(
+                rt,
+                state,
+                |state| state.answered == seen && state.can_be_woken(),
+            );
+            if state.answered == seen {
+                state.waiting = state.waiting.saturating_sub(1);
                 break;
             }
-            match desk.try_call(alloc, pid, call) {
-                Came::Done { reply, copy } => {
+            match state.try_call(alloc, pid, call) {
+                CallOutcome::Answered { reply, copy } => {
                     self.changed.notify_all();
-                    return Came::Waited { reply, copy };
+                    return CallOutcome::AnsweredAfterWait { reply, copy };
                 }
-                Came::Misfit => return Came::Waits { fits: false },
-                Came::Waits { .. } => {}
+                CallOutcome::Rejected => return CallOutcome::Blocked { fits: false },
+                CallOutcome::Blocked { .. } => {}
                 _ => break,
             }
         }
-        Came::Waits { fits: true }
+        CallOutcome::Blocked { fits: true }
     }
 
     /// Tells that a worker has stopped, or couldn't be started.
     pub(crate) fn stop<R: Wait>(&self, rt: &R) {
-        let mut desk = self.desk.lock(rt);
-        desk.stopped = desk.stopped.saturating_add(1);
+        let mut state = self.state.lock(rt);
+        state.stopped = state.stopped.saturating_add(1);
         self.changed.notify_all();
     }
 }

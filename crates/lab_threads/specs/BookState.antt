@@ -6,7 +6,7 @@ use Rattle.ipc_kernel.specs.declared.call.Answer.TheVariants.{Done, Wait}
 use Rattle.lab_sched.specs.declared.entry.Entry.{Entry}
 
 -- the number of processes, and the calls so far with their answers
-pub record Pages : Type 0 where
+pub record BookState : Type 0 where
   pub count : ℕ
   pub history : List Entry
 

@@ -1,6 +1,6 @@
 use Rattle.std.proofs.Common.{◌≡◌, ◌+◌, ◌≤◌, ◌++◌, map, vec_len, vec_capacity}
 use Rattle.lab_threads.specs.Promised.{due, promised}
-use Rattle.lab_threads.proofs.crew.spawn_all.Given as goal
+use Rattle.lab_threads.proofs.spawning.spawn_all.Given as goal
 
 abbrev pub invariant-loop-alloc : goal.invariant-loop-alloc
 invariant-loop-alloc g l = record {
