@@ -2,6 +2,7 @@
 #![tactic(auto)]
 
 mod book;
+mod context;
 mod fault;
 mod gate;
 mod merging;

@@ -1,11 +1,11 @@
 //! The monitor: the book, and what the workers tell one another beside it, under one lock.
-ghost use Rattle.std.specs.Prelude.{◌≡◌, false};
+ghost use Rattle.std.specs.Prelude.{◌≡◌, false, true};
 ghost use Rattle.lab_threads.specs.CallOutcome.{IsCallOutcome};
 
 use crate::Book;
 use ipc_kernel::{Answer, Call, Reply};
 use std::alloc::Global;
-use std::sync::{Condvar, Mutex, Wait};
+use std::sync::{Condvar, Mutex, MutexGuard, Wait};
 
 /// The book, and what the workers tell one another. No contract rests on the numbers.
 #[derive(Drop)]
@@ -113,15 +113,28 @@ impl Monitor {
     {
         let mut state = self.state.lock(rt);
         match state.try_call(alloc, pid, call) {
-            CallOutcome::Blocked { .. } => {}
+            CallOutcome::Blocked { .. } if may_wait => {
+                self.wait_for_answer(rt, alloc, state, pid, call)
+            }
             outcome => {
                 self.changed.notify_all();
-                return outcome;
+                outcome
             }
         }
-        if !may_wait {
-            return CallOutcome::Blocked { fits: true };
-        }
+    }
+
+    /// Tries the call of a process that waits after each answered call, until a try is answered or
+    /// none ever will be.
+    fn wait_for_answer<'a, R: Wait>(
+        &'a self,
+        rt: &R,
+        alloc: Global,
+        mut state: MutexGuard<'a, SharedState>,
+        pid: usize,
+        call: &Call,
+    ) -> CallOutcome
+        ensures { IsCallOutcome call.now true result }
+    {
         for _ in rt.forever() {
             let seen = state.begin_wait();
             if !state.can_be_woken() {

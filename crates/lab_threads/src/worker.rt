@@ -6,13 +6,14 @@ ghost use Rattle.ipc_names.specs.Errno.{number_of};
 ghost use Rattle.ipc_kernel.specs.declared.call.Reply.TheVariants.{Plain};
 ghost use Rattle.ipc_traps.specs.Asked.{Calls, asked};
 ghost use Rattle.ipc_traps.specs.Reply.{HasRoom, IsPrepared, replied};
-ghost use Rattle.lab_sched.specs.Worlds.{Process as Seen, Running as RunningSeen, act, moves};
+ghost use Rattle.lab_sched.specs.Worlds.{Process as Seen, Running as RunningSeen, Waiting as WaitingSeen, act, moves};
 ghost use Rattle.lab_sched.specs.Held.{seen, IsHeld};
 ghost use Rattle.lab_sched.specs.Alone.{Alone, AreLocal, steps};
 ghost use Rattle.lab_threads.specs.CallOutcome.{IsCallOutcome};
 ghost use Rattle.lab_threads.specs.WorkerResults.{IsWorkerResult};
 
 use crate::Gate;
+use crate::context::WorkerContext;
 use crate::monitor::{CallOutcome, Monitor};
 use crate::worker_result::WorkerResult;
 use ipc_kernel::{Answer, Call, Reply};
@@ -22,15 +23,6 @@ use lab_sched::{Process, Trace};
 use lc3_machine::{AtCall, Local, Running, Want};
 use std::alloc::Global;
 use std::sync::Wait;
-
-/// Where a worker stands: the monitor where it makes the calls of its process, and its gate.
-#[derive(Drop)]
-struct WorkerContext<'s, G> {
-    monitor: &'s Monitor,
-    gate: &'s G,
-    alloc: Global,
-    pid: usize,
-}
 
 /// A process after some steps, and how many they were: none where memory was refused, or the book
 /// didn't fit its call.
@@ -142,12 +134,7 @@ fn end_process<R: Wait, G: Gate>(
     if trace.reserve().is_err() {
         return stays(call.back());
     }
-    *nth = nth.saturating_add(1);
-    context.gate.arrive(context.pid, *nth);
-    match context
-        .monitor
-        .call(rt, context.alloc, context.pid, &Call::Exit, false)
-    {
+    match context.call(rt, &Call::Exit, false, nth) {
         CallOutcome::Answered { reply: _, copy } => {
             trace.add_call(Call::Exit, Answer::Done(copy));
             Progress {
@@ -225,6 +212,22 @@ fn step_trap<R: Wait, G: Gate>(
     }
 }
 
+/// The process that waits for the answer of its call, one step later.
+fn wait(call: AtCall, request: Call, fits: bool) -> Progress
+    requires trap { AsksTrap call.process }
+    requires request { asked call.process ≡ Calls request }
+    requires prepared { IsPrepared call }
+    ensures process { seen result.process ≡ WaitingSeen call.process request }
+    ensures held { IsHeld result.process }
+    ensures taken { result.taken ≡ 1 }
+{
+    Progress {
+        process: Process::Waiting(call.wait(), request),
+        taken: 1,
+        fits,
+    }
+}
+
 /// What comes of a process whose call was made, with its copies written down.
 fn write_down(
     call: AtCall,
@@ -251,11 +254,7 @@ fn write_down(
         CallOutcome::Rejected => rejected(call),
         CallOutcome::Blocked { fits } => {
             trace.add_call(copy, Answer::Wait);
-            Progress {
-                process: Process::Waiting(call.wait(), request),
-                taken: 1,
-                fits,
-            }
+            wait(call, request, fits)
         }
         CallOutcome::Answered { reply, copy: told } => {
             trace.add_call(copy, Answer::Done(told));
@@ -294,12 +293,8 @@ fn make_call<R: Wait, G: Gate>(
     let Ok(copy) = request.copy(context.alloc) else {
         return stays(call.back());
     };
-    *nth = nth.saturating_add(1);
-    context.gate.arrive(context.pid, *nth);
     let may_wait = left > 1;
-    let outcome = context
-        .monitor
-        .call(rt, context.alloc, context.pid, &request, may_wait);
+    let outcome = context.call(rt, &request, may_wait, nth);
     write_down(call, request, copy, outcome, may_wait, trace)
 }
 
@@ -314,7 +309,7 @@ pub(crate) fn work<R: Wait, G: Gate>(
     start: Process,
     limit: u32,
 ) -> WorkerResult
-    ensures worker { IsWorkerResult limit start result }
+    ensures result { IsWorkerResult limit start result }
 {
     let context = WorkerContext {
         monitor,

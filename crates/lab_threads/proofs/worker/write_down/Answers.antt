@@ -1,4 +1,5 @@
-use Rattle.std.proofs.Common.{ap, ◌∙◌, rules, refl}
+use Rattle.std.proofs.Common.{subst, sym, rules, refl}
+use Rattle.lab_sched.specs.Alone.{Alone}
 use Rattle.ipc_traps.proofs.Laws.{room_prepared}
 use Rattle.lab_sched.specs.Worlds.{Running, Waiting}
 use Rattle.lab_sched.specs.Held.{seen}
@@ -14,8 +15,9 @@ replied-requires-in-AnsweredAfterWait-clause-room c = room_prepared c.args.call 
 pub returns-in-Blocked-clause-alone : goal.returns-in-Blocked-clause-alone
 returns-in-Blocked-clause-alone c s h =
     let p = c.args.call.process in
-    c.add_call.ensures.alone s (Running p) (Waiting c.wait.result.process c.args.request) h
-    (waits_is p c.wait.result.process c.args.request c.args.copy c.requires.request (ap (λ w. w.process) c.wait.ensures.same) c.requires.copy)
+    subst (λ v. Alone s c.add_call.new.self v) (sym c.wait.ensures.process)
+    (c.add_call.ensures.alone s (Running p) (Waiting p c.args.request) h
+    (waits_is p p c.args.request c.args.copy c.requires.request refl c.requires.copy))
 
 pub returns-in-Answered-clause-alone : goal.returns-in-Answered-clause-alone
 returns-in-Answered-clause-alone c s h =
