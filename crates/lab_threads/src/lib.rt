@@ -10,6 +10,7 @@ mod monitor;
 mod reports;
 mod spawning;
 mod worker;
+mod worker_log;
 mod worker_result;
 
 pub use book::Book;
