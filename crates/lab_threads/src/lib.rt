@@ -9,6 +9,7 @@ mod merging;
 mod monitor;
 mod reports;
 mod spawning;
+mod start;
 mod worker;
 mod worker_log;
 mod worker_result;

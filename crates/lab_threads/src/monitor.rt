@@ -3,6 +3,7 @@ ghost use Rattle.std.specs.Prelude.{◌≡◌, false, true};
 ghost use Rattle.lab_threads.specs.CallOutcome.{IsCallOutcome};
 
 use crate::Book;
+use crate::start::CommonStart;
 use ipc_kernel::{Answer, Call, Reply};
 use std::alloc::Global;
 use std::sync::{Condvar, Mutex, MutexGuard, Wait};
@@ -19,11 +20,12 @@ pub(crate) struct SharedState {
     waiting: usize,
 }
 
-/// The state under its lock.
+/// The state under its lock, and where the workers start.
 #[derive(Drop)]
 pub(crate) struct Monitor {
     state: Mutex<SharedState>,
     changed: Condvar,
+    start: CommonStart,
 }
 
 /// What comes of a call. A reply comes with a copy, made before the call.
@@ -80,6 +82,7 @@ impl SharedState {
 impl Monitor {
     /// A monitor with this book, where no worker has stopped or waits.
     pub(crate) fn new(book: Book) -> Monitor {
+        let start = CommonStart::new(book.count());
         Monitor {
             state: Mutex::new(SharedState {
                 book,
@@ -88,12 +91,13 @@ impl Monitor {
                 waiting: 0,
             }),
             changed: Condvar::new(),
+            start,
         }
     }
 
     /// The book, once all workers have gone.
     pub(crate) fn into_book(self) -> Book {
-        let Monitor { state, changed: _ } = self;
+        let Monitor { state, .. } = self;
         let SharedState { book, .. } = state.into_inner();
         book
     }
@@ -163,7 +167,18 @@ impl Monitor {
         CallOutcome::Blocked { fits: true }
     }
 
-    /// Tells that a worker has stopped, or couldn't be started.
+    /// Returns when all workers are there.
+    pub(crate) fn meet<R: Wait>(&self, rt: &R) {
+        self.start.meet(rt);
+    }
+
+    /// Tells that a worker couldn't be started: it counts as there, and as stopped.
+    pub(crate) fn stop_missing<R: Wait>(&self, rt: &R) {
+        self.start.count_missing();
+        self.stop(rt);
+    }
+
+    /// Tells that a worker has stopped.
     pub(crate) fn stop<R: Wait>(&self, rt: &R) {
         let mut state = self.state.lock(rt);
         state.stopped = state.stopped.saturating_add(1);

@@ -16,7 +16,7 @@ use std::thread;
 use std::thread::{PromisedHandle, Scope, Threads};
 
 /// Starts a worker for each process. Where one can't be started, those that were not started count
-/// as stopped.
+/// as there, and as stopped.
 fn spawn_all<'s, E, R: Threads + Wait + Sync, G: Gate>(
     scope: &Scope<'s, E>,
     rt: &'s R,
@@ -42,7 +42,7 @@ fn spawn_all<'s, E, R: Threads + Wait + Sync, G: Gate>(
         };
         let worker = move || work(rt, alloc, monitor, gate, pid, start, limit);
         let Ok(handle) = scope.spawn_with(promise, worker) else {
-            stop_rest(rt, monitor, count - pid);
+            stop_missing(rt, monitor, count - pid);
             return Err(RunFault::Spawn);
         };
         handles.push_reserved(handle);
@@ -51,10 +51,10 @@ fn spawn_all<'s, E, R: Threads + Wait + Sync, G: Gate>(
     Ok(handles)
 }
 
-/// Counts so many workers as stopped.
-fn stop_rest<R: Wait>(rt: &R, monitor: &Monitor, count: usize) {
+/// Tells that so many workers couldn't be started.
+fn stop_missing<R: Wait>(rt: &R, monitor: &Monitor, count: usize) {
     for _ in 0..count {
-        monitor.stop(rt);
+        monitor.stop_missing(rt);
     }
 }
 

@@ -274,7 +274,8 @@ fn run<R: Wait, G: Gate>(
     }
 }
 
-/// The work of a thread: it steps its process, and then tells the others that it has stopped.
+/// The work of a thread: when all workers are there it steps its process, and then tells the
+/// others that it has stopped.
 pub(crate) fn work<R: Wait, G: Gate>(
     rt: &R,
     alloc: Global,
@@ -292,6 +293,7 @@ pub(crate) fn work<R: Wait, G: Gate>(
         alloc,
         pid,
     };
+    monitor.meet(rt);
     let result = run(rt, &context, start, limit);
     monitor.stop(rt);
     result
