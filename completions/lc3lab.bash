@@ -13,7 +13,7 @@ _lc3lab() {
         COMPREPLY=($(compgen -W 'ended stuck' -- "$word"))
         return
         ;;
-    --limit | --worlds | --schedule)
+    --limit | --mix | --worlds | --schedule)
         compopt +o bashdefault +o default 2>/dev/null
         return
         ;;
@@ -21,7 +21,7 @@ _lc3lab() {
     case $command in
     asm) options='--list --explain --help -h' ;;
     dis | step | debug) options='--help -h' ;;
-    run) options='--limit --help -h' ;;
+    run) options='--limit --mix --help -h' ;;
     explore) options='--limit --worlds --require --schedule --help -h' ;;
     help) options=$commands ;;
     esac

@@ -13,6 +13,7 @@ complete -c lc3lab -n __fish_use_subcommand -s V -l version -d 'Prints the versi
 complete -c lc3lab -n '__fish_seen_subcommand_from asm' -l list -d 'Prints the listing'
 complete -c lc3lab -n '__fish_seen_subcommand_from asm' -l explain -d 'Shows where a fault is and what could stand there'
 complete -c lc3lab -n '__fish_seen_subcommand_from run' -x -l limit -d 'The most steps of each process'
+complete -c lc3lab -n '__fish_seen_subcommand_from run' -x -l mix -d 'Pauses before calls, by random numbers from this seed'
 complete -c lc3lab -n '__fish_seen_subcommand_from explore' -x -l worlds -d 'The most worlds to visit'
 complete -c lc3lab -n '__fish_seen_subcommand_from explore' -x -l limit -d 'The most steps of a process without a call'
 complete -c lc3lab -n '__fish_seen_subcommand_from explore' -x -l require -a 'ended stuck' -d 'Fails unless all ends have this verdict'

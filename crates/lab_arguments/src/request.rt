@@ -19,6 +19,8 @@ pub enum Request<'a> {
     Run {
         programs: Vec<&'a str>,
         limit: u32,
+        /// The seed of the pauses before calls, where there are pauses.
+        mix: Option<u32>,
     },
     Explore {
         programs: Vec<&'a str>,

@@ -27,6 +27,7 @@ use std::io::{Read, Write};
 use std::rt::Files;
 use std::sync::Wait;
 use std::thread::Threads;
+use std::time::Clock;
 use step::step_programs;
 
 /// The program did what its words ask for.
@@ -40,7 +41,7 @@ pub const USAGE: u8 = 2;
 
 /// Does what the words after the program's name ask for, and answers the exit status. Without words it reads an image
 /// as hexadecimal words and writes the report of its run. A fault goes to `errors`, on one line. A long run shows on `progress` how far it is.
-pub fn command<T: Files + Threads + Wait + Sync, R: Read, W: Write, E: Write, P: Progress>(
+pub fn command<T: Files + Threads + Wait + Clock + Sync, R: Read, W: Write, E: Write, P: Progress>(
     rt: &T,
     alloc: Global,
     words: &[String],
@@ -75,7 +76,7 @@ fn complaint(fault: CliFault) -> Complaint<'static> {
 }
 
 /// Does what a request asks for.
-fn perform<'a, T: Files + Threads + Wait + Sync, R: Read, W: Write, P: Progress>(
+fn perform<'a, T: Files + Threads + Wait + Clock + Sync, R: Read, W: Write, P: Progress>(
     rt: &T,
     alloc: Global,
     request: &Request<'a>,
@@ -103,7 +104,8 @@ fn perform<'a, T: Files + Threads + Wait + Sync, R: Read, W: Write, P: Progress>
         Request::Run {
             ref programs,
             limit,
-        } => run_programs(rt, alloc, programs.as_slice(), limit, output, progress),
+            mix,
+        } => { run_programs(rt, alloc, programs.as_slice(), limit, mix, output, progress) }
         Request::Explore {
             ref programs,
             question,
