@@ -1,9 +1,9 @@
 //! Books: the kernel that processes share, with the history of their calls.
-ghost use Rattle.std.specs.Prelude.{◌≡◌, ◌<◌, ◌≤◌, ◌++◌, ◌∷◌, ◌↔◌, [], length, IfOk, OnOk, OnErr, IsTrue, true, false};
+ghost use Rattle.std.specs.Prelude.{◌≡◌, ◌<◌, ◌≤◌, ◌++◌, ◌∷◌, ◌↔◌, [], length, Some, None, IfOk, OnOk, OnErr, IsTrue, true, false};
 ghost use Rattle.std.specs.Option.{option_copied};
 ghost use Rattle.ipc_kernel.specs.Limits.{process_max};
 ghost use Rattle.ipc_kernel.specs.Kernel.{empty_kernel};
-ghost use Rattle.ipc_kernel.specs.Answer.{answer};
+ghost use Rattle.ipc_kernel.specs.Answer.{answer, is_done};
 ghost use Rattle.ipc_kernel.specs.Replies.{IsAnswerTo};
 ghost use Rattle.ipc_kernel.specs.declared.call.Call.{Call as CallValue};
 ghost use Rattle.ipc_kernel.specs.declared.call.Answer.TheVariants.{Wait};
@@ -119,6 +119,18 @@ impl Book {
         match self.waits(pid) {
             None => true,
             Some(waits) => waits.is_same(call),
+        }
+    }
+
+    /// Whether the call that a process waits for would be answered now without a wait.
+    pub fn can_go(&self, pid: usize) -> bool
+        requires process { pid < self.now.count }
+        ensures answered { (c : CallValue) → waits self.now.history pid ≡ Some c → result ≡ is_done (answer (replay (empty_kernel self.now.count) self.now.history) pid c).0 }
+        ensures none { waits self.now.history pid ≡ None → result ≡ false }
+    {
+        match self.waits(pid) {
+            None => false,
+            Some(call) => self.kernel.can_go(pid, call),
         }
     }
 

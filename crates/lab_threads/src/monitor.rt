@@ -5,26 +5,27 @@ ghost use Rattle.lab_threads.specs.CallOutcome.{IsCallOutcome};
 use crate::Book;
 use crate::start::CommonStart;
 use ipc_kernel::{Answer, Call, Reply};
-use std::alloc::Global;
+use std::alloc::{AllocError, Global};
 use std::sync::{Condvar, Mutex, MutexGuard, Wait};
 
-/// The book, and what the workers tell one another. No contract rests on the numbers.
+/// The book, and what the workers tell one another. No contract rests on what stands beside the
+/// book.
 #[derive(Drop)]
 pub(crate) struct SharedState {
     book: Book,
-    /// How many calls were answered.
-    answered: u64,
-    /// How many workers have stopped.
-    stopped: usize,
-    /// How many workers wait, and have tried since the last answered call.
+    /// Which workers wait for a call that couldn't go when it was last looked at.
+    blocked: Vec<bool>,
+    /// How many these are.
     waiting: usize,
+    /// How many workers neither wait so nor have stopped.
+    active: usize,
 }
 
-/// The state under its lock, and where the workers start.
+/// The state under its lock, what wakes each worker, and where the workers start.
 #[derive(Drop)]
 pub(crate) struct Monitor {
     state: Mutex<SharedState>,
-    changed: Condvar,
+    wakeups: Vec<Condvar>,
     start: CommonStart,
 }
 
@@ -58,41 +59,70 @@ impl SharedState {
             return CallOutcome::NoMemory;
         };
         match (answer, copy) {
-            (Answer::Done(reply), Answer::Done(copy)) => {
-                self.answered = self.answered.wrapping_add(1);
-                self.waiting = 0;
-                CallOutcome::Answered { reply, copy }
-            }
+            (Answer::Done(reply), Answer::Done(copy)) => CallOutcome::Answered { reply, copy },
             _ => CallOutcome::Blocked { fits: true },
         }
     }
 
-    /// Counts a worker that waits, and tells how many calls were answered by then.
-    fn begin_wait(&mut self) -> u64 {
+    /// Whether a worker waits for a call that couldn't go when it was last looked at.
+    fn is_blocked(&self, pid: usize) -> bool {
+        match self.blocked.get(pid) {
+            Some(blocked) => *blocked,
+            None => false,
+        }
+    }
+
+    /// Counts a worker as one that waits.
+    fn begin_wait(&mut self, pid: usize) {
+        if let Some(blocked) = self.blocked.get_mut(pid) {
+            *blocked = true;
+        }
         self.waiting = self.waiting.saturating_add(1);
-        self.answered
+        self.active = self.active.saturating_sub(1);
+    }
+
+    /// Counts a worker that waits as active where its call could go now; whether it was counted.
+    fn end_wait(&mut self, pid: usize) -> bool {
+        if !self.is_blocked(pid) || pid >= self.book.count() || !self.book.can_go(pid) {
+            return false;
+        }
+        if let Some(blocked) = self.blocked.get_mut(pid) {
+            *blocked = false;
+        }
+        self.waiting = self.waiting.saturating_sub(1);
+        self.active = self.active.saturating_add(1);
+        true
+    }
+
+    /// Counts a worker as one that has stopped.
+    fn stop(&mut self) {
+        self.active = self.active.saturating_sub(1);
     }
 
     /// Whether a worker that waits may still be woken.
     fn can_be_woken(&self) -> bool {
-        self.waiting.saturating_add(self.stopped) < self.book.count()
+        self.active > 0
     }
 }
 
 impl Monitor {
     /// A monitor with this book, where no worker has stopped or waits.
-    pub(crate) fn new(book: Book) -> Monitor {
-        let start = CommonStart::new(book.count());
-        Monitor {
+    pub(crate) fn new(alloc: Global, book: Book) -> Result<Monitor, AllocError> {
+        let count = book.count();
+        let mut wakeups = Vec::with_capacity(alloc, count)?;
+        for _ in 0..count {
+            wakeups.push(Condvar::new())?;
+        }
+        Ok(Monitor {
             state: Mutex::new(SharedState {
                 book,
-                answered: 0,
-                stopped: 0,
+                blocked: vec![in alloc; false; count]?,
                 waiting: 0,
+                active: count,
             }),
-            changed: Condvar::new(),
-            start,
-        }
+            wakeups,
+            start: CommonStart::new(count),
+        })
     }
 
     /// The book, once all workers have gone.
@@ -103,8 +133,7 @@ impl Monitor {
     }
 
     /// Makes a call, and where it must wait and the worker may, waits for its answer: until some
-    /// try is answered, or until every other worker has stopped or waits and no call was answered
-    /// since its own last try.
+    /// try is answered, or until every worker has stopped or waits for a call that can't go.
     pub(crate) fn call<R: Wait>(
         &self,
         rt: &R,
@@ -121,13 +150,13 @@ impl Monitor {
                 self.wait_for_answer(rt, alloc, state, pid, call)
             }
             outcome => {
-                self.changed.notify_all();
+                self.wake_ready(&mut *state);
                 outcome
             }
         }
     }
 
-    /// Tries the call of a process that waits after each answered call, until a try is answered or
+    /// Waits until the call of a process could go and tries it again, until a try is answered or
     /// none ever will be.
     fn wait_for_answer<'a, R: Wait>(
         &'a self,
@@ -140,23 +169,14 @@ impl Monitor {
         ensures { IsCallOutcome call.now true result }
     {
         for _ in rt.forever() {
-            let seen = state.begin_wait();
-            if !state.can_be_woken() {
-                self.changed.notify_all();
-                break;
-            }
-            state = self.changed.wait_while(
-                rt,
-                state,
-                |state| state.answered == seen && state.can_be_woken(),
-            );
-            if state.answered == seen {
-                state.waiting = state.waiting.saturating_sub(1);
+            state.begin_wait(pid);
+            state = self.sleep(rt, state, pid);
+            if state.is_blocked(pid) {
                 break;
             }
             match state.try_call(alloc, pid, call) {
                 CallOutcome::Answered { reply, copy } => {
-                    self.changed.notify_all();
+                    self.wake_ready(&mut *state);
                     return CallOutcome::AnsweredAfterWait { reply, copy };
                 }
                 CallOutcome::Rejected => return CallOutcome::Blocked { fits: false },
@@ -165,6 +185,43 @@ impl Monitor {
             }
         }
         CallOutcome::Blocked { fits: true }
+    }
+
+    /// Sleeps until the call of a process that waits could go, or no worker is active.
+    fn sleep<'a, R: Wait>(
+        &'a self,
+        rt: &R,
+        state: MutexGuard<'a, SharedState>,
+        pid: usize,
+    ) -> MutexGuard<'a, SharedState> {
+        if !state.can_be_woken() {
+            self.wake_all();
+        }
+        match self.wakeups.get(pid) {
+            Some(wakeup) => wakeup.wait_while(rt, state, |state| {
+                state.is_blocked(pid) && state.can_be_woken()
+            }),
+            None => state,
+        }
+    }
+
+    /// Wakes each worker that waits for a call that could go now, and no other.
+    fn wake_ready(&self, state: &mut SharedState) {
+        if state.waiting == 0 {
+            return;
+        }
+        for (pid, wakeup) in self.wakeups.iter().enumerate() {
+            if state.end_wait(pid) {
+                wakeup.notify_one();
+            }
+        }
+    }
+
+    /// Wakes all workers.
+    fn wake_all(&self) {
+        for wakeup in &self.wakeups {
+            wakeup.notify_one();
+        }
     }
 
     /// Returns when all workers are there.
@@ -178,10 +235,13 @@ impl Monitor {
         self.stop(rt);
     }
 
-    /// Tells that a worker has stopped.
+    /// Tells that a worker has stopped. Where no other is active, those that wait are woken, and
+    /// stop too.
     pub(crate) fn stop<R: Wait>(&self, rt: &R) {
         let mut state = self.state.lock(rt);
-        state.stopped = state.stopped.saturating_add(1);
-        self.changed.notify_all();
+        state.stop();
+        if !state.can_be_woken() {
+            self.wake_all();
+        }
     }
 }

@@ -169,7 +169,7 @@ fn run_starts<R: Threads + Wait + Sync, G: Gate>(
     ensures finished { IfOk result (λ r. IsFinished r.world (steps_of r.schedule) limit) }
     ensures verdict { IfOk result (λ r. IsVerdict r.world r.verdict) }
 {
-    let monitor = Monitor::new(Book::new(alloc, starts.len())?);
+    let monitor = Monitor::new(alloc, Book::new(alloc, starts.len())?)?;
     let workers = run_workers(rt, alloc, &monitor, gate, starts, limit)?;
     let (kernel, history) = monitor.into_book().into_parts();
     reported(alloc, workers, kernel, history, limit)
