@@ -17,7 +17,7 @@ _lc3lab() {
         COMPREPLY=($(compgen -W 'a b' -- "$word"))
         return
         ;;
-    --limit | --worlds | --schedule)
+    --limit | --mix | --worlds | --schedule)
         compopt +o bashdefault +o default 2>/dev/null
         return
         ;;
@@ -26,7 +26,7 @@ _lc3lab() {
     asm) options='--list --explain --help -h' ;;
     dis) options='--help -h' ;;
     step | trace | debug) options='--profile --help -h' ;;
-    run) options='--profile --limit --help -h' ;;
+    run) options='--profile --limit --mix --help -h' ;;
     explore) options='--profile --limit --worlds --require --schedule --help -h' ;;
     help) options=$commands ;;
     esac

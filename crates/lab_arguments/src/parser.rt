@@ -121,7 +121,16 @@ fn run<'a>(alloc: Global) -> Result<Command<'a>, AllocError> {
         "N",
         MOST_STEPS,
         "The most steps of each process",
-    ))
+    ))?
+    .arg(
+        Arg::new(alloc, "mix")
+            .long("mix")
+            .value_name("SEED")
+            .value_parser(clap::value_parser!(u32))
+            .help(
+                "Pauses before calls, by random numbers from SEED, which does not fix the interleaving",
+            ),
+    )
 }
 
 fn explore<'a>(alloc: Global) -> Result<Command<'a>, AllocError> {
@@ -225,6 +234,7 @@ fn request_of<'a>(alloc: Global, matches: &ArgMatches<'a>) -> Result<Request<'a>
         Some(("run", words)) => Request::Run {
             setup: setup_of(alloc, words)?,
             limit: words.get_one::<u32>("limit").unwrap_or(MOST_STEPS),
+            mix: words.get_one::<u32>("mix"),
         },
         Some(("explore", words)) => Request::Explore {
             setup: setup_of(alloc, words)?,

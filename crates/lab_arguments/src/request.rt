@@ -23,6 +23,8 @@ pub enum Request<'a> {
     Run {
         setup: Setup<'a>,
         limit: u32,
+        /// The seed of the pauses before calls, where there are pauses.
+        mix: Option<u32>,
     },
     Explore {
         setup: Setup<'a>,

@@ -28,6 +28,7 @@ use std::io::{Read, Write};
 use std::rt::Files;
 use std::sync::Wait;
 use std::thread::Threads;
+use std::time::Clock;
 use step::step_programs;
 use trace::trace_programs;
 
@@ -42,7 +43,7 @@ pub const USAGE: u8 = 2;
 
 /// Does what the words after the program's name ask for, and answers the exit status. Without words it reads an image
 /// as hexadecimal words and writes the report of its run. A fault goes to `errors`, on one line. A long run shows on `progress` how far it is.
-pub fn command<T: Files + Threads + Wait + Sync, R: Read, W: Write, E: Write, P: Progress>(
+pub fn command<T: Files + Threads + Wait + Clock + Sync, R: Read, W: Write, E: Write, P: Progress>(
     rt: &T,
     alloc: Global,
     words: &[String],
@@ -77,7 +78,7 @@ fn complaint(fault: CliFault) -> Complaint<'static> {
 }
 
 /// Does what a request asks for.
-fn perform<'a, T: Files + Threads + Wait + Sync, R: Read, W: Write, P: Progress>(
+fn perform<'a, T: Files + Threads + Wait + Clock + Sync, R: Read, W: Write, P: Progress>(
     rt: &T,
     alloc: Global,
     request: &Request<'a>,
@@ -100,9 +101,11 @@ fn perform<'a, T: Files + Threads + Wait + Sync, R: Read, W: Write, P: Progress>
         }
         Request::Disassemble { object } => disassemble_file(rt, alloc, object, output),
         Request::Step { ref setup } => step_programs(rt, alloc, setup, input, output, progress),
-        Request::Run { ref setup, limit } => {
-            run_programs(rt, alloc, setup, limit, output, progress)
-        }
+        Request::Run {
+            ref setup,
+            limit,
+            mix,
+        } => run_programs(rt, alloc, setup, limit, mix, output, progress),
         Request::Trace { ref setup } => trace_programs(rt, alloc, setup, input, output),
         Request::Explore {
             ref setup,

@@ -120,20 +120,22 @@ impl<P: Progress> Observer for WorldCount<'_, P> {
     }
 }
 
-/// A gate that stands open, and shows how many calls have come to it.
+/// Shows how many calls have come to a gate.
 #[derive(Drop)]
-pub struct CallCount<'a, P> {
+pub struct CallCount<'a, P, G> {
     alloc: Global,
     progress: &'a P,
+    gate: &'a G,
     calls: AtomicU64,
 }
 
-impl<'a, P: Progress> CallCount<'a, P> {
+impl<'a, P: Progress, G: Gate> CallCount<'a, P, G> {
     /// No call has come.
-    pub fn new(alloc: Global, progress: &'a P) -> CallCount<'a, P> {
+    pub fn new(alloc: Global, progress: &'a P, gate: &'a G) -> CallCount<'a, P, G> {
         CallCount {
             alloc,
             progress,
+            gate,
             calls: AtomicU64::new(0),
         }
     }
@@ -146,8 +148,9 @@ impl<'a, P: Progress> CallCount<'a, P> {
     }
 }
 
-impl<P: Progress> Gate for CallCount<'_, P> {
-    fn arrive(&self, _pid: usize, nth: u32) {
+impl<P: Progress, G: Gate> Gate for CallCount<'_, P, G> {
+    fn arrive(&self, pid: usize, nth: u32) {
+        self.gate.arrive(pid, nth);
         if nth == 0 || !self.progress.is_shown() {
             return;
         }

@@ -19,7 +19,9 @@ pub use next::{Next, find_next};
 pub use process::Process;
 pub use schedule::{Block, MOST_STEPS, PROCESSES, SchedFault, Schedule};
 pub use stepped::Stepped;
-pub use stepping::take_step;
+pub use stepping::{
+    Asking, begin_call, end_process, local_steps, take_back, take_reply, take_step,
+};
 pub use trace::{Told, Trace};
 pub use verdict::Verdict;
 pub use world::{RunStop, StepFault, Unwatched, Watch, World};

@@ -6,7 +6,7 @@ ghost use Rattle.lab_sched.specs.Settling.{AsksFor, IsNext};
 ghost use Rattle.lab_sched.specs.Stepping.{IsWaiting, StandsBefore, StopsBy, before_wait};
 
 use crate::Process;
-use crate::stepping::{Asking, TrapAt, ask_by, local_steps};
+use crate::stepping::{Asking, begin_call, local_steps};
 use core::mem::replace_with;
 use ipc_kernel::Call;
 use lc3_machine::{Progress, Want};
@@ -47,7 +47,7 @@ fn next_trap(alloc: Global, process: &mut Process, vector: u8) -> Next
     ensures next { (most : ℕ) → 1 ≤ most → IsNext (seen process.old) most result (seen process.new) }
     ensures held { IsHeld process.new }
 {
-    match replace_with(process, TrapAt { alloc, vector }, ask_by) {
+    match begin_call(alloc, process, vector) {
         Asking::Waits => Next::Asks(replace_with(process, (), taken_back)),
         Asking::Refused => Next::Moved(1),
         Asking::Short => Next::Short,

@@ -6,6 +6,7 @@ ghost use Rattle.ipc_traps.specs.Asked.{Calls, asked};
 ghost use Rattle.lab_sched.specs.declared.stepped.Stepped.TheVariants.{Same, Waits};
 ghost use Rattle.lab_sched.specs.Held.{seen, IsHeld, step_of};
 ghost use Rattle.lab_sched.specs.Segments.{IsAfterLocal};
+ghost use Rattle.lab_sched.specs.Settling.{AsksFor};
 ghost use Rattle.lab_sched.specs.Worlds.{Running as RunningSeen};
 ghost use Rattle.lab_sched.specs.Stepping.{CanTakeReply, IsAsking, IsWaiting, StandsBefore, StopsBy, after_end, after_reply, before_wait};
 
@@ -18,7 +19,7 @@ use std::alloc::{AllocError, Global};
 
 /// What came of a running process that stood before a trap of the kernel.
 #[derive(Clone, Copy, PartialEq, Eq, Debug)]
-pub(crate) enum Asking {
+pub enum Asking {
     /// It waits for the answer to its call, which the kernel hasn't seen yet.
     Waits,
     /// Its call was refused without the kernel: a local step.
@@ -29,15 +30,15 @@ pub(crate) enum Asking {
 
 /// The vector of a trap, and where the arguments of its call are kept.
 #[derive(Clone, Copy)]
-pub(crate) struct TrapAt {
-    pub(crate) alloc: Global,
-    pub(crate) vector: u8,
+struct TrapAt {
+    alloc: Global,
+    vector: u8,
 }
 
 /// Takes local steps of a process, at most so many; with how many were taken, and what kept a
 /// running process from the next one.
 #[inline(always)]
-pub(crate) fn local_steps(process: &mut Process, most: u32) -> (u32, Progress)
+pub fn local_steps(process: &mut Process, most: u32) -> (u32, Progress)
     requires held { IsHeld process.old }
     ensures local { IsAfterLocal (seen process.old) result.0 (seen process.new) }
     ensures held { IsHeld process.new }
@@ -84,7 +85,7 @@ fn ask(alloc: Global, call: AtCall) -> (Process, Asking)
 
 /// The same of a process that runs.
 #[inline(always)]
-pub(crate) fn ask_by(process: Process, trap: TrapAt) -> (Process, Asking)
+fn ask_by(process: Process, trap: TrapAt) -> (Process, Asking)
     requires stands { StandsBefore (seen process) (Trap trap.vector) }
     ensures asking { IsAsking (seen process) result.1 (seen result.0) }
     ensures held { IsHeld result.0 }
@@ -95,21 +96,46 @@ pub(crate) fn ask_by(process: Process, trap: TrapAt) -> (Process, Asking)
     }
 }
 
-/// The process that the reply to its call makes of one that waits.
+/// Reads the call of a process that stands before a trap of the kernel. The process waits for the
+/// answer then, and there is room for each reply; a call that is refused without the kernel is a
+/// local step.
 #[inline(always)]
-fn replied(process: Process, reply: Reply) -> (Process, ())
+pub fn begin_call(alloc: Global, process: &mut Process, vector: u8) -> Asking
+    requires stands { StandsBefore (seen process.old) (Trap vector) }
+    ensures asking { IsAsking (seen process.old) result (seen process.new) }
+    ensures held { IsHeld process.new }
+{
+    replace_with(process, TrapAt { alloc, vector }, ask_by)
+}
+
+/// The process that the reply to its call makes of one that waits, and the call.
+#[inline(always)]
+fn replied(process: Process, reply: Reply) -> (Process, Call)
     requires held { IsHeld process }
     requires reply { CanTakeReply process reply }
     ensures told { seen result.0 ≡ after_reply (seen process) reply }
+    ensures call { AsksFor (seen process) result.1 }
     ensures held { IsHeld result.0 }
 {
     match process {
-        Process::Waiting(waiting, _) => {
+        Process::Waiting(waiting, call) => {
             let effect = effect_of(waiting.at_call(), reply);
-            (Process::Running(waiting.finish(effect)), ())
+            (Process::Running(waiting.finish(effect)), call)
         }
         Process::Running(_) | Process::Ended(_) => unreachable!(),
     }
+}
+
+/// Gives a process that waits the reply to its call; with the call.
+#[inline(always)]
+pub fn take_reply(process: &mut Process, reply: Reply) -> Call
+    requires held { IsHeld process.old }
+    requires reply { CanTakeReply process.old reply }
+    ensures told { seen process.new ≡ after_reply (seen process.old) reply }
+    ensures call { AsksFor (seen process.old) result }
+    ensures held { IsHeld process.new }
+{
+    replace_with(process, reply, replied)
 }
 
 /// The process as it was before it began to wait.
@@ -124,6 +150,16 @@ fn resumed(process: Process, (): ()) -> (Process, ())
     }
 }
 
+/// Lets a process be as it was before it began to wait.
+#[inline(always)]
+pub fn take_back(process: &mut Process)
+    requires held { IsHeld process.old }
+    ensures process { seen process.new ≡ before_wait (seen process.old) }
+    ensures held { IsHeld process.new }
+{
+    replace_with(process, (), resumed)
+}
+
 /// The process that has ended.
 fn ended(process: Process, how: How) -> (Process, ())
     requires stands { StandsBefore (seen process) (End how) }
@@ -134,6 +170,16 @@ fn ended(process: Process, how: How) -> (Process, ())
         Process::Running(running) => { (Process::Ended(running.stand(Want::End(how)).end()), ()) }
         Process::Waiting(_, _) | Process::Ended(_) => unreachable!(),
     }
+}
+
+/// Ends a process that stands before its end.
+#[inline(always)]
+pub fn end_process(process: &mut Process, how: How)
+    requires stands { StandsBefore (seen process.old) (End how) }
+    ensures ended { seen process.new ≡ after_end (seen process.old) how }
+    ensures held { IsHeld process.new }
+{
+    replace_with(process, how, ended)
 }
 
 /// Tries the call that a process waits for.
@@ -152,7 +198,7 @@ fn retry(process: &mut Process, kernel: &mut Kernel, pid: usize) -> Result<Stepp
         Process::Waiting(_, call) => match kernel.call(pid, call)? {
             Answer::Wait => Ok(Stepped::Same),
             Answer::Done(reply) => {
-                replace_with(process, reply, replied);
+                let _ = take_reply(process, reply);
                 Ok(Stepped::Called)
             }
         },
@@ -187,7 +233,7 @@ fn first_try(process: &mut Process, kernel: &mut Kernel, pid: usize) -> Result<S
     match retry(process, kernel, pid) {
         Ok(stepped) => Ok(first(stepped)),
         Err(e) => {
-            replace_with(process, (), resumed);
+            take_back(process);
             Err(e)
         }
     }
@@ -211,7 +257,7 @@ fn step_trap(
     ensures kernel { OnErr result (kernel.new ≡ kernel.old) }
     ensures count { length kernel.new.processes ≡ length kernel.old.processes }
 {
-    match replace_with(process, TrapAt { alloc, vector }, ask_by) {
+    match begin_call(alloc, process, vector) {
         Asking::Waits => first_try(process, kernel, pid),
         Asking::Refused => Ok(Stepped::Moved),
         Asking::Short => Err(AllocError),
@@ -235,7 +281,7 @@ fn step_end(
     ensures count { length kernel.new.processes ≡ length kernel.old.processes }
 {
     let _ = kernel.call(pid, &Call::Exit)?;
-    replace_with(process, how, ended);
+    end_process(process, how);
     Ok(Stepped::Called)
 }
 

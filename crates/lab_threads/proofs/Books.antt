@@ -12,42 +12,42 @@ use Rattle.lab_sched.specs.declared.entry.Entry.{Entry}
 use Rattle.lab_sched.specs.History.{IsLegal, replay, still, waits}
 use Rattle.lab_sched.proofs.Histories.{replay-append, legal-append, waits-append}
 use Rattle.lab_sched.proofs.Places.{get-set}
-use Rattle.lab_threads.specs.Kept.{IsKept}
-use Rattle.lab_threads.specs.Pages.{Pages}
+use Rattle.lab_threads.specs.BookInvariant.{BookInvariant}
+use Rattle.lab_threads.specs.BookState.{BookState}
 
 pick : (b : Bool) (x : Option Call) (y : Option (Option Call)) (z : Option Call) → y ≡ Some z → cond b (Some x) y ≡ Some (cond b x z)
 pick true x y z e = refl
 pick false x y z e = e
 
-pub kept_more : (k : KernelState) (h : List Entry) (ws : List (Option Call)) (p : ℕ) (c : Call) (a : Answer)
-    → IsKept k h ws → p < length ws → a ≡ (answer k p c).0
-    → IsKept (answer k p c).1 (h ++ record { pid = p; call = c; answer = a } ∷ []) (set ws p (still c a))
-kept_more k h ws p c a kept within is =
+pub book_more : (k : KernelState) (h : List Entry) (ws : List (Option Call)) (p : ℕ) (c : Call) (a : Answer)
+    → BookInvariant k h ws → p < length ws → a ≡ (answer k p c).0
+    → BookInvariant (answer k p c).1 (h ++ record { pid = p; call = c; answer = a } ∷ []) (set ws p (still c a))
+book_more k h ws p c a book within is =
     let e : Entry = record { pid = p; call = c; answer = a } in
     let same : length ws ≡ length (set ws p (still c a)) = sym (length-set ws p (still c a)) in
-    let legal : IsLegal (empty_kernel (length ws)) (h ++ e ∷ []) = legal-append (empty_kernel (length ws)) h _ kept.legal (is ∙ ap (λ j. (answer j p c).0) kept.kernel, tt) in
-    let kernel : (answer k p c).1 ≡ replay (empty_kernel (length ws)) (h ++ e ∷ []) = ap (λ j. (answer j p c).1) kept.kernel ∙ sym (replay-append (empty_kernel (length ws)) h _) in
+    let legal : IsLegal (empty_kernel (length ws)) (h ++ e ∷ []) = legal-append (empty_kernel (length ws)) h _ book.legal (is ∙ ap (λ j. (answer j p c).0) book.kernel, tt) in
+    let kernel : (answer k p c).1 ≡ replay (empty_kernel (length ws)) (h ++ e ∷ []) = ap (λ j. (answer j p c).1) book.kernel ∙ sym (replay-append (empty_kernel (length ws)) h _) in
     record {
       legal = subst (λ n. IsLegal (empty_kernel n) (h ++ e ∷ [])) same legal;
       kernel = subst (λ n. (answer k p c).1 ≡ replay (empty_kernel n) (h ++ e ∷ [])) same kernel;
       calls = λ q below.
-          let old = kept.calls q (omega (arith, same)) in
+          let old = book.calls q (omega (arith, same)) in
           get-set ws p q (still c a) within ∙ pick (p == q) (still c a) (slice_get ws q) (waits h q) old ∙ ap (λ o. Some o) (sym (waits-append None h (e ∷ []) q));
-      count = answer_count k p c ∙ kept.count ∙ same;
+      count = answer_count k p c ∙ book.count ∙ same;
     }
 
 -- the same, of what the code has afterwards
-pub kept_after : {k k' : KernelState} {h h' : List Entry} {ws ws' : List (Option Call)} (p : ℕ) (c : Call) (a : Answer)
-    → IsKept k h ws → p < length ws → a ≡ (answer k p c).0
+pub book_after : {k k' : KernelState} {h h' : List Entry} {ws ws' : List (Option Call)} (p : ℕ) (c : Call) (a : Answer)
+    → BookInvariant k h ws → p < length ws → a ≡ (answer k p c).0
     → k' ≡ (answer k p c).1 → h' ≡ h ++ record { pid = p; call = c; answer = a } ∷ [] → ws' ≡ set ws p (still c a)
-    → IsKept k' h' ws'
-kept_after {k} {k'} {h} {h'} {ws} {ws'} p c a kept within is k-is h-is ws-is =
-    rw (k-is, h-is, ws-is) (kept_more k h ws p c a kept within is)
+    → BookInvariant k' h' ws'
+book_after {k} {k'} {h} {h'} {ws} {ws'} p c a book within is k-is h-is ws-is =
+    rw (k-is, h-is, ws-is) (book_more k h ws p c a book within is)
 
 -- a book before its first call
-pub kept_none : {k : KernelState} (ws : List (Option Call)) (n : ℕ) → k ≡ empty_kernel n → length ws ≡ n
-    → ((p : ℕ) → p < length ws → slice_get ws p ≡ Some None) → IsKept k [] ws
-kept_none {k} ws n k-is len none =
+pub book_none : {k : KernelState} (ws : List (Option Call)) (n : ℕ) → k ≡ empty_kernel n → length ws ≡ n
+    → ((p : ℕ) → p < length ws → slice_get ws p ≡ Some None) → BookInvariant k [] ws
+book_none {k} ws n k-is len none =
     let k-is' : k ≡ empty_kernel (length ws) = rw len k-is in
     record {
       legal = tt;
@@ -68,19 +68,19 @@ pub none_after : (ws ws' : List (Option Call)) → ws' ≡ ws ++ None ∷ [] →
 none_after ws ws' is none = rw is (none_more ws none)
 
 -- the kernel of a book in which a process must still wait
-pub kernel_still : (k : KernelState) (h : List Entry) (ws : List (Option Call)) (p : ℕ) (c : Call) (a : Answer) (b : Pages) → IsKept k h ws
+pub kernel_still : (k : KernelState) (h : List Entry) (ws : List (Option Call)) (p : ℕ) (c : Call) (a : Answer) (b : BookState) → BookInvariant k h ws
     → record { count = length ws; history = h } ≡ b → a ≡ (answer k p c).0 → a ≡ Wait
     → replay (empty_kernel b.count) b.history ≡ (answer (replay (empty_kernel b.count) b.history) p c).1
-kernel_still k h ws p c a b kept b-is answered waits =
+kernel_still k h ws p c a b book b-is answered waits =
     let same : (answer k p c).1 ≡ k = answer_wait k p c (sym answered ∙ waits) in
     let at : replay (empty_kernel (length ws)) h ≡ (answer (replay (empty_kernel (length ws)) h) p c).1 =
-    sym kept.kernel ∙ sym same ∙ ap (λ j. (answer j p c).1) kept.kernel in
-    subst (λ (x : Pages). replay (empty_kernel x.count) x.history ≡ (answer (replay (empty_kernel x.count) x.history) p c).1) b-is at
+    sym book.kernel ∙ sym same ∙ ap (λ j. (answer j p c).1) book.kernel in
+    subst (λ (x : BookState). replay (empty_kernel x.count) x.history ≡ (answer (replay (empty_kernel x.count) x.history) p c).1) b-is at
 
 -- the kernel of a book after a call that has an entry
-pub kernel_after : (k k' : KernelState) (h h' : List Entry) (ws ws' : List (Option Call)) (p : ℕ) (c : Call) (b : Pages) → IsKept k h ws → IsKept k' h' ws'
+pub kernel_after : (k k' : KernelState) (h h' : List Entry) (ws ws' : List (Option Call)) (p : ℕ) (c : Call) (b : BookState) → BookInvariant k h ws → BookInvariant k' h' ws'
     → record { count = length ws; history = h } ≡ b → k' ≡ (answer k p c).1
     → replay (empty_kernel (length ws')) h' ≡ (answer (replay (empty_kernel b.count) b.history) p c).1
-kernel_after k k' h h' ws ws' p c b kept kept' b-is k-is =
-    subst (λ (x : Pages). replay (empty_kernel (length ws')) h' ≡ (answer (replay (empty_kernel x.count) x.history) p c).1) b-is
-    (sym kept'.kernel ∙ k-is ∙ ap (λ j. (answer j p c).1) kept.kernel)
+kernel_after k k' h h' ws ws' p c b book book' b-is k-is =
+    subst (λ (x : BookState). replay (empty_kernel (length ws')) h' ≡ (answer (replay (empty_kernel x.count) x.history) p c).1) b-is
+    (sym book'.kernel ∙ k-is ∙ ap (λ j. (answer j p c).1) book.kernel)

@@ -1,4 +1,4 @@
--- The report: the woven steps, and then those of the settling.
+-- The report: the merged steps, and then those of the settling.
 use Rattle.std.proofs.Common.{ℕ, ◌+◌, ◌≡◌, ◌<◌, ◌++◌, List, [], ◌∷◌, Some, refl, sym, ap, subst, ◌∙◌, arith, length, slice_get, get_or, map, inl, inr, ◌⊎◌, All}
 use Rattle.std.specs.Int.{bit_at}
 use Rattle.std.specs.Option.{option_map}
@@ -16,26 +16,26 @@ use Rattle.lab_sched.specs.Settled.{IsSettled, HasStopped}
 use Rattle.lab_sched.specs.Starts.{Runs}
 use Rattle.lab_sched.specs.Finished.{IsAtRest, IsFinished}
 use Rattle.lab_sched.specs.declared.entry.Entry.{Entry}
-use Rattle.lab_sched.specs.declared.process.Process.{Process as Kept}
-use Rattle.lab_sched.specs.declared.process.Process.TheVariants as kept
+use Rattle.lab_sched.specs.declared.process.Process.{Process as ProcessValue}
+use Rattle.lab_sched.specs.declared.process.Process.TheVariants as variants
 use Rattle.lab_sched.proofs.Courses.{count-append, course-append}
 use Rattle.lab_sched.proofs.Settles.{report, added_length}
 use Rattle.lab_sched.proofs.Rests.{at_rest}
 use Rattle.lab_sched.proofs.Profiles.{alone_profile, one_of}
-use Rattle.lab_threads.specs.declared.walk.Walk.{Walk}
-use Rattle.lab_threads.specs.Walks.{AreWalks}
-use Rattle.lab_threads.specs.Woven.{begun, ended}
-use Rattle.lab_threads.proofs.Weaves.{some_at}
+use Rattle.lab_threads.specs.declared.worker_result.WorkerResult.{WorkerResult}
+use Rattle.lab_threads.specs.WorkerResults.{AreWorkerResults}
+use Rattle.lab_threads.specs.Merged.{initial_world, final_world}
+use Rattle.lab_threads.proofs.Merges.{some_at}
 
-map-map_seen : (walks : List Walk) → map seen (map (λ k. k.process) walks) ≡ map (λ k. seen k.process) walks
+map-map_seen : (workers : List WorkerResult) → map seen (map (λ k. k.process) workers) ≡ map (λ k. seen k.process) workers
 map-map_seen [] = refl
 map-map_seen (k ∷ ks) = ap (λ xs. seen k.process ∷ xs) (map-map_seen ks)
 
-pub joined_is : (w : WorldState) (ps : List Kept) (k : KernelState) (n : ℕ) (walks : List Walk) (history : List Entry)
-    → w.processes ≡ map seen ps → ps ≡ map (λ v. v.process) walks → w.kernel ≡ k → k ≡ replay (empty_kernel n) history → w ≡ ended n walks history
-joined_is w ps k n walks history ps-is ends-is k-is kernel-is =
-    ap (λ xs. record { processes = xs; kernel = w.kernel }) (ps-is ∙ ap (λ xs. map seen xs) ends-is ∙ map-map_seen walks)
-    ∙ ap (λ j. record { processes = map (λ v. seen v.process) walks; kernel = j }) (k-is ∙ kernel-is)
+pub joined_is : (w : WorldState) (ps : List ProcessValue) (k : KernelState) (n : ℕ) (workers : List WorkerResult) (history : List Entry)
+    → w.processes ≡ map seen ps → ps ≡ map (λ v. v.process) workers → w.kernel ≡ k → k ≡ replay (empty_kernel n) history → w ≡ final_world n workers history
+joined_is w ps k n workers history ps-is ends-is k-is kernel-is =
+    ap (λ xs. record { processes = xs; kernel = w.kernel }) (ps-is ∙ ap (λ xs. map seen xs) ends-is ∙ map-map_seen workers)
+    ∙ ap (λ j. record { processes = map (λ v. seen v.process) workers; kernel = j }) (k-is ∙ kernel-is)
 
 -- settling goes on with a course
 pub settled_course : (b w v : WorldState) (ss ss' left rest : List ℕ) (h h' : List Entry) → IsCourse b ss w h
@@ -66,66 +66,66 @@ settled_finished w v ss ss' left rest h h' limit refused len counted settled non
     let counts : count p ss' + get_or rest p 0 ≡ limit = omega (arith, all, taken, counted p below) in
     (omega (arith, counts), rested v p s ss' rest refused limit at none counts (stopped p (omega (arith, below, settled.len))))
 
--- the steps of each walk and those that it has left make the limit
-pub walked : (ss left : List ℕ) (starts : List Kept) (walks : List Walk) (limit : ℕ) → AreWalks limit starts walks
-    → ((p : ℕ) (k : Walk) → slice_get walks p ≡ Some k → count p ss ≡ steps k.trace) → left ≡ map (λ k. k.left) walks
+-- the steps of each trace and those that are left make the limit
+pub worker_steps : (ss left : List ℕ) (starts : List ProcessValue) (workers : List WorkerResult) (limit : ℕ) → AreWorkerResults limit starts workers
+    → ((p : ℕ) (k : WorkerResult) → slice_get workers p ≡ Some k → count p ss ≡ steps k.trace) → left ≡ map (λ k. k.left) workers
     → (p : ℕ) → p < length left → count p ss + get_or left p 0 ≡ limit
-walked ss left starts walks limit are counted left-is p within =
-    let lefts : length left ≡ length walks = ap length left-is ∙ length-map walks (λ k. k.left) in
-    let below : p < length walks = subst (λ n. p < n) lefts within in
-    let k = some_at walks p below in
+worker_steps ss left starts workers limit are counted left-is p within =
+    let lefts : length left ≡ length workers = ap length left-is ∙ length-map workers (λ k. k.left) in
+    let below : p < length workers = subst (λ n. p < n) lefts within in
+    let k = some_at workers p below in
     let start = some_at starts p (subst (λ n. p < n) are.len below) in
-    let walk = are.each p start.0 k.0 start.1 k.1 in
+    let worker = are.each p start.0 k.0 start.1 k.1 in
     let mine : get_or left p 0 ≡ k.0.left =
-    get_or_from_slice_get left p k.0.left 0 (ap (λ xs. slice_get xs p) left-is ∙ slice_get-map (λ k. k.left) walks p ∙ ap (λ o. option_map (λ k. k.left) o) k.1) in
-    omega (arith, mine, counted p k.0 k.1, walk.within)
+    get_or_from_slice_get left p k.0.left 0 (ap (λ xs. slice_get xs p) left-is ∙ slice_get-map (λ k. k.left) workers p ∙ ap (λ o. option_map (λ k. k.left) o) k.1) in
+    omega (arith, mine, counted p k.0 k.1, worker.within)
 
-runs_held : (s : Kept) → Runs s → IsHeld s
-runs_held (kept.Running m) runs = tt
-runs_held (kept.Waiting h c) runs = absurd runs
-runs_held (kept.Ended e) runs = absurd runs
+runs_held : (s : ProcessValue) → Runs s → IsHeld s
+runs_held (variants.Running m) runs = tt
+runs_held (variants.Waiting h c) runs = absurd runs
+runs_held (variants.Ended e) runs = absurd runs
 
 -- a laboratory's own start
-pub begun_is : (starts : List Kept) (w : WorldState) → map seen starts ≡ w.processes → w.kernel ≡ empty_kernel (length w.processes) → begun starts ≡ w
-begun_is starts w ps-is k-is =
+pub initial_world_is : (starts : List ProcessValue) (w : WorldState) → map seen starts ≡ w.processes → w.kernel ≡ empty_kernel (length w.processes) → initial_world starts ≡ w
+initial_world_is starts w ps-is k-is =
     let len : length starts ≡ length w.processes = sym (length-map starts seen) ∙ ap length ps-is in
     ap (λ xs. record { processes = xs; kernel = empty_kernel (length starts) }) ps-is
     ∙ ap (λ k. record { processes = w.processes; kernel = k }) (ap empty_kernel len ∙ sym k-is)
 
--- what `weave` says, of the lists that its slices show
-pub from_course : (ss : List ℕ) (walks walks' : List Walk) (h h' : List Entry) → walks' ≡ walks → h' ≡ h
-    → ((starts : List Kept) (limit : ℕ) → AreWalks limit starts walks' → IsLegal (empty_kernel (length starts)) h' → IsCourse (begun starts) ss (ended (length starts) walks' h') h')
-    → (starts : List Kept) (limit : ℕ) → AreWalks limit starts walks → IsLegal (empty_kernel (length starts)) h → IsCourse (begun starts) ss (ended (length starts) walks h) h
-from_course ss walks walks' h h' walks-is h-is all =
-    let P : List Walk → List Entry → Type 0 = λ v e. (starts : List Kept) (limit : ℕ) → AreWalks limit starts v → IsLegal (empty_kernel (length starts)) e → IsCourse (begun starts) ss (ended (length starts) v e) e in
-    subst (λ v. P v h) walks-is (subst (λ e. P walks' e) h-is all)
+-- what `merge` says, of the lists that its slices show
+pub from_course : (ss : List ℕ) (workers workers' : List WorkerResult) (h h' : List Entry) → workers' ≡ workers → h' ≡ h
+    → ((starts : List ProcessValue) (limit : ℕ) → AreWorkerResults limit starts workers' → IsLegal (empty_kernel (length starts)) h' → IsCourse (initial_world starts) ss (final_world (length starts) workers' h') h')
+    → (starts : List ProcessValue) (limit : ℕ) → AreWorkerResults limit starts workers → IsLegal (empty_kernel (length starts)) h → IsCourse (initial_world starts) ss (final_world (length starts) workers h) h
+from_course ss workers workers' h h' workers-is h-is all =
+    let P : List WorkerResult → List Entry → Type 0 = λ v e. (starts : List ProcessValue) (limit : ℕ) → AreWorkerResults limit starts v → IsLegal (empty_kernel (length starts)) e → IsCourse (initial_world starts) ss (final_world (length starts) v e) e in
+    subst (λ v. P v h) workers-is (subst (λ e. P workers' e) h-is all)
 
-pub from_counts : (ss : List ℕ) (walks walks' : List Walk) → walks' ≡ walks → ((p : ℕ) (k : Walk) → slice_get walks' p ≡ Some k → count p ss ≡ steps k.trace)
-    → (p : ℕ) (k : Walk) → slice_get walks p ≡ Some k → count p ss ≡ steps k.trace
-from_counts ss walks walks' walks-is all = subst (λ v. (p : ℕ) (k : Walk) → slice_get v p ≡ Some k → count p ss ≡ steps k.trace) walks-is all
+pub from_counts : (ss : List ℕ) (workers workers' : List WorkerResult) → workers' ≡ workers → ((p : ℕ) (k : WorkerResult) → slice_get workers' p ≡ Some k → count p ss ≡ steps k.trace)
+    → (p : ℕ) (k : WorkerResult) → slice_get workers p ≡ Some k → count p ss ≡ steps k.trace
+from_counts ss workers workers' workers-is all = subst (λ v. (p : ℕ) (k : WorkerResult) → slice_get v p ≡ Some k → count p ss ≡ steps k.trace) workers-is all
 
--- where the walks of running processes end is ready for replies
-pub walks_held : (limit : ℕ) (starts : List Kept) (walks : List Walk) → AreWalks limit starts walks → All Runs starts → All IsHeld (map (λ k. k.process) walks)
-walks_held limit starts walks are runs =
-    All-map IsHeld (λ (k : Walk). k.process) walks
+-- where the workers of running processes stopped is ready for replies
+pub workers_held : (limit : ℕ) (starts : List ProcessValue) (workers : List WorkerResult) → AreWorkerResults limit starts workers → All Runs starts → All IsHeld (map (λ k. k.process) workers)
+workers_held limit starts workers are runs =
+    All-map IsHeld (λ (k : WorkerResult). k.process) workers
     (λ p d below.
     let within : p < length starts = subst (λ n. p < n) are.len below in
     let start = some_at starts p within in
     let is : get_or starts p start.0 ≡ start.0 = get_or_from_slice_get starts p start.0 start.0 start.1 in
-    (are.each p start.0 (get_or walks p d) start.1 (slice_get-get_or walks p d below)).held (runs_held start.0 (subst Runs is (runs p start.0 within))))
+    (are.each p start.0 (get_or workers p d) start.1 (slice_get-get_or workers p d below)).held (runs_held start.0 (subst Runs is (runs p start.0 within))))
 
--- where the walks of processes of one profile end have it
-pub walks_profile : (limit : ℕ) (starts : List Kept) (walks : List Walk) → AreWalks limit starts walks → HaveOneProfile (map seen starts)
-    → HaveOneProfile (map seen (map (λ k. k.process) walks))
-walks_profile limit starts walks are have =
-    one_of (first_profile (map seen starts)) (map seen (map (λ k. k.process) walks))
-    (All-map (HasProfile (first_profile (map seen starts))) seen (map (λ k. k.process) walks)
-    (All-map (λ s. HasProfile (first_profile (map seen starts)) (seen s)) (λ (k : Walk). k.process) walks
+-- where the results of workers of one profile end have it
+pub workers_profile : (limit : ℕ) (starts : List ProcessValue) (workers : List WorkerResult) → AreWorkerResults limit starts workers → HaveOneProfile (map seen starts)
+    → HaveOneProfile (map seen (map (λ k. k.process) workers))
+workers_profile limit starts workers are have =
+    one_of (first_profile (map seen starts)) (map seen (map (λ k. k.process) workers))
+    (All-map (HasProfile (first_profile (map seen starts))) seen (map (λ k. k.process) workers)
+    (All-map (λ s. HasProfile (first_profile (map seen starts)) (seen s)) (λ (k : WorkerResult). k.process) workers
     (λ p d below.
     let within : p < length starts = subst (λ n. p < n) are.len below in
     let start = some_at starts p within in
     let here : get_or (map seen starts) p (seen start.0) ≡ seen start.0 =
     get_or_from_slice_get (map seen starts) p (seen start.0) (seen start.0) (slice_get-map seen starts p ∙ ap (λ o. option_map seen o) start.1) in
     let was = subst (HasProfile (first_profile (map seen starts))) here (have p (seen start.0) (omega (arith, within, length-map starts seen))) in
-    let walk = get_or walks p d in
-    alone_profile (seen start.0) walk.trace (seen walk.process) (are.each p start.0 walk start.1 (slice_get-get_or walks p d below)).alone ∙ was)))
+    let worker = get_or workers p d in
+    alone_profile (seen start.0) worker.trace (seen worker.process) (are.each p start.0 worker start.1 (slice_get-get_or workers p d below)).alone ∙ was)))

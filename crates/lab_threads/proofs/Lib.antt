@@ -1,5 +1,5 @@
 pub mod Books
 pub mod Steps
 pub mod Joins
-pub mod Weaves
+pub mod Merges
 pub mod Endings

@@ -1,58 +1,88 @@
 -- What a worker does with its process, as a trace tells it.
-use Rattle.std.proofs.Common.{◌≡◌, ◌-◌, refl, sym, ap, ◌∙◌, subst}
-use Rattle.lc3_machine.specs.Process.{Process as Machine, EndedProcess, Stops}
+use Rattle.std.proofs.Common.{◌≡◌, refl, sym, ap, subst}
+use Rattle.lc3_machine.specs.Process.{Process as Machine}
+use Rattle.lc3_machine.specs.declared.want.How.{How}
+use Rattle.lc3_machine.specs.declared.want.Want.{Want}
 use Rattle.lc3_machine.specs.declared.want.Want.TheVariants.{End}
-use Rattle.lc3_machine.specs.Effects.{next_step}
-use Rattle.lc3_machine.specs.Reply.{ended}
-use Rattle.ipc_names.specs.declared.errno.Errno.{Errno}
-use Rattle.ipc_names.specs.Errno.{number_of}
+use Rattle.lc3_machine.specs.declared.machine.Progress.TheVariants.{Stopped}
 use Rattle.ipc_kernel.specs.declared.call.Call.{Call}
 use Rattle.ipc_kernel.specs.declared.call.Call.TheVariants.{Exit}
 use Rattle.ipc_kernel.specs.declared.call.Reply.{Reply}
-use Rattle.ipc_kernel.specs.declared.call.Reply.TheVariants.{Plain}
 use Rattle.ipc_kernel.specs.declared.call.Answer.TheVariants.{Done, Wait}
-use Rattle.ipc_traps.specs.Asked.{Refuses, Calls, Ends, asked}
-use Rattle.ipc_traps.specs.Reply.{replied}
+use Rattle.ipc_kernel.specs.Replies.{IsReplyTo}
+use Rattle.ipc_traps.specs.Asked.{Calls, Ends, asked}
 use Rattle.ipc_traps.proofs.Laws.{asked_end}
-use Rattle.lab_sched.specs.Worlds.{Process, Running, Waiting, Ended, moves, act, act_for, told, told_by}
-use Rattle.lab_sched.specs.Alone.{IsTold}
+use Rattle.lab_sched.specs.Alone.{AreLocal, IsTold}
+use Rattle.lab_sched.specs.Held.{seen, IsHeld}
+use Rattle.lab_sched.specs.Settling.{AsksFor}
+use Rattle.lab_sched.specs.Stepping.{CanTakeReply, IsAsking, IsWaiting, StandsBefore, StopsBy, after_end, after_reply, before_wait}
+use Rattle.lab_sched.specs.Verdicts.{IsRunning}
+use Rattle.lab_sched.specs.Worlds.{Process, Running, Waiting, Ended, act, act_for, told, told_by}
+use Rattle.lab_sched.specs.declared.process.Process.{Process as Kept}
+use Rattle.lab_sched.specs.declared.process.Process.TheVariants as kept
+use Rattle.lab_sched.specs.declared.stepping.Asking.TheVariants.{Waits, Refused}
 
-pub refused_local : (m : Machine) (e : Errno) → asked m ≡ Refuses e → act m ≡ moves (replied m (Plain (65536 - number_of e)))
+-- what keeps a running process from its next local step stands next
+pub stands : (s : Process) (want : Want) → IsRunning s → StopsBy s (Stopped want) → StandsBefore s want
+stands (Running m) want runs stops = stops
+stands (Waiting m c) want runs stops = absurd runs
+stands (Ended e) want runs stops = absurd runs
+
+-- a process that has begun to wait
+pub begun : (s u : Process) → IsAsking s Waits u → IsWaiting u × (before_wait u ≡ s)
+begun (Running m) u h = (subst IsWaiting (sym h.2) tt, ap before_wait h.2)
+begun (Waiting m c) u h = absurd h
+begun (Ended e) u h = absurd h
+
+-- a refusal without the kernel is a local step
+pub refused : (s u : Process) → IsAsking s Refused u → AreLocal 1 s u
+refused (Running m) u h = (h.0, h.1, sym h.2)
+refused (Waiting m c) u h = absurd h
+refused (Ended e) u h = absurd h
+
+-- a reply to its call is one that a waiting process can take
+pub can_take : (x : Kept) (c : Call) (r : Reply) → IsWaiting (seen x) → AsksFor (seen x) c → IsReplyTo c r → CanTakeReply x r
+can_take (kept.Running m) c r waits asks is = absurd waits
+can_take (kept.Waiting h d) c r waits asks is = subst (λ e. IsReplyTo e r) (sym asks) is
+can_take (kept.Ended e) c r waits asks is = absurd waits
+
+asks_for : (m : Machine) (c : Call) → asked m ≡ Calls c → IsTold (Running m) c Wait (Waiting m c)
+unfolding act told
+asks_for m c asks = (ap (act_for m) asks, refl)
+
+answered : (m : Machine) (c : Call) (r : Reply) → asked m ≡ Calls c → IsTold (Running m) c (Done r) (told m c (Done r))
 unfolding act
-refused_local m e asks = ap (act_for m) asks
+answered m c r asks = (ap (act_for m) asks, refl)
 
-pub told_waits : (m : Machine) (c : Call) → asked m ≡ Calls c → IsTold (Running m) c Wait (Waiting m c)
+-- the first try of a call that must wait
+pub told_wait : (x : Kept) (c : Call) → IsHeld x → IsWaiting (seen x) → AsksFor (seen x) c → IsTold (before_wait (seen x)) c Wait (seen x)
+told_wait (kept.Running m) c held waits asks = absurd waits
+told_wait (kept.Waiting h d) c held waits asks =
+    let P : Call → Type 0 = λ e. IsTold (Running h.process) e Wait (Waiting h.process d) in subst P asks (asks_for h.process d held.0)
+told_wait (kept.Ended e) c held waits asks = absurd waits
+
+-- the first try of a call that is answered
+pub told_first : (x : Kept) (u : Process) (c : Call) (r t : Reply) → IsHeld x → IsWaiting (seen x) → AsksFor (seen x) c → u ≡ after_reply (seen x) r → t ≡ r
+    → IsTold (before_wait (seen x)) c (Done t) u
+told_first (kept.Running m) u c r t held waits asks is same = absurd waits
+told_first (kept.Waiting h d) u c r t held waits asks is same =
+    let P : Call → Type 0 = λ e. IsTold (Running h.process) e (Done r) (told h.process d (Done r)) in
+    rw (same, is) (subst P asks (answered h.process d r held.0))
+told_first (kept.Ended e) u c r t held waits asks is same = absurd waits
+
+-- the reply to a call that waited
+pub told_later : (x : Kept) (u : Process) (c : Call) (r t : Reply) → IsWaiting (seen x) → AsksFor (seen x) c → u ≡ after_reply (seen x) r → t ≡ r
+    → IsTold (seen x) c (Done t) u
+told_later (kept.Running m) u c r t waits asks is same = absurd waits
+told_later (kept.Waiting h d) u c r t waits asks is same =
+    rw (same, is) (asks, ap (λ e. told h.process e (Done r)) (sym asks))
+told_later (kept.Ended e) u c r t waits asks is same = absurd waits
+
+-- the end
+pub told_end : (s u : Process) (how : How) (r : Reply) → StandsBefore s (End how) → u ≡ after_end s how → IsTold s Exit (Done r) u
 unfolding act told
-told_waits m c asks = (ap (act_for m) asks, refl)
-
-pub told_done : (m : Machine) (c : Call) (r : Reply) → asked m ≡ Calls c → IsTold (Running m) c (Done r) (Running (replied m r))
-unfolding act told
-told_done m c r asks = (ap (act_for m) asks, ap (λ q. told_by m c q (Done r)) asks)
-
-pub told_waited : (m : Machine) (c : Call) (r : Reply) → asked m ≡ Calls c → IsTold (Waiting m c) c (Done r) (Running (replied m r))
-unfolding told
-told_waited m c r asks = (refl, ap (λ q. told_by m c q (Done r)) asks)
-
-pub told_end : (m : Machine) (e : EndedProcess) (r : Reply) → next_step m ≡ Stops (End e.how) → e.process ≡ ended m e.how
-    → IsTold (Running m) Exit (Done r) (Ended e)
-unfolding act told
-told_end m e r stands is =
-    let asks : asked m ≡ Ends e.how = asked_end m e.how stands in
-    (ap (act_for m) asks, ap (λ q. told_by m Exit q (Done r)) asks ∙ ap (λ q. Ended (record { process = q; how = e.how })) (sym is))
-
--- the same, of what the code has: the call once more, the reply once more, and the process where what a reply writes is ready
-pub waits_is : (m n : Machine) (c d : Call) → asked m ≡ Calls c → n ≡ m → d ≡ c → IsTold (Running m) d Wait (Waiting n c)
-waits_is m n c d asks n-is d-is = rw (n-is, d-is) (told_waits m c asks)
-
-pub done_is : (m n : Machine) (c d : Call) (r t : Reply) (u : Process) → asked m ≡ Calls c → n ≡ m → d ≡ c → t ≡ r → u ≡ Running (replied n r)
-    → IsTold (Running m) d (Done t) u
-done_is m n c d r t u asks n-is d-is t-is u-is =
-    subst (λ v. IsTold (Running m) d (Done t) v) (sym (u-is ∙ ap (λ k. Running (replied k r)) n-is))
-    (subst (λ x. IsTold (Running m) x (Done t) (Running (replied m r))) (sym d-is)
-    (subst (λ x. IsTold (Running m) c (Done x) (Running (replied m r))) (sym t-is) (told_done m c r asks)))
-
-pub waited_is : (m n : Machine) (c : Call) (r t : Reply) (u : Process) → asked m ≡ Calls c → n ≡ m → t ≡ r → u ≡ Running (replied n r)
-    → IsTold (Waiting m c) c (Done t) u
-waited_is m n c r t u asks n-is t-is u-is =
-    subst (λ v. IsTold (Waiting m c) c (Done t) v) (sym (u-is ∙ ap (λ k. Running (replied k r)) n-is))
-    (subst (λ x. IsTold (Waiting m c) c (Done x) (Running (replied m r))) (sym t-is) (told_waited m c r asks))
+told_end (Running m) u how r stands is =
+    let asks : asked m ≡ Ends how = asked_end m how stands in
+    rw is (ap (act_for m) asks, ap (λ q. told_by m Exit q (Done r)) asks)
+told_end (Waiting m c) u how r stands is = absurd stands
+told_end (Ended e) u how r stands is = absurd stands

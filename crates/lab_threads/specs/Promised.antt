@@ -2,11 +2,11 @@
 use Rattle.std.specs.Prelude.{ℕ}
 use Rattle.std.specs.declared.thread.PromisedHandle.{PromisedHandle}
 use Rattle.lab_sched.specs.declared.process.Process.{Process}
-use Rattle.lab_threads.specs.declared.walk.Walk.{Walk}
-use Rattle.lab_threads.specs.declared.walk.Walks.{Walks}
+use Rattle.lab_threads.specs.declared.worker_result.WorkerResult.{WorkerResult}
+use Rattle.lab_threads.specs.declared.worker_result.WorkerPromise.{WorkerPromise}
 
 -- where the worker began, and how many steps it may take
-abbrev pub promised : PromisedHandle Walk Walks → Process × ℕ
+abbrev pub promised : PromisedHandle WorkerResult WorkerPromise → Process × ℕ
 promised h = (h.promise.start.value, h.promise.limit)
 
 -- a start, with the limit

@@ -1,14 +1,14 @@
 //! Books: the kernel that processes share, with the history of their calls.
-ghost use Rattle.std.specs.Prelude.{◌≡◌, ◌<◌, ◌≤◌, ◌++◌, ◌∷◌, ◌↔◌, [], length, IfOk, OnOk, OnErr, IsTrue, true, false};
+ghost use Rattle.std.specs.Prelude.{◌≡◌, ◌<◌, ◌≤◌, ◌++◌, ◌∷◌, ◌↔◌, [], length, Some, None, IfOk, OnOk, OnErr, IsTrue, true, false};
 ghost use Rattle.std.specs.Option.{option_copied};
 ghost use Rattle.ipc_kernel.specs.Limits.{process_max};
 ghost use Rattle.ipc_kernel.specs.Kernel.{empty_kernel};
-ghost use Rattle.ipc_kernel.specs.Answer.{answer};
+ghost use Rattle.ipc_kernel.specs.Answer.{answer, is_done};
 ghost use Rattle.ipc_kernel.specs.Replies.{IsAnswerTo};
 ghost use Rattle.ipc_kernel.specs.declared.call.Call.{Call as CallValue};
 ghost use Rattle.ipc_kernel.specs.declared.call.Answer.TheVariants.{Wait};
 ghost use Rattle.lab_sched.specs.History.{IsLegal, replay, waits, still};
-ghost use Rattle.lab_threads.specs.Pages.{added, MayCall};
+ghost use Rattle.lab_threads.specs.BookState.{added, MayCall};
 
 use ipc_kernel::{Answer, Call, Kernel};
 use lab_sched::Entry;
@@ -26,14 +26,14 @@ pub struct Book {
 
 impl Model for Book {
     ghost use Rattle.std.specs.Prelude.{length};
-    ghost use Rattle.lab_threads.specs.Pages.{Pages};
-    ghost use Rattle.lab_threads.specs.Kept.{IsKept};
+    ghost use Rattle.lab_threads.specs.BookState.{BookState};
+    ghost use Rattle.lab_threads.specs.BookInvariant.{BookInvariant};
 
-    ghost Value = { Pages };
+    ghost Value = { BookState };
 
     ghost view = { λ b. record { count = length b.waiting.items; history = b.history.items } };
 
-    ghost invariant = { λ b. IsKept b.kernel b.history.items b.waiting.items };
+    ghost invariant = { λ b. BookInvariant b.kernel b.history.items b.waiting.items };
 }
 
 /// The entry of a call with its answer.
@@ -48,7 +48,7 @@ fn entry_of(alloc: Global, pid: usize, call: &Call, answer: Answer) -> Result<En
 }
 
 /// The call that waits after this answer.
-fn still(alloc: Global, call: &Call, answer: &Answer) -> Result<Option<Call>, AllocError>
+fn pending_call(alloc: Global, call: &Call, answer: &Answer) -> Result<Option<Call>, AllocError>
     ensures { IfOk result (λ o. o ≡ still call.now answer.now) }
 {
     match answer {
@@ -122,6 +122,18 @@ impl Book {
         }
     }
 
+    /// Whether the call that a process waits for would be answered now without a wait.
+    pub fn can_go(&self, pid: usize) -> bool
+        requires process { pid < self.now.count }
+        ensures answered { (c : CallValue) → waits self.now.history pid ≡ Some c → result ≡ is_done (answer (replay (empty_kernel self.now.count) self.now.history) pid c).0 }
+        ensures none { waits self.now.history pid ≡ None → result ≡ false }
+    {
+        match self.waits(pid) {
+            None => false,
+            Some(call) => self.kernel.can_go(pid, call),
+        }
+    }
+
     /// Whether a call of a process with this answer has an entry. The try of a process that waits
     /// and must still wait has none.
     fn has_entry(&self, pid: usize, answer: &Answer) -> bool
@@ -152,7 +164,7 @@ impl Book {
         if !self.has_entry(pid, &preview) {
             return Ok(Answer::Wait);
         }
-        let waits = still(alloc, call, &preview)?;
+        let waits = pending_call(alloc, call, &preview)?;
         let entry = entry_of(alloc, pid, call, preview)?;
         self.history.reserve(1)?;
         let answer = self.kernel.call(pid, call)?;

@@ -10,16 +10,16 @@ ghost use Rattle.lab_sched.specs.History.{IsLegal, replay};
 ghost use Rattle.lab_sched.specs.Schedules.{steps_of, total_of};
 ghost use Rattle.lab_sched.specs.Starts.{Runs};
 ghost use Rattle.lab_sched.specs.Verdicts.{IsVerdict};
-ghost use Rattle.lab_sched.specs.declared.process.Process.{Process as Kept};
+ghost use Rattle.lab_sched.specs.declared.process.Process.{Process as ProcessValue};
 ghost use Rattle.lab_sched.specs.declared.schedule.block.TheConstants.{MOST_STEPS};
-ghost use Rattle.lab_threads.specs.Walks.{AreWalks};
-ghost use Rattle.lab_threads.specs.Woven.{begun, ended};
-ghost use Rattle.lab_threads.specs.declared.walk.Walk.{Walk as WalkSeen};
+ghost use Rattle.lab_threads.specs.WorkerResults.{AreWorkerResults};
+ghost use Rattle.lab_threads.specs.Merged.{initial_world, final_world};
+ghost use Rattle.lab_threads.specs.declared.worker_result.WorkerResult.{WorkerResult as WorkerResultValue};
 
-use crate::crew::walk_all;
-use crate::desk::Office;
-use crate::walk::Walk;
-use crate::weaving::weave;
+use crate::merging::merge;
+use crate::monitor::Monitor;
+use crate::spawning::run_workers;
+use crate::worker_result::WorkerResult;
 use crate::{Book, Gate, RunFault};
 use ipc_kernel::Kernel;
 use lab_sched::{Entry, Fresh, MOST_STEPS, Process, Schedule, Verdict, World};
@@ -37,22 +37,25 @@ pub struct Report {
     pub verdict: Verdict,
 }
 
-/// The steps that each walk has left.
-fn lefts(alloc: Global, walks: &[Walk]) -> Result<Vec<u32>, AllocError>
-    ensures { IfOk result (λ v. v.items ≡ map (λ k. k.left) walks.now) }
+/// The steps that each worker has left.
+fn lefts(alloc: Global, workers: &[WorkerResult]) -> Result<Vec<u32>, AllocError>
+    ensures { IfOk result (λ v. v.items ≡ map (λ k. k.left) workers.now) }
 {
-    let mut left = Vec::with_capacity(alloc, walks.len())?;
-    for walk in walks {
-        left.push(walk.left)?;
+    let mut left = Vec::with_capacity(alloc, workers.len())?;
+    for worker in workers {
+        left.push(worker.left)?;
     }
     Ok(left)
 }
 
-/// The process where each walk ends.
-fn ends(alloc: Global, walks: Vec<Walk>) -> Result<Vec<Process>, AllocError>
-    ensures { IfOk result (λ v. v.items ≡ map (λ k. k.process) walks.items) }
+/// The process of each worker, where it stopped.
+fn ends(alloc: Global, workers: Vec<WorkerResult>) -> Result<Vec<Process>, AllocError>
+    ensures { IfOk result (λ v. v.items ≡ map (λ k. k.process) workers.items) }
 {
-    walks.into_iter().map(|walk| walk.process).collect(alloc)
+    workers
+        .into_iter()
+        .map(|worker| worker.process)
+        .collect(alloc)
 }
 
 /// Whether a schedule has room for all steps that are left.
@@ -69,25 +72,29 @@ fn has_room(schedule: &Schedule, left: &[u32]) -> bool
     true
 }
 
-/// Whether each walk's calls fitted the book.
-fn all_fit(walks: &[Walk]) -> bool {
-    walks.iter().all(|walk| walk.fits)
+/// Whether each worker's calls fitted the book.
+fn all_fit(workers: &[WorkerResult]) -> bool {
+    workers.iter().all(|worker| worker.fits)
 }
 
-/// Weaves the walks along the history, with the steps that each walk has left.
-fn woven(alloc: Global, walks: &[Walk], history: &[Entry]) -> Result<(Schedule, Vec<u32>), RunFault>
-    requires few { length walks.now ≤ 64 }
-    ensures course { IfOk result (λ r. (starts : List Kept) (limit : ℕ) → AreWalks limit starts walks.now → IsLegal (empty_kernel (length starts)) history.now
-        → IsCourse (begun starts) (steps_of r.0) (ended (length starts) walks.now history.now) history.now) }
-    ensures counts { IfOk result (λ r. (p : ℕ) (k : WalkSeen) → slice_get walks.now p ≡ Some k → count p (steps_of r.0) ≡ steps k.trace) }
-    ensures left { IfOk result (λ r. r.1.items ≡ map (λ k. k.left) walks.now) }
+/// Merges the traces along the history; with the steps that each worker has left.
+fn merged(
+    alloc: Global,
+    workers: &[WorkerResult],
+    history: &[Entry],
+) -> Result<(Schedule, Vec<u32>), RunFault>
+    requires few { length workers.now ≤ 64 }
+    ensures course { IfOk result (λ r. (starts : List ProcessValue) (limit : ℕ) → AreWorkerResults limit starts workers.now → IsLegal (empty_kernel (length starts)) history.now
+        → IsCourse (initial_world starts) (steps_of r.0) (final_world (length starts) workers.now history.now) history.now) }
+    ensures counts { IfOk result (λ r. (p : ℕ) (k : WorkerResultValue) → slice_get workers.now p ≡ Some k → count p (steps_of r.0) ≡ steps k.trace) }
+    ensures left { IfOk result (λ r. r.1.items ≡ map (λ k. k.left) workers.now) }
     ensures room { IfOk result (λ r. total_of r.0 + sum r.1.items ≤ MOST_STEPS) }
 {
-    if !all_fit(walks) {
+    if !all_fit(workers) {
         return Err(RunFault::Unvouched);
     }
-    let left = lefts(alloc, walks)?;
-    match weave(alloc, walks, history)? {
+    let left = lefts(alloc, workers)?;
+    match merge(alloc, workers, history)? {
         Some(schedule) if has_room(&schedule, &left) => Ok((schedule, left)),
         _ => Err(RunFault::Unvouched),
     }
@@ -120,29 +127,29 @@ fn settled(
     })
 }
 
-/// Weaves the walks along the history, and goes on from there until all is finished.
+/// Merges the traces along the history, and goes on from there until all is finished.
 fn reported(
     alloc: Global,
-    walks: Vec<Walk>,
+    workers: Vec<WorkerResult>,
     kernel: Kernel,
     history: Vec<Entry>,
     limit: u32,
 ) -> Result<Report, RunFault>
     requires legal { IsLegal (empty_kernel (length kernel.processes)) history.items }
     requires kernel { kernel ≡ replay (empty_kernel (length kernel.processes)) history.items }
-    requires held { All IsHeld (map (λ k. k.process) walks.items) }
-    requires profile { HaveOneProfile (map seen (map (λ k. k.process) walks.items)) }
-    requires some { 1 ≤ length walks.items }
-    requires few { length walks.items ≤ 64 }
-    ensures course { IfOk result (λ r. (starts : List Kept) → AreWalks limit starts walks.items → IsCourse (begun starts) (steps_of r.schedule) r.world r.history.items) }
-    ensures finished { IfOk result (λ r. (starts : List Kept) → AreWalks limit starts walks.items → IsFinished r.world (steps_of r.schedule) limit) }
+    requires held { All IsHeld (map (λ k. k.process) workers.items) }
+    requires profile { HaveOneProfile (map seen (map (λ k. k.process) workers.items)) }
+    requires some { 1 ≤ length workers.items }
+    requires few { length workers.items ≤ 64 }
+    ensures course { IfOk result (λ r. (starts : List ProcessValue) → AreWorkerResults limit starts workers.items → IsCourse (initial_world starts) (steps_of r.schedule) r.world r.history.items) }
+    ensures finished { IfOk result (λ r. (starts : List ProcessValue) → AreWorkerResults limit starts workers.items → IsFinished r.world (steps_of r.schedule) limit) }
     ensures verdict { IfOk result (λ r. IsVerdict r.world r.verdict) }
 {
-    if kernel.count() != walks.len() {
+    if kernel.count() != workers.len() {
         return Err(RunFault::Unvouched);
     }
-    let (schedule, left) = woven(alloc, &walks, &history)?;
-    let world = World::join(ends(alloc, walks)?, kernel);
+    let (schedule, left) = merged(alloc, &workers, &history)?;
+    let world = World::join(ends(alloc, workers)?, kernel);
     settled(world, schedule, history, left)
 }
 
@@ -158,16 +165,16 @@ fn run_starts<R: Threads + Wait + Sync, G: Gate>(
     requires profile { HaveOneProfile (map seen starts.items) }
     requires some { 1 ≤ length starts.items }
     requires few { length starts.items ≤ 64 }
-    ensures course { IfOk result (λ r. IsCourse (begun starts.items) (steps_of r.schedule) r.world r.history.items) }
+    ensures course { IfOk result (λ r. IsCourse (initial_world starts.items) (steps_of r.schedule) r.world r.history.items) }
     ensures legal { IfOk result (λ r. IsLegal (empty_kernel (length starts.items)) r.history.items) }
     ensures kernel { IfOk result (λ r. r.world.kernel ≡ replay (empty_kernel (length starts.items)) r.history.items) }
     ensures finished { IfOk result (λ r. IsFinished r.world (steps_of r.schedule) limit) }
     ensures verdict { IfOk result (λ r. IsVerdict r.world r.verdict) }
 {
-    let office = Office::new(Book::new(alloc, starts.len())?);
-    let walks = walk_all(rt, alloc, &office, gate, starts, limit)?;
-    let (kernel, history) = office.into_book().into_parts();
-    reported(alloc, walks, kernel, history, limit)
+    let monitor = Monitor::new(alloc, Book::new(alloc, starts.len())?)?;
+    let workers = run_workers(rt, alloc, &monitor, gate, starts, limit)?;
+    let (kernel, history) = monitor.into_book().into_parts();
+    reported(alloc, workers, kernel, history, limit)
 }
 
 /// Runs each process of a laboratory on a thread of its own, for at most `limit` steps, over one

@@ -1,349 +1,300 @@
 //! Workers, which step one process each.
-ghost use Rattle.std.specs.Prelude.{◌≡◌, ◌≤◌, ◌<◌, ◌+◌, ◌-◌, ◌^◌, false, vec_len, vec_capacity};
-ghost use Rattle.lc3_machine.specs.Process.{Process as Machine};
-ghost use Rattle.lc3_machine.specs.Steps.{AsksTrap, AsksEnd};
-ghost use Rattle.ipc_names.specs.Errno.{number_of};
-ghost use Rattle.ipc_kernel.specs.declared.call.Reply.TheVariants.{Plain};
-ghost use Rattle.ipc_traps.specs.Asked.{Calls, asked};
-ghost use Rattle.ipc_traps.specs.Reply.{HasRoom, IsPrepared, replied};
-ghost use Rattle.lab_sched.specs.Worlds.{Process as Seen, Running as RunningSeen, act, moves};
+ghost use Rattle.std.specs.Prelude.{◌≡◌, ◌≤◌, ◌<◌, ◌+◌, ◌^◌, IsTrue, IfOk, vec_len, vec_capacity};
+ghost use Rattle.lc3_machine.specs.declared.want.Want.TheVariants.{Trap, End};
 ghost use Rattle.lab_sched.specs.Held.{seen, IsHeld};
-ghost use Rattle.lab_sched.specs.Alone.{Alone, AreLocal, steps};
-ghost use Rattle.lab_threads.specs.Came.{IsCame};
-ghost use Rattle.lab_threads.specs.Walks.{IsWalk};
+ghost use Rattle.lab_sched.specs.Alone.{AreLocal};
+ghost use Rattle.lab_sched.specs.Worlds.{Process as Seen};
+ghost use Rattle.lab_sched.specs.Settling.{AsksFor};
+ghost use Rattle.lab_sched.specs.Stepping.{IsWaiting, StandsBefore, before_wait};
+ghost use Rattle.lab_sched.specs.Verdicts.{IsRunning};
+ghost use Rattle.lab_threads.specs.CallOutcome.{IsCallOutcome};
+ghost use Rattle.lab_threads.specs.WorkerLogs.{LeadsOn, allowed};
+ghost use Rattle.lab_threads.specs.WorkerResults.{IsWorkerResult};
 
 use crate::Gate;
-use crate::desk::{Came, Office};
-use crate::walk::Walk;
-use ipc_kernel::{Answer, Call, Reply};
-use ipc_names::Errno;
-use ipc_traps::{Asked, effect_of, prepare, read_call};
-use lab_sched::{Process, Trace};
-use lc3_machine::{AtCall, Local, Running, Want};
-use std::alloc::Global;
+use crate::context::WorkerContext;
+use crate::monitor::{CallOutcome, Monitor};
+use crate::worker_log::WorkerLog;
+use crate::worker_result::WorkerResult;
+use ipc_kernel::{Answer, Call};
+use lab_sched::{
+    Asking, Process, Trace, begin_call, end_process, local_steps, take_back, take_reply,
+};
+use lc3_machine::{How, Progress, Want};
+use std::alloc::{AllocError, Global};
 use std::sync::Wait;
 
-/// Where a worker stands: the office where it makes the calls of its process, and its gate.
-#[derive(Drop)]
-struct Seat<'s, G> {
-    office: &'s Office,
-    gate: &'s G,
-    alloc: Global,
-    pid: usize,
+/// Whether a worker goes on.
+#[derive(Clone, Copy, PartialEq, Eq, Debug)]
+enum Continuation {
+    /// It does, as far as its process can.
+    GoesOn,
+    /// It stops: memory was refused.
+    Stops,
+    /// It stops: the book doesn't fit its call.
+    Misfits,
 }
 
-/// A process after some steps, and how many they were: none where memory was refused, or the book
-/// didn't fit its call.
-#[derive(Drop)]
-struct Went {
-    process: Process,
-    taken: u32,
-    fits: bool,
-}
-
-/// A process that has taken no step, for want of memory.
-fn stays(process: Running) -> Went
-    ensures process { seen result.process ≡ RunningSeen process }
-    ensures held { IsHeld result.process }
-    ensures taken { result.taken ≡ 0 }
+/// Writes down local steps of a process. The gate is passed after the first one since a call.
+fn write_local<G: Gate>(context: &WorkerContext<'_, G>, log: &mut WorkerLog, count: u32)
+    requires left { count ≤ log.old.left }
+    requires few { allowed log.old < 2 ^ 32 }
+    ensures alone { (x y : Seen) → AreLocal count x y → LeadsOn log.old x log.new y }
+    ensures allowed { allowed log.new ≡ allowed log.old }
 {
-    Went {
-        process: Process::Running(process),
-        taken: 0,
-        fits: true,
-    }
-}
-
-/// Takes local steps of a process, at most so many; with how many were taken.
-#[tactic(auto, using(lab_sched::proofs::Alones::machine_local))]
-fn run_on(running: Running, most: u32) -> (Running, u32)
-    ensures local { AreLocal result.1 (RunningSeen running) (RunningSeen result.0) }
-    ensures within { result.1 ≤ most }
-{
-    let (local, done) = running.run_local(most);
-    match local {
-        Local::Running(next) => (next, done),
-        Local::AtCall(call) => (call.back(), done),
-        Local::Short(same) => (same, done),
-    }
-}
-
-/// Writes down the local step that led to `next`, and goes on with its local segment. The gate is
-/// passed after the first step of the segment.
-fn follow<G: Gate>(seat: &Seat<'_, G>, next: Running, trace: &mut Trace, left: u32) -> Went
-    requires some { 0 < left }
-    requires few { steps trace.old + left < 2 ^ 32 }
-    ensures alone { (s : Seen) (m : Machine) → Alone s trace.old (RunningSeen m) → act m ≡ moves next → Alone s trace.new (seen result.process) }
-    ensures held { IsHeld result.process }
-    ensures steps { steps trace.new ≡ steps trace.old + result.taken }
-    ensures left { result.taken ≤ left }
-{
-    let is_first = trace.after == 0;
-    trace.add_local(1);
+    let is_first = log.is_at_call();
+    log.add_local(count);
     if is_first {
-        seat.gate.arrive(seat.pid, 0);
-    }
-    let (process, more) = run_on(next, left - 1);
-    trace.add_local(more);
-    Went {
-        process: Process::Running(process),
-        taken: more + 1,
-        fits: true,
+        context.gate.arrive(context.pid, 0);
     }
 }
 
-/// Goes on with a process until its next call, or makes its call and waits for the answer if it
-/// may.
+/// Takes local steps of a running process, one where it comes from a call, or else all up to its
+/// next call; or makes its next call, or ends it.
 fn advance<R: Wait, G: Gate>(
     rt: &R,
-    seat: &Seat<'_, G>,
-    running: Running,
-    trace: &mut Trace,
-    left: u32,
-    nth: &mut u32,
-) -> Went
-    requires some { 0 < left }
-    requires few { steps trace.old + left < 2 ^ 32 }
-    ensures alone { (s : Seen) → Alone s trace.old (RunningSeen running) → Alone s trace.new (seen result.process) }
-    ensures held { IsHeld result.process }
-    ensures steps { steps trace.new ≡ steps trace.old + result.taken }
-    ensures left { result.taken ≤ left }
+    context: &WorkerContext<'_, G>,
+    process: &mut Process,
+    log: &mut WorkerLog,
+) -> Continuation
+    requires runs { IsRunning (seen process.old) }
+    requires some { 0 < log.old.left }
+    requires few { allowed log.old < 2 ^ 32 }
+    ensures alone { LeadsOn log.old (seen process.old) log.new (seen process.new) }
+    ensures held { IsHeld process.new }
+    ensures allowed { allowed log.new ≡ allowed log.old }
 {
-    match running.step() {
-        Local::Running(next) => follow(seat, next, trace, left),
-        Local::Short(same) => stays(same),
-        Local::AtCall(call) => match call.want() {
-            Want::End(_) => end_process(rt, seat, call, trace, nth),
-            Want::Trap(_) => step_trap(rt, seat, call, trace, left, nth),
-        },
+    let most = if log.is_at_call() { 1 } else { log.left };
+    let (taken, progress) = local_steps(process, most);
+    if taken > 0 {
+        write_local(context, log, taken);
+        return Continuation::GoesOn;
+    }
+    match progress {
+        Progress::Stopped(Want::Trap(vector)) => step_trap(rt, context, process, vector, log),
+        Progress::Stopped(Want::End(how)) => step_end(rt, context, process, how, log),
+        Progress::Short | Progress::Moved => Continuation::Stops,
     }
 }
 
 /// Ends a process.
-fn end_process<R: Wait, G: Gate>(
+fn step_end<R: Wait, G: Gate>(
     rt: &R,
-    seat: &Seat<'_, G>,
-    call: AtCall,
-    trace: &mut Trace,
-    nth: &mut u32,
-) -> Went
-    requires end { AsksEnd call.process }
-    requires few { steps trace.old + 1 < 2 ^ 32 }
-    ensures alone { (s : Seen) → Alone s trace.old (RunningSeen call.process) → Alone s trace.new (seen result.process) }
-    ensures held { IsHeld result.process }
-    ensures steps { steps trace.new ≡ steps trace.old + result.taken }
-    ensures left { result.taken ≤ 1 }
+    context: &WorkerContext<'_, G>,
+    process: &mut Process,
+    how: How,
+    log: &mut WorkerLog,
+) -> Continuation
+    requires stands { StandsBefore (seen process.old) (End how) }
+    requires held { IsHeld process.old }
+    requires some { 0 < log.old.left }
+    ensures alone { LeadsOn log.old (seen process.old) log.new (seen process.new) }
+    ensures held { IsHeld process.new }
+    ensures allowed { allowed log.new ≡ allowed log.old }
 {
-    if trace.reserve().is_err() {
-        return stays(call.back());
+    if log.reserve().is_err() {
+        return Continuation::Stops;
     }
-    *nth = nth.saturating_add(1);
-    seat.gate.arrive(seat.pid, *nth);
-    match seat
-        .office
-        .call(rt, seat.alloc, seat.pid, &Call::Exit, false)
-    {
-        Came::Done { reply: _, copy } => {
-            trace.add_call(Call::Exit, Answer::Done(copy));
-            Went {
-                process: Process::Ended(call.end()),
-                taken: 1,
-                fits: true,
-            }
+    match context.call(rt, &Call::Exit, false, &mut log.calls) {
+        CallOutcome::Answered { reply: _, copy } => {
+            end_process(process, how);
+            log.add_call(Call::Exit, Answer::Done(copy));
+            Continuation::GoesOn
         }
-        Came::Refused => stays(call.back()),
-        _ => misfit(call),
+        CallOutcome::NoMemory => Continuation::Stops,
+        CallOutcome::Rejected
+        | CallOutcome::Blocked { .. }
+        | CallOutcome::AnsweredAfterWait { .. } => Continuation::Misfits,
     }
-}
-
-/// The process after the reply to its call, `taken` steps later.
-#[tactic(auto, using(ipc_traps::proofs::Laws::room_prepared))]
-fn replied(call: AtCall, reply: Reply, taken: u32) -> Went
-    requires trap { AsksTrap call.process }
-    requires room { HasRoom call reply }
-    ensures process { seen result.process ≡ RunningSeen (replied call.process reply) }
-    ensures held { IsHeld result.process }
-    ensures taken { result.taken ≡ taken }
-{
-    let effect = effect_of(&call, reply);
-    Went {
-        process: Process::Running(call.finish(effect)),
-        taken,
-        fits: true,
-    }
-}
-
-/// A process that has taken no step, as its call doesn't fit the book.
-fn misfit(call: AtCall) -> Went
-    ensures process { seen result.process ≡ RunningSeen call.process }
-    ensures held { IsHeld result.process }
-    ensures taken { result.taken ≡ 0 }
-{
-    Went {
-        process: Process::Running(call.back()),
-        taken: 0,
-        fits: false,
-    }
-}
-
-/// The process after a refusal that the kernel doesn't see.
-#[tactic(auto, using(ipc_traps::proofs::Laws::room_plain))]
-fn refused(call: AtCall, e: Errno) -> Running
-    requires trap { AsksTrap call.process }
-    ensures { result ≡ replied call.process (Plain (65536 - number_of e)) }
-{
-    let effect = effect_of(&call, Reply::Plain(e.reply()));
-    call.finish(effect)
 }
 
 /// The step of a process that stands before a trap of the kernel.
 fn step_trap<R: Wait, G: Gate>(
     rt: &R,
-    seat: &Seat<'_, G>,
-    call: AtCall,
-    trace: &mut Trace,
-    left: u32,
-    nth: &mut u32,
-) -> Went
-    requires trap { AsksTrap call.process }
-    requires some { 0 < left }
-    requires few { steps trace.old + left < 2 ^ 32 }
-    ensures alone { (s : Seen) → Alone s trace.old (RunningSeen call.process) → Alone s trace.new (seen result.process) }
-    ensures held { IsHeld result.process }
-    ensures steps { steps trace.new ≡ steps trace.old + result.taken }
-    ensures left { result.taken ≤ left }
+    context: &WorkerContext<'_, G>,
+    process: &mut Process,
+    vector: u8,
+    log: &mut WorkerLog,
+) -> Continuation
+    requires stands { StandsBefore (seen process.old) (Trap vector) }
+    requires held { IsHeld process.old }
+    requires some { 0 < log.old.left }
+    requires few { allowed log.old < 2 ^ 32 }
+    ensures alone { LeadsOn log.old (seen process.old) log.new (seen process.new) }
+    ensures held { IsHeld process.new }
+    ensures allowed { allowed log.new ≡ allowed log.old }
 {
-    match read_call(seat.alloc, &call) {
-        Err(_) => stays(call.back()),
-        Ok(Asked::Refused(e)) => follow(seat, refused(call, e), trace, left),
-        Ok(Asked::Kernel(request)) => { make_call(rt, seat, call, request, trace, left, nth) }
+    if log.reserve().is_err() {
+        return Continuation::Stops;
+    }
+    match begin_call(context.alloc, process, vector) {
+        Asking::Waits => make_call(rt, context, process, log),
+        Asking::Refused => {
+            write_local(context, log, 1);
+            Continuation::GoesOn
+        }
+        Asking::Short => Continuation::Stops,
     }
 }
 
-/// What comes of a process whose call was made, with its copies written down.
-fn write_down(
-    call: AtCall,
-    request: Call,
-    copy: Call,
-    came: Came,
-    may_wait: bool,
-    trace: &mut Trace,
-) -> Went
-    requires trap { AsksTrap call.process }
-    requires request { asked call.process ≡ Calls request }
-    requires prepared { IsPrepared call }
-    requires copy { copy ≡ request }
-    requires came { IsCame request may_wait came }
-    requires room { vec_len trace.old.calls + 2 ≤ vec_capacity trace.old.calls }
-    ensures alone { (s : Seen) → Alone s trace.old (RunningSeen call.process) → Alone s trace.new (seen result.process) }
-    ensures held { IsHeld result.process }
-    ensures steps { steps trace.new ≡ steps trace.old + result.taken }
-    ensures once { may_wait ≡ false → result.taken ≤ 1 }
-    ensures twice { result.taken ≤ 2 }
-{
-    match came {
-        Came::Refused => stays(call.back()),
-        Came::Misfit => misfit(call),
-        Came::Waits { fits } => {
-            trace.add_call(copy, Answer::Wait);
-            Went {
-                process: Process::Waiting(call.wait(), request),
-                taken: 1,
-                fits,
-            }
-        }
-        Came::Done { reply, copy: told } => {
-            trace.add_call(copy, Answer::Done(told));
-            replied(call, reply, 1)
-        }
-        Came::Waited { reply, copy: told } => {
-            trace.add_call(copy, Answer::Wait);
-            trace.add_call(request, Answer::Done(told));
-            replied(call, reply, 2)
-        }
-    }
-}
-
-/// The step of a process that makes a call of the kernel.
+/// Makes the call that a process has begun to wait for. Where it isn't made the process runs again.
 fn make_call<R: Wait, G: Gate>(
     rt: &R,
-    seat: &Seat<'_, G>,
-    mut call: AtCall,
-    request: Call,
-    trace: &mut Trace,
-    left: u32,
-    nth: &mut u32,
-) -> Went
-    requires trap { AsksTrap call.process }
-    requires request { asked call.process ≡ Calls request }
-    requires some { 0 < left }
-    requires few { steps trace.old + left < 2 ^ 32 }
-    ensures alone { (s : Seen) → Alone s trace.old (RunningSeen call.process) → Alone s trace.new (seen result.process) }
-    ensures held { IsHeld result.process }
-    ensures steps { steps trace.new ≡ steps trace.old + result.taken }
-    ensures left { result.taken ≤ left }
+    context: &WorkerContext<'_, G>,
+    process: &mut Process,
+    log: &mut WorkerLog,
+) -> Continuation
+    requires held { IsHeld process.old }
+    requires waits { IsWaiting (seen process.old) }
+    requires some { 0 < log.old.left }
+    requires room { vec_len log.old.trace.calls + 2 ≤ vec_capacity log.old.trace.calls }
+    ensures alone { LeadsOn log.old (before_wait (seen process.old)) log.new (seen process.new) }
+    ensures held { IsHeld process.new }
+    ensures allowed { allowed log.new ≡ allowed log.old }
 {
-    if trace.reserve().is_err() || prepare(&mut call).is_err() {
-        return stays(call.back());
+    let may_wait = log.left > 1;
+    match outcome_of(rt, context, process, may_wait, &mut log.calls) {
+        Ok((call, outcome)) => write_down(process, call, outcome, may_wait, log),
+        Err(_) => run_again(process, Continuation::Stops),
     }
-    let Ok(copy) = request.copy(seat.alloc) else {
-        return stays(call.back());
-    };
-    *nth = nth.saturating_add(1);
-    seat.gate.arrive(seat.pid, *nth);
-    let may_wait = left > 1;
-    let came = seat
-        .office
-        .call(rt, seat.alloc, seat.pid, &request, may_wait);
-    write_down(call, request, copy, came, may_wait, trace)
+}
+
+/// Lets a process run again whose call wasn't made.
+fn run_again(process: &mut Process, continuation: Continuation) -> Continuation
+    requires held { IsHeld process.old }
+    ensures process { seen process.new ≡ before_wait (seen process.old) }
+    ensures held { IsHeld process.new }
+{
+    take_back(process);
+    continuation
+}
+
+/// What comes of the call that a process waits for, with a copy of the call.
+fn outcome_of<R: Wait, G: Gate>(
+    rt: &R,
+    context: &WorkerContext<'_, G>,
+    process: &Process,
+    may_wait: bool,
+    calls: &mut u32,
+) -> Result<(Call, CallOutcome), AllocError>
+    requires waits { IsWaiting (seen process.now) }
+    ensures call { IfOk result (λ r. AsksFor (seen process.now) r.0) }
+    ensures outcome { IfOk result (λ r. IsCallOutcome r.0 may_wait r.1) }
+{
+    match process {
+        Process::Waiting(_, call) => {
+            let copy = call.copy(context.alloc)?;
+            Ok((copy, context.call(rt, call, may_wait, calls)))
+        }
+        Process::Running(_) | Process::Ended(_) => unreachable!(),
+    }
+}
+
+/// Whether a worker goes on whose process waits: where the book still fits its call.
+fn after_wait(fits: bool) -> Continuation {
+    if fits {
+        Continuation::GoesOn
+    } else {
+        Continuation::Misfits
+    }
+}
+
+/// Writes down what came of the call of a process, and gives it the reply if there is one.
+fn write_down(
+    process: &mut Process,
+    call: Call,
+    outcome: CallOutcome,
+    may_wait: bool,
+    log: &mut WorkerLog,
+) -> Continuation
+    requires held { IsHeld process.old }
+    requires waits { IsWaiting (seen process.old) }
+    requires call { AsksFor (seen process.old) call }
+    requires outcome { IsCallOutcome call may_wait outcome }
+    requires some { 0 < log.old.left }
+    requires two { IsTrue may_wait → 1 < log.old.left }
+    requires room { vec_len log.old.trace.calls + 2 ≤ vec_capacity log.old.trace.calls }
+    ensures alone { LeadsOn log.old (before_wait (seen process.old)) log.new (seen process.new) }
+    ensures held { IsHeld process.new }
+    ensures allowed { allowed log.new ≡ allowed log.old }
+{
+    match outcome {
+        CallOutcome::NoMemory => run_again(process, Continuation::Stops),
+        CallOutcome::Rejected => run_again(process, Continuation::Misfits),
+        CallOutcome::Blocked { fits } => {
+            log.add_call(call, Answer::Wait);
+            after_wait(fits)
+        }
+        CallOutcome::Answered { reply, copy } => {
+            let _ = take_reply(process, reply);
+            log.add_call(call, Answer::Done(copy));
+            Continuation::GoesOn
+        }
+        CallOutcome::AnsweredAfterWait { reply, copy } => {
+            log.add_call(call, Answer::Wait);
+            let again = take_reply(process, reply);
+            log.add_call(again, Answer::Done(copy));
+            Continuation::GoesOn
+        }
+    }
 }
 
 /// Steps a process until it has ended, waits for good, has taken `limit` steps or was refused
 /// memory, or its call doesn't fit the book.
+fn run<R: Wait, G: Gate>(
+    rt: &R,
+    context: &WorkerContext<'_, G>,
+    start: Process,
+    limit: u32,
+) -> WorkerResult
+    ensures result { IsWorkerResult limit start result }
+{
+    let mut process = start;
+    let mut log = WorkerLog {
+        trace: Trace::new(context.alloc),
+        left: limit,
+        calls: 0,
+    };
+    let mut went = Continuation::GoesOn;
+    for _ in rt.forever() {
+        if log.left == 0 || went != Continuation::GoesOn {
+            break;
+        }
+        went = match process {
+            Process::Running(_) => advance(rt, context, &mut process, &mut log),
+            Process::Waiting(..) | Process::Ended(_) => break,
+        };
+    }
+    let WorkerLog { trace, left, .. } = log;
+    WorkerResult {
+        process,
+        trace,
+        left,
+        fits: went != Continuation::Misfits,
+    }
+}
+
+/// The work of a thread: when all workers are there it steps its process, and then tells the
+/// others that it has stopped.
 pub(crate) fn work<R: Wait, G: Gate>(
     rt: &R,
     alloc: Global,
-    office: &Office,
+    monitor: &Monitor,
     gate: &G,
     pid: usize,
     start: Process,
     limit: u32,
-) -> Walk
-    ensures walk { IsWalk limit start result }
+) -> WorkerResult
+    ensures result { IsWorkerResult limit start result }
 {
-    let seat = Seat {
-        office,
+    let context = WorkerContext {
+        monitor,
         gate,
         alloc,
         pid,
     };
-    let mut process = start;
-    let mut trace = Trace::new(alloc);
-    let mut left = limit;
-    let mut nth = 0;
-    let mut fits = true;
-    for _ in rt.forever() {
-        if left == 0 {
-            break;
-        }
-        match process {
-            Process::Running(running) => {
-                let went = advance(rt, &seat, running, &mut trace, left, &mut nth);
-                process = went.process;
-                fits = went.fits;
-                left -= went.taken;
-                if went.taken == 0 {
-                    break;
-                }
-            }
-            Process::Waiting(..) | Process::Ended(_) => break,
-        }
-    }
-    office.stop(rt);
-    Walk {
-        process,
-        trace,
-        left,
-        fits,
-    }
+    monitor.meet(rt);
+    let result = run(rt, &context, start, limit);
+    monitor.stop(rt);
+    result
 }

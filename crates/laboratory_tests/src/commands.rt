@@ -10,6 +10,7 @@ use std::rt::Files;
 use std::sync::Wait;
 use std::test::Fail;
 use std::thread::Threads;
+use std::time::Clock;
 
 #[derive(Debug, Drop)]
 struct Outcome {
@@ -21,7 +22,7 @@ struct Outcome {
 /// Room for all that a command of these tests writes, so that no growth of a device is refused.
 const ROOM: usize = 4096;
 
-fn perform_once<T: Files + AllocGlobal + Threads + Wait + Sync>(
+fn perform_once<T: Files + AllocGlobal + Threads + Wait + Clock + Sync>(
     rt: &T,
     words: &[&str],
     input: &[u8],
@@ -50,7 +51,7 @@ fn perform_once<T: Files + AllocGlobal + Threads + Wait + Sync>(
 }
 
 /// A command whose memory is refused has status 1 and can be given once more.
-fn perform<T: Files + AllocGlobal + Threads + Wait + Sync>(
+fn perform<T: Files + AllocGlobal + Threads + Wait + Clock + Sync>(
     rt: &T,
     words: &[&str],
     input: &[u8],
@@ -65,7 +66,7 @@ fn is_short(outcome: &Outcome) -> bool {
     outcome.status == FAULT && outcome.errors.as_slice().ends_with(b": out of memory\n")
 }
 
-fn reports<T: Files + AllocGlobal + Threads + Wait + Sync>(
+fn reports<T: Files + AllocGlobal + Threads + Wait + Clock + Sync>(
     rt: &T,
     input: &[u8],
     report: &[u8],

@@ -5,5 +5,5 @@ use Rattle.lab_sched.proofs.stepping.step_end.Goals as goal
 
 pub returns-clause-ok : goal.returns-clause-ok
 returns-clause-ok c =
-    end_told c.args.kernel.now c.call.new.self c.args.pid (seen c.args.process.now) (seen c.replace_with.new.dest) c.args.how c.requires.stands (search rules)
+    end_told c.args.kernel.now c.call.new.self c.args.pid (seen c.args.process.now) (seen c.end_process.new.process) c.args.how c.requires.stands (search rules)
     (ap (λ o. o.1) c.in_ok-call.ensures.answered)

@@ -6,16 +6,16 @@ use Rattle.lab_sched.specs.Held.{seen, IsHeld}
 use Rattle.lab_sched.specs.Worlds.{HaveOneProfile}
 use Rattle.lab_sched.specs.History.{IsLegal, replay}
 use Rattle.lab_sched.specs.Schedules.{steps_of}
-use Rattle.lab_threads.specs.Woven.{begun, ended}
-use Rattle.lab_threads.proofs.Endings.{joined_is, from_course, from_counts, walked}
-use Rattle.lab_threads.proofs.Weaves.{ok_then}
+use Rattle.lab_threads.specs.Merged.{initial_world, final_world}
+use Rattle.lab_threads.proofs.Endings.{joined_is, from_course, from_counts, worker_steps}
+use Rattle.lab_threads.proofs.Merges.{ok_then}
 use Rattle.lab_threads.proofs.reports.reported.Goals as goal
 
 pub join-world-requires : goal.join-world-requires
 join-world-requires c =
     let ps = c.in_ok-ends.field-0.items in
     let ended_so = c.in_ok-ends.ensures in
-    let count : length ps ≡ length c.args.walks.items = ap length ended_so ∙ length-map c.args.walks.items (λ k. k.process) in
+    let count : length ps ≡ length c.args.workers.items = ap length ended_so ∙ length-map c.args.workers.items (λ k. k.process) in
     record {
       world =
           record {
@@ -23,7 +23,7 @@ join-world-requires c =
             profile = subst (λ xs. HaveOneProfile (map seen xs)) (sym ended_so) c.requires.profile;
             some = omega (arith, count, c.requires.some);
             few = omega (arith, count, c.requires.few);
-            count = omega (arith, count, c.count.ensures.count, c.if-count-len.false, c.len.ensures, c.args.walks.ok.0);
+            count = omega (arith, count, c.count.ensures.count, c.if-count-len.false, c.len.ensures, c.args.workers.ok.0);
           };
     }
 
@@ -31,21 +31,21 @@ pub returns-clause-course : goal.returns-clause-course
 returns-clause-course c =
     ok_then c.settled.result c.settled.ensures.course
     (λ r course starts are.
-    let same : length c.args.kernel.processes ≡ length starts = omega (arith, are.len, c.count.ensures.count, c.if-count-len.false, c.len.ensures, c.args.walks.ok.0) in
+    let same : length c.args.kernel.processes ≡ length starts = omega (arith, are.len, c.count.ensures.count, c.if-count-len.false, c.len.ensures, c.args.workers.ok.0) in
     let kernel : c.args.kernel ≡ replay (empty_kernel (length starts)) c.args.history.items =
     subst (λ n. c.args.kernel ≡ replay (empty_kernel n) c.args.history.items) same c.requires.kernel in
     let legal : IsLegal (empty_kernel (length starts)) c.args.history.items = subst (λ n. IsLegal (empty_kernel n) c.args.history.items) same c.requires.legal in
-    let joined : c.join-world.result ≡ ended (length starts) c.args.walks.items c.args.history.items =
-    joined_is c.join-world.result c.in_ok-ends.field-0.items c.args.kernel (length starts) c.args.walks.items c.args.history.items
+    let joined : c.join-world.result ≡ final_world (length starts) c.args.workers.items c.args.history.items =
+    joined_is c.join-world.result c.in_ok-ends.field-0.items c.args.kernel (length starts) c.args.workers.items c.args.history.items
     c.join-world.ensures.processes c.in_ok-ends.ensures c.join-world.ensures.kernel kernel in
-    let woven = from_course (steps_of c.in_ok-schedule.schedule) c.args.walks.items c.deref.result.now c.args.history.items c.deref-2.result.now
+    let merged = from_course (steps_of c.in_ok-schedule.schedule) c.args.workers.items c.deref.result.now c.args.history.items c.deref-2.result.now
     c.deref.ensures.value c.deref-2.ensures.value c.in_ok-schedule.ensures.course starts c.args.limit are legal in
-    course (begun starts) (subst (λ x. IsCourse (begun starts) (steps_of c.in_ok-schedule.schedule) x c.args.history.items) (sym joined) woven))
+    course (initial_world starts) (subst (λ x. IsCourse (initial_world starts) (steps_of c.in_ok-schedule.schedule) x c.args.history.items) (sym joined) merged))
 
 pub returns-clause-finished : goal.returns-clause-finished
 returns-clause-finished c =
     ok_then c.settled.result c.settled.ensures.finished
     (λ r finished starts are.
-    let counts = from_counts (steps_of c.in_ok-schedule.schedule) c.args.walks.items c.deref.result.now c.deref.ensures.value c.in_ok-schedule.ensures.counts in
+    let counts = from_counts (steps_of c.in_ok-schedule.schedule) c.args.workers.items c.deref.result.now c.deref.ensures.value c.in_ok-schedule.ensures.counts in
     let left = c.in_ok-schedule.ensures.left ∙ ap (λ v. map (λ k. k.left) v) c.deref.ensures.value in
-    finished c.args.limit (walked (steps_of c.in_ok-schedule.schedule) c.in_ok-schedule.left.items starts c.args.walks.items c.args.limit are counts left))
+    finished c.args.limit (worker_steps (steps_of c.in_ok-schedule.schedule) c.in_ok-schedule.left.items starts c.args.workers.items c.args.limit are counts left))

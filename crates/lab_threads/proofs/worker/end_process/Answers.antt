@@ -1,8 +1,0 @@
-use Rattle.lab_sched.specs.Worlds.{Running, Ended}
-use Rattle.lab_threads.proofs.Steps.{told_end}
-use Rattle.lab_threads.proofs.worker.end_process.Goals as goal
-
-pub returns-in-Done-clause-alone : goal.returns-in-Done-clause-alone
-returns-in-Done-clause-alone g c s h =
-    c.add_call.ensures.alone s (Running c.args.call.process) (Ended c.end.result) (c.reserve.ensures.alone s (Running c.args.call.process) h)
-    (told_end c.args.call.process c.end.result c.in-Done.copy c.end.ensures.how c.end.ensures.process)

@@ -1,0 +1,167 @@
+//! One list of the steps of all workers, in which the calls stand as in the history.
+ghost use Rattle.std.specs.Prelude.{◌≡◌, ◌+◌, ◌++◌, ◌^◌, ◌<◌, ◌≤◌, [], ℕ, List, Some, true, IfOk, IfSome, slice_get, slice_index, length, replicate, IsTrue};
+ghost use Rattle.ipc_kernel.specs.Kernel.{empty_kernel};
+ghost use Rattle.lab_sched.specs.Alone.{steps};
+ghost use Rattle.lab_sched.specs.Course.{IsCourse, count};
+ghost use Rattle.lab_sched.specs.History.{IsLegal};
+ghost use Rattle.lab_sched.specs.Schedules.{steps_of};
+ghost use Rattle.lab_sched.specs.declared.entry.Entry.{Entry as EntryValue};
+ghost use Rattle.lab_sched.specs.declared.process.Process.{Process as ProcessValue};
+ghost use Rattle.lab_threads.specs.declared.worker_result.WorkerResult.{WorkerResult as WorkerResultValue};
+ghost use Rattle.lab_threads.specs.WorkerResults.{AreWorkerResults};
+ghost use Rattle.lab_threads.specs.Merged.{initial_world, final_world, IsFound, IsItem, IsMerged, AreCounted};
+
+use crate::worker_result::WorkerResult;
+use ipc_kernel::{Answer, Reply};
+use lab_sched::{Entry, MOST_STEPS, Schedule, Told};
+use std::alloc::{AllocError, Global};
+
+/// Whether two replies are the same.
+fn is_same_reply(reply: &Reply, other: &Reply) -> bool
+    ensures same { IsTrue result → reply.now ≡ other.now }
+{
+    match (reply, other) {
+        (Reply::Plain(word), Reply::Plain(other)) => word == other,
+        (
+            Reply::Message { words, prio },
+            Reply::Message {
+                words: other_words,
+                prio: other_prio,
+            },
+        ) => words.as_slice() == other_words.as_slice() && prio == other_prio,
+        (Reply::Attr(words), Reply::Attr(other)) => words == other,
+        (Reply::Value(word), Reply::Value(other)) => word == other,
+        _ => false,
+    }
+}
+
+/// Whether two answers are the same.
+fn is_same_answer(answer: &Answer, other: &Answer) -> bool
+    ensures same { IsTrue result → answer.now ≡ other.now }
+{
+    match (answer, other) {
+        (Answer::Done(reply), Answer::Done(other)) => is_same_reply(reply, other),
+        (Answer::Wait, Answer::Wait) => true,
+        _ => false,
+    }
+}
+
+/// The number of local steps before the call that stands there, if it is the entry's.
+fn find(calls: &[Told], at: usize, entry: &Entry) -> Option<u32>
+    ensures found { IfSome result (λ n. IsFound calls.now at entry.now n) }
+    ensures within { IfSome result (λ n. at < length calls.now) }
+    ensures few { IfSome result (λ n. n + 1 < 2 ^ 32) }
+{
+    if at >= calls.len() {
+        return None;
+    }
+    let told = &calls[at];
+    if told.before < u32::MAX
+        && told.call.is_same(&entry.call)
+        && is_same_answer(&told.answer, &entry.answer)
+    {
+        Some(told.before)
+    } else {
+        None
+    }
+}
+
+/// The number of local steps before the next call of the entry's process, if that call is the
+/// entry's.
+fn item(workers: &[WorkerResult], next: &[usize], entry: &Entry) -> Option<u32>
+    requires { length next.now ≡ length workers.now }
+    ensures item { IfSome result (λ n. IsItem workers.now next.now entry.now n) }
+    ensures few { IfSome result (λ n. n + 1 < 2 ^ 32) }
+    ensures within { IfSome result (λ n. entry.now.pid < length next.now) }
+    ensures fits { IfSome result (λ n. slice_index next.now entry.now.pid + 1 < 2 ^ 64) }
+{
+    if entry.pid >= workers.len() {
+        return None;
+    }
+    let calls = workers[entry.pid].trace.calls.as_slice();
+    find(calls, next[entry.pid], entry)
+}
+
+/// Adds steps of a process to a schedule; false where it has no room for them.
+fn add(schedule: &mut Schedule, pid: usize, n: u32) -> Result<bool, AllocError>
+    requires process { pid < 64 }
+    ensures steps { IfOk result (λ added. added ≡ true → steps_of schedule.new ≡ steps_of schedule.old ++ replicate n pid) }
+{
+    if n == 0 {
+        return Ok(true);
+    }
+    if n > MOST_STEPS - schedule.total() {
+        return Ok(false);
+    }
+    schedule.push(pid, n)?;
+    Ok(true)
+}
+
+/// A schedule, and the number of calls of each process in it.
+struct PartialMerge {
+    schedule: Schedule,
+    next: Vec<usize>,
+}
+
+/// The calls of a history with the local steps before each, as long as they are the traces'.
+fn merge_calls(
+    alloc: Global,
+    workers: &[WorkerResult],
+    history: &[Entry],
+) -> Result<Option<PartialMerge>, AllocError>
+    requires few { length workers.now ≤ 64 }
+    ensures merged { IfOk result (λ o. IfSome o (λ b. (starts : List ProcessValue) (limit : ℕ) → AreWorkerResults limit starts workers.now → IsLegal (empty_kernel (length starts)) history.now → IsMerged starts workers.now b.next.items (steps_of b.schedule) history.now [])) }
+    ensures counted { IfOk result (λ o. IfSome o (λ b. AreCounted workers.now b.next.items (steps_of b.schedule))) }
+    ensures len { IfOk result (λ o. IfSome o (λ b. length b.next.items ≡ length workers.now)) }
+{
+    let mut schedule = Schedule::new(alloc);
+    let mut next: Vec<usize> = vec![in alloc; 0; workers.len()]?;
+    for entry in history {
+        let Some(before) = item(workers, &next, entry) else {
+            return Ok(None);
+        };
+        if !add(&mut schedule, entry.pid, before + 1)? {
+            return Ok(None);
+        }
+        next[entry.pid] += 1;
+    }
+    Ok(Some(PartialMerge { schedule, next }))
+}
+
+/// Adds the local steps after the last call of each trace, where no trace has a call left.
+fn merge_ends(
+    workers: &[WorkerResult],
+    partial: PartialMerge,
+) -> Result<Option<Schedule>, AllocError>
+    requires few { length workers.now ≤ 64 }
+    requires len { length partial.next.items ≡ length workers.now }
+    ensures course { IfOk result (λ o. IfSome o (λ s. (starts : List ProcessValue) (history : List EntryValue) → IsMerged starts workers.now partial.next.items (steps_of partial.schedule) history [] → IsCourse (initial_world starts) (steps_of s) (final_world (length starts) workers.now history) history)) }
+    ensures counts { IfOk result (λ o. IfSome o (λ s. AreCounted workers.now partial.next.items (steps_of partial.schedule) → (p : ℕ) (k : WorkerResultValue) → slice_get workers.now p ≡ Some k → count p (steps_of s) ≡ steps k.trace)) }
+{
+    let PartialMerge { mut schedule, next } = partial;
+    for pid in 0..workers.len() {
+        let trace = &workers[pid].trace;
+        if next[pid] != trace.calls.len() || !add(&mut schedule, pid, trace.after)? {
+            return Ok(None);
+        }
+    }
+    Ok(Some(schedule))
+}
+
+/// One list of the steps of all workers, in which the calls stand as in the history. There is none
+/// where the history's calls and answers aren't the traces', or where the steps are too many for a
+/// schedule.
+pub(crate) fn merge(
+    alloc: Global,
+    workers: &[WorkerResult],
+    history: &[Entry],
+) -> Result<Option<Schedule>, AllocError>
+    requires few { length workers.now ≤ 64 }
+    ensures course { IfOk result (λ o. IfSome o (λ s. (starts : List ProcessValue) (limit : ℕ) → AreWorkerResults limit starts workers.now → IsLegal (empty_kernel (length starts)) history.now → IsCourse (initial_world starts) (steps_of s) (final_world (length starts) workers.now history.now) history.now)) }
+    ensures counts { IfOk result (λ o. IfSome o (λ s. (p : ℕ) (k : WorkerResultValue) → slice_get workers.now p ≡ Some k → count p (steps_of s) ≡ steps k.trace)) }
+{
+    match merge_calls(alloc, workers, history)? {
+        None => Ok(None),
+        Some(partial) => merge_ends(workers, partial),
+    }
+}

@@ -1,0 +1,247 @@
+//! The monitor: the book, and what the workers tell one another beside it, under one lock.
+ghost use Rattle.std.specs.Prelude.{◌≡◌, false, true};
+ghost use Rattle.lab_threads.specs.CallOutcome.{IsCallOutcome};
+
+use crate::Book;
+use crate::start::CommonStart;
+use ipc_kernel::{Answer, Call, Reply};
+use std::alloc::{AllocError, Global};
+use std::sync::{Condvar, Mutex, MutexGuard, Wait};
+
+/// The book, and what the workers tell one another. No contract rests on what stands beside the
+/// book.
+#[derive(Drop)]
+pub(crate) struct SharedState {
+    book: Book,
+    /// Which workers wait for a call that couldn't go when it was last looked at.
+    blocked: Vec<bool>,
+    /// How many these are.
+    waiting: usize,
+    /// How many workers neither wait so nor have stopped.
+    active: usize,
+}
+
+/// The state under its lock, what wakes each worker, and where the workers start.
+#[derive(Drop)]
+pub(crate) struct Monitor {
+    state: Mutex<SharedState>,
+    wakeups: Vec<Condvar>,
+    start: CommonStart,
+}
+
+/// What comes of a call. A reply comes with a copy, made before the call.
+#[derive(Drop)]
+pub(crate) enum CallOutcome {
+    /// The call doesn't fit the book.
+    Rejected,
+    /// Memory was refused.
+    NoMemory,
+    /// The process waits. `fits` is false where a later try didn't fit the book.
+    Blocked { fits: bool },
+    /// The first try was answered.
+    Answered { reply: Reply, copy: Reply },
+    /// The process waited, and then a try was answered.
+    AnsweredAfterWait { reply: Reply, copy: Reply },
+}
+
+impl SharedState {
+    /// Tries a call.
+    fn try_call(&mut self, alloc: Global, pid: usize, call: &Call) -> CallOutcome
+        ensures { IsCallOutcome call.now false result }
+    {
+        if !self.book.fits(pid, call) {
+            return CallOutcome::Rejected;
+        }
+        let Ok(copy) = self.book.kernel().answer(alloc, pid, call) else {
+            return CallOutcome::NoMemory;
+        };
+        let Ok(answer) = self.book.call(alloc, pid, call) else {
+            return CallOutcome::NoMemory;
+        };
+        match (answer, copy) {
+            (Answer::Done(reply), Answer::Done(copy)) => CallOutcome::Answered { reply, copy },
+            _ => CallOutcome::Blocked { fits: true },
+        }
+    }
+
+    /// Whether a worker waits for a call that couldn't go when it was last looked at.
+    fn is_blocked(&self, pid: usize) -> bool {
+        match self.blocked.get(pid) {
+            Some(blocked) => *blocked,
+            None => false,
+        }
+    }
+
+    /// Counts a worker as one that waits.
+    fn begin_wait(&mut self, pid: usize) {
+        if let Some(blocked) = self.blocked.get_mut(pid) {
+            *blocked = true;
+        }
+        self.waiting = self.waiting.saturating_add(1);
+        self.active = self.active.saturating_sub(1);
+    }
+
+    /// Counts a worker that waits as active where its call could go now; whether it was counted.
+    fn end_wait(&mut self, pid: usize) -> bool {
+        if !self.is_blocked(pid) || pid >= self.book.count() || !self.book.can_go(pid) {
+            return false;
+        }
+        if let Some(blocked) = self.blocked.get_mut(pid) {
+            *blocked = false;
+        }
+        self.waiting = self.waiting.saturating_sub(1);
+        self.active = self.active.saturating_add(1);
+        true
+    }
+
+    /// Counts a worker as one that has stopped.
+    fn stop(&mut self) {
+        self.active = self.active.saturating_sub(1);
+    }
+
+    /// Whether a worker that waits may still be woken.
+    fn can_be_woken(&self) -> bool {
+        self.active > 0
+    }
+}
+
+impl Monitor {
+    /// A monitor with this book, where no worker has stopped or waits.
+    pub(crate) fn new(alloc: Global, book: Book) -> Result<Monitor, AllocError> {
+        let count = book.count();
+        let mut wakeups = Vec::with_capacity(alloc, count)?;
+        for _ in 0..count {
+            wakeups.push(Condvar::new())?;
+        }
+        Ok(Monitor {
+            state: Mutex::new(SharedState {
+                book,
+                blocked: vec![in alloc; false; count]?,
+                waiting: 0,
+                active: count,
+            }),
+            wakeups,
+            start: CommonStart::new(count),
+        })
+    }
+
+    /// The book, once all workers have gone.
+    pub(crate) fn into_book(self) -> Book {
+        let Monitor { state, .. } = self;
+        let SharedState { book, .. } = state.into_inner();
+        book
+    }
+
+    /// Makes a call, and where it must wait and the worker may, waits for its answer: until some
+    /// try is answered, or until every worker has stopped or waits for a call that can't go.
+    pub(crate) fn call<R: Wait>(
+        &self,
+        rt: &R,
+        alloc: Global,
+        pid: usize,
+        call: &Call,
+        may_wait: bool,
+    ) -> CallOutcome
+        ensures { IsCallOutcome call.now may_wait result }
+    {
+        let mut state = self.state.lock(rt);
+        match state.try_call(alloc, pid, call) {
+            CallOutcome::Blocked { .. } if may_wait => {
+                self.wait_for_answer(rt, alloc, state, pid, call)
+            }
+            outcome => {
+                self.wake_ready(&mut *state);
+                outcome
+            }
+        }
+    }
+
+    /// Waits until the call of a process could go and tries it again, until a try is answered or
+    /// none ever will be.
+    fn wait_for_answer<'a, R: Wait>(
+        &'a self,
+        rt: &R,
+        alloc: Global,
+        mut state: MutexGuard<'a, SharedState>,
+        pid: usize,
+        call: &Call,
+    ) -> CallOutcome
+        ensures { IsCallOutcome call.now true result }
+    {
+        for _ in rt.forever() {
+            state.begin_wait(pid);
+            state = self.sleep(rt, state, pid);
+            if state.is_blocked(pid) {
+                break;
+            }
+            match state.try_call(alloc, pid, call) {
+                CallOutcome::Answered { reply, copy } => {
+                    self.wake_ready(&mut *state);
+                    return CallOutcome::AnsweredAfterWait { reply, copy };
+                }
+                CallOutcome::Rejected => return CallOutcome::Blocked { fits: false },
+                CallOutcome::Blocked { .. } => {}
+                _ => break,
+            }
+        }
+        CallOutcome::Blocked { fits: true }
+    }
+
+    /// Sleeps until the call of a process that waits could go, or no worker is active.
+    fn sleep<'a, R: Wait>(
+        &'a self,
+        rt: &R,
+        state: MutexGuard<'a, SharedState>,
+        pid: usize,
+    ) -> MutexGuard<'a, SharedState> {
+        if !state.can_be_woken() {
+            self.wake_all();
+        }
+        match self.wakeups.get(pid) {
+            Some(wakeup) => wakeup.wait_while(rt, state, |state| {
+                state.is_blocked(pid) && state.can_be_woken()
+            }),
+            None => state,
+        }
+    }
+
+    /// Wakes each worker that waits for a call that could go now, and no other.
+    fn wake_ready(&self, state: &mut SharedState) {
+        if state.waiting == 0 {
+            return;
+        }
+        for (pid, wakeup) in self.wakeups.iter().enumerate() {
+            if state.end_wait(pid) {
+                wakeup.notify_one();
+            }
+        }
+    }
+
+    /// Wakes all workers.
+    fn wake_all(&self) {
+        for wakeup in &self.wakeups {
+            wakeup.notify_one();
+        }
+    }
+
+    /// Returns when all workers are there.
+    pub(crate) fn meet<R: Wait>(&self, rt: &R) {
+        self.start.meet(rt);
+    }
+
+    /// Tells that a worker couldn't be started: it counts as there, and as stopped.
+    pub(crate) fn stop_missing<R: Wait>(&self, rt: &R) {
+        self.start.count_missing();
+        self.stop(rt);
+    }
+
+    /// Tells that a worker has stopped. Where no other is active, those that wait are woken, and
+    /// stop too.
+    pub(crate) fn stop<R: Wait>(&self, rt: &R) {
+        let mut state = self.state.lock(rt);
+        state.stop();
+        if !state.can_be_woken() {
+            self.wake_all();
+        }
+    }
+}

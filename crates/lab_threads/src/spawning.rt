@@ -1,0 +1,95 @@
+//! How the workers are started, each on a thread of its own, and joined.
+ghost use Rattle.std.specs.Prelude.{◌≡◌, ℕ, List, map, IfOk};
+ghost use Rattle.lab_sched.specs.declared.process.Process.{Process as ProcessValue};
+ghost use Rattle.lab_threads.specs.Promised.{promised, due};
+ghost use Rattle.lab_threads.specs.WorkerResults.{AreWorkerResults};
+
+use crate::monitor::Monitor;
+use crate::worker::work;
+use crate::worker_result::{WorkerPromise, WorkerResult};
+use crate::{Gate, RunFault};
+use lab_sched::Process;
+use std::alloc::Global;
+use std::snapshot::Snapshot;
+use std::sync::Wait;
+use std::thread;
+use std::thread::{PromisedHandle, Scope, Threads};
+
+/// Starts a worker for each process. Where one can't be started, those that were not started count
+/// as there, and as stopped.
+fn spawn_all<'s, E, R: Threads + Wait + Sync, G: Gate>(
+    scope: &Scope<'s, E>,
+    rt: &'s R,
+    alloc: Global,
+    monitor: &'s Monitor,
+    gate: &'s G,
+    starts: Vec<Process>,
+    limit: u32,
+) -> Result<Vec<PromisedHandle<WorkerResult, WorkerPromise>>, RunFault>
+    ensures { IfOk result (λ hs. map promised hs.items ≡ map (due limit) starts.items) }
+{
+    let count = starts.len();
+    let mut starts = starts;
+    let Ok(mut handles) = Vec::with_capacity(alloc, count) else {
+        return Err(RunFault::NoMemory);
+    };
+    let mut pid = 0;
+    while !starts.is_empty() {
+        let start = starts.remove(0);
+        let promise = WorkerPromise {
+            start: Snapshot::of(&start),
+            limit,
+        };
+        let worker = move || work(rt, alloc, monitor, gate, pid, start, limit);
+        let Ok(handle) = scope.spawn_with(promise, worker) else {
+            stop_missing(rt, monitor, count - pid);
+            return Err(RunFault::Spawn);
+        };
+        handles.push_reserved(handle);
+        pid += 1;
+    }
+    Ok(handles)
+}
+
+/// Tells that so many workers couldn't be started.
+fn stop_missing<R: Wait>(rt: &R, monitor: &Monitor, count: usize) {
+    for _ in 0..count {
+        monitor.stop_missing(rt);
+    }
+}
+
+/// What the workers bring back, each of which keeps its promise.
+fn joined<R: Threads>(
+    rt: &R,
+    handles: Vec<PromisedHandle<WorkerResult, WorkerPromise>>,
+) -> Result<Vec<WorkerResult>, RunFault>
+    ensures { IfOk result (λ ws. (starts : List ProcessValue) (limit : ℕ) → map promised handles.items ≡ map (due limit) starts → AreWorkerResults limit starts ws.items) }
+{
+    match thread::join_promised(rt, handles) {
+        Ok(workers) => Ok(workers),
+        Err(_) => Err(RunFault::NoMemory),
+    }
+}
+
+/// Runs a worker for each process, and joins them all.
+pub(crate) fn run_workers<R: Threads + Wait + Sync, G: Gate>(
+    rt: &R,
+    alloc: Global,
+    monitor: &Monitor,
+    gate: &G,
+    starts: Vec<Process>,
+    limit: u32,
+) -> Result<Vec<WorkerResult>, RunFault>
+    ensures { IfOk result (λ ws. AreWorkerResults limit starts.items ws.items) }
+{
+    thread::scope(
+        thread::scope_env(),
+        rt,
+        |scope| -> Result<Vec<WorkerResult>, RunFault>
+            ensures { IfOk result (λ ws. AreWorkerResults limit starts.items ws.items) }
+        {
+            let handles = spawn_all(scope, rt, alloc, monitor, gate, starts, limit)?;
+            joined(rt, handles)
+        },
+    )
+}

@@ -1,0 +1,61 @@
+//! What a worker writes down.
+ghost use Rattle.std.specs.Prelude.{◌≡◌, ◌+◌, ◌<◌, ◌≤◌, ◌^◌, OnOk, vec_len, vec_capacity};
+ghost use Rattle.lab_sched.specs.Worlds.{Process};
+ghost use Rattle.lab_sched.specs.Alone.{AreLocal, IsTold};
+ghost use Rattle.lab_threads.specs.WorkerLogs.{LeadsOn, allowed};
+
+use ipc_kernel::{Answer, Call};
+use lab_sched::Trace;
+use std::alloc::AllocError;
+
+/// The trace of a worker's process, how many steps it may still take, and how many calls it has
+/// come to.
+#[derive(Drop)]
+pub(crate) struct WorkerLog {
+    pub trace: Trace,
+    pub left: u32,
+    pub calls: u32,
+}
+
+impl WorkerLog {
+    /// Makes room for two calls.
+    pub(crate) fn reserve(&mut self) -> Result<(), AllocError>
+        ensures room { OnOk result
+            (vec_len self.new.trace.calls + 2 ≤ vec_capacity self.new.trace.calls) }
+        ensures alone { (x : Process) → LeadsOn self.old x self.new x }
+        ensures allowed { allowed self.new ≡ allowed self.old }
+        ensures left { self.new.left ≡ self.old.left }
+    {
+        self.trace.reserve()
+    }
+
+    /// Whether the next local step is the first since the last call.
+    pub(crate) fn is_at_call(&self) -> bool {
+        self.trace.after == 0
+    }
+
+    /// Writes down so many local steps.
+    pub(crate) fn add_local(&mut self, count: u32)
+        requires left { count ≤ self.old.left }
+        requires few { allowed self.old < 2 ^ 32 }
+        ensures alone { (x y : Process) → AreLocal count x y → LeadsOn self.old x self.new y }
+        ensures allowed { allowed self.new ≡ allowed self.old }
+    {
+        self.trace.add_local(count);
+        self.left -= count;
+    }
+
+    /// Writes down a call with its answer.
+    pub(crate) fn add_call(&mut self, call: Call, answer: Answer)
+        requires left { 0 < self.old.left }
+        requires room { vec_len self.old.trace.calls < vec_capacity self.old.trace.calls }
+        ensures alone { (x y : Process) → IsTold x call answer y → LeadsOn self.old x self.new y }
+        ensures allowed { allowed self.new ≡ allowed self.old }
+        ensures left { self.new.left + 1 ≡ self.old.left }
+        ensures len { vec_len self.new.trace.calls ≡ vec_len self.old.trace.calls + 1 }
+        ensures room { vec_capacity self.new.trace.calls ≡ vec_capacity self.old.trace.calls }
+    {
+        self.trace.add_call(call, answer);
+        self.left -= 1;
+    }
+}
