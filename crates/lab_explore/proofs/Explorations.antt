@@ -9,9 +9,10 @@ use Rattle.ipc_kernel.specs.Processes.{closed_process}
 use Rattle.ipc_kernel.specs.Alike.{IsConsistent}
 use Rattle.ipc_kernel.proofs.Consistents.{consistent_empty}
 use Rattle.lab_explore.specs.Calls.{AreAlike}
-use Rattle.lab_explore.proofs.AlikeWorlds.{world_then, rest_alike, stuck_alike, consistent_run}
+use Rattle.lab_explore.proofs.AlikeWorlds.{world_then, world_back, rest_alike, one_verdict, consistent_run}
 use Rattle.lab_sched.specs.Worlds.{HaveOneProfile, Process, Running, Waiting, Ended, WorldState, turn, turn_in, run}
 use Rattle.lab_sched.specs.Finished.{IsAtRest}
+use Rattle.lab_sched.specs.Schedules.{steps_of}
 use Rattle.lab_sched.specs.Verdicts.{IsVerdict, IsWaiting, HasEnded, AreStuck}
 use Rattle.lab_sched.specs.declared.verdict.Verdict.{Verdict}
 use Rattle.lab_sched.specs.declared.verdict.Verdict.TheVariants as verdict
@@ -50,15 +51,18 @@ pub lengths : (w : WorldState) (ps : List Kept) → map seen ps ≡ w.processes 
 lengths w ps processes = ap length (sym processes) ∙ length-map ps seen
 
 -- all ends, where the worlds of a store are closed, and each of them that is at rest has its end
-pub all_ends : (fresh start : WorldState) (t : Store) (ends : List End) → fresh ≡ start → IsConsistent start.kernel → IsClosed start (Holds t) → ((i : ℕ) (w : WorldState) → IsAt t i w → AreAtRest w → HasEnd ends w)
+pub all_ends : (fresh start : WorldState) (t : Store) (ends : List End) → fresh ≡ start → IsConsistent start.kernel → Each (IsEnd fresh) ends → IsClosed start (Holds t) → ((i : ℕ) (w : WorldState) → IsAt t i w → AreAtRest w → HasEnd ends w)
     → HaveAllEnds fresh ends
-all_ends fresh start t ends same consistent closed all =
+all_ends fresh start t ends same consistent each closed all =
     subst (λ s. HaveAllEnds s ends) (sym same)
     (λ ps rest.
     let w = run start ps in
     let held = has_every_end start (Holds t) consistent closed ps rest in
     let found = all held.1.0 held.0 held.1.1 (rest_alike w held.0 (consistent_run ps start consistent) held.2 rest) in
-    (found.0, found.1, found.2, world_then w held.0 found.1.world held.2 found.3))
+    let alike = world_then w held.0 found.1.world held.2 found.3 in
+    let end = subst (λ s. Each (IsEnd s) ends) same each found.0 found.1 found.2 in
+    let there = subst (λ (x : WorldState). IsConsistent x.kernel) end.leads (consistent_run (steps_of found.1.schedule) start consistent) in
+    (found.0, found.1, found.2, alike, one_verdict found.1.world w found.1.verdict there (world_back w found.1.world alike) end.verdict))
 
 pub same_ends : (fresh start : WorldState) (ends : List End) → fresh ≡ start → Each (IsEnd start) ends → Each (IsEnd fresh) ends
 same_ends fresh start ends same each = subst (λ s. Each (IsEnd s) ends) (sym same) each
@@ -111,13 +115,10 @@ stuck_verdict w verdict.Stuck stuck h = refl
 stuck_verdict w verdict.Open stuck h = absurd (h.1 stuck)
 
 -- where no end of all is stuck, no steps lead to a world that is
-pub never_stuck : (start : WorldState) (ends : List End) → IsConsistent start.kernel → Each (IsEnd start) ends → HaveAllEnds start ends → NoneStuck ends → NeverStuck start
-never_stuck start ends consistent each all none ps stuck =
-    let w = run start ps in
-    let rest = verdict_rests w verdict.Stuck stuck (λ e. absurd (cc)) in
-    let has = all ps rest in
-    let stands = (each has.0 has.1 has.2).verdict in
-    none has.0 has.1 has.2 (stuck_verdict has.1.world has.1.verdict (stuck_alike w has.1.world (consistent_run ps start consistent) has.3 stuck) stands)
+pub never_stuck : (start : WorldState) (ends : List End) → HaveAllEnds start ends → NoneStuck ends → NeverStuck start
+never_stuck start ends all none ps stuck =
+    let has = all ps (verdict_rests (run start ps) verdict.Stuck stuck (λ e. absurd (cc))) in
+    none has.0 has.1 has.2 (stuck_verdict (run start ps) has.1.verdict stuck has.4)
 
 -- the kernel of a laboratory before its first step is consistent
 pub fresh_consistent : (w : WorldState) (n : ℕ) → w.kernel ≡ empty_kernel n → IsConsistent w.kernel

@@ -35,10 +35,14 @@ pub record IsEnd (start : WorldState) (e : End) : Type 0 where
 abbrev pub HasEnd : List End → WorldState → Type 0
 HasEnd ends w = (i : ℕ) × (e : End) × (slice_get ends i ≡ Some e) × AreAlike w e.world
 
+-- one of the ends is in a world alike, and its verdict is the world's
+abbrev pub IsTold : List End → WorldState → Type 0
+IsTold ends w = (i : ℕ) × (e : End) × (slice_get ends i ≡ Some e) × AreAlike w e.world × IsVerdict w e.verdict
+
 -- whatever steps are taken from the start, effective or not: if the world after them is at rest, one of the ends is in a
--- world alike
+-- world alike, with its verdict
 abbrev pub HaveAllEnds : WorldState → List End → Type 0
-HaveAllEnds start ends = (ps : List ℕ) → AreAtRest (run start ps) → HasEnd ends (run start ps)
+HaveAllEnds start ends = (ps : List ℕ) → AreAtRest (run start ps) → IsTold ends (run start ps)
 
 -- no end is stuck
 abbrev pub NoneStuck : List End → Type 0

@@ -24,12 +24,12 @@ returns-in-Ok-clause-complete g c is =
     let processes = ap (map seen) c.deref.ensures.value ∙ c.processes-processes.ensures.processes in
     let count : c.len.result ≡ length ps = omega (arith, ap length c.deref.ensures.value) in
     let same = started c.args.fresh ps c.in_ok-kernel.kernel c.len.result processes c.processes-processes.ensures.empty count c.in_ok-kernel.ensures.empty in
-    all_ends c.args.fresh start c.in_ok-search.search.store c.in-Ok.found.ends.items same (fresh_consistent start c.len.result c.in_ok-kernel.ensures.empty)
+    all_ends c.args.fresh start c.in_ok-search.search.store c.in-Ok.found.ends.items same (fresh_consistent start c.len.result c.in_ok-kernel.ensures.empty) (returns-in-Ok-clause-sound g c)
     (all_closed c.in_ok-search.search.store start (c.in_ok-search.ensures.complete (c.in-Ok.ensures.complete is))) c.in-Ok.ensures.all
 
 pub returns-in-Ok-clause-free : goal.returns-in-Ok-clause-free
 returns-in-Ok-clause-free g c is none =
-    never_stuck c.args.fresh c.in-Ok.found.ends.items (fresh_consistent c.args.fresh _ c.processes-processes.ensures.empty) (returns-in-Ok-clause-sound g c) (returns-in-Ok-clause-complete g c is) none
+    never_stuck c.args.fresh c.in-Ok.found.ends.items (returns-in-Ok-clause-complete g c is) none
 
 pub returns-in-Ok-clause-round : goal.returns-in-Ok-clause-round
 returns-in-Ok-clause-round g c =
