@@ -110,7 +110,7 @@ pub fn begin_call(alloc: Global, process: &mut Process, vector: u8) -> Asking
 
 /// The process that the reply to its call makes of one that waits, and the call.
 #[inline(always)]
-fn replied(process: Process, reply: Reply) -> (Process, Call)
+fn replied_with_call(process: Process, reply: Reply) -> (Process, Call)
     requires held { IsHeld process }
     requires reply { CanTakeReply process reply }
     ensures told { seen result.0 ≡ after_reply (seen process) reply }
@@ -126,16 +126,38 @@ fn replied(process: Process, reply: Reply) -> (Process, Call)
     }
 }
 
-/// Gives a process that waits the reply to its call; with the call.
+/// The process that the reply to its call makes of one that waits.
 #[inline(always)]
-pub fn take_reply(process: &mut Process, reply: Reply) -> Call
+fn replied(process: Process, reply: Reply) -> (Process, ())
+    requires held { IsHeld process }
+    requires reply { CanTakeReply process reply }
+    ensures told { seen result.0 ≡ after_reply (seen process) reply }
+    ensures held { IsHeld result.0 }
+{
+    let (process, _) = replied_with_call(process, reply);
+    (process, ())
+}
+
+/// Gives a process that waits the reply to its call.
+#[inline(always)]
+pub fn take_reply(process: &mut Process, reply: Reply)
+    requires held { IsHeld process.old }
+    requires reply { CanTakeReply process.old reply }
+    ensures told { seen process.new ≡ after_reply (seen process.old) reply }
+    ensures held { IsHeld process.new }
+{
+    replace_with(process, reply, replied)
+}
+
+/// Gives a process that waits the reply to its call; with the call.
+pub fn take_reply_with_call(process: &mut Process, reply: Reply) -> Call
     requires held { IsHeld process.old }
     requires reply { CanTakeReply process.old reply }
     ensures told { seen process.new ≡ after_reply (seen process.old) reply }
     ensures call { AsksFor (seen process.old) result }
     ensures held { IsHeld process.new }
 {
-    replace_with(process, reply, replied)
+    replace_with(process, reply, replied_with_call)
 }
 
 /// The process as it was before it began to wait.
@@ -198,7 +220,7 @@ fn retry(process: &mut Process, kernel: &mut Kernel, pid: usize) -> Result<Stepp
         Process::Waiting(_, call) => match kernel.call(pid, call)? {
             Answer::Wait => Ok(Stepped::Same),
             Answer::Done(reply) => {
-                let _ = take_reply(process, reply);
+                take_reply(process, reply);
                 Ok(Stepped::Called)
             }
         },

@@ -3,7 +3,7 @@ use Rattle.lc3_machine.specs.Process.{Held}
 use Rattle.lc3_machine.specs.Reply.{CanTake, answered}
 use Rattle.ipc_traps.specs.Reply.{HasRoom, replied}
 use Rattle.lab_sched.proofs.Locals.{reply_room, reply_told}
-use Rattle.lab_sched.proofs.stepping.replied.Goals as goal
+use Rattle.lab_sched.proofs.stepping.replied_with_call.Goals as goal
 
 pub finish-requires : goal.finish-requires
 finish-requires c =
