@@ -1,5 +1,5 @@
 //! Renamings of the object places.
-ghost use Rattle.std.specs.Prelude.{◌≡◌, ◌<◌, IsTrue};
+ghost use Rattle.std.specs.Prelude.{◌≡◌, ◌↔◌, ◌<◌, IsTrue};
 ghost use Rattle.ipc_kernel.specs.Limits.{object_places};
 ghost use Rattle.ipc_kernel.specs.Alike.{IsPermutation, ExchangesAt, renamed_by};
 
@@ -75,7 +75,7 @@ impl Renaming {
 
     /// Whether the renaming takes a place to a place and back, and the other way round.
     fn exchanges(&self, place: u8) -> bool
-        ensures { IsTrue result → ExchangesAt (renamed_by self.now.to)
+        ensures { IsTrue result ↔ ExchangesAt (renamed_by self.now.to)
             (renamed_by self.now.from) place }
     {
         let there = renamed(&self.to, place);
