@@ -167,8 +167,12 @@ alike_back k j a = (
     process_back : (p : Process) → renamed_process (λ i. g (f i)) p ≡ p
     process_back p =
         ap (λ ds. tables ds (map (option_map (renamed_slot (λ i. g (f i)))) p.slots))
-            (map_id (option_map (renamed_descriptor (λ i. g (f i)))) (option_id (renamed_descriptor (λ i. g (f i))) (λ d. ap (λ n. record d { place = n }) (h.undone d.place))) p.descriptors)
+        (map_id (option_map (renamed_descriptor (λ i. g (f i)))) (option_id (renamed_descriptor (λ i. g (f i))) (λ d. ap (λ n. record d { place = n }) (h.undone d.place))) p.descriptors)
         ∙ ap (tables p.descriptors) (map_id (option_map (renamed_slot (λ i. g (f i)))) (option_id (renamed_slot (λ i. g (f i))) (λ s. ap (λ n. record s { place = n }) (h.undone s.place))) p.slots)
+
+-- and so is an equal one
+pub alike_same : (k j : KernelState) → k ≡ j → IsAlike k j
+alike_same k j same = subst (λ x. IsAlike k x) same (alike_itself k)
 
 -- two places exchanged
 abbrev pub swap : ℕ → ℕ → ℕ → ℕ

@@ -27,8 +27,8 @@ pub fn count_law()
         length (answer k p c).1.processes ≡ length k.processes }
 {}
 
-/// The numbers of the object places show in no answer: kernels that are alike answer each call alike,
-/// and are alike after it.
+/// The numbers of the object places show in no answer: kernels that are alike answer each call
+/// alike, and are alike after it.
 pub fn alike_law()
     ensures alike { AnswersAlike }
 {}

@@ -1,5 +1,5 @@
 //! Renamings of the object places.
-ghost use Rattle.std.specs.Prelude.{◌≡◌, ◌<◌, IsTrue};
+ghost use Rattle.std.specs.Prelude.{◌≡◌, ◌↔◌, ◌<◌, IsTrue};
 ghost use Rattle.ipc_kernel.specs.Limits.{object_places};
 ghost use Rattle.ipc_kernel.specs.Alike.{IsPermutation, ExchangesAt, renamed_by};
 
@@ -75,7 +75,8 @@ impl Renaming {
 
     /// Whether the renaming takes a place to a place and back, and the other way round.
     fn exchanges(&self, place: u8) -> bool
-        ensures { IsTrue result → ExchangesAt (renamed_by self.now.to) (renamed_by self.now.from) place }
+        ensures { IsTrue result ↔ ExchangesAt (renamed_by self.now.to)
+            (renamed_by self.now.from) place }
     {
         let there = renamed(&self.to, place);
         let back = renamed(&self.from, place);
@@ -84,7 +85,8 @@ impl Renaming {
 
     /// Whether the renaming takes each place to a place, and back.
     pub(crate) fn is_permutation(&self) -> bool
-        ensures yes { IsTrue result → IsPermutation (renamed_by self.now.to) (renamed_by self.now.from) }
+        ensures yes { IsTrue result → IsPermutation (renamed_by self.now.to)
+            (renamed_by self.now.from) }
     {
         for place in 0..NOWHERE {
             if !self.exchanges(place) {

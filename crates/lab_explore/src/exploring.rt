@@ -29,10 +29,9 @@ pub struct Exploration {
 /// with fewer calls first. Each end has a schedule of effective steps that leads to it. Where the
 /// exploration is complete, there is no other end, whatever steps are taken, in any order, but for
 /// the numbers of places in the kernel; and if then no end is stuck, no such steps lead to a world
-/// that is. A round shows that some effective
-/// steps never end; where the exploration is complete and has no round, each list of effective
-/// steps ends, after no more than some number of them. The observer is told of the worlds as they
-/// are visited.
+/// that is. A round shows that some effective steps never end; where the exploration is complete
+/// and has no round, each list of effective steps ends, after no more than some number of them. The
+/// observer is told of the worlds as they are visited.
 pub fn explore<O: Observer>(
     alloc: Global,
     fresh: Fresh,

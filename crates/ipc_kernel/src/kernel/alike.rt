@@ -18,18 +18,21 @@ impl Kernel {
 
     /// Whether another kernel is this one with its places renamed so.
     fn is_renamed(&self, other: &Kernel, renaming: &Renaming) -> bool
-        ensures yes { IsTrue result → IsRenaming (renamed_by renaming.now.to) (renamed_by renaming.now.from) self.now other.now }
+        ensures yes { IsTrue result → IsRenaming (renamed_by renaming.now.to)
+            (renamed_by renaming.now.from) self.now other.now }
     {
         renaming.is_permutation()
             && self.places.are_renamed(&other.places, &renaming.to)
             && self.processes.are_renamed(&other.processes, &renaming.to)
     }
 
-    /// Whether another kernel is this one with its places renamed. Then no answer tells them apart
-    /// (`laws::alike_law`).
+    /// Whether another kernel is this one, or this one with its places renamed. Then no answer tells
+    /// them apart (`laws::alike_law`).
+    #[tactic(auto, using(crate::proofs::Alikes::alike_same))]
     pub fn is_alike(&self, other: &Kernel) -> bool
         ensures alike { IsTrue result → IsAlike self.now other.now }
+        ensures same { self.now ≡ other.now → IsTrue result }
     {
-        self.is_renamed(other, &self.renaming_to(other))
+        self.is_same(other) || self.is_renamed(other, &self.renaming_to(other))
     }
 }

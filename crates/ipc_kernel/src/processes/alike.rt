@@ -1,14 +1,16 @@
 //! Whether the tables of processes are others in which the places are renamed.
-ghost use Rattle.std.specs.Prelude.{◌≡◌, IsTrue, map};
+ghost use Rattle.std.specs.Prelude.{◌≡◌, ◌↔◌, IsTrue, map};
 ghost use Rattle.std.specs.Option.{option_map};
-ghost use Rattle.ipc_kernel.specs.Alike.{renamed_by, renamed_descriptor, renamed_slot, renamed_process};
+ghost use Rattle.ipc_kernel.specs.Alike.{renamed_by};
+ghost use Rattle.ipc_kernel.specs.Alike.{renamed_descriptor, renamed_slot, renamed_process};
 
 use super::Processes;
 use crate::process::{Descriptor, Process, Slot};
 use crate::renaming::{Renaming, renamed};
 
 fn is_renamed_descriptor(held: &Option<Descriptor>, other: &Option<Descriptor>, to: &[u8]) -> bool
-    ensures { IsTrue result → other.now ≡ option_map (renamed_descriptor (renamed_by to.now)) held.now }
+    ensures { IsTrue result ↔ (other.now
+        ≡ option_map (renamed_descriptor (renamed_by to.now)) held.now) }
 {
     match (held, other) {
         (Some(held), Some(other)) => {
@@ -22,7 +24,8 @@ fn is_renamed_descriptor(held: &Option<Descriptor>, other: &Option<Descriptor>, 
 }
 
 fn is_renamed_slot(held: &Option<Slot>, other: &Option<Slot>, to: &[u8]) -> bool
-    ensures { IsTrue result → other.now ≡ option_map (renamed_slot (renamed_by to.now)) held.now }
+    ensures { IsTrue result ↔ (other.now
+        ≡ option_map (renamed_slot (renamed_by to.now)) held.now) }
 {
     match (held, other) {
         (Some(held), Some(other)) => {
@@ -38,7 +41,8 @@ fn are_renamed_descriptors(
     others: &[Option<Descriptor>],
     to: &[u8],
 ) -> bool
-    ensures { IsTrue result → others.now ≡ map (option_map (renamed_descriptor (renamed_by to.now))) helds.now }
+    ensures { IsTrue result ↔ (others.now
+        ≡ map (option_map (renamed_descriptor (renamed_by to.now))) helds.now) }
 {
     if helds.len() != others.len() {
         return false;
@@ -52,7 +56,8 @@ fn are_renamed_descriptors(
 }
 
 fn are_renamed_slots(helds: &[Option<Slot>], others: &[Option<Slot>], to: &[u8]) -> bool
-    ensures { IsTrue result → others.now ≡ map (option_map (renamed_slot (renamed_by to.now))) helds.now }
+    ensures { IsTrue result ↔ (others.now
+        ≡ map (option_map (renamed_slot (renamed_by to.now))) helds.now) }
 {
     if helds.len() != others.len() {
         return false;
@@ -66,14 +71,15 @@ fn are_renamed_slots(helds: &[Option<Slot>], others: &[Option<Slot>], to: &[u8])
 }
 
 fn is_renamed_process(process: &Process, other: &Process, to: &[u8]) -> bool
-    ensures { IsTrue result → other.now ≡ renamed_process (renamed_by to.now) process.now }
+    ensures { IsTrue result ↔ (other.now ≡ renamed_process (renamed_by to.now) process.now) }
 {
     are_renamed_descriptors(&process.descriptors, &other.descriptors, to)
         && are_renamed_slots(&process.slots, &other.slots, to)
 }
 
 fn are_renamed(processes: &[Process], others: &[Process], to: &[u8]) -> bool
-    ensures { IsTrue result → others.now ≡ map (renamed_process (renamed_by to.now)) processes.now }
+    ensures { IsTrue result ↔ (others.now
+        ≡ map (renamed_process (renamed_by to.now)) processes.now) }
 {
     if processes.len() != others.len() {
         return false;
@@ -103,7 +109,8 @@ fn pair_process(process: &Process, other: &Process, pairs: &mut Renaming) {
 impl Processes {
     /// Whether other tables are these, with each place where a list takes it.
     pub(crate) fn are_renamed(&self, other: &Processes, to: &[u8]) -> bool
-        ensures renamed { IsTrue result → other.now ≡ map (renamed_process (renamed_by to.now)) self.now }
+        ensures renamed { IsTrue result ↔ (other.now
+            ≡ map (renamed_process (renamed_by to.now)) self.now) }
     {
         are_renamed(self.tables.as_slice(), other.tables.as_slice(), to)
     }
