@@ -102,8 +102,8 @@ impl Fresh {
         Ok(Fresh { processes, kernel })
     }
 
-    /// The processes at their starts, 1 to 64, each running, all of one profile. The kernel that they
-    /// were to share is empty.
+    /// The processes at their starts, 1 to 64, each running, all of one profile. The kernel that
+    /// they were to share is empty.
     pub fn processes(self) -> Vec<Process>
         ensures processes { map seen result.items ≡ self.processes }
         ensures running { All Runs result.items }

@@ -21,7 +21,8 @@ impl Running {
         input: &[u8],
         profile: Profile,
     ) -> Result<Running, AllocError>
-        ensures start { IfOk result (λ r. r ≡ start profile image.now.origin image.now.words input.now) }
+        ensures start { IfOk result
+            (λ r. r ≡ start profile image.now.origin image.now.words input.now) }
     {
         let machine = Box::new(
             alloc,
