@@ -91,7 +91,7 @@ pub renaming_closed : (f g : ℕ → ℕ) (k j : KernelState) → IsRenaming f g
 renaming_closed f g k j r p = renaming_processes f g k j r _ _ (ap (λ ps. set ps p closed_process) r.processes ∙ closed-renamed f k.processes p)
 
 -- one renaming after another
-permutation_then : (f g h i : ℕ → ℕ) → IsPermutation f g → IsPermutation h i → IsPermutation (λ n. h (f n)) (λ n. g (i n))
+pub permutation_then : (f g h i : ℕ → ℕ) → IsPermutation f g → IsPermutation h i → IsPermutation (λ n. h (f n)) (λ n. g (i n))
 permutation_then f g h i p q = record {
   undone = λ n. ap g (q.undone (f n)) ∙ p.undone n;
   redone = λ n. ap h (p.redone (i n)) ∙ q.redone n;
@@ -178,13 +178,13 @@ alike_same k j same = subst (λ x. IsAlike k x) same (alike_itself k)
 abbrev pub swap : ℕ → ℕ → ℕ → ℕ
 swap x y i = if i == x then y else if i == y then x else i
 
-swap_first : (x y i : ℕ) → i ≡ x → swap x y i ≡ y
+pub swap_first : (x y i : ℕ) → i ≡ x → swap x y i ≡ y
 swap_first x y i e = rw (eq-eqb i x e) refl
 
-swap_second : (x y i : ℕ) → i ≡ y → swap x y i ≡ x
+pub swap_second : (x y i : ℕ) → i ≡ y → swap x y i ≡ x
 swap_second x y i e = elim (eqb_tells i x) [ inl same ↦ rw same.0 (sym e ∙ same.1) | inr apart ↦ rw (apart.0, eq-eqb i y e) refl ]
 
-swap_other : (x y i : ℕ) → (i == x) ≡ false → (i == y) ≡ false → swap x y i ≡ i
+pub swap_other : (x y i : ℕ) → (i == x) ≡ false → (i == y) ≡ false → swap x y i ≡ i
 swap_other x y i e d = rw (e, d) refl
 
 -- what can be said of an exchanged place by its kind
@@ -206,7 +206,7 @@ swap_twice x y i = elim (eqb_tells i x) [
   ]
 ]
 
-swap_permutes : (x y : ℕ) → x < 64 → y < 64 → IsPermutation (swap x y) (swap x y)
+pub swap_permutes : (x y : ℕ) → x < 64 → y < 64 → IsPermutation (swap x y) (swap x y)
 swap_permutes x y h d = record {
   undone = swap_twice x y;
   redone = swap_twice x y;

@@ -8,6 +8,7 @@ use Rattle.ipc_kernel.specs.declared.process.Process.{Process}
 use Rattle.ipc_kernel.specs.declared.process.Slot.{Slot}
 use Rattle.ipc_kernel.specs.declared.process.Descriptor.{Descriptor}
 use Rattle.ipc_kernel.specs.declared.call.Call.{Call}
+use Rattle.ipc_kernel.specs.declared.renaming.Renaming.{Renaming}
 use Rattle.ipc_kernel.specs.Processes.{is_referred}
 use Rattle.ipc_kernel.specs.Places.{place_at, queue_name, semaphore_name}
 use Rattle.ipc_kernel.specs.Kernel.{KernelState}
@@ -67,6 +68,11 @@ StaysConsistent = (k : KernelState) (p : ℕ) (c : Call) → IsConsistent k → 
 abbrev pub renamed_by : List ℕ → ℕ → ℕ
 renamed_by to i = unwrap_or (slice_get to i) i
 
--- f takes the place to a place, and f and g undo each other there
-abbrev pub ExchangesAt : (ℕ → ℕ) → (ℕ → ℕ) → ℕ → Type 0
-ExchangesAt f g i = (f i < object_places) × (g (f i) ≡ i) × (f (g i) ≡ i)
+-- the two lists of a renaming undo each other, and rename the object places among themselves
+abbrev pub Permutes : Renaming → Type 0
+Permutes r = IsPermutation (renamed_by r.to) (renamed_by r.from)
+
+-- the later renaming takes an object place where f does if the earlier one does so, or if it is one of these
+pub record Follows (f : ℕ → ℕ) (these : ℕ → Type 0) (earlier later : Renaming) : Type 0 where
+  pub kept : (i : ℕ) → renamed_by earlier.to i ≡ f i → renamed_by later.to i ≡ f i
+  pub taken : (i : ℕ) → i < object_places → these i → renamed_by later.to i ≡ f i

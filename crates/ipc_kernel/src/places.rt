@@ -1,5 +1,5 @@
 //! The object places, with an index of the names of queues and one of the names of semaphores.
-ghost use Rattle.std.specs.Prelude.{◌≡◌, ◌+◌, ◌-◌, ◌<◌, ◌≤◌, length, position, replicate, slice_set, Some, None, IfOk, IfSome, IfNone, OnOk, OnErr};
+ghost use Rattle.std.specs.Prelude.{◌≡◌, ℕ, ◌+◌, ◌-◌, ◌<◌, ◌≤◌, length, position, replicate, slice_set, Some, None, IfOk, IfSome, IfNone, OnOk, OnErr};
 ghost use Rattle.std.specs.FinMap as fin;
 ghost use Rattle.std.specs.Prelude.{◌∷◌, IsSomeAnd, IsTrue, drop};
 ghost use Rattle.std.specs.Option.{option_map, option_copied};
@@ -8,7 +8,7 @@ ghost use Rattle.ipc_objects.specs.declared.queue.Message.{Message};
 ghost use Rattle.ipc_objects.specs.declared.limits.TheConstants.{SEM_VALUE_MAX, MQ_PRIO_MAX};
 ghost use Rattle.ipc_kernel.specs.Limits.{object_places};
 ghost use Rattle.ipc_kernel.specs.Places.{queue_in, with_queue, with_message, without_first, HasRoomFor, HasMessage, are_sizes, empty_queue};
-ghost use Rattle.ipc_kernel.specs.Places.{is_empty, semaphore_value, with_value, unnamed, queue_named, semaphore_named, queue_and_name, value_and_name, place_at, emptied};
+ghost use Rattle.ipc_kernel.specs.Places.{is_empty, semaphore_value, with_value, unnamed, queue_name, semaphore_name, queue_named, semaphore_named, queue_and_name, value_and_name, place_at, emptied};
 ghost use Rattle.ipc_kernel.specs.declared.place.Place.TheVariants.{Empty, Mq, Sem};
 
 mod alike;
@@ -212,6 +212,8 @@ impl Places {
     pub(crate) fn find_queue(&self, name: &Name) -> Option<u8>
         ensures found { result ≡ queue_named self.now name.now }
         ensures range { IfSome result (λ i. i < object_places) }
+        ensures only { (i : ℕ) → queue_name (place_at self.now i) ≡ Some name.now
+            → result ≡ Some i }
     {
         self.queue_names.find(name)
     }
@@ -219,6 +221,8 @@ impl Places {
     pub(crate) fn find_semaphore(&self, name: &Name) -> Option<u8>
         ensures found { result ≡ semaphore_named self.now name.now }
         ensures range { IfSome result (λ i. i < object_places) }
+        ensures only { (i : ℕ) → semaphore_name (place_at self.now i) ≡ Some name.now
+            → result ≡ Some i }
     {
         self.semaphore_names.find(name)
     }

@@ -1,12 +1,8 @@
 //! Renamings of the object places.
-ghost use Rattle.std.specs.Prelude.{◌≡◌, ◌↔◌, ◌<◌, IsTrue};
-ghost use Rattle.ipc_kernel.specs.Limits.{object_places};
-ghost use Rattle.ipc_kernel.specs.Alike.{IsPermutation, ExchangesAt, renamed_by};
+ghost use Rattle.std.specs.Prelude.{◌≡◌, ℕ};
+ghost use Rattle.ipc_kernel.specs.Alike.{IsPermutation, Permutes, Follows, renamed_by};
 
 use crate::places::PLACES;
-
-/// No place.
-const NOWHERE: u8 = 64;
 
 /// Where a list of numbers takes a place; one behind its end stays.
 #[inline(always)]
@@ -19,25 +15,7 @@ pub(crate) fn renamed(to: &[u8], place: u8) -> u8
     }
 }
 
-/// The number at a place of a table, or none.
-fn number_at(table: &[u8], place: u8) -> u8 {
-    match table.get(place as usize) {
-        Some(number) => *number,
-        None => NOWHERE,
-    }
-}
-
-/// The first place from this one on that isn't paired, or none.
-fn first_unpaired(table: &[u8], place: u8) -> u8 {
-    for at in place..NOWHERE {
-        if number_at(table, at) == NOWHERE {
-            return at;
-        }
-    }
-    NOWHERE
-}
-
-/// Where the places of one kernel may be in another, and back. Whether it is so has to be checked.
+/// A renaming of the object places: where each is taken, and back.
 #[derive(Clone, Copy, Drop)]
 pub(crate) struct Renaming {
     pub to: [u8; PLACES],
@@ -45,54 +23,31 @@ pub(crate) struct Renaming {
 }
 
 impl Renaming {
-    /// No place is anywhere.
-    pub(crate) fn new() -> Renaming {
-        Renaming {
-            to: [NOWHERE; PLACES],
-            from: [NOWHERE; PLACES],
+    /// Each place stays.
+    pub(crate) fn new() -> Renaming
+        ensures { Permutes result }
+    {
+        let mut to = [0; PLACES];
+        for place in 0..PLACES as u8 {
+            to[place as usize] = place;
         }
+        Renaming { to, from: to }
     }
 
-    /// Takes a place to another, if neither is paired.
-    pub(crate) fn pair(&mut self, place: u8, other: u8) {
-        let free = number_at(&self.to, place) == NOWHERE && number_at(&self.from, other) == NOWHERE;
-        if free && (place as usize) < PLACES && (other as usize) < PLACES {
+    /// Exchanges where two places are taken, so that this place is taken to the other.
+    pub(crate) fn exchange(&mut self, place: u8, other: u8)
+        requires permutation { Permutes self.old }
+        ensures permutation { Permutes self.new }
+        ensures follows { (f g : ℕ → ℕ) → IsPermutation f g → f place ≡ other
+            → Follows f (λ i. i ≡ place) self.old self.new }
+    {
+        if (place as usize) < PLACES && (other as usize) < PLACES {
+            let there = self.to[place as usize];
+            let back = self.from[other as usize];
             self.to[place as usize] = other;
+            self.to[back as usize] = there;
             self.from[other as usize] = place;
+            self.from[there as usize] = back;
         }
-    }
-
-    /// Pairs the places that are left, in their order.
-    pub(crate) fn pair_rest(&mut self) {
-        let mut place = 0;
-        for other in 0..NOWHERE {
-            if number_at(&self.from, other) == NOWHERE {
-                place = first_unpaired(&self.to, place);
-                self.pair(place, other);
-            }
-        }
-    }
-
-    /// Whether the renaming takes a place to a place and back, and the other way round.
-    fn exchanges(&self, place: u8) -> bool
-        ensures { IsTrue result ↔ ExchangesAt (renamed_by self.now.to)
-            (renamed_by self.now.from) place }
-    {
-        let there = renamed(&self.to, place);
-        let back = renamed(&self.from, place);
-        there < NOWHERE && renamed(&self.from, there) == place && renamed(&self.to, back) == place
-    }
-
-    /// Whether the renaming takes each place to a place, and back.
-    pub(crate) fn is_permutation(&self) -> bool
-        ensures yes { IsTrue result → IsPermutation (renamed_by self.now.to)
-            (renamed_by self.now.from) }
-    {
-        for place in 0..NOWHERE {
-            if !self.exchanges(place) {
-                return false;
-            }
-        }
-        true
     }
 }

@@ -1,5 +1,5 @@
-//! Kernels that are alike: equal but for the numbers of their places. That such kernels are found alike is tested here; that
-//! those which are found alike are so is proved.
+//! Kernels that are alike: equal but for the numbers of their places. These are worked cases; that the digests of kernels
+//! that are alike are equal is in no contract.
 use crate::support::{Q, copy_of, kernel_of, mq_open, name, sem_open, succeeds};
 use ipc_kernel::{Call, Kernel};
 use std::alloc::Global;

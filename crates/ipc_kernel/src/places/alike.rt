@@ -1,36 +1,30 @@
 //! Whether places are others that are renamed.
-ghost use Rattle.std.specs.Prelude.{◌≡◌, ◌<◌, ℕ, IsTrue, length};
+ghost use Rattle.std.specs.Prelude.{◌≡◌, ◌↔◌, ◌<◌, ℕ, IsTrue, Some, None, true, false, length};
 ghost use Rattle.ipc_kernel.specs.Limits.{object_places};
-ghost use Rattle.ipc_kernel.specs.Places.{place_at};
-ghost use Rattle.ipc_kernel.specs.Alike.{renamed_by};
+ghost use Rattle.ipc_kernel.specs.Places.{place_at, has_name};
+ghost use Rattle.ipc_kernel.specs.Alike.{IsPermutation, Permutes, Follows, renamed_by};
 
 use super::{PLACES, Places};
 use crate::place::Place;
 use crate::renaming::{Renaming, renamed};
 
-/// Whether a place holds what another holds.
+/// Whether a place holds what another holds; one behind the end is empty.
 fn is_same_at(places: &[Place], at: u8, others: &[Place], other: u8) -> bool
-    ensures { IsTrue result → place_at others.now other ≡ place_at places.now at }
+    ensures { IsTrue result ↔ (place_at others.now other ≡ place_at places.now at) }
 {
-    let Some(place) = places.get(at as usize) else {
-        return false;
-    };
-    match others.get(other as usize) {
-        Some(other) => other.is_same(place),
-        None => false,
+    match (places.get(at as usize), others.get(other as usize)) {
+        (Some(place), Some(other)) => other.is_same(place),
+        (Some(place), None) => place.is_empty(),
+        (None, Some(other)) => other.is_empty(),
+        (None, None) => true,
     }
 }
 
 fn are_renamed(places: &[Place], others: &[Place], to: &[u8]) -> bool
-    ensures first { IsTrue result → length places.now ≡ object_places }
-    ensures second { IsTrue result → length others.now ≡ object_places }
-    ensures renamed { IsTrue result → (i : ℕ) → i < object_places
-        → place_at others.now (renamed_by to.now i) ≡ place_at places.now i }
+    ensures { IsTrue result ↔ ((i : ℕ) → i < object_places
+        → place_at others.now (renamed_by to.now i) ≡ place_at places.now i) }
 {
-    if places.len() != PLACES || others.len() != PLACES {
-        return false;
-    }
-    for at in 0..64 {
+    for at in 0..PLACES as u8 {
         if !is_same_at(places, at, others, renamed(to, at)) {
             return false;
         }
@@ -41,25 +35,20 @@ fn are_renamed(places: &[Place], others: &[Place], to: &[u8]) -> bool
 impl Places {
     /// Whether other places hold the same where a list takes these.
     pub(crate) fn are_renamed(&self, other: &Places, to: &[u8]) -> bool
-        ensures first { IsTrue result → length self.now ≡ object_places }
-        ensures second { IsTrue result → length other.now ≡ object_places }
-        ensures renamed { IsTrue result → (i : ℕ) → i < object_places
-            → place_at other.now (renamed_by to.now i) ≡ place_at self.now i }
+        ensures first { length self.now ≡ object_places }
+        ensures second { length other.now ≡ object_places }
+        ensures renamed { IsTrue result ↔ ((i : ℕ) → i < object_places
+            → place_at other.now (renamed_by to.now i) ≡ place_at self.now i) }
     {
         are_renamed(self.places.as_slice(), other.places.as_slice(), to)
     }
 
-    /// Pairs each place with a name with the place of that name.
-    pub(crate) fn pair_names(&self, other: &Places, pairs: &mut Renaming) {
-        for at in 0..64 {
-            if let Some(found) = self.place_of_name(at, other) {
-                pairs.pair(at, found);
-            }
-        }
-    }
-
     /// The place among others with the name that a place has.
-    fn place_of_name(&self, at: u8, other: &Places) -> Option<u8> {
+    fn place_of_name(&self, at: u8, other: &Places) -> Option<u8>
+        ensures named { (i : ℕ) → has_name (place_at self.now at) ≡ true
+            → place_at other.now i ≡ place_at self.now at → result ≡ Some i }
+        ensures nameless { has_name (place_at self.now at) ≡ false → result ≡ None }
+    {
         match self.places.get(at as usize) {
             Some(
                 Place::Mq {
@@ -74,6 +63,22 @@ impl Places {
                 },
             ) => other.find_semaphore(name),
             _ => None,
+        }
+    }
+
+    /// Takes each place with a name to the place of that name.
+    pub(crate) fn take_names(&self, other: &Places, renaming: &mut Renaming)
+        requires permutation { Permutes renaming.old }
+        ensures permutation { Permutes renaming.new }
+        ensures follows { (f g : ℕ → ℕ) → IsPermutation f g
+            → ((i : ℕ) → place_at other.now (f i) ≡ place_at self.now i)
+            → Follows f (λ i. has_name (place_at self.now i) ≡ true) renaming.old renaming.new }
+        ensures range { (i : ℕ) → has_name (place_at self.now i) ≡ true → i < object_places }
+    {
+        for at in 0..self.places.len() as u8 {
+            if let Some(found) = self.place_of_name(at, other) {
+                renaming.exchange(at, found);
+            }
         }
     }
 }

@@ -1,7 +1,10 @@
 //! Whether the tables of processes are others in which the places are renamed.
-ghost use Rattle.std.specs.Prelude.{◌≡◌, ◌↔◌, IsTrue, map};
+ghost use Rattle.std.specs.Prelude.{◌≡◌, ◌↔◌, ◌<◌, ℕ, IsTrue, true, map};
+ghost use Rattle.std.specs.List.{list_any};
 ghost use Rattle.std.specs.Option.{option_map};
-ghost use Rattle.ipc_kernel.specs.Alike.{renamed_by};
+ghost use Rattle.ipc_kernel.specs.Limits.{object_places};
+ghost use Rattle.ipc_kernel.specs.Processes.{descriptor_refers, slot_refers, process_refers, is_referred};
+ghost use Rattle.ipc_kernel.specs.Alike.{IsPermutation, Permutes, Follows, renamed_by};
 ghost use Rattle.ipc_kernel.specs.Alike.{renamed_descriptor, renamed_slot, renamed_process};
 
 use super::Processes;
@@ -92,16 +95,87 @@ fn are_renamed(processes: &[Process], others: &[Process], to: &[u8]) -> bool
     true
 }
 
-/// Pairs the places of the descriptors and slots that a process and another have open.
-fn pair_process(process: &Process, other: &Process, pairs: &mut Renaming) {
-    for (held, other) in process.descriptors.iter().zip(other.descriptors.iter()) {
-        if let (Some(held), Some(other)) = (held, other) {
-            pairs.pair(held.place, other.place);
+/// Takes the place of an open descriptor to that of another.
+fn take_descriptor(held: &Option<Descriptor>, other: &Option<Descriptor>, renaming: &mut Renaming)
+    requires permutation { Permutes renaming.old }
+    ensures permutation { Permutes renaming.new }
+    ensures follows { (f g : ℕ → ℕ) → IsPermutation f g
+        → other.now ≡ option_map (renamed_descriptor f) held.now
+        → Follows f (λ i. descriptor_refers i held.now ≡ true) renaming.old renaming.new }
+{
+    if let (Some(held), Some(other)) = (held, other) {
+        renaming.exchange(held.place, other.place);
+    }
+}
+
+/// Takes the place of an open slot to that of another.
+fn take_slot(held: &Option<Slot>, other: &Option<Slot>, renaming: &mut Renaming)
+    requires permutation { Permutes renaming.old }
+    ensures permutation { Permutes renaming.new }
+    ensures follows { (f g : ℕ → ℕ) → IsPermutation f g
+        → other.now ≡ option_map (renamed_slot f) held.now
+        → Follows f (λ i. slot_refers i held.now ≡ true) renaming.old renaming.new }
+{
+    if let (Some(held), Some(other)) = (held, other) {
+        renaming.exchange(held.place, other.place);
+    }
+}
+
+fn take_descriptors(
+    helds: &[Option<Descriptor>],
+    others: &[Option<Descriptor>],
+    renaming: &mut Renaming,
+)
+    requires permutation { Permutes renaming.old }
+    ensures permutation { Permutes renaming.new }
+    ensures follows { (f g : ℕ → ℕ) → IsPermutation f g
+        → others.now ≡ map (option_map (renamed_descriptor f)) helds.now
+        → Follows f (λ i. list_any (descriptor_refers i) helds.now ≡ true)
+        renaming.old renaming.new }
+{
+    for (at, held) in helds.iter().enumerate() {
+        if let Some(other) = others.get(at) {
+            take_descriptor(held, other, renaming);
         }
     }
-    for (held, other) in process.slots.iter().zip(other.slots.iter()) {
-        if let (Some(held), Some(other)) = (held, other) {
-            pairs.pair(held.place, other.place);
+}
+
+fn take_slots(helds: &[Option<Slot>], others: &[Option<Slot>], renaming: &mut Renaming)
+    requires permutation { Permutes renaming.old }
+    ensures permutation { Permutes renaming.new }
+    ensures follows { (f g : ℕ → ℕ) → IsPermutation f g
+        → others.now ≡ map (option_map (renamed_slot f)) helds.now
+        → Follows f (λ i. list_any (slot_refers i) helds.now ≡ true) renaming.old renaming.new }
+{
+    for (at, held) in helds.iter().enumerate() {
+        if let Some(other) = others.get(at) {
+            take_slot(held, other, renaming);
+        }
+    }
+}
+
+/// Takes the places of what a process has open to those of what another has open.
+fn take_process(process: &Process, other: &Process, renaming: &mut Renaming)
+    requires permutation { Permutes renaming.old }
+    ensures permutation { Permutes renaming.new }
+    ensures follows { (f g : ℕ → ℕ) → IsPermutation f g
+        → other.now ≡ renamed_process f process.now
+        → Follows f (λ i. process_refers i process.now ≡ true) renaming.old renaming.new }
+{
+    take_descriptors(&process.descriptors, &other.descriptors, renaming);
+    take_slots(&process.slots, &other.slots, renaming);
+}
+
+fn take_processes(processes: &[Process], others: &[Process], renaming: &mut Renaming)
+    requires permutation { Permutes renaming.old }
+    ensures permutation { Permutes renaming.new }
+    ensures follows { (f g : ℕ → ℕ) → IsPermutation f g
+        → others.now ≡ map (renamed_process f) processes.now
+        → Follows f (λ i. is_referred processes.now i ≡ true) renaming.old renaming.new }
+{
+    for (at, process) in processes.iter().enumerate() {
+        if let Some(other) = others.get(at) {
+            take_process(process, other, renaming);
         }
     }
 }
@@ -115,10 +189,15 @@ impl Processes {
         are_renamed(self.tables.as_slice(), other.tables.as_slice(), to)
     }
 
-    /// Pairs the places of what each process has open.
-    pub(crate) fn pair_open(&self, other: &Processes, pairs: &mut Renaming) {
-        for (process, other) in self.tables.iter().zip(other.tables.iter()) {
-            pair_process(process, other, pairs);
-        }
+    /// Takes the places of what each process has open to those of what it has open in other tables.
+    pub(crate) fn take_open(&self, other: &Processes, renaming: &mut Renaming)
+        requires permutation { Permutes renaming.old }
+        ensures permutation { Permutes renaming.new }
+        ensures follows { (f g : ℕ → ℕ) → IsPermutation f g
+            → other.now ≡ map (renamed_process f) self.now
+            → Follows f (λ i. is_referred self.now i ≡ true) renaming.old renaming.new }
+        ensures range { (i : ℕ) → is_referred self.now i ≡ true → i < object_places }
+    {
+        take_processes(self.tables.as_slice(), other.tables.as_slice(), renaming);
     }
 }

@@ -1,5 +1,5 @@
-use Rattle.std.proofs.Common.{refl, ◌∙◌}
-use Rattle.ipc_kernel.specs.Places.{semaphore_name}
+use Rattle.std.proofs.Common.{refl, ap, ◌∙◌}
+use Rattle.ipc_kernel.specs.Places.{place_at, semaphore_name}
 use Rattle.ipc_kernel.proofs.IndexLemmas.{place_named-get, found_range}
 use Rattle.ipc_kernel.proofs.places.Places.find_semaphore.Goals as goal
 
@@ -8,3 +8,6 @@ returns-clause-found c = c.find.ensures.place ∙ rw (← c.self.view_is) (place
 
 pub returns-clause-range : goal.returns-clause-range
 returns-clause-range c = found_range semaphore_name c.self.inside.places.items c.self.inside.semaphore_names c.args.name.now c.find.result refl c.self.invariant.semaphore_index c.self.invariant.all c.find.ensures.place
+
+pub returns-clause-only : goal.returns-clause-only
+returns-clause-only c i e = c.find.ensures.place ∙ c.self.invariant.semaphore_index.named c.args.name.now i (ap (λ ps. semaphore_name (place_at ps i)) c.self.view_is ∙ e)

@@ -27,6 +27,6 @@ returns c = record {
                 (λ p below. subst (λ xs. Both (IsState c.args.self.now) (slice_get xs p) (slice_get c.args.world.now.processes p)) value (c.loop-pid.invariant p below));
           },
         ),
-        record { processes = refl; kernel = subst (λ k. IsAlike c.in-Some-get.kernel.now k) c.kernel.ensures.kernel (c.is_alike.ensures.alike c.if-not-is_alike.false) },
+        record { processes = refl; kernel = subst (λ k. IsAlike c.in-Some-get.kernel.now k) c.kernel.ensures.kernel (c.is_alike.ensures.alike.0 c.if-not-is_alike.false) },
       );
 }
