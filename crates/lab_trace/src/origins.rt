@@ -67,6 +67,14 @@ fn index_in(origins: &[Origin], place: u8) -> usize
     origins.len()
 }
 
+/// Lets go of the messages of the queue in a place.
+#[tactic(auto, unfolding(crate::specs::Origins::cleared))]
+fn clear_place(list: &mut Vec<Origin>, place: u8)
+    ensures kept { list.new.items ≡ cleared place list.old.items }
+{
+    list.retain(|origin| !(origin.place == place));
+}
+
 impl Origins {
     /// Where no message comes from.
     pub fn new(alloc: Global) -> Origins
@@ -109,10 +117,9 @@ impl Origins {
     }
 
     /// Lets go of the messages of the queue in a place.
-    #[tactic(auto, unfolding(crate::specs::Origins::cleared))]
     pub fn clear(&mut self, place: u8)
         ensures kept { self.new ≡ cleared place self.old }
     {
-        self.list.retain(|origin| origin.place != place);
+        clear_place(&mut self.list, place);
     }
 }
