@@ -1,5 +1,5 @@
 //! Where the messages in queues come from.
-ghost use Rattle.std.specs.Prelude.{◌≡◌, ◌≤◌, OnOk, length, []};
+ghost use Rattle.std.specs.Prelude.{◌≡◌, ◌≤◌, OnOk, IfOk, length, []};
 ghost use Rattle.std.specs.List.{position_or_len};
 ghost use Rattle.lab_trace.specs.Origins.{is_in, is_below, sent, first, received, cleared};
 
@@ -67,12 +67,17 @@ fn index_in(origins: &[Origin], place: u8) -> usize
     origins.len()
 }
 
-/// Lets go of the messages of the queue in a place.
-#[tactic(auto, unfolding(crate::specs::Origins::cleared))]
-fn clear_place(list: &mut Vec<Origin>, place: u8)
-    ensures kept { list.new.items ≡ cleared place list.old.items }
+/// The messages that aren't in the queue in a place.
+fn others(alloc: Global, list: &[Origin], place: u8) -> Result<Vec<Origin>, AllocError>
+    ensures kept { IfOk result (λ v. v.items ≡ cleared place list.now) }
 {
-    list.retain(|origin| !(origin.place == place));
+    let mut kept = Vec::new(alloc);
+    for origin in list {
+        if origin.place != place {
+            kept.push(*origin)?;
+        }
+    }
+    Ok(kept)
 }
 
 impl Origins {
@@ -117,9 +122,12 @@ impl Origins {
     }
 
     /// Lets go of the messages of the queue in a place.
-    pub fn clear(&mut self, place: u8)
-        ensures kept { self.new ≡ cleared place self.old }
+    pub fn clear(&mut self, place: u8) -> Result<(), AllocError>
+        ensures kept { OnOk result (self.new ≡ cleared place self.old) }
     {
-        clear_place(&mut self.list, place);
+        let alloc = *self.list.allocator();
+        let kept = others(alloc, &self.list, place)?;
+        self.list = kept;
+        Ok(())
     }
 }

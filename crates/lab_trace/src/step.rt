@@ -166,13 +166,16 @@ fn is_unused(kernel: &Kernel, place: u8) -> bool
 }
 
 /// Keeps that a queue was opened.
-fn keep_opened(tally: &mut Tally, kernel: &Kernel, place: Option<u8>)
-    ensures kept { tally.new ≡ record tally.old { origins = opened kernel.now place tally.old.origins } }
+fn keep_opened(tally: &mut Tally, kernel: &Kernel, place: Option<u8>) -> Result<(), AllocError>
+    ensures kept { OnOk result (tally.new ≡ record tally.old { origins = opened kernel.now place tally.old.origins }) }
 {
-    if let Some(place) = place {
-        if is_unused(kernel, place) {
-            tally.clear(place);
-        }
+    let Some(place) = place else {
+        return Ok(());
+    };
+    if is_unused(kernel, place) {
+        tally.clear(place)
+    } else {
+        Ok(())
     }
 }
 
@@ -215,8 +218,7 @@ fn keep_origins(
 {
     match asking.service {
         Service::MqOpen => {
-            keep_opened(tally, kernel, held_place(kernel, pid, Service::MqOpen, word));
-            Ok(())
+            keep_opened(tally, kernel, held_place(kernel, pid, Service::MqOpen, word))
         }
         Service::MqSend => keep_sent(tally, number, pid, asking.priority, asking.place),
         Service::MqReceive => {

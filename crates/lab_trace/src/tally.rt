@@ -92,9 +92,9 @@ impl Tally {
     }
 
     /// Lets go of the messages of the queue in a place.
-    pub fn clear(&mut self, place: u8)
-        ensures kept { self.new ≡ record self.old { origins = cleared place self.old.origins } }
+    pub fn clear(&mut self, place: u8) -> Result<(), AllocError>
+        ensures kept { OnOk result (self.new ≡ record self.old { origins = cleared place self.old.origins }) }
     {
-        self.origins.clear(place);
+        self.origins.clear(place)
     }
 }
