@@ -188,7 +188,11 @@ fn push_origin(text: &mut String, origin: Origin) -> Result<(), AllocError>
 }
 
 /// Adds where the message comes from that was received, where one was.
-fn push_origin_note(text: &mut String, begun: bool, origin: Option<Origin>) -> Result<(), AllocError>
+fn push_origin_note(
+    text: &mut String,
+    begun: bool,
+    origin: Option<Origin>,
+) -> Result<(), AllocError>
     ensures { OnOk result (string_bytes text.new ≡ string_bytes text.old ++ origin_note begun origin) }
 {
     let Some(origin) = origin else {

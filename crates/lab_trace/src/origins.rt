@@ -95,7 +95,10 @@ impl Origins {
     pub fn first(&self, place: u8) -> Option<Origin>
         ensures value { result ≡ first place self.now }
     {
-        self.list.iter().copied().find(|origin| origin.place == place)
+        self.list
+            .iter()
+            .copied()
+            .find(|origin| origin.place == place)
     }
 
     /// Keeps where a message comes from that was sent.

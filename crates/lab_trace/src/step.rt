@@ -180,7 +180,13 @@ fn keep_opened(tally: &mut Tally, kernel: &Kernel, place: Option<u8>) -> Result<
 }
 
 /// Keeps where a message comes from that process `pid` sent in step `number`.
-fn keep_sent(tally: &mut Tally, number: u32, pid: usize, priority: u16, place: Option<u8>) -> Result<(), AllocError>
+fn keep_sent(
+    tally: &mut Tally,
+    number: u32,
+    pid: usize,
+    priority: u16,
+    place: Option<u8>,
+) -> Result<(), AllocError>
     ensures kept { OnOk result (tally.new ≡ record tally.old { origins = sent_to number pid priority place tally.old.origins }) }
 {
     match place {
@@ -214,11 +220,16 @@ fn keep_origins(
 ) -> Result<(), AllocError>
     requires process { pid < length kernel.now.processes }
     ensures kept { OnOk result (tally.new ≡ record tally.old {
-        origins = changed kernel.now number pid (question_of asking.now) asking.now.service word tally.old.origins }) }
+      origins = changed kernel.now number pid (question_of asking.now) asking.now.service word tally.old.origins;
+    }) }
 {
     match asking.service {
         Service::MqOpen => {
-            keep_opened(tally, kernel, held_place(kernel, pid, Service::MqOpen, word))
+            keep_opened(
+                tally,
+                kernel,
+                held_place(kernel, pid, Service::MqOpen, word),
+            )
         }
         Service::MqSend => keep_sent(tally, number, pid, asking.priority, asking.place),
         Service::MqReceive => {
@@ -240,7 +251,8 @@ fn keep_event(
 ) -> Result<(), AllocError>
     requires process { pid < length kernel.now.processes }
     ensures kept { OnOk result (tally.new ≡ record tally.old {
-        origins = origins_after kernel.now number pid (seen after.now) (event_of (before_of before.now) (seen after.now)) tally.old.origins }) }
+      origins = origins_after kernel.now number pid (seen after.now) (event_of (before_of before.now) (seen after.now)) tally.old.origins;
+    }) }
 {
     match (&before.asking, result_of(after)) {
         (Some(asking), Some(word)) => keep_origins(kernel, tally, number, pid, asking, word),
@@ -249,7 +261,13 @@ fn keep_event(
 }
 
 /// Keeps a step with an effect of process `pid`, by the world after it.
-fn keep(world: &World, tally: &mut Tally, number: u32, pid: usize, before: &Observed) -> Result<(), AllocError>
+fn keep(
+    world: &World,
+    tally: &mut Tally,
+    number: u32,
+    pid: usize,
+    before: &Observed,
+) -> Result<(), AllocError>
     requires process { pid < length world.now.processes }
     requires account { pid < length tally.old.accounts }
     requires room { (account_of tally.old pid).local < number }
