@@ -1,71 +1,89 @@
--- Sign extension by a shift to the top of a word and back.
-use Rattle.std.proofs.Common.{◌≡◌, ℕ, suc, ◌+◌, ◌-◌, ◌*◌, ◌/◌, ◌%◌, ◌^◌, ◌<◌, ◌≤◌, ℤ, pos, negsuc, arith, sym, ap, ◌∙◌, nat_lt, true, false, inl, inr, lit<, w16, to_z, of_z}
-use Rattle.std.proofs.lemmas.Nat.{mod_below, pow_pos, pow-add, div-add-mod', mul-add-lt, mod-mul-add, div-mul-add}
-use Rattle.std.proofs.lemmas.Int.{of_z-to_z}
+-- Sign extension by a shift to the top of thirty-two bits and back.
+use Rattle.std.proofs.Common.{◌≡◌, ℕ, suc, ◌+◌, ◌-◌, ◌*◌, ◌/◌, ◌%◌, ◌^◌, ◌<◌, ◌≤◌, ℤ, pos, negsuc, arith, sym, ap, ◌∙◌, nat_lt, true, false, inl, inr, lit<, refl, w16, w32, FitsSigned, to_z, of_z, bit_and}
+use Rattle.std.proofs.lemmas.Nat.{and_mask, mod_below, pow_pos, pow-add, div-add-mod', mul-add-lt, mod-mul-add, div-mul-add}
+use Rattle.std.proofs.lemmas.Int.{ints, of_z-to_z, to_z-of_z}
 use Rattle.std.proofs.lemmas.Bool.Decides.{nat_tests}
-use Rattle.std.proofs.Math.Nat.{mul_assoc, mul_comm, add-mul, suc-mul, mul-le-mul_right}
+use Rattle.std.proofs.Math.Nat.{mod-eq_of_lt, mul_assoc, mul_comm, add-mul, suc-mul, mul-le-mul_right}
 use lib.Signed.{shr_z}
 use Rattle.lc3_word.specs.Words.{low_bits, signed_value}
-use Rattle.lc3_word.proofs.Fields.{half, whole}
-use Rattle.lc3_word.proofs.Signed.{signed_value-cases, signed_value-IsSigned, IsSigned-fits, low_bits-word, word-signed}
+use Rattle.lc3_word.proofs.Fields.{half}
+use Rattle.lc3_word.proofs.Signed.{signed_value-cases, signed_value-IsSigned, IsSigned-fits}
 
--- the low b bits of a word at the top of sixteen
-moved_up : (b w : ℕ) → b ≤ 16 → w * 2 ^ (16 - b) % 65536 ≡ w % 2 ^ b * 2 ^ (16 - b)
+-- thirty-two bits are those above b and those below
+whole_32 : (b : ℕ) → b ≤ 16 → 4294967296 ≡ 2 ^ (32 - b) * 2 ^ b
+whole_32 b h =
+    let e : (32 - b) + b ≡ 32 = omega arith in
+    let p : 2 ^ ((32 - b) + b) ≡ 2 ^ (32 - b) * 2 ^ b = pow-add 2 (32 - b) b in
+    rw e at p
+
+-- the low b bits of a word at the top of thirty-two
+moved_up : (b w : ℕ) → b ≤ 16 → w * 2 ^ (32 - b) % 4294967296 ≡ w % 2 ^ b * 2 ^ (32 - b)
 moved_up b w word =
-    let size : ℕ = 2 ^ (16 - b) in
+    let size : ℕ = 2 ^ (32 - b) in
     let low : ℕ = w % 2 ^ b in
-    let all : 65536 ≡ 2 ^ (16 - b) * 2 ^ b = whole b word in
+    let all : 4294967296 ≡ 2 ^ (32 - b) * 2 ^ b = whole_32 b word in
     let split : w / 2 ^ b * 2 ^ b + w % 2 ^ b ≡ w = div-add-mod' w (2 ^ b) in
-    let high : w / 2 ^ b * 2 ^ b * 2 ^ (16 - b) ≡ w / 2 ^ b * 65536 =
-    mul_assoc (w / 2 ^ b) (2 ^ b) (2 ^ (16 - b)) ∙ ap (λ n. w / 2 ^ b * n) (mul_comm (2 ^ b) (2 ^ (16 - b)) ∙ sym all) in
-    let parts : w * 2 ^ (16 - b) ≡ w / 2 ^ b * 65536 + w % 2 ^ b * 2 ^ (16 - b) =
-    ap (λ n. n * 2 ^ (16 - b)) (sym split) ∙ add-mul (w / 2 ^ b * 2 ^ b) (w % 2 ^ b) (2 ^ (16 - b)) ∙ ap (λ n. n + w % 2 ^ b * 2 ^ (16 - b)) high in
-    let small : w % 2 ^ b * 2 ^ (16 - b) < 65536 =
-    (let s = mul-add-lt (w % 2 ^ b) (2 ^ (16 - b)) 0 (2 ^ b) (mod_below w (2 ^ b) (pow_pos b)) (pow_pos (16 - b)) in omega (arith, s, all)) in
-    ap (λ n. n % 65536) parts ∙ mod-mul-add (w / 2 ^ b) 65536 (w % 2 ^ b * 2 ^ (16 - b)) small
+    let high : w / 2 ^ b * 2 ^ b * 2 ^ (32 - b) ≡ w / 2 ^ b * 4294967296 =
+    mul_assoc (w / 2 ^ b) (2 ^ b) (2 ^ (32 - b)) ∙ ap (λ n. w / 2 ^ b * n) (mul_comm (2 ^ b) (2 ^ (32 - b)) ∙ sym all) in
+    let parts : w * 2 ^ (32 - b) ≡ w / 2 ^ b * 4294967296 + w % 2 ^ b * 2 ^ (32 - b) =
+    ap (λ n. n * 2 ^ (32 - b)) (sym split) ∙ add-mul (w / 2 ^ b * 2 ^ b) (w % 2 ^ b) (2 ^ (32 - b)) ∙ ap (λ n. n + w % 2 ^ b * 2 ^ (32 - b)) high in
+    let small : w % 2 ^ b * 2 ^ (32 - b) < 4294967296 =
+    (let s = mul-add-lt (w % 2 ^ b) (2 ^ (32 - b)) 0 (2 ^ b) (mod_below w (2 ^ b) (pow_pos b)) (pow_pos (32 - b)) in omega (arith, s, all)) in
+    ap (λ n. n % 4294967296) parts ∙ mod-mul-add (w / 2 ^ b) 4294967296 (w % 2 ^ b * 2 ^ (32 - b)) small
 
 -- and back, where the top bit is copied
-moved_back : (b w : ℕ) → 1 ≤ b → b ≤ 16 → shr_z (to_z w16 (w % 2 ^ b * 2 ^ (16 - b))) (2 ^ (16 - b)) ≡ signed_value b w
+moved_back : (b w : ℕ) → 1 ≤ b → b ≤ 16 → shr_z (to_z w32 (w % 2 ^ b * 2 ^ (32 - b))) (2 ^ (32 - b)) ≡ signed_value b w
 moved_back b w one word =
-    let all : 65536 ≡ 2 ^ (16 - b) * 2 ^ b = whole b word in
+    let all : 4294967296 ≡ 2 ^ (32 - b) * 2 ^ b = whole_32 b word in
     let twice : 2 ^ b ≡ 2 ^ (b - 1) + 2 ^ (b - 1) = half b one in
-    let some : 0 < 2 ^ (16 - b) = pow_pos (16 - b) in
+    let some : 0 < 2 ^ (32 - b) = pow_pos (32 - b) in
     let low : w % 2 ^ b < 2 ^ b = mod_below w (2 ^ b) (pow_pos b) in
-    let e : (16 - b) + (b - 1) ≡ 15 = omega arith in
-    let halves : 2 ^ (16 - b) * 2 ^ (b - 1) ≡ 32768 = sym (pow-add 2 (16 - b) (b - 1)) ∙ ap (λ k. 2 ^ k) e in
+    let e : (32 - b) + (b - 1) ≡ 31 = omega arith in
+    let halves : 2 ^ (32 - b) * 2 ^ (b - 1) ≡ 2147483648 = sym (pow-add 2 (32 - b) (b - 1)) ∙ ap (λ k. 2 ^ k) e in
     elim (signed_value-cases b w) [
       | inl h ↦
-          let below : w % 2 ^ b * 2 ^ (16 - b) < 32768 = (let s = mul-add-lt (w % 2 ^ b) (2 ^ (16 - b)) 0 (2 ^ (b - 1)) h.0 some in omega (arith, s, halves)) in
-          let test : nat_lt (w % 2 ^ b * 2 ^ (16 - b)) 32768 ≡ true = grind (arith, nat_tests) in
-          let back : (w % 2 ^ b * 2 ^ (16 - b) + 0) / 2 ^ (16 - b) ≡ w % 2 ^ b = div-mul-add (w % 2 ^ b) (2 ^ (16 - b)) 0 some in
-          rw (test, h.1) (ap pos (ap (λ n. n / 2 ^ (16 - b)) (omega arith) ∙ back))
+          let below : w % 2 ^ b * 2 ^ (32 - b) < 2147483648 = (let s = mul-add-lt (w % 2 ^ b) (2 ^ (32 - b)) 0 (2 ^ (b - 1)) h.0 some in omega (arith, s, halves)) in
+          let test : nat_lt (w % 2 ^ b * 2 ^ (32 - b)) 2147483648 ≡ true = grind (arith, nat_tests) in
+          let back : (w % 2 ^ b * 2 ^ (32 - b) + 0) / 2 ^ (32 - b) ≡ w % 2 ^ b = div-mul-add (w % 2 ^ b) (2 ^ (32 - b)) 0 some in
+          rw (test, h.1) (ap pos (ap (λ n. n / 2 ^ (32 - b)) (omega arith) ∙ back))
       | inr h ↦
           let rest : ℕ = 2 ^ b - 1 - w % 2 ^ b in
           let sum : suc (2 ^ b - 1 - w % 2 ^ b + w % 2 ^ b) ≡ 2 ^ b = omega arith in
-          let whole_is : suc (2 ^ b - 1 - w % 2 ^ b + w % 2 ^ b) * 2 ^ (16 - b) ≡ 65536 = ap (λ n. n * 2 ^ (16 - b)) sum ∙ mul_comm (2 ^ b) (2 ^ (16 - b)) ∙ sym all in
-          let doubled : suc (2 ^ b - 1 - w % 2 ^ b + w % 2 ^ b) * 2 ^ (16 - b) ≡ (2 ^ b - 1 - w % 2 ^ b + w % 2 ^ b) * 2 ^ (16 - b) + 2 ^ (16 - b) = suc-mul (2 ^ b - 1 - w % 2 ^ b + w % 2 ^ b) (2 ^ (16 - b)) in
-          let opened : (2 ^ b - 1 - w % 2 ^ b + w % 2 ^ b) * 2 ^ (16 - b) ≡ (2 ^ b - 1 - w % 2 ^ b) * 2 ^ (16 - b) + w % 2 ^ b * 2 ^ (16 - b) = add-mul (2 ^ b - 1 - w % 2 ^ b) (w % 2 ^ b) (2 ^ (16 - b)) in
-          let least : 2 ^ (b - 1) * 2 ^ (16 - b) ≤ w % 2 ^ b * 2 ^ (16 - b) = mul-le-mul_right (2 ^ (16 - b)) h.0 in
-          let above : 32768 ≤ w % 2 ^ b * 2 ^ (16 - b) = (let m = mul_comm (2 ^ (b - 1)) (2 ^ (16 - b)) in omega (arith, m, halves, least)) in
-          let test : nat_lt (w % 2 ^ b * 2 ^ (16 - b)) 32768 ≡ false = grind (arith, nat_tests) in
-          let left : 65536 - suc (w % 2 ^ b * 2 ^ (16 - b)) ≡ (2 ^ b - 1 - w % 2 ^ b) * 2 ^ (16 - b) + (2 ^ (16 - b) - 1) = omega arith in
-          let back : ((2 ^ b - 1 - w % 2 ^ b) * 2 ^ (16 - b) + (2 ^ (16 - b) - 1)) / 2 ^ (16 - b) ≡ 2 ^ b - 1 - w % 2 ^ b = div-mul-add (2 ^ b - 1 - w % 2 ^ b) (2 ^ (16 - b)) (2 ^ (16 - b) - 1) (omega arith) in
-          rw (test, h.1) (ap negsuc (ap (λ n. n / 2 ^ (16 - b)) left ∙ back))
+          let whole_is : suc (2 ^ b - 1 - w % 2 ^ b + w % 2 ^ b) * 2 ^ (32 - b) ≡ 4294967296 = ap (λ n. n * 2 ^ (32 - b)) sum ∙ mul_comm (2 ^ b) (2 ^ (32 - b)) ∙ sym all in
+          let doubled : suc (2 ^ b - 1 - w % 2 ^ b + w % 2 ^ b) * 2 ^ (32 - b) ≡ (2 ^ b - 1 - w % 2 ^ b + w % 2 ^ b) * 2 ^ (32 - b) + 2 ^ (32 - b) = suc-mul (2 ^ b - 1 - w % 2 ^ b + w % 2 ^ b) (2 ^ (32 - b)) in
+          let opened : (2 ^ b - 1 - w % 2 ^ b + w % 2 ^ b) * 2 ^ (32 - b) ≡ (2 ^ b - 1 - w % 2 ^ b) * 2 ^ (32 - b) + w % 2 ^ b * 2 ^ (32 - b) = add-mul (2 ^ b - 1 - w % 2 ^ b) (w % 2 ^ b) (2 ^ (32 - b)) in
+          let least : 2 ^ (b - 1) * 2 ^ (32 - b) ≤ w % 2 ^ b * 2 ^ (32 - b) = mul-le-mul_right (2 ^ (32 - b)) h.0 in
+          let above : 2147483648 ≤ w % 2 ^ b * 2 ^ (32 - b) = (let m = mul_comm (2 ^ (b - 1)) (2 ^ (32 - b)) in omega (arith, m, halves, least)) in
+          let test : nat_lt (w % 2 ^ b * 2 ^ (32 - b)) 2147483648 ≡ false = grind (arith, nat_tests) in
+          let left : 4294967296 - suc (w % 2 ^ b * 2 ^ (32 - b)) ≡ (2 ^ b - 1 - w % 2 ^ b) * 2 ^ (32 - b) + (2 ^ (32 - b) - 1) = omega arith in
+          let back : ((2 ^ b - 1 - w % 2 ^ b) * 2 ^ (32 - b) + (2 ^ (32 - b) - 1)) / 2 ^ (32 - b) ≡ 2 ^ b - 1 - w % 2 ^ b = div-mul-add (2 ^ b - 1 - w % 2 ^ b) (2 ^ (32 - b)) (2 ^ (32 - b) - 1) (omega arith) in
+          rw (test, h.1) (ap negsuc (ap (λ n. n / 2 ^ (32 - b)) left ∙ back))
     ]
 
--- the low b bits of a word, signed
-pub shifted_back : (b w : ℕ) → 1 ≤ b → b ≤ 16 → of_z w16 (shr_z (to_z w16 (w * 2 ^ (16 - b) % 65536)) (2 ^ (16 - b))) ≡ low_bits 16 (signed_value b w)
-shifted_back b w one word =
-    ap (λ n. of_z w16 (shr_z (to_z w16 n) (2 ^ (16 - b)))) (moved_up b w word) ∙ ap (of_z w16) (moved_back b w one word)
-    ∙ sym (low_bits-word (signed_value b w) (IsSigned-fits b (signed_value b w) word (signed_value-IsSigned b w one)))
+-- the low sixteen bits of a word's signed value
+low_of_z : (z : ℤ) → FitsSigned w16 z → of_z w32 z % 65536 ≡ low_bits 16 z
+low_of_z (pos n) f = refl
+low_of_z (negsuc n) f =
+    let small : n < 32768 = omega (arith, ints) in
+    let same : n % 65536 ≡ n = mod-eq_of_lt (omega arith) in
+    let parts : 4294967296 - suc n ≡ 65535 * 65536 + (65535 - n) = omega arith in
+    rw same (ap (λ m. m % 65536) parts ∙ mod-mul-add 65535 65536 (65535 - n) (omega arith))
 
--- the low b bits of a word, shifted up and back and read as a word again
-pub sext_shift : (b w : ℕ) (raised : ℤ) (r : ℕ) → 1 ≤ b → b ≤ 16 → raised ≡ to_z w16 (w * 2 ^ (16 - b) % 65536)
-    → r ≡ of_z w16 (to_z w16 (of_z w16 (shr_z (to_z w16 (of_z w16 raised)) (2 ^ (16 - b))))) → r ≡ low_bits 16 (signed_value b w)
+-- a number that sixteen bits hold is held by thirty-two
+wider : (z : ℤ) → FitsSigned w16 z → FitsSigned w32 z
+wider z f = omega (arith, ints)
+
+-- the low b bits of a word, shifted up and back, of which the low sixteen are kept
+pub sext_shift : (b w : ℕ) (raised : ℤ) (r : ℕ) → 1 ≤ b → b ≤ 16 → raised ≡ to_z w32 (w * 2 ^ (32 - b) % 4294967296)
+    → r ≡ of_z w32 (to_z w32 (of_z w32 (shr_z (to_z w32 (of_z w32 raised)) (2 ^ (32 - b))))) → bit_and r 65535 ≡ low_bits 16 (signed_value b w)
 sext_shift b w raised r one word raised-is r-is =
     let fits = IsSigned-fits b (signed_value b w) word (signed_value-IsSigned b w one) in
-    let below : w * 2 ^ (16 - b) % 65536 < 65536 = mod_below (w * 2 ^ (16 - b)) 65536 (lit< tt) in
-    r-is ∙ ap (λ z. of_z w16 (to_z w16 (of_z w16 (shr_z (to_z w16 (of_z w16 z)) (2 ^ (16 - b)))))) raised-is
-    ∙ ap (λ n. of_z w16 (to_z w16 (of_z w16 (shr_z (to_z w16 n) (2 ^ (16 - b)))))) (of_z-to_z w16 (w * 2 ^ (16 - b) % 65536) below)
-    ∙ ap (λ n. of_z w16 (to_z w16 n)) (shifted_back b w one word)
-    ∙ ap (of_z w16) (word-signed (signed_value b w) fits) ∙ sym (low_bits-word (signed_value b w) fits)
+    let wide = wider (signed_value b w) fits in
+    let below : w * 2 ^ (32 - b) % 4294967296 < 4294967296 = mod_below (w * 2 ^ (32 - b)) 4294967296 (lit< tt) in
+    let value : r ≡ of_z w32 (signed_value b w) =
+    r-is ∙ ap (λ z. of_z w32 (to_z w32 (of_z w32 (shr_z (to_z w32 (of_z w32 z)) (2 ^ (32 - b)))))) raised-is
+    ∙ ap (λ n. of_z w32 (to_z w32 (of_z w32 (shr_z (to_z w32 n) (2 ^ (32 - b)))))) (of_z-to_z w32 (w * 2 ^ (32 - b) % 4294967296) below)
+    ∙ ap (λ n. of_z w32 (to_z w32 (of_z w32 (shr_z (to_z w32 n) (2 ^ (32 - b)))))) (moved_up b w word)
+    ∙ ap (λ z. of_z w32 (to_z w32 (of_z w32 z))) (moved_back b w one word)
+    ∙ ap (of_z w32) (to_z-of_z w32 (signed_value b w) wide) in
+    ap (λ n. bit_and n 65535) value ∙ and_mask (of_z w32 (signed_value b w)) 16 ∙ low_of_z (signed_value b w) fits

@@ -102,7 +102,7 @@ pub fn sext<const B: u32>(word: u16) -> u16
     requires word { B ≤ 16 }
     ensures value { result ≡ low_bits 16 (signed_value B word) }
 {
-    let spare = 16 - B;
-    let raised = (word << spare).cast_signed();
-    (raised >> spare).cast_unsigned()
+    let spare = 32 - B;
+    let raised = (u32::from(word) << spare).cast_signed();
+    ((raised >> spare).cast_unsigned() & 0xffff) as u16
 }
