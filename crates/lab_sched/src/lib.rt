@@ -20,8 +20,7 @@ pub use process::Process;
 pub use schedule::{Block, MOST_STEPS, PROCESSES, SchedFault, Schedule};
 pub use stepped::Stepped;
 pub use stepping::{
-    Asking, begin_call, end_process, local_steps, take_back, take_reply, take_reply_with_call,
-    take_step,
+    Asking, begin_call, end_process, local_steps, take_back, take_reply, take_step,
 };
 pub use trace::{Told, Trace};
 pub use verdict::Verdict;

@@ -138,19 +138,8 @@ fn replied(process: Process, reply: Reply) -> (Process, ())
     (process, ())
 }
 
-/// Gives a process that waits the reply to its call.
-#[inline(always)]
-pub fn take_reply(process: &mut Process, reply: Reply)
-    requires held { IsHeld process.old }
-    requires reply { CanTakeReply process.old reply }
-    ensures told { seen process.new ≡ after_reply (seen process.old) reply }
-    ensures held { IsHeld process.new }
-{
-    replace_with(process, reply, replied)
-}
-
 /// Gives a process that waits the reply to its call; with the call.
-pub fn take_reply_with_call(process: &mut Process, reply: Reply) -> Call
+pub fn take_reply(process: &mut Process, reply: Reply) -> Call
     requires held { IsHeld process.old }
     requires reply { CanTakeReply process.old reply }
     ensures told { seen process.new ≡ after_reply (seen process.old) reply }
@@ -220,7 +209,7 @@ fn retry(process: &mut Process, kernel: &mut Kernel, pid: usize) -> Result<Stepp
         Process::Waiting(_, call) => match kernel.call(pid, call)? {
             Answer::Wait => Ok(Stepped::Same),
             Answer::Done(reply) => {
-                take_reply(process, reply);
+                replace_with(process, reply, replied);
                 Ok(Stepped::Called)
             }
         },

@@ -19,7 +19,6 @@ use crate::worker_result::WorkerResult;
 use ipc_kernel::{Answer, Call};
 use lab_sched::{
     Asking, Process, Trace, begin_call, end_process, local_steps, take_back, take_reply,
-    take_reply_with_call,
 };
 use lc3_machine::{How, Progress, Want};
 use std::alloc::{AllocError, Global};
@@ -227,13 +226,13 @@ fn write_down(
             after_wait(fits)
         }
         CallOutcome::Answered { reply, copy } => {
-            take_reply(process, reply);
+            let _ = take_reply(process, reply);
             log.add_call(call, Answer::Done(copy));
             Continuation::GoesOn
         }
         CallOutcome::AnsweredAfterWait { reply, copy } => {
             log.add_call(call, Answer::Wait);
-            let again = take_reply_with_call(process, reply);
+            let again = take_reply(process, reply);
             log.add_call(again, Answer::Done(copy));
             Continuation::GoesOn
         }

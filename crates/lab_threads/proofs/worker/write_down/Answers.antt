@@ -19,7 +19,7 @@ returns-in-Answered-clause-alone c s before =
 pub returns-in-AnsweredAfterWait-clause-alone : goal.returns-in-AnsweredAfterWait-clause-alone
 returns-in-AnsweredAfterWait-clause-alone c s before =
     let p = c.args.process.now in
-    let u = seen c.take_reply_with_call-again.new.process in
+    let u = seen c.take_reply-again.new.process in
     let waited = c.add_call-in-AnsweredAfterWait.ensures.alone (before_wait (seen p)) (seen p) (told_wait p c.args.call c.requires.held c.requires.waits c.requires.call) s before in
     c.add_call-in-AnsweredAfterWait-2.ensures.alone (seen p) u
-    (told_later p u c.take_reply_with_call-again.result c.in-AnsweredAfterWait.reply c.in-AnsweredAfterWait.copy c.requires.waits c.take_reply_with_call-again.ensures.call c.take_reply_with_call-again.ensures.told (search rules)) s waited
+    (told_later p u c.take_reply-again.result c.in-AnsweredAfterWait.reply c.in-AnsweredAfterWait.copy c.requires.waits c.take_reply-again.ensures.call c.take_reply-again.ensures.told (search rules)) s waited
