@@ -3,13 +3,10 @@ ghost use Rattle.lc3_machine.specs.Process.{memory_of, zeros};
 ghost use Rattle.lc3_machine.specs.Memory.{IsReadyAt, IsWritable, StaysReady, written};
 ghost use Rattle.lc3_machine.specs.Console.{words_from, string_at};
 
-use crate::page::{PAGE, Page};
+use crate::pages::{PAGE, PAGES, Pages};
 use std::alloc::{AllocError, Global};
-use std::hash::{FoldHasher, Hasher};
+use std::hash::FoldHasher;
 use std::marker::Model;
-
-/// The number of pages of memory.
-const PAGES: usize = 256;
 
 /// The address of the first device register.
 pub(crate) const DEVICES: u16 = 0xfe00;
@@ -17,19 +14,16 @@ pub(crate) const DEVICES: u16 = 0xfe00;
 /// The memory of a process: a table of pages, each made at the first write to it.
 #[derive(Drop)]
 pub(crate) struct Memory {
-    pages: Vec<Page>,
+    pages: Pages,
 }
 
 impl Model for Memory {
-    ghost use Rattle.std.specs.Prelude.{◌≡◌, vec_len};
     ghost use Rattle.lc3_machine.specs.Memory.{Store};
-    ghost use Rattle.lc3_machine.specs.Pages.{joined, AreWhole};
+    ghost use Rattle.lc3_machine.specs.Pages.{joined};
 
     ghost Value = { Store };
 
-    ghost view = { λ m. joined m.pages.items };
-
-    ghost invariant = { λ m. (vec_len m.pages ≡ 256) × AreWhole m.pages.items };
+    ghost view = { λ m. joined m.pages };
 }
 
 impl Memory {
@@ -37,10 +31,7 @@ impl Memory {
     fn zero(alloc: Global) -> Result<Memory, AllocError>
         ensures { IfOk result (λ m. m.words ≡ zeros 65536) }
     {
-        let mut pages = Vec::with_capacity(alloc, PAGES)?;
-        for _ in 0..PAGES {
-            pages.push(Page::absent(alloc))?;
-        }
+        let pages = Pages::absent(alloc)?;
         Ok(Memory { pages })
     }
 
@@ -63,7 +54,7 @@ impl Memory {
         ensures whole { length self.now.words ≡ 65536 }
     {
         let address = address as usize;
-        self.pages[address / PAGE].get(address % PAGE)
+        self.pages.get(address / PAGE, address % PAGE)
     }
 
     /// Writes the word at an address; where memory is refused nothing has changed.
@@ -75,8 +66,7 @@ impl Memory {
         ensures succeeds { IsReadyAt self.old.ready address → IsOk result }
     {
         let address = address as usize;
-        let page = &mut self.pages[address / PAGE];
-        page.set(address % PAGE, word)
+        self.pages.set(address / PAGE, address % PAGE, word)
     }
 
     /// Makes the words of a range writable; where memory is refused some of them may be.
@@ -92,8 +82,7 @@ impl Memory {
         let first = at as usize / PAGE;
         let last = (at as usize + len as usize - 1) / PAGE;
         for i in first..last + 1 {
-            let page = &mut self.pages[i];
-            page.make()?;
+            self.pages.make(i)?;
         }
         Ok(())
     }
@@ -107,8 +96,7 @@ impl Memory {
             if address >= DEVICES as u32 {
                 return false;
             }
-            let page = &self.pages[address as usize / PAGE];
-            if !page.is_made() {
+            if !self.pages.is_made(address as usize / PAGE) {
                 return false;
             }
         }
@@ -121,7 +109,8 @@ impl Memory {
         ensures words { self.new.words ≡ written self.old.words at words.now }
         ensures ready { StaysReady self.old.ready self.new.ready }
     {
-        let _ = &self.pages;
+        // A look at memory, whose contract says that there are 65,536 words.
+        let _ = self.get(at);
         for (k, word) in words.iter().enumerate() {
             let _ = self.set(at + k as u16, *word);
         }
@@ -146,10 +135,7 @@ impl Memory {
     pub(crate) fn copy(&self, alloc: Global) -> Result<Memory, AllocError>
         ensures equal { IfOk result (λ copy. copy ≡ self.now) }
     {
-        let mut pages = Vec::with_capacity(alloc, PAGES)?;
-        for page in &self.pages {
-            pages.push(page.copy(alloc)?)?;
-        }
+        let pages = self.pages.copy(alloc)?;
         Ok(Memory { pages })
     }
 
@@ -157,22 +143,13 @@ impl Memory {
     pub(crate) fn has_same_words(&self, other: &Memory) -> bool
         ensures same { IsTrue result ↔ (self.now.words ≡ other.now.words) }
     {
-        for i in 0..PAGES {
-            let page = &self.pages[i];
-            if !page.has_same_words(&other.pages[i]) {
-                return false;
-            }
-        }
-        true
+        self.pages.has_same_words(&other.pages)
     }
 
-    /// Adds the words to a digest. A page of zeros adds nothing, whether it is made or not.
+    /// Adds the words to a digest.
     pub(crate) fn feed(&self, hasher: &mut FoldHasher) {
-        for (i, page) in self.pages.iter().enumerate() {
-            if !page.is_zero() {
-                hasher.write_usize(i);
-                page.feed(hasher);
-            }
+        for i in 0..PAGES {
+            self.pages.feed(i, hasher);
         }
     }
 }

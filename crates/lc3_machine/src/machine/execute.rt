@@ -1,6 +1,6 @@
 //! The effect of each instruction.
 
-ghost use Rattle.std.specs.Prelude.{◌≡◌, ◌<◌, ◌≤◌, ℕ, if◌then◌else◌};
+ghost use Rattle.std.specs.Prelude.{◌≡◌, ◌<◌, ◌≤◌, ◌-◌, ℕ, if◌then◌else◌};
 ghost use Rattle.lc3_machine.specs.Process.{GoesOn, word_sum, next_pc, advanced, jumped, with_reg, with_result, at_word, stored};
 ghost use Rattle.lc3_machine.specs.Effects.{effect, next_step, is_among, operand_value, with_address};
 ghost use Rattle.lc3_machine.specs.Steps.{CarriedOut, HasRun};
@@ -196,18 +196,21 @@ impl Machine {
         self.execute(instr)
     }
 
-    /// Does at most this many steps; with how many were done, and what kept the next one from being done, if they are
-    /// fewer.
+    /// Does at most this many steps; with how many are left, and what kept the next one from being done, if there are
+    /// some. Of a loop that counts down each step takes an instruction less.
+    #[inline(never)]
     pub(crate) fn run(&mut self, max: u32) -> (u32, Progress)
-        ensures run { HasRun self.old.process max result.1 self.new.process result.0 }
+        ensures run { HasRun self.old.process max result.1 self.new.process (max - result.0) }
+        ensures within { result.0 ≤ max }
     {
-        for done in 0..max {
+        let mut left = max;
+        while left > 0 {
             match self.step() {
-                Progress::Moved => {}
-                Progress::Stopped(want) => return (done, Progress::Stopped(want)),
-                Progress::Short => return (done, Progress::Short),
+                Progress::Moved => left -= 1,
+                Progress::Stopped(want) => return (left, Progress::Stopped(want)),
+                Progress::Short => return (left, Progress::Short),
             }
         }
-        (max, Progress::Moved)
+        (0, Progress::Moved)
     }
 }

@@ -49,7 +49,8 @@ impl Running {
         ensures run { IsRun self max result.0 result.1 }
     {
         let Running { mut machine } = self;
-        let (done, progress) = machine.run(max);
+        let (left, progress) = machine.run(max);
+        let done = max - left;
         match progress {
             Progress::Moved => (Local::Running(Running { machine }), done),
             Progress::Stopped(want) => (Local::AtCall(AtCall { machine, want }), done),
@@ -62,7 +63,8 @@ impl Running {
     pub fn advance(&mut self, max: u32) -> (u32, Progress)
         ensures run { HasRun self.old max result.1 self.new result.0 }
     {
-        self.machine.run(max)
+        let (left, progress) = self.machine.run(max);
+        (max - left, progress)
     }
 
     /// The process as it stands before this trap or end, which is its next step.

@@ -1,5 +1,4 @@
 use Rattle.std.proofs.Common.{◌<◌, ◌+◌, ◌∙◌, ap, sym, length, arith, rules, Result, IsOk, OnOk, Ok, Err, slice_set, get_or}
-use Rattle.lc3_machine.proofs.PageLemmas.{length-joined}
 use Rattle.lc3_machine.proofs.MemoryLemmas.{written-none, written-more}
 use Rattle.lc3_machine.proofs.memory.Memory.put.Goals as goal
 
@@ -17,7 +16,7 @@ pub loop-k-preserved : goal.loop-k-preserved
 loop-k-preserved c =
     let room = c.requires.writable c.loop-k.k c.loop-k-test.true in
     let done = ok_fact _ c.set.result (c.set.ensures.succeeds (c.loop-k.invariant.ready _ room.1)) c.set.ensures.ok in
-    let inside : c.args.at + c.loop-k.k < length c.args.self.now.words = (let whole = length-joined c.self.inside.pages.items c.self.invariant.1 (omega (arith, c.self.inside.pages.ok.0)) in let same = ap (λ s. length s.words) c.self.view_is in omega (arith, room.0)) in
+    let inside : c.args.at + c.loop-k.k < length c.args.self.now.words = omega (arith, room.0, c.get.ensures.whole) in
     let more = written-more c.args.self.now.words c.args.words.now c.args.at c.loop-k.k inside c.loop-k-test.true in
     record {
       words = done ∙ ap (λ m. slice_set m (c.args.at + c.loop-k.k) (get_or c.args.words.now c.loop-k.k 0)) c.loop-k.invariant.words ∙ more;

@@ -1,36 +1,24 @@
-use Rattle.std.proofs.Common.{◌≡◌, ◌<◌, ◌+◌, ◌-◌, ◌/◌, ◌∙◌, ap, length, arith}
-use Rattle.lc3_machine.specs.Memory.{IsReadyAt}
-use Rattle.lc3_machine.proofs.PageLemmas.{same-joined, StaysReady-set, AreWhole-set, made-more}
+use Rattle.std.proofs.Common.{◌≡◌, ℕ, ◌<◌, ◌≤◌, ◌+◌, ◌-◌, ◌/◌, ◌∙◌, List, Some, true, get_or, slice_get, refl, ap, sym, subst, length, arith}
+use Rattle.std.proofs.lemmas.List.{get_or_default}
+use Rattle.lc3_machine.specs.Memory.{IsReadyAt, StaysReady}
+use Rattle.lc3_machine.specs.Pages.{PageWords, absent, joined, page_made}
+use Rattle.lc3_machine.proofs.PageLemmas.{same-joined, StaysReady-set, made-more}
 use Rattle.lc3_machine.proofs.memory.Memory.reserve.Goals as goal
-
-pub returns-in_err-make-clause-words : goal.returns-in_err-make-clause-words
-returns-in_err-make-clause-words c =
-    let pages = c.loop-i.self-inside.pages in
-    let last = c.requires.below_devices (c.args.len - 1) (omega arith) in
-    same-joined pages.items c.loop-i.i c.index_mut-page.result.now c.make.new.self (omega (arith, pages.ok.0)) c.index_mut-page.ensures.value c.make.ensures.words
-    ∙ c.loop-i.invariant.words
-
-pub returns-in_err-make-clause-ready : goal.returns-in_err-make-clause-ready
-returns-in_err-make-clause-ready c =
-    let pages = c.loop-i.self-inside.pages in
-    let last = c.requires.below_devices (c.args.len - 1) (omega arith) in
-    let stays = StaysReady-set pages.items c.loop-i.i c.index_mut-page.result.now c.make.new.self (omega (arith, pages.ok.0)) c.index_mut-page.ensures.value c.make.ensures.stays in
-    λ address ready. stays address (c.loop-i.invariant.ready address ready)
 
 pub loop-i-preserved : goal.loop-i-preserved
 loop-i-preserved c =
-    let pages = c.loop-i.self-inside.pages in
+    let ps = c.loop-i.self-inside.pages in
     let last = c.requires.below_devices (c.args.len - 1) (omega arith) in
-    let page = c.index_mut-page.result.now in
-    let inside : c.loop-i.i < length pages.items = omega (arith, pages.ok.0) in
-    let stays = StaysReady-set pages.items c.loop-i.i page c.make.new.self inside c.index_mut-page.ensures.value c.make.ensures.stays in
-    let was : length page.words ≡ 256 = ap (λ p. length p.words) c.index_mut-page.ensures.value ∙ c.loop-i.invariant.whole c.loop-i.i page inside in
+    let page = get_or ps c.loop-i.i absent in
+    let inside : c.loop-i.i < length c.loop-i.self-inside.pages = omega (arith, c.make.ensures.count) in
+    let is = get_or_default ps c.loop-i.i absent (get_or ps c.loop-i.i absent) inside in
+    let made = c.in_ok-make.ensures.ok absent in
+    let stays : StaysReady ((joined c.loop-i.self-inside.pages).ready) ((joined c.make.new.self).ready) =
+    subst (λ qs. StaysReady ((joined c.loop-i.self-inside.pages).ready) ((joined qs).ready)) (sym made) (StaysReady-set ps c.loop-i.i page (page_made page) inside is (λ _. refl)) in
     record {
-      count = c.loop-i.invariant.count;
-      whole = AreWhole-set pages.items c.loop-i.i c.make.new.self c.loop-i.invariant.whole (ap length c.make.ensures.words ∙ was);
-      words = same-joined pages.items c.loop-i.i page c.make.new.self inside c.index_mut-page.ensures.value c.make.ensures.words ∙ c.loop-i.invariant.words;
+      words = ap (λ qs. (joined qs).words) made ∙ same-joined ps c.loop-i.i page (page_made page) inside is refl ∙ c.loop-i.invariant.words;
       ready = λ address ready. stays address (c.loop-i.invariant.ready address ready);
-      made = made-more pages.items (c.args.at / 256) c.loop-i.i page c.make.new.self inside c.in_ok-make.ensures.ok c.loop-i.invariant.made;
+      made = subst (λ (qs : List PageWords). (q : ℕ) → c.args.at / 256 ≤ q → q < c.loop-i.i + 1 → slice_get ((joined qs).ready) q ≡ Some true) (sym made) (made-more ps (c.args.at / 256) c.loop-i.i page (page_made page) inside refl c.loop-i.invariant.made);
     }
 
 pub returns-clause-ok : goal.returns-clause-ok

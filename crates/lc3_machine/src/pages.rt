@@ -1,0 +1,223 @@
+//! The pages of a memory.
+
+ghost use Rattle.std.specs.Prelude.{◌≡◌, ◌↔◌, ◌<◌, true, false, length, replicate, slice_index, slice_index_or, slice_set, IfOk, IsOk, IsTrue, OnErr, OnOk};
+ghost use Rattle.lc3_machine.specs.Pages.{PageWords, AreWhole, absent, joined, page_made, page_written};
+ghost use Rattle.lc3_machine.specs.Process.{zeros};
+
+use std::alloc::{AllocError, Global};
+use std::hash::{FoldHasher, Hasher};
+use std::marker::Model;
+
+/// How many words a page has.
+pub(crate) const PAGE: usize = 256;
+
+/// How many pages a memory has.
+pub(crate) const PAGES: usize = 256;
+
+/// The pages of a memory. One that was never written takes no memory and reads as zeros.
+#[derive(Drop)]
+pub(crate) struct Pages {
+    /// A page of zeros, and behind it the pages that were written, in the order of their first writes.
+    words: Vec<u16>,
+    /// Where each page begins among the words: at 0, with the zeros, if it was never written.
+    starts: [usize; PAGES],
+}
+
+impl Model for Pages {
+    ghost use Rattle.std.specs.Prelude.{List};
+    ghost use Rattle.lc3_machine.specs.Pages.{PageWords, ArePages, pages_at};
+
+    ghost Value = { List PageWords };
+
+    ghost view = { λ p. pages_at p.words.items p.starts };
+
+    ghost invariant = { λ p. ArePages p.words.items p.starts };
+}
+
+fn are_zero(words: &[u16]) -> bool {
+    words.iter().all(|word| *word == 0)
+}
+
+/// Where pages begin that were never written.
+fn unwritten() -> [usize; PAGES]
+    ensures { result ≡ replicate 256 0 }
+{
+    [0; PAGES]
+}
+
+/// A page of zeros.
+fn blank(alloc: Global) -> Result<Vec<u16>, AllocError>
+    ensures { IfOk result (λ words. words.items ≡ zeros 256) }
+{
+    let mut words = Vec::new(alloc);
+    words.resize(PAGE, 0)?;
+    Ok(words)
+}
+
+impl Pages {
+    /// Pages that were never written.
+    pub(crate) fn absent(alloc: Global) -> Result<Pages, AllocError>
+        ensures { IfOk result (λ pages. pages ≡ replicate 256 absent) }
+    {
+        Ok(Pages {
+            words: blank(alloc)?,
+            starts: unwritten(),
+        })
+    }
+
+    /// The word at a place of a page.
+    #[inline(always)]
+    pub(crate) fn get(&self, page: usize, place: usize) -> u16
+        requires page { page < 256 }
+        requires place { place < 256 }
+        ensures word { (d : PageWords) → result ≡ slice_index (slice_index_or self.now page d).words place }
+        ensures count { length self.now ≡ 256 }
+        ensures whole { AreWhole self.now }
+    {
+        self.words[self.starts[page] + place]
+    }
+
+    /// Whether a page can be written without taking memory.
+    #[inline(always)]
+    pub(crate) fn is_made(&self, page: usize) -> bool
+        requires page { page < 256 }
+        ensures made { (d : PageWords) → result ≡ (slice_index_or self.now page d).made }
+        ensures count { length self.now ≡ 256 }
+        ensures whole { AreWhole self.now }
+    {
+        self.starts[page] != 0
+    }
+
+    /// Makes a page, so that it can be written; what it holds stays the same. Where memory is refused nothing has changed.
+    pub(crate) fn make(&mut self, page: usize) -> Result<(), AllocError>
+        requires page { page < 256 }
+        ensures ok { (d : PageWords) → OnOk result (self.new ≡ slice_set self.old page (page_made (slice_index_or self.old page d))) }
+        ensures err { OnErr result (self.new ≡ self.old) }
+        ensures count { length self.old ≡ 256 }
+    {
+        if self.is_made(page) {
+            return Ok(());
+        }
+        self.add(page)
+    }
+
+    /// Makes a page that isn't made.
+    fn add(&mut self, page: usize) -> Result<(), AllocError>
+        requires page { page < 256 }
+        requires absent { (d : PageWords) → (slice_index_or self.old page d).made ≡ false }
+        ensures ok { (d : PageWords) → OnOk result (self.new ≡ slice_set self.old page (page_made (slice_index_or self.old page d))) }
+        ensures err { OnErr result (self.new ≡ self.old) }
+        ensures count { length self.old ≡ 256 }
+    {
+        let start = self.words.len();
+        self.words.resize(start + PAGE, 0)?;
+        self.starts[page] = start;
+        Ok(())
+    }
+
+    /// Writes the word at a place of a page that is made.
+    #[inline(always)]
+    fn write(&mut self, page: usize, place: usize, word: u16)
+        requires page { page < 256 }
+        requires place { place < 256 }
+        requires made { (d : PageWords) → (slice_index_or self.old page d).made ≡ true }
+        ensures written { (d : PageWords) → self.new ≡ slice_set self.old page (page_written (slice_index_or self.old page d) place word) }
+    {
+        let start = self.starts[page];
+        self.words[start + place] = word;
+    }
+
+    /// Writes the word at a place of a page; where memory is refused nothing has changed.
+    #[inline(always)]
+    pub(crate) fn set(&mut self, page: usize, place: usize, word: u16) -> Result<(), AllocError>
+        requires page { page < 256 }
+        requires place { place < 256 }
+        ensures ok { (d : PageWords) → OnOk result (self.new ≡ slice_set self.old page (page_written (slice_index_or self.old page d) place word)) }
+        ensures err { OnErr result (self.new ≡ self.old) }
+        ensures succeeds { (d : PageWords) → (slice_index_or self.old page d).made ≡ true → IsOk result }
+        ensures count { length self.old ≡ 256 }
+        ensures whole { AreWhole self.old }
+    {
+        if self.is_made(page) {
+            self.write(page, place, word);
+            return Ok(());
+        }
+        self.write_first(page, place, word)
+    }
+
+    /// Writes the first word of a page that isn't made.
+    #[inline(never)]
+    fn write_first(&mut self, page: usize, place: usize, word: u16) -> Result<(), AllocError>
+        requires page { page < 256 }
+        requires place { place < 256 }
+        requires absent { (d : PageWords) → (slice_index_or self.old page d).made ≡ false }
+        ensures ok { (d : PageWords) → OnOk result (self.new ≡ slice_set self.old page (page_written (slice_index_or self.old page d) place word)) }
+        ensures err { OnErr result (self.new ≡ self.old) }
+    {
+        self.add(page)?;
+        self.write(page, place, word);
+        Ok(())
+    }
+
+    /// The words of a page.
+    fn words_of(&self, page: usize) -> &[u16]
+        requires page { page < 256 }
+        ensures words { (d : PageWords) → result.now ≡ (slice_index_or self.now page d).words }
+    {
+        let start = self.starts[page];
+        &self.words[start..start + PAGE]
+    }
+
+    /// Equal pages.
+    pub(crate) fn copy(&self, alloc: Global) -> Result<Pages, AllocError>
+        ensures equal { IfOk result (λ copy. copy ≡ self.now) }
+    {
+        let words = Vec::from_slice(alloc, self.words.as_slice())?;
+        Ok(Pages {
+            words,
+            starts: self.starts,
+        })
+    }
+
+    /// Whether a page has the same words here and there.
+    fn has_same_page(&self, other: &Pages, page: usize) -> bool
+        requires page { page < 256 }
+        ensures same { (d : PageWords) → IsTrue result ↔ ((slice_index_or self.now page d).words ≡ (slice_index_or other.now page d).words) }
+    {
+        // What is known of the pages is known where a field is named.
+        let _ = &self.words;
+        let _ = &other.words;
+        if !self.is_made(page) && !other.is_made(page) {
+            return true;
+        }
+        self.words_of(page) == other.words_of(page)
+    }
+
+    /// Whether all words are the same here and there.
+    pub(crate) fn has_same_words(&self, other: &Pages) -> bool
+        ensures same { IsTrue result ↔ ((joined self.now).words ≡ (joined other.now).words) }
+    {
+        // What is known of the pages is known where a field is named.
+        let _ = &self.words;
+        let _ = &other.words;
+        for page in 0..PAGES {
+            if !self.has_same_page(other, page) {
+                return false;
+            }
+        }
+        true
+    }
+
+    /// Adds a page to a digest. One of zeros adds nothing, whether it is made or not.
+    pub(crate) fn feed(&self, page: usize, hasher: &mut FoldHasher)
+        requires page { page < 256 }
+    {
+        let words = self.words_of(page);
+        if !are_zero(words) {
+            hasher.write_usize(page);
+            for word in words {
+                hasher.write_u16(*word);
+            }
+        }
+    }
+}
