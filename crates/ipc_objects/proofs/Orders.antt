@@ -41,9 +41,9 @@ lt-from a b h = grind (arith, nat_tests)
 pub rises-sent : (m : Message) (ms : List Message) → NeverRises ms → NeverRises (sent m ms)
 rises-sent m ms h =
     let above : All (λ x. m.priority ≤ x.priority) (filter (λ x. nat_le m.priority x.priority) ms) =
-        All-weaker (λ x. nat_le m.priority x.priority ≡ true) (λ x. m.priority ≤ x.priority) (λ x t. le-from m.priority x.priority t) _ (passes (λ x. nat_le m.priority x.priority) ms) in
+    All-weaker (λ x. nat_le m.priority x.priority ≡ true) (λ x. m.priority ≤ x.priority) (λ x t. le-from m.priority x.priority t) _ (passes (λ x. nat_le m.priority x.priority) ms) in
     let below : All (λ x. x.priority < m.priority) (filter (λ x. nat_lt x.priority m.priority) ms) =
-        All-weaker (λ x. nat_lt x.priority m.priority ≡ true) (λ x. x.priority < m.priority) (λ x t. lt-from x.priority m.priority t) _ (passes (λ x. nat_lt x.priority m.priority) ms) in
+    All-weaker (λ x. nat_lt x.priority m.priority ≡ true) (λ x. x.priority < m.priority) (λ x t. lt-from x.priority m.priority t) _ (passes (λ x. nat_lt x.priority m.priority) ms) in
     rises-append (filter (λ x. nat_le m.priority x.priority) ms) (m ∷ filter (λ x. nat_lt x.priority m.priority) ms)
     (rises-filter (λ x. nat_le m.priority x.priority) ms h)
     (All-weaker (λ x. x.priority < m.priority) (λ x. x.priority ≤ m.priority) (λ x t. omega arith) _ below, rises-filter (λ x. nat_lt x.priority m.priority) ms h)

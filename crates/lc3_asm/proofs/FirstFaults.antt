@@ -90,7 +90,7 @@ unread : (text : List ℕ) (n : ℕ) (k : Fault) → IsFirstUnread text n k → 
 unread text n k h =
     let count : length h.before + 1 ≡ n = omega (arith, length-read [] h.front h.before h.earlier, h.number) in
     let found : lines_read text ≡ Err (at n k) =
-        ap (read_after []) h.lines_are ∙ read-over [] h.front h.before (h.bytes ∷ h.rest) h.earlier ∙ rw (h.here, count) refl in
+    ap (read_after []) h.lines_are ∙ read-over [] h.front h.before (h.bytes ∷ h.rest) h.earlier ∙ rw (h.here, count) refl in
     rw found refl
 
 -- the first line without words, behind these lines
@@ -152,7 +152,7 @@ words-over : (known : List (List ℕ × ℕ)) (before made : List (Line Operand)
 words-over known before [] line after n k h number here =
     let count : length before + 1 ≡ n = omega (arith, number) in
     let fault : words (value known) (address_after before) line ≡ Err k =
-        subst (λ u. words (value known) (address_after u) line ≡ Err k) (append-nil before) here in
+    subst (λ u. words (value known) (address_after u) line ≡ Err k) (append-nil before) here in
     rw (fault, count) refl
 words-over known before (l ∷ made) line after n k h number here =
     words-next known before l (made ++ line ∷ after) n k (words (value known) (address_after before) l) refl h.0
@@ -162,7 +162,7 @@ words-over known before (l ∷ made) line after n k h number here =
 without_words : (text : List ℕ) (n : ℕ) (k : Fault) → IsFirstWithoutWords text n k → program text ≡ Err (at n k)
 without_words text n k h =
     let made : words_after (labels h.read) [] (h.before ++ h.line ∷ h.after) ≡ Err (at n k) =
-        words-over (labels h.read) [] h.before h.line h.after n k h.earlier (omega (arith, h.number)) h.here in
+    words-over (labels h.read) [] h.before h.line h.after n k h.earlier (omega (arith, h.number)) h.here in
     let all : words_after (labels h.read) [] h.read ≡ Err (at n k) = ap (words_after (labels h.read) []) h.split ∙ made in
     rw (h.lines_are, h.started, all) refl
 

@@ -139,7 +139,12 @@ impl Kernel {
     {
         match self.processes.slot(pid, slot as u16) {
             None => Decision::Refused(Errno::Invalid),
-            Some(Slot { opens: OPENS_MAX, .. }) => Decision::Refused(Errno::TooManyOpen),
+            Some(
+                Slot {
+                    opens: OPENS_MAX,
+                    ..
+                },
+            ) => Decision::Refused(Errno::TooManyOpen),
             Some(held) => {
                 let held = Some(Slot {
                     opens: held.opens + 1,
