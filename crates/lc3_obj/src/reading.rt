@@ -7,6 +7,9 @@ use crate::ObjFault;
 use lc3_word::{FIRST_DEVICE, Image};
 use std::alloc::Global;
 
+/// The first address that no image reaches.
+const IMAGE_END: usize = FIRST_DEVICE as usize;
+
 /// Reads the image that an object file holds. The first fault of `Empty`, `OddLength` and `TooLong` is answered, and
 /// `NoMemory` only where the bytes have none of them.
 pub fn read_image(alloc: Global, bytes: &[u8]) -> Result<Image, ObjFault>
@@ -29,7 +32,7 @@ pub fn read_image(alloc: Global, bytes: &[u8]) -> Result<Image, ObjFault>
     }
     let origin = word_at(bytes, 0);
     let count = bytes.len() / 2 - 1;
-    if origin as usize + count > FIRST_DEVICE as usize {
+    if origin as usize + count > IMAGE_END {
         return Err(ObjFault::TooLong);
     }
     let mut words = Vec::new(alloc);
