@@ -2,8 +2,8 @@
 use Rattle.std.proofs.Common.{◌≡◌, ℕ, ◌&&◌, Bool, true, false, cond, not, nat_lt, nat_le, ◌==◌, List, [], ◌∷◌, length, Option, Some, None, Result, Ok, Err, IfOk, IsTrue, ◌≤◌, ◌<◌, refl, sym, subst, arith, IsSomeAnd, unwrap_or, length-set, position}
 use Rattle.ipc_names.specs.declared.errno.Errno.{Errno}
 use Rattle.ipc_names.specs.declared.flags.Flags.{Flags}
-use Rattle.ipc_names.specs.Flags.{flags_read}
-use Rattle.ipc_objects.specs.declared.limits.TheConstants.{MQ_PRIO_MAX, MQ_MSGSIZE_MAX, SEM_VALUE_MAX}
+use Rattle.ipc_names.specs.Flags.{flags_read, o_creat}
+use Rattle.ipc_objects.specs.Limits.{mq_prio_max, mq_msgsize_max, sem_value_max}
 use Rattle.ipc_objects.specs.declared.queue.Message.{Message}
 use Rattle.ipc_objects.specs.Queue.{QueueState}
 use Rattle.ipc_kernel.specs.declared.place.Place.{Place}
@@ -31,7 +31,7 @@ use Rattle.ipc_kernel.specs.Answer.{answer, may_wait, is_receive}
 
 -- a message that a receive answers is no longer than what was asked for, and than a message can be
 abbrev pub IsShort : Call → Answer → Type 0
-IsShort call a = (d len : ℕ) → call ≡ MqReceive d len → (message_length a ≤ len) × (message_length a ≤ MQ_MSGSIZE_MAX)
+IsShort call a = (d len : ℕ) → call ≡ MqReceive d len → (message_length a ≤ len) × (message_length a ≤ mq_msgsize_max)
 
 -- the answer is one of the call, a wait is one of a call that can wait and changes nothing, and the processes stay as many
 record IsLawful (call : Call) (k : KernelState) (o : Outcome) : Type 0 where
@@ -66,7 +66,7 @@ lawful_sent : (c : Call) (k : KernelState) (priority : ℕ) (words : List ℕ) (
 lawful_sent c k priority words None can = lawful_refused c k _
 lawful_sent c k priority words (Some held) can =
     lawful_if c k (held.0.access == 0) _ _ (lawful_refused c k _)
-    (lawful_if c k (nat_le MQ_PRIO_MAX priority) _ _ (lawful_refused c k _)
+    (lawful_if c k (nat_le mq_prio_max priority) _ _ (lawful_refused c k _)
     (lawful_if c k (nat_lt held.1.message_size (length words)) _ _ (lawful_refused c k _)
     (lawful_if c k (nat_le held.1.max_messages (length held.1.messages)) _ _ (lawful_blocked c k held.0 can) (lawful_done c k _ _ _ (λ s. tt) refl))))
 
@@ -122,7 +122,7 @@ lawful_value s k (Some held) = lawful_done (SemGetvalue s) k _ _ _ (λ s. tt) re
 
 lawful_posted : (c : Call) (k : KernelState) (o : Option (Slot × ℕ)) → IsLawful c k (sem_post k o)
 lawful_posted c k None = lawful_refused c k _
-lawful_posted c k (Some held) = lawful_if c k (held.1 == SEM_VALUE_MAX) _ _ (lawful_refused c k _) (lawful_done c k _ _ _ (λ s. tt) refl)
+lawful_posted c k (Some held) = lawful_if c k (held.1 == sem_value_max) _ _ (lawful_refused c k _) (lawful_done c k _ _ _ (λ s. tt) refl)
 
 lawful_waited : (c : Call) (k : KernelState) (o : Option (Slot × ℕ)) → IsTrue (may_wait c) → IsLawful c k (sem_wait k o)
 lawful_waited c k None can = lawful_refused c k _
@@ -161,7 +161,7 @@ lawful_looked_up c k p name create excl value None = lawful_if c k create _ _ (l
 lawful_looked_up c k p name create excl value (Some place) = lawful_if c k (create && excl) _ _ (lawful_refused c k _) (lawful_again c k p place (slot_for k.processes p place))
 
 lawful_opened : (c : Call) (k : KernelState) (p : ℕ) (name : List ℕ) (flags value : ℕ) → IsLawful c k (sem_open k p name flags value)
-lawful_opened c k p name flags value = lawful_if c k (has_flag 64 flags && nat_lt SEM_VALUE_MAX value) _ _ (lawful_refused c k _) (lawful_looked_up c k p name (has_flag 64 flags) (has_flag 128 flags) value (semaphore_named k.places name))
+lawful_opened c k p name flags value = lawful_if c k (has_flag o_creat flags && nat_lt sem_value_max value) _ _ (lawful_refused c k _) (lawful_looked_up c k p name (has_flag o_creat flags) (has_flag 128 flags) value (semaphore_named k.places name))
 
 lawful : (k : KernelState) (p : ℕ) (c : Call) → IsLawful c k (answer k p c)
 unfolding answer
@@ -199,16 +199,16 @@ answer_count k p c = (lawful k p c).count
 
 -- what a decision gives is an answer of its call, where a message is short
 pub decided_form : (k : KernelState) (p : ℕ) (c : Call) (d : Decision) → outcome_of k p d ≡ answer k p c
-    → ((m len : ℕ) → c ≡ MqReceive m len → message_length (answer k p c).0 ≤ len) → ((m len : ℕ) → c ≡ MqReceive m len → message_length (answer k p c).0 ≤ MQ_MSGSIZE_MAX) → IsAnswerTo c (outcome_of k p d).0
+    → ((m len : ℕ) → c ≡ MqReceive m len → message_length (answer k p c).0 ≤ len) → ((m len : ℕ) → c ≡ MqReceive m len → message_length (answer k p c).0 ≤ mq_msgsize_max) → IsAnswerTo c (outcome_of k p d).0
 decided_form k p c d same size limit = subst (λ (o : Outcome). IsAnswerTo c o.0) (sym same) (answer_form k p c (λ m len e. (size m len e, limit m len e)))
 
 pub previewed_form : {E : Type 0} (r : Result Answer E) (k : KernelState) (p : ℕ) (c : Call) (d : Decision) → outcome_of k p d ≡ answer k p c
-    → ((m len : ℕ) → c ≡ MqReceive m len → message_length (answer k p c).0 ≤ len) → ((m len : ℕ) → c ≡ MqReceive m len → message_length (answer k p c).0 ≤ MQ_MSGSIZE_MAX) → IfOk r (λ a. a ≡ (outcome_of k p d).0) → IfOk r (λ a. IsAnswerTo c a)
+    → ((m len : ℕ) → c ≡ MqReceive m len → message_length (answer k p c).0 ≤ len) → ((m len : ℕ) → c ≡ MqReceive m len → message_length (answer k p c).0 ≤ mq_msgsize_max) → IfOk r (λ a. a ≡ (outcome_of k p d).0) → IfOk r (λ a. IsAnswerTo c a)
 previewed_form (Err e) k p c d same size limit is = tt
 previewed_form (Ok a) k p c d same size limit is = subst (λ x. IsAnswerTo c x) (sym is) (decided_form k p c d same size limit)
 
 pub carried_form : {E : Type 0} (r : Result Answer E) (k new : KernelState) (p : ℕ) (c : Call) (d : Decision) → outcome_of k p d ≡ answer k p c
-    → ((m len : ℕ) → c ≡ MqReceive m len → message_length (answer k p c).0 ≤ len) → ((m len : ℕ) → c ≡ MqReceive m len → message_length (answer k p c).0 ≤ MQ_MSGSIZE_MAX) → IfOk r (λ a. (a, new) ≡ outcome_of k p d) → IfOk r (λ a. IsAnswerTo c a)
+    → ((m len : ℕ) → c ≡ MqReceive m len → message_length (answer k p c).0 ≤ len) → ((m len : ℕ) → c ≡ MqReceive m len → message_length (answer k p c).0 ≤ mq_msgsize_max) → IfOk r (λ a. (a, new) ≡ outcome_of k p d) → IfOk r (λ a. IsAnswerTo c a)
 carried_form (Err e) k new p c d same size limit is = tt
 carried_form (Ok a) k new p c d same size limit is = subst (λ (o : Outcome). IsAnswerTo c o.0) (sym is) (decided_form k p c d same size limit)
 

@@ -4,8 +4,8 @@ use Rattle.std.specs.Option.{option_map}
 use Rattle.ipc_names.specs.declared.errno.Errno.{Errno}
 use Rattle.ipc_names.specs.declared.errno.Errno.TheVariants.{NoEntry, BadDescriptor, Again, Exists, Invalid, TooManyOpen, NoSpace, Overflow, MessageSize}
 use Rattle.ipc_names.specs.declared.flags.Flags.{Flags}
-use Rattle.ipc_names.specs.Flags.{has_flag, flags_read}
-use Rattle.ipc_objects.specs.declared.limits.TheConstants.{MQ_PRIO_MAX, SEM_VALUE_MAX}
+use Rattle.ipc_names.specs.Flags.{has_flag, flags_read, o_creat, o_excl, o_nonblock}
+use Rattle.ipc_objects.specs.Limits.{mq_prio_max, sem_value_max}
 use Rattle.ipc_objects.specs.declared.queue.Message.{Message}
 use Rattle.ipc_objects.specs.Queue.{QueueState}
 use Rattle.ipc_kernel.specs.declared.place.Place.{Place}
@@ -32,7 +32,7 @@ like_sent : (f g : ℕ → ℕ) (k j : KernelState) → IsTwin f g k j → (prio
 like_sent f g k j t prio words None = like_refused f g k j t BadDescriptor
 like_sent f g k j t prio words (Some held) =
     like_if (held.0.access == 0) _ _ _ _ (like_refused f g k j t BadDescriptor)
-    (like_if (nat_le MQ_PRIO_MAX prio) _ _ _ _ (like_refused f g k j t Invalid)
+    (like_if (nat_le mq_prio_max prio) _ _ _ _ (like_refused f g k j t Invalid)
     (like_if (nat_lt held.1.message_size (length words)) _ _ _ _ (like_refused f g k j t MessageSize)
     (like_if (nat_le held.1.max_messages (length held.1.messages)) _ _ _ _ (like_blocked f g k j t held.0)
     (like_done f g _ _ (twin_queue f g k j t held.0.place (with_message prio words held.1)) (Plain 0)))))
@@ -68,7 +68,7 @@ like_set f g k j t p d flags None e = like_refused f g k j t BadDescriptor
 like_set f g k j t p d flags (Some held) e =
     like_if (has_flag 63487 flags) _ _ _ _ (like_refused f g k j t Invalid)
     (like_done f g _ _
-    (twin_descriptor f g k j t p d (Some (record held.0 { nonblock = has_flag 0x800 flags }))
+    (twin_descriptor f g k j t p d (Some (record held.0 { nonblock = has_flag o_nonblock flags }))
     (λ i empty. subst (λ o. descriptor_refers i o ≡ false) (held_descriptor k p d held e) (descriptor_unreferred k.processes p d i (t.consistent.referred i empty))))
     (Attr (attributes held.0 held.1)))
 
@@ -177,10 +177,10 @@ like_semaphore_looked_up f g k j t p name create excl value (Some place) e =
 
 like_semaphore_opened : (f g : ℕ → ℕ) (k j : KernelState) → IsTwin f g k j → (p : ℕ) (name : List ℕ) (flags value : ℕ) → AreLike (sem_open k p name flags value) (sem_open j p name flags value)
 like_semaphore_opened f g k j t p name flags value =
-    like_if (has_flag 0x40 flags && nat_lt SEM_VALUE_MAX value) _ _ _ _ (like_refused f g k j t Invalid)
-    (subst (λ o. AreLike (sem_look_up k p name (has_flag 0x40 flags) (has_flag 0x80 flags) value (semaphore_named k.places name)) (sem_look_up j p name (has_flag 0x40 flags) (has_flag 0x80 flags) value o))
+    like_if (has_flag o_creat flags && nat_lt sem_value_max value) _ _ _ _ (like_refused f g k j t Invalid)
+    (subst (λ o. AreLike (sem_look_up k p name (has_flag o_creat flags) (has_flag o_excl flags) value (semaphore_named k.places name)) (sem_look_up j p name (has_flag o_creat flags) (has_flag o_excl flags) value o))
     (sym (found_named f g k j t.renaming semaphore_name refl t.consistent.semaphores name))
-    (like_semaphore_looked_up f g k j t p name (has_flag 0x40 flags) (has_flag 0x80 flags) value (semaphore_named k.places name) refl))
+    (like_semaphore_looked_up f g k j t p name (has_flag o_creat flags) (has_flag o_excl flags) value (semaphore_named k.places name) refl))
 
 -- a slot with one open less refers to the place still, or to none
 less_refers : (slot : Slot) (b : Bool) (i : ℕ) → slot_refers i (Some slot) ≡ false → slot_refers i (cond b (Some (record slot { opens = slot.opens - 1 })) None) ≡ false
@@ -209,7 +209,7 @@ like_tried f g k j t (Some held) = like_if (held.1 == 0) _ _ _ _ (like_refused f
 
 like_posted : (f g : ℕ → ℕ) (k j : KernelState) → IsTwin f g k j → (o : Option (Slot × ℕ)) → AreLike (sem_post k o) (sem_post j (option_map (renamed_open f) o))
 like_posted f g k j t None = like_refused f g k j t Invalid
-like_posted f g k j t (Some held) = like_if (held.1 == SEM_VALUE_MAX) _ _ _ _ (like_refused f g k j t Overflow) (like_done f g _ _ (twin_value f g k j t held.0.place (held.1 + 1)) (Plain 0))
+like_posted f g k j t (Some held) = like_if (held.1 == sem_value_max) _ _ _ _ (like_refused f g k j t Overflow) (like_done f g _ _ (twin_value f g k j t held.0.place (held.1 + 1)) (Plain 0))
 
 like_value : (f g : ℕ → ℕ) (k j : KernelState) → IsTwin f g k j → (o : Option (Slot × ℕ)) → AreLike (sem_getvalue k o) (sem_getvalue j (option_map (renamed_open f) o))
 like_value f g k j t None = like_refused f g k j t Invalid

@@ -2,7 +2,7 @@
 use Rattle.std.specs.Prelude.{◌≡◌, ℕ, ◌+◌, ◌-◌, ◌<◌, ◌≤◌, Bool, true, false, List, [], ◌∷◌, Some, None, unwrap_or, slice_set, IfSome, IsSomeAnd, IsTrue}
 use Rattle.ipc_objects.specs.declared.queue.Message.{Message}
 use Rattle.ipc_objects.specs.Queue.{QueueState}
-use Rattle.ipc_objects.specs.declared.limits.TheConstants.{SEM_VALUE_MAX, MQ_PRIO_MAX}
+use Rattle.ipc_objects.specs.Limits.{sem_value_max, mq_prio_max}
 use Rattle.ipc_kernel.specs.Limits.{object_places, open_max}
 use Rattle.ipc_kernel.specs.declared.place.Place.TheVariants.{Empty, Mq, Sem}
 use Rattle.ipc_kernel.specs.declared.call.Reply.{Reply}
@@ -69,7 +69,7 @@ CanMakeQueue k new =
 -- a new semaphore is open on a slot of the process, in an empty place, with a value in its range and a name that is free
 abbrev pub CanMakeSemaphore : KernelState → NewSemaphore → Type 0
 CanMakeSemaphore k new =
-    (new.slot < open_max) × (new.place < object_places) × (new.value ≤ SEM_VALUE_MAX)
+    (new.slot < open_max) × (new.place < object_places) × (new.value ≤ sem_value_max)
     × (place_at k.places new.place ≡ Empty) × (semaphore_named k.places new.name.now ≡ None)
 
 -- whether a kernel allows a change
@@ -81,9 +81,9 @@ CanChange k (MakeQueue new) = CanMakeQueue k new
 CanChange k (MakeSemaphore new) = CanMakeSemaphore k new
 CanChange k (UnnameQueue place name) = queue_named k.places name.now ≡ Some place
 CanChange k (UnnameSemaphore place name) = semaphore_named k.places name.now ≡ Some place
-CanChange k (Send place words prio) = IsSomeAnd (queue_in (place_at k.places place)) (HasRoomFor words.now) × (prio < MQ_PRIO_MAX)
+CanChange k (Send place words prio) = IsSomeAnd (queue_in (place_at k.places place)) (HasRoomFor words.now) × (prio < mq_prio_max)
 CanChange k (Take place value) = semaphore_value (place_at k.places place) ≡ Some value
-CanChange k (Post place value) = (semaphore_value (place_at k.places place) ≡ Some value) × (value < SEM_VALUE_MAX)
+CanChange k (Post place value) = (semaphore_value (place_at k.places place) ≡ Some value) × (value < sem_value_max)
 CanChange k CloseAll = Unit {0}
 
 -- whether a kernel allows what is decided

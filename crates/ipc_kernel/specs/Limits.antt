@@ -1,4 +1,4 @@
--- The limits of the kernel that POSIX.1-2017 leaves to the system. Those of queues and semaphores are constants of ipc_objects.
+-- The limits of the kernel that POSIX.1-2017 leaves to the system. Those of queues and semaphores stand in ipc_objects.
 use Rattle.std.specs.Prelude.{ℕ}
 
 -- how many objects, queues and semaphores together, there can be

@@ -4,7 +4,7 @@ use Rattle.std.specs.Prelude.{ℕ, ◌<◌, ◌≤◌, nat_le, length, drop, Boo
 use Rattle.std.specs.List.{enumerate_from}
 use Rattle.std.specs.Str.{bytes_eq}
 use Rattle.ipc_objects.specs.Queue.{QueueState, sent}
-use Rattle.ipc_objects.specs.declared.limits.TheConstants.{MQ_MAXMSG_MAX, MQ_MSGSIZE_MAX}
+use Rattle.ipc_objects.specs.Limits.{mq_maxmsg_max, mq_msgsize_max}
 use Rattle.ipc_kernel.specs.declared.place.Place.{Place}
 use Rattle.ipc_kernel.specs.declared.place.Place.TheVariants.{Empty, Mq, Sem}
 use Rattle.ipc_kernel.specs.declared.process.Process.{Process}
@@ -123,7 +123,7 @@ semaphore_named ps n = place_named semaphore_name ps n
 
 -- whether mq_maxmsg and mq_msgsize are in their ranges
 abbrev pub are_sizes : ℕ × ℕ → Bool
-are_sizes sizes = nat_le 1 sizes.0 && nat_le sizes.0 MQ_MAXMSG_MAX && nat_le 1 sizes.1 && nat_le sizes.1 MQ_MSGSIZE_MAX
+are_sizes sizes = nat_le 1 sizes.0 && nat_le sizes.0 mq_maxmsg_max && nat_le 1 sizes.1 && nat_le sizes.1 mq_msgsize_max
 
 -- a queue without messages
 abbrev pub empty_queue : ℕ × ℕ → QueueState

@@ -1,12 +1,12 @@
 -- What each call on message queues gives, by the first row that fits. A name in brackets is the page of POSIX.1-2017.
 use Rattle.std.specs.Prelude.{ℕ, ◌-◌, ◌==◌, nat_lt, nat_le, length, ◌&&◌, not, List, [], ◌∷◌, Option, Some, None, slice_set, slice_index, Result, Ok, Err, if◌then◌else◌, position}
-use Rattle.ipc_names.specs.Flags.{has_flag}
+use Rattle.ipc_names.specs.Flags.{has_flag, o_nonblock}
 use Rattle.ipc_names.specs.declared.flags.Flags.{Flags}
 use Rattle.ipc_names.specs.declared.errno.Errno.{Errno}
 use Rattle.ipc_names.specs.declared.errno.Errno.TheVariants.{NoEntry, BadDescriptor, MessageSize, Exists, Invalid, TooManyOpen, NoSpace}
 use Rattle.ipc_objects.specs.declared.queue.Message.{Message}
 use Rattle.ipc_objects.specs.Queue.{QueueState}
-use Rattle.ipc_objects.specs.declared.limits.TheConstants.{MQ_PRIO_MAX, MQ_MAXMSG_DEFAULT, MQ_MSGSIZE_DEFAULT}
+use Rattle.ipc_objects.specs.Limits.{mq_prio_max, mq_maxmsg_default, mq_msgsize_default}
 use Rattle.ipc_kernel.specs.declared.place.Place.TheVariants.{Mq}
 use Rattle.ipc_kernel.specs.declared.process.Descriptor.{Descriptor}
 use Rattle.ipc_kernel.specs.declared.call.Reply.TheVariants.{Plain, Message as received, Attr}
@@ -17,7 +17,7 @@ use Rattle.ipc_kernel.specs.Outcomes.{Outcome, refusal, completion, blocked, wit
 
 -- mq_maxmsg and mq_msgsize as they are asked for; the other two attributes are ignored [mq_open]
 abbrev pub sizes_asked : Option (List ℕ) → ℕ × ℕ
-sizes_asked None = (MQ_MAXMSG_DEFAULT, MQ_MSGSIZE_DEFAULT)
+sizes_asked None = (mq_maxmsg_default, mq_msgsize_default)
 sizes_asked (Some attr) = (slice_index attr 1, slice_index attr 2)
 
 -- a descriptor for the queue in a place, by the access mode and O_NONBLOCK [mq_open]
@@ -65,7 +65,7 @@ abbrev pub mq_send : KernelState → ℕ → List ℕ → Option (Descriptor × 
 mq_send k prio words None = refusal k BadDescriptor
 mq_send k prio words (Some held) =
     if held.0.access == 0 then refusal k BadDescriptor
-    else if nat_le MQ_PRIO_MAX prio then refusal k Invalid
+    else if nat_le mq_prio_max prio then refusal k Invalid
     else if nat_lt held.1.message_size (length words) then refusal k MessageSize
     else if nat_le held.1.max_messages (length held.1.messages) then blocked k held.0
     else completion (with_queue_at k held.0.place (with_message prio words held.1)) (Plain 0)
@@ -85,7 +85,7 @@ mq_receive k len (Some held) =
 
 -- mq_flags, mq_maxmsg, mq_msgsize and mq_curmsgs [mqueue.h]
 abbrev pub attributes : Descriptor → QueueState → List ℕ
-attributes d q = (if d.nonblock then 0x800 else 0) ∷ q.max_messages ∷ q.message_size ∷ length q.messages ∷ []
+attributes d q = (if d.nonblock then o_nonblock else 0) ∷ q.max_messages ∷ q.message_size ∷ length q.messages ∷ []
 
 -- the attributes are told [mq_getattr]
 abbrev pub mq_getattr : KernelState → Option (Descriptor × QueueState) → Outcome
@@ -96,5 +96,5 @@ mq_getattr k (Some held) = completion k (Attr (attributes held.0 held.1))
 abbrev pub mq_setattr : KernelState → ℕ → ℕ → ℕ → Option (Descriptor × QueueState) → Outcome
 mq_setattr k p d flags None = refusal k BadDescriptor
 mq_setattr k p d flags (Some held) =
-    if has_flag (0xffff - 0x800) flags then refusal k Invalid
-    else completion (record k { processes = with_descriptor k.processes p d (Some (record held.0 { nonblock = has_flag 0x800 flags })) }) (Attr (attributes held.0 held.1))
+    if has_flag (0xffff - o_nonblock) flags then refusal k Invalid
+    else completion (record k { processes = with_descriptor k.processes p d (Some (record held.0 { nonblock = has_flag o_nonblock flags })) }) (Attr (attributes held.0 held.1))

@@ -1,6 +1,6 @@
 -- Which replies a call can have.
 use Rattle.std.specs.Prelude.{◌≤◌, ℕ, length}
-use Rattle.ipc_objects.specs.declared.limits.TheConstants.{MQ_MSGSIZE_MAX}
+use Rattle.ipc_objects.specs.Limits.{mq_msgsize_max}
 use Rattle.ipc_kernel.specs.declared.call.Call.{Call}
 use Rattle.ipc_kernel.specs.declared.call.Call.TheVariants.{MqReceive, MqGetattr, MqSetattr, SemGetvalue}
 use Rattle.ipc_kernel.specs.declared.call.Answer.{Answer}
@@ -11,7 +11,7 @@ use Rattle.ipc_kernel.specs.declared.call.Reply.TheVariants.{Plain, Message, Att
 -- a reply is a plain word or has the form of its call; a message has at most the words asked for, and at most 256
 abbrev pub IsReplyTo : Call → Reply → Type 0
 IsReplyTo call (Plain word) = Unit {0}
-IsReplyTo (MqReceive d len) (Message words prio) = (length words ≤ len) × (length words ≤ MQ_MSGSIZE_MAX)
+IsReplyTo (MqReceive d len) (Message words prio) = (length words ≤ len) × (length words ≤ mq_msgsize_max)
 IsReplyTo (MqGetattr d) (Attr words) = Unit {0}
 IsReplyTo (MqSetattr d flags) (Attr words) = Unit {0}
 IsReplyTo (SemGetvalue s) (Value word) = Unit {0}

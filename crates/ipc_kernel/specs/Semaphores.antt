@@ -1,8 +1,8 @@
 -- What each call on semaphores gives, by the first row that fits. A name in brackets is the page of POSIX.1-2017.
 use Rattle.std.specs.Prelude.{ℕ, ◌+◌, ◌-◌, ◌==◌, nat_lt, Bool, ◌&&◌, List, Option, Some, None, slice_set, if◌then◌else◌, position}
-use Rattle.ipc_names.specs.Flags.{has_flag}
+use Rattle.ipc_names.specs.Flags.{has_flag, o_creat, o_excl}
 use Rattle.ipc_names.specs.declared.errno.Errno.TheVariants.{NoEntry, Again, Exists, Invalid, TooManyOpen, NoSpace, Overflow}
-use Rattle.ipc_objects.specs.declared.limits.TheConstants.{SEM_VALUE_MAX}
+use Rattle.ipc_objects.specs.Limits.{sem_value_max}
 use Rattle.ipc_kernel.specs.Limits.{opens_max}
 use Rattle.ipc_kernel.specs.declared.place.Place.TheVariants.{Sem}
 use Rattle.ipc_kernel.specs.declared.process.Slot.{Slot}
@@ -51,8 +51,8 @@ sem_look_up k p name create excl value (Some place) = if create && excl then ref
 -- O_CREAT and O_EXCL alone are looked at, and with O_CREAT the value is tested first [sem_open]
 abbrev pub sem_open : KernelState → ℕ → List ℕ → ℕ → ℕ → Outcome
 sem_open k p name flags value =
-    if has_flag 0x40 flags && nat_lt SEM_VALUE_MAX value then refusal k Invalid
-    else sem_look_up k p name (has_flag 0x40 flags) (has_flag 0x80 flags) value (semaphore_named k.places name)
+    if has_flag o_creat flags && nat_lt sem_value_max value then refusal k Invalid
+    else sem_look_up k p name (has_flag o_creat flags) (has_flag o_excl flags) value (semaphore_named k.places name)
 
 -- the slot has one open less, and is free when it has none left [sem_close]
 abbrev pub sem_close : KernelState → ℕ → ℕ → Option Slot → Outcome
@@ -73,7 +73,7 @@ sem_trywait k (Some held) = if held.1 == 0 then refusal k Again else completion 
 -- one is added to the value, whoever waits [sem_post]
 abbrev pub sem_post : KernelState → Option (Slot × ℕ) → Outcome
 sem_post k None = refusal k Invalid
-sem_post k (Some held) = if held.1 == SEM_VALUE_MAX then refusal k Overflow else completion (with_value_at k held.0.place (held.1 + 1)) (Plain 0)
+sem_post k (Some held) = if held.1 == sem_value_max then refusal k Overflow else completion (with_value_at k held.0.place (held.1 + 1)) (Plain 0)
 
 -- the value is told, which is never negative [sem_getvalue]
 abbrev pub sem_getvalue : KernelState → Option (Slot × ℕ) → Outcome

@@ -2,7 +2,7 @@
 ghost use Rattle.std.specs.Prelude.{◌≡◌, ℕ, ◌<◌, ◌≤◌, ◌-◌, length, Some, IfSome, IfOk, OnErr, IsErr, IsTrue};
 ghost use Rattle.std.specs.Option.{option_map, option_copied};
 ghost use Rattle.ipc_names.specs.Errno.{number_of};
-ghost use Rattle.ipc_objects.specs.declared.limits.TheConstants.{SEM_VALUE_MAX, MQ_MSGSIZE_MAX};
+ghost use Rattle.ipc_objects.specs.Limits.{sem_value_max, mq_msgsize_max};
 ghost use Rattle.ipc_kernel.specs.Limits.{object_places, open_max, process_max};
 ghost use Rattle.ipc_kernel.specs.Kernel.{KernelState};
 ghost use Rattle.ipc_kernel.specs.Decisions.{outcome_of, IsPossible, decision_may_grow};
@@ -166,7 +166,7 @@ impl Kernel {
         ensures size { (d len : ℕ) → call.now ≡ MqReceive d len →
             message_length (answer self.now pid call.now).0 ≤ len }
         ensures limit { (d len : ℕ) → call.now ≡ MqReceive d len →
-            message_length (answer self.now pid call.now).0 ≤ MQ_MSGSIZE_MAX }
+            message_length (answer self.now pid call.now).0 ≤ mq_msgsize_max }
     {
         match call {
             Call::MqOpen { name, flags, attr } => self.decide_mq_open(pid, name, *flags, *attr),
@@ -212,7 +212,7 @@ impl Kernel {
     fn open_semaphore(&self, pid: usize, slot: u16) -> Option<(Slot, u16)>
         requires { pid < length self.now.processes }
         ensures found { result ≡ open_semaphore self.now pid slot }
-        ensures bound { IfSome result (λ held. held.1 ≤ SEM_VALUE_MAX) }
+        ensures bound { IfSome result (λ held. held.1 ≤ sem_value_max) }
         ensures there { IfSome result (λ held. semaphore_value (place_at self.now.places held.0.place) ≡ Some held.1) }
     {
         match self.processes.slot(pid, slot) {

@@ -4,6 +4,7 @@
 mod call;
 mod kernel;
 pub mod laws;
+mod limits;
 mod place;
 mod places;
 mod process;
@@ -12,5 +13,6 @@ mod renaming;
 
 pub use call::{Answer, Call, Reply};
 pub use kernel::Kernel;
+pub use limits::{OBJECT_PLACES, OPEN_MAX, OPENS_MAX, PROCESS_MAX, limits_are_defined};
 pub use place::Place;
 pub use process::{Descriptor, Process, Slot};

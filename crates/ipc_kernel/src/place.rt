@@ -4,7 +4,7 @@ ghost use Rattle.std.specs.Prelude.{◌∷◌, IsSomeAnd, drop};
 ghost use Rattle.std.specs.Option.{option_map, option_copied};
 ghost use Rattle.ipc_objects.specs.Queue.{QueueState};
 ghost use Rattle.ipc_objects.specs.declared.queue.Message.{Message};
-ghost use Rattle.ipc_objects.specs.declared.limits.TheConstants.{SEM_VALUE_MAX, MQ_PRIO_MAX};
+ghost use Rattle.ipc_objects.specs.Limits.{sem_value_max, mq_prio_max};
 ghost use Rattle.ipc_kernel.specs.declared.place.Place.TheVariants.{Empty};
 
 mod copies;
@@ -50,7 +50,7 @@ impl Place {
     #[inline(always)]
     pub(crate) fn value(&self) -> Option<u16>
         ensures value { result ≡ semaphore_value self.now }
-        ensures bound { IfSome result (λ value. value ≤ SEM_VALUE_MAX) }
+        ensures bound { IfSome result (λ value. value ≤ sem_value_max) }
     {
         match self {
             Place::Sem { semaphore, .. } => Some(semaphore.value()),
@@ -93,7 +93,7 @@ impl Place {
     #[inline(always)]
     pub(crate) fn send(&mut self, priority: u16, words: Vec<u16>) -> Result<(), AllocError>
         requires queue { IsSomeAnd (queue_in self.old) (HasRoomFor words.items) }
-        requires priority { priority < MQ_PRIO_MAX }
+        requires priority { priority < mq_prio_max }
         ensures ok { OnOk result ((q : QueueState) → queue_in self.old ≡ Some q →
             self.new ≡ with_queue (with_message priority words.items q) self.old) }
         ensures err { OnErr result (self.new ≡ self.old) }
@@ -125,7 +125,7 @@ impl Place {
     #[inline(always)]
     pub(crate) fn post(&mut self, value: u16)
         requires value { semaphore_value self.old ≡ Some value }
-        requires room { value < SEM_VALUE_MAX }
+        requires room { value < sem_value_max }
         ensures { self.new ≡ with_value (value + 1) self.old }
     {
         if let Place::Sem { semaphore, .. } = self {

@@ -5,7 +5,7 @@ ghost use Rattle.std.specs.Prelude.{◌∷◌, IsSomeAnd, IsTrue, drop};
 ghost use Rattle.std.specs.Option.{option_map, option_copied};
 ghost use Rattle.ipc_objects.specs.Queue.{QueueState};
 ghost use Rattle.ipc_objects.specs.declared.queue.Message.{Message};
-ghost use Rattle.ipc_objects.specs.declared.limits.TheConstants.{SEM_VALUE_MAX, MQ_PRIO_MAX};
+ghost use Rattle.ipc_objects.specs.Limits.{sem_value_max, mq_prio_max};
 ghost use Rattle.ipc_kernel.specs.Limits.{object_places};
 ghost use Rattle.ipc_kernel.specs.Places.{queue_in, with_queue, with_message, without_first, HasRoomFor, HasMessage, are_sizes, empty_queue};
 ghost use Rattle.ipc_kernel.specs.Places.{is_empty, semaphore_value, with_value, unnamed, queue_name, semaphore_name, queue_named, semaphore_named, queue_and_name, value_and_name, place_at, emptied};
@@ -14,15 +14,13 @@ ghost use Rattle.ipc_kernel.specs.declared.place.Place.TheVariants.{Empty, Mq, S
 mod alike;
 mod copies;
 
+use crate::limits::OBJECT_PLACES;
 use crate::place::Place;
 use crate::processes::Processes;
 use ipc_names::{Name, NameTable};
 use ipc_objects::{Queue, Semaphore, Words};
 use std::alloc::{AllocError, Global};
 use std::marker::Model;
-
-/// The number of object places.
-pub(crate) const PLACES: usize = 64;
 
 fn index_of_empty(places: &[Place]) -> Option<usize>
     ensures first { result ≡ position is_empty places.now }
@@ -52,7 +50,7 @@ fn send_at(
     words: &Words,
 ) -> Result<(), AllocError>
     requires queue { IsSomeAnd (queue_in (place_at places.old.items place)) (HasRoomFor words.now) }
-    requires priority { priority < MQ_PRIO_MAX }
+    requires priority { priority < mq_prio_max }
     ensures ok { OnOk result ((q : QueueState) → queue_in (place_at places.old.items place) ≡ Some q →
         places.new.items ≡ slice_set places.old.items place (with_queue (with_message priority words.now q) (place_at places.old.items place))) }
     ensures err { OnErr result (places.new.items ≡ places.old.items) }
@@ -79,7 +77,7 @@ fn receive_at(places: &mut Vec<Place>, place: u8) -> (u16, Vec<u16>)
 #[inline(always)]
 fn post_at(places: &mut Vec<Place>, place: u8, value: u16)
     requires value { semaphore_value (place_at places.old.items place) ≡ Some value }
-    requires room { value < SEM_VALUE_MAX }
+    requires room { value < sem_value_max }
     ensures { places.new.items ≡ slice_set places.old.items place (with_value (value + 1) (place_at places.old.items place)) }
 {
     let place = &mut places[place as usize];
@@ -117,7 +115,7 @@ fn put_queue_at(places: &mut Vec<Place>, place: u8, name: Name, queue: Queue)
 
 fn put_semaphore_at(places: &mut Vec<Place>, place: u8, name: Name, value: u16)
     requires place { place < length places.old.items }
-    requires value { value ≤ SEM_VALUE_MAX }
+    requires value { value ≤ sem_value_max }
     ensures { places.new.items ≡ slice_set places.old.items place (Sem (Some name) value) }
 {
     places[place as usize] = Place::Sem {
@@ -185,8 +183,8 @@ impl Places {
     pub(crate) fn new(alloc: Global) -> Result<Places, AllocError>
         ensures { IfOk result (λ ps. ps ≡ replicate object_places Empty) }
     {
-        let mut places = Vec::with_capacity(alloc, PLACES)?;
-        for _ in 0..PLACES {
+        let mut places = Vec::with_capacity(alloc, OBJECT_PLACES)?;
+        for _ in 0..OBJECT_PLACES {
             places.push(Place::Empty)?;
         }
         let queue_names = NameTable::new(alloc);
@@ -231,7 +229,7 @@ impl Places {
     #[inline(always)]
     pub(crate) fn value(&self, place: u8) -> Option<u16>
         ensures value { result ≡ semaphore_value (place_at self.now place) }
-        ensures bound { IfSome result (λ value. value ≤ SEM_VALUE_MAX) }
+        ensures bound { IfSome result (λ value. value ≤ sem_value_max) }
     {
         match self.places.get(place as usize) {
             Some(place) => place.value(),
@@ -274,7 +272,7 @@ impl Places {
     #[inline(always)]
     pub(crate) fn send(&mut self, place: u8, priority: u16, words: &Words) -> Result<(), AllocError>
         requires queue { IsSomeAnd (queue_in (place_at self.old place)) (HasRoomFor words.now) }
-        requires priority { priority < MQ_PRIO_MAX }
+        requires priority { priority < mq_prio_max }
         ensures ok { OnOk result ((q : QueueState) → queue_in (place_at self.old place) ≡ Some q →
             self.new ≡ slice_set self.old place (with_queue (with_message priority words.now q) (place_at self.old place))) }
         ensures err { OnErr result (self.new ≡ self.old) }
@@ -298,7 +296,7 @@ impl Places {
     #[inline(always)]
     pub(crate) fn post(&mut self, place: u8, value: u16)
         requires value { semaphore_value (place_at self.old place) ≡ Some value }
-        requires room { value < SEM_VALUE_MAX }
+        requires room { value < sem_value_max }
         ensures { self.new ≡ slice_set self.old place (with_value (value + 1) (place_at self.old place)) }
     {
         post_at(&mut self.places, place, value);
@@ -369,7 +367,7 @@ impl Places {
         value: u16,
     ) -> Result<(), AllocError>
         requires place { place < object_places }
-        requires value { value ≤ SEM_VALUE_MAX }
+        requires value { value ≤ sem_value_max }
         requires empty { place_at self.old place ≡ Empty }
         requires absent { semaphore_named self.old name.now ≡ None }
         ensures ok { OnOk result (self.new ≡ slice_set self.old place (Sem (Some name.now) value)) }

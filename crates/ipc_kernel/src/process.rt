@@ -3,8 +3,7 @@ ghost use Rattle.std.specs.Prelude.{◌≡◌, ◌<◌, IfSome, length, position
 ghost use Rattle.ipc_kernel.specs.Limits.{open_max};
 ghost use Rattle.ipc_kernel.specs.Processes.{slot_refers, with_descriptor, with_slot};
 
-/// The number of descriptors, and of slots, of a process.
-pub(crate) const OPEN_MAX: usize = 16;
+use crate::limits::OPEN_MAX;
 
 /// An open message queue: the object place of the queue, and how this descriptor opened it.
 #[derive(Clone, Copy, PartialEq, Eq)]

@@ -7,9 +7,9 @@ ghost use Rattle.ipc_kernel.specs.Processes.{slot_refers, descriptor_refers, is_
 mod alike;
 mod copies;
 
-use crate::places::PLACES;
+use crate::limits::{OBJECT_PLACES, OPEN_MAX};
 use crate::process::{
-    Descriptor, OPEN_MAX, Process, Slot, descriptor_at, first_free_descriptor, first_free_slot,
+    Descriptor, Process, Slot, descriptor_at, first_free_descriptor, first_free_slot,
     first_that_refers, slot_at, write_descriptor, write_slot,
 };
 use std::alloc::{AllocError, Global};
@@ -79,7 +79,7 @@ fn forget_descriptors(counts: &mut [u16], descriptors: &[Option<Descriptor>])
 #[derive(Drop)]
 pub(crate) struct Processes {
     tables: Vec<Process>,
-    counts: [u16; PLACES],
+    counts: [u16; OBJECT_PLACES],
 }
 
 impl Model for Processes {
@@ -111,7 +111,7 @@ impl Processes {
         let tables = vec![in alloc; closed; count]?;
         Ok(Processes {
             tables,
-            counts: [0; PLACES],
+            counts: [0; OBJECT_PLACES],
         })
     }
 
@@ -217,6 +217,6 @@ impl Processes {
     pub(crate) fn is_referred(&self, place: u8) -> bool
         ensures { result ≡ is_referred self.now place }
     {
-        (place as usize) < PLACES && self.counts[place as usize] > 0
+        (place as usize) < OBJECT_PLACES && self.counts[place as usize] > 0
     }
 }

@@ -2,7 +2,7 @@
 ghost use Rattle.std.specs.Prelude.{◌≡◌, ℕ};
 ghost use Rattle.ipc_kernel.specs.Alike.{IsPermutation, Permutes, Follows, renamed_by};
 
-use crate::places::PLACES;
+use crate::limits::OBJECT_PLACES;
 
 /// Where a list of numbers takes a place; one behind its end stays.
 #[inline(always)]
@@ -18,8 +18,8 @@ pub(crate) fn renamed(to: &[u8], place: u8) -> u8
 /// A renaming of the object places: where each is taken, and back.
 #[derive(Clone, Copy, Drop)]
 pub(crate) struct Renaming {
-    pub to: [u8; PLACES],
-    pub from: [u8; PLACES],
+    pub to: [u8; OBJECT_PLACES],
+    pub from: [u8; OBJECT_PLACES],
 }
 
 impl Renaming {
@@ -27,8 +27,8 @@ impl Renaming {
     pub(crate) fn new() -> Renaming
         ensures { Permutes result }
     {
-        let mut to = [0; PLACES];
-        for place in 0..PLACES as u8 {
+        let mut to = [0; OBJECT_PLACES];
+        for place in 0..OBJECT_PLACES as u8 {
             to[place as usize] = place;
         }
         Renaming { to, from: to }
@@ -41,7 +41,7 @@ impl Renaming {
         ensures follows { (f g : ℕ → ℕ) → IsPermutation f g → f place ≡ other
             → Follows f (λ i. i ≡ place) self.old self.new }
     {
-        if (place as usize) < PLACES && (other as usize) < PLACES {
+        if (place as usize) < OBJECT_PLACES && (other as usize) < OBJECT_PLACES {
             let there = self.to[place as usize];
             let back = self.from[other as usize];
             self.to[place as usize] = other;

@@ -17,10 +17,14 @@ abbrev pub has_name_form : List ℕ → Bool
 has_name_form [] = false
 has_name_form (c ∷ rest) = c == slash && nat_le 1 (length rest) && list_all is_name_character rest
 
--- a name has the form and at most 255 characters
+-- the greatest number of characters of a name, with its slash
+abbrev pub name_max : ℕ
+name_max = 255
+
+-- a name has the form and no more characters than that
 abbrev pub IsName : List ℕ → Type 0
-IsName text = (has_name_form text ≡ true) × (length text ≤ 255)
+IsName text = (has_name_form text ≡ true) × (length text ≤ name_max)
 
 -- the name that words spell, or why they spell none: the length is looked at before the form
 abbrev pub name_read : List ℕ → Result (List ℕ) Errno
-name_read words = if nat_lt 255 (length words) then Err NameTooLong else if has_name_form words then Ok words else Err Invalid
+name_read words = if nat_lt name_max (length words) then Err NameTooLong else if has_name_form words then Ok words else Err Invalid

@@ -1,19 +1,19 @@
-//! The flags of mq_open.
+//! The flags of mq_open and sem_open (POSIX.1-2017, fcntl.h), with the numbers that they have on Linux.
 ghost use Rattle.std.specs.Prelude.{◌≡◌};
 
 use crate::Errno;
 
 /// The bits of the access.
-const ACCESS: u16 = 0x0003;
+pub const O_ACCMODE: u16 = 0x0003;
 
-/// The flag O_CREAT.
-const CREATE: u16 = 0x0040;
+/// Where no object has the name, one is made.
+pub const O_CREAT: u16 = 0x0040;
 
-/// The flag O_EXCL.
-const EXCLUSIVE: u16 = 0x0080;
+/// With O_CREAT, an object that has the name is refused.
+pub const O_EXCL: u16 = 0x0080;
 
-/// The flag O_NONBLOCK.
-const NONBLOCK: u16 = 0x0800;
+/// A call that would wait is refused.
+pub const O_NONBLOCK: u16 = 0x0800;
 
 /// The flags of `mq_open` (POSIX.1-2017), each by itself.
 #[derive(Clone, Copy, PartialEq, Eq, Debug)]
@@ -35,15 +35,15 @@ impl Flags {
     pub fn read(word: u16) -> Result<Flags, Errno>
         ensures flags { result ≡ flags_read word }
     {
-        let access = word & ACCESS;
-        if word & !(ACCESS | CREATE | EXCLUSIVE | NONBLOCK) != 0 || access == 3 {
+        let access = word & O_ACCMODE;
+        if word & !(O_ACCMODE | O_CREAT | O_EXCL | O_NONBLOCK) != 0 || access == 3 {
             return Err(Errno::Invalid);
         }
         Ok(Flags {
             access: access as u8,
-            create: word & CREATE != 0,
-            excl: word & EXCLUSIVE != 0,
-            nonblock: word & NONBLOCK != 0,
+            create: word & O_CREAT != 0,
+            excl: word & O_EXCL != 0,
+            nonblock: word & O_NONBLOCK != 0,
         })
     }
 }

@@ -7,6 +7,6 @@ mod name;
 mod table;
 
 pub use errno::Errno;
-pub use flags::Flags;
+pub use flags::{Flags, O_ACCMODE, O_CREAT, O_EXCL, O_NONBLOCK};
 pub use name::Name;
 pub use table::NameTable;

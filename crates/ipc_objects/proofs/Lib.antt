@@ -1,4 +1,5 @@
-pub mod SentLemmas
-pub mod QueueCopies
 pub mod BucketLemmas
+pub mod Orders
+pub mod QueueCopies
 pub mod QueueLemmas
+pub mod SentLemmas

@@ -5,8 +5,9 @@ use Rattle.std.proofs.lemmas.List.Elements.{All-head, All-tail, All-cons, All-ap
 use Rattle.std.proofs.lemmas.Bool.Decides.{nat_tests}
 use Rattle.std.specs.List.{slice_get}
 use Rattle.ipc_objects.specs.declared.queue.Message.{Message}
-use Rattle.ipc_objects.specs.declared.limits.TheConstants.{MQ_PRIO_MAX}
+use Rattle.ipc_objects.specs.Limits.{mq_prio_max}
 use Rattle.ipc_objects.specs.Queue.{sent, IsShape}
+use Rattle.ipc_objects.proofs.Orders.{rises-sent}
 
 nat_lt_not : (a b : ℕ) → nat_lt b a ≡ not (nat_le a b)
 nat_lt_not a b = grind (arith, nat_tests)
@@ -43,15 +44,16 @@ All-sent P m ms p all =
     (All-cons P m (filter (λ x. nat_lt x.priority m.priority) ms) p (All-filter (λ x. nat_lt x.priority m.priority) P ms all))
 
 -- the ranges still hold after a send that has room
-pub shape-sent : (max size : ℕ) (ms : List Message) (m : Message) → IsShape max size ms → length ms < max → m.priority < MQ_PRIO_MAX → length m.words ≤ size → IsShape max size (sent m ms)
+pub shape-sent : (max size : ℕ) (ms : List Message) (m : Message) → IsShape max size ms → length ms < max → m.priority < mq_prio_max → length m.words ≤ size → IsShape max size (sent m ms)
 shape-sent max size ms m h room priority small = record {
   max_at_least = h.max_at_least;
   max_at_most = h.max_at_most;
   size_at_least = h.size_at_least;
   size_at_most = h.size_at_most;
   within = omega (arith, length-sent m ms);
-  priorities = All-sent (λ x. x.priority < MQ_PRIO_MAX) m ms priority h.priorities;
+  priorities = All-sent (λ x. x.priority < mq_prio_max) m ms priority h.priorities;
   sizes = All-sent (λ x. length x.words ≤ size) m ms small h.sizes;
+  ordered = rises-sent m ms h.ordered;
 }
 
 pub slice_get-append_here : {X : Type 0} (xs ys : List X) (i : ℕ) → i < length xs → slice_get (xs ++ ys) i ≡ slice_get xs i

@@ -1,6 +1,6 @@
 -- Message queues (POSIX.1-2017, mq_send and mq_receive).
-use Rattle.std.specs.Prelude.{◌≡◌, ℕ, ◌<◌, ◌≤◌, nat_le, nat_lt, List, ◌∷◌, ◌++◌, length, filter, All}
-use Rattle.ipc_objects.specs.declared.limits.TheConstants.{MQ_PRIO_MAX, MQ_MAXMSG_MAX, MQ_MSGSIZE_MAX}
+use Rattle.std.specs.Prelude.{◌≡◌, ℕ, ◌<◌, ◌≤◌, nat_le, nat_lt, List, [], ◌∷◌, ◌++◌, length, filter, All}
+use Rattle.ipc_objects.specs.Limits.{mq_prio_max, mq_maxmsg_max, mq_msgsize_max}
 use Rattle.ipc_objects.specs.declared.queue.Message.{Message}
 
 -- what a queue is seen as: its messages are in the order in which they would be received
@@ -13,15 +13,21 @@ pub record QueueState : Type 0 where
 abbrev pub sent : Message → List Message → List Message
 sent m ms = filter (λ x. nat_le m.priority x.priority) ms ++ m ∷ filter (λ x. nat_lt x.priority m.priority) ms
 
--- the ranges of a queue's numbers, of its priorities and of its lengths
+-- from the front on the priority never rises
+abbrev pub NeverRises : List Message → Type 0
+NeverRises [] = Unit {0}
+NeverRises (m ∷ ms) = All (λ x. x.priority ≤ m.priority) ms × NeverRises ms
+
+-- the ranges of a queue's numbers, of its priorities and of its lengths, and the order of its messages
 pub record IsShape (max size : ℕ) (messages : List Message) : Type 0 where
   pub max_at_least : 1 ≤ max
-  pub max_at_most : max ≤ MQ_MAXMSG_MAX
+  pub max_at_most : max ≤ mq_maxmsg_max
   pub size_at_least : 1 ≤ size
-  pub size_at_most : size ≤ MQ_MSGSIZE_MAX
+  pub size_at_most : size ≤ mq_msgsize_max
   pub within : length messages ≤ max
-  pub priorities : All (λ m. m.priority < MQ_PRIO_MAX) messages
+  pub priorities : All (λ m. m.priority < mq_prio_max) messages
   pub sizes : All (λ m. length m.words ≤ size) messages
+  pub ordered : NeverRises messages
 
 -- each queue has them
 abbrev pub IsQueue : QueueState → Type 0

@@ -11,7 +11,7 @@ mod words;
 
 pub use limits::{
     MQ_MAXMSG_DEFAULT, MQ_MAXMSG_MAX, MQ_MSGSIZE_DEFAULT, MQ_MSGSIZE_MAX, MQ_PRIO_MAX,
-    SEM_VALUE_MAX,
+    SEM_VALUE_MAX, limits_are_defined,
 };
 pub use queue::{Message, Queue};
 pub use semaphore::Semaphore;

@@ -1,11 +1,11 @@
 //! Message queues.
 ghost use Rattle.std.specs.Prelude.{◌≡◌, ◌<◌, ◌≤◌, [], ◌∷◌, length, drop, slice_get, IfOk, IfErr, OnOk, OnErr};
 ghost use Rattle.std.specs.Option.{option_map};
+ghost use Rattle.ipc_objects.specs.Limits.{mq_prio_max, mq_maxmsg_max, mq_msgsize_max};
 
 mod copies;
 
 use crate::Words;
-use crate::limits::{MQ_MAXMSG_MAX, MQ_MSGSIZE_MAX, MQ_PRIO_MAX};
 use crate::messages::Messages;
 use std::alloc::{AllocError, Global};
 use std::marker::Model;
@@ -46,9 +46,9 @@ impl Queue {
     /// `message_size` words each (1 to `MQ_MSGSIZE_MAX`).
     pub fn new(alloc: Global, max_messages: u16, message_size: u16) -> Result<Queue, AllocError>
         requires max_at_least { 1 ≤ max_messages }
-        requires max_at_most { max_messages ≤ MQ_MAXMSG_MAX }
+        requires max_at_most { max_messages ≤ mq_maxmsg_max }
         requires size_at_least { 1 ≤ message_size }
-        requires size_at_most { message_size ≤ MQ_MSGSIZE_MAX }
+        requires size_at_most { message_size ≤ mq_msgsize_max }
         ensures empty { IfOk result (λ q. q ≡ record { max_messages = max_messages; message_size = message_size; messages = [] }) }
     {
         Ok(Queue {
@@ -74,7 +74,7 @@ impl Queue {
     /// Where memory is refused the words are handed back and nothing changes.
     pub fn send(&mut self, priority: u16, words: Vec<u16>) -> Result<(), Vec<u16>>
         requires room { length self.old.messages < self.old.max_messages }
-        requires priority { priority < MQ_PRIO_MAX }
+        requires priority { priority < mq_prio_max }
         requires size { length words.items ≤ self.old.message_size }
         ensures ok { OnOk result (self.new ≡ record self.old { messages = sent (record { priority = priority; words = words.items }) self.old.messages }) }
         ensures err { OnErr result (self.new ≡ self.old) }

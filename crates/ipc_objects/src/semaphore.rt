@@ -1,7 +1,7 @@
 //! Semaphores.
 ghost use Rattle.std.specs.Prelude.{◌≡◌, ◌+◌, ◌-◌, ◌<◌, ◌≤◌, ◌==◌, not};
+ghost use Rattle.ipc_objects.specs.Limits.{sem_value_max};
 
-use crate::limits::SEM_VALUE_MAX;
 use std::marker::Model;
 
 /// A semaphore, seen as its value, 0 to `SEM_VALUE_MAX` (POSIX.1-2017, `sem_open`).
@@ -12,19 +12,19 @@ pub struct Semaphore {
 
 impl Model for Semaphore {
     ghost use Rattle.std.specs.Prelude.{ℕ, ◌≤◌};
-    ghost use Rattle.ipc_objects.specs.declared.limits.TheConstants.{SEM_VALUE_MAX};
+    ghost use Rattle.ipc_objects.specs.Limits.{sem_value_max};
 
     ghost Value = { ℕ };
 
     ghost view = { λ a. a.value };
 
-    ghost invariant = { λ a. a.value ≤ SEM_VALUE_MAX };
+    ghost invariant = { λ a. a.value ≤ sem_value_max };
 }
 
 impl Semaphore {
     /// A semaphore with this value.
     pub fn new(value: u16) -> Semaphore
-        requires range { value ≤ SEM_VALUE_MAX }
+        requires range { value ≤ sem_value_max }
         ensures value { result ≡ value }
     {
         Semaphore { value }
@@ -33,14 +33,14 @@ impl Semaphore {
     /// The value now (`sem_getvalue`).
     pub fn value(&self) -> u16
         ensures value { result ≡ self.now }
-        ensures bound { result ≤ SEM_VALUE_MAX }
+        ensures bound { result ≤ sem_value_max }
     {
         self.value
     }
 
     /// Adds one to a value below the greatest (`sem_post`).
     pub fn post(&mut self)
-        requires below { self.old < SEM_VALUE_MAX }
+        requires below { self.old < sem_value_max }
         ensures more { self.new ≡ self.old + 1 }
     {
         self.value += 1;

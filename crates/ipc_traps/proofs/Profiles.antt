@@ -53,7 +53,8 @@ keeps-trap v p =
     (keeps-if p (v == 0x52) _ _ (keeps-within p true _ (keeps-named p (λ name. SemUnlink name) (name_at p)))
     (keeps-if p (v == 0x53) _ _ (keeps-call p _)
     (keeps-if p (v == 0x54) _ _ (keeps-call p _)
-    (keeps-if p (v == 0x56) _ _ (keeps-within p _ _ (keeps-call p _)) (keeps-call p _)))))))))))))
+    (keeps-if p (v == 0x55) _ _ (keeps-call p _)
+    (keeps-if p (v == 0x56) _ _ (keeps-within p _ _ (keeps-call p _)) (keeps-call p _))))))))))))))
 
 keeps-outcome : (p : Process) (outcome : Outcome) → next_step p ≡ outcome → Keeps p (outcome_asks p outcome)
 unfolding Keeps

@@ -73,8 +73,9 @@ plain-trap v p not68 not69 not70 not86 =
     plain-if (v == 82) _ _ (λ _. plain-within true _ (plain-named (λ name. SemUnlink name) (name_at p) (λ name. plain-call _ refl))) (λ _.
     plain-if (v == 83) _ _ (λ _. plain-call _ refl) (λ _.
     plain-if (v == 84) _ _ (λ _. plain-call _ refl) (λ _.
+    plain-if (v == 85) _ _ (λ _. plain-call _ refl) (λ _.
     plain-if (v == 86) _ _ (λ e. absurd (not86 (grind (arith, nat_tests)))) (λ _.
-    plain-call _ refl)))))))))))))
+    plain-call _ refl))))))))))))))
 
 only-reply : (request : Request) → OnlyPlain request → (reply : Reply) → CanReply request reply → IsPlain reply
 unfolding OnlyPlain

@@ -8,7 +8,7 @@ use Rattle.lc3_machine.specs.Effects.{next_step}
 use Rattle.ipc_names.specs.declared.errno.Errno.{Errno}
 use Rattle.ipc_names.specs.declared.errno.Errno.TheVariants.{Fault}
 use Rattle.ipc_names.specs.Name.{name_read}
-use Rattle.ipc_names.specs.Flags.{has_flag}
+use Rattle.ipc_names.specs.Flags.{has_flag, o_creat}
 use Rattle.ipc_kernel.specs.declared.call.Call.{Call}
 use Rattle.ipc_kernel.specs.declared.call.Call.TheVariants.{MqOpen, MqClose, MqUnlink, MqSend, MqReceive, MqGetattr, MqSetattr, SemOpen, SemClose, SemUnlink, SemWait, SemTrywait, SemPost, SemGetvalue, Exit}
 use Rattle.ipc_traps.specs.declared.Asked.{Asked}
@@ -41,7 +41,7 @@ by_name p inside call = within inside (named call (name_at p))
 
 -- whether mq_open is given attributes: O_CREAT is set, and their address in R2 is not 0
 abbrev pub has_attributes : Process → Bool
-has_attributes p = has_flag 0x40 (reg p 1) && not (reg p 2 == 0)
+has_attributes p = has_flag o_creat (reg p 1) && not (reg p 2 == 0)
 
 -- the attributes for mq_open
 abbrev pub attributes : Process → Option (List ℕ)
@@ -78,7 +78,7 @@ attributes_set p =
 abbrev pub value_read : Process → Request
 value_read p = within (is_in_memory (reg p 1) 1) (Calls (SemGetvalue (reg p 0)))
 
--- what a trap of the kernel asks for, by its vector; the last is x55
+-- what a trap of the kernel asks for, by its vector; before any other trap a process is at its end
 unfoldable pub trap_asks : ℕ → Process → Request
 trap_asks v p =
     if v == 0x40 then queue_opened p else
@@ -93,8 +93,9 @@ trap_asks v p =
     if v == 0x52 then by_name p true SemUnlink else
     if v == 0x53 then Calls (SemWait (reg p 0)) else
     if v == 0x54 then Calls (SemTrywait (reg p 0)) else
+    if v == 0x55 then Calls (SemPost (reg p 0)) else
     if v == 0x56 then value_read p else
-    Calls (SemPost (reg p 0))
+    Calls Exit
 
 -- what an outcome of the machine asks for
 abbrev pub outcome_asks : Process → Outcome → Request

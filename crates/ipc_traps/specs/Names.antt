@@ -2,10 +2,11 @@
 use Rattle.std.specs.Prelude.{ℕ, ◌+◌, ◌==◌, ◌&&◌, ◌||◌, Bool, List, length, take, nat_le, nat_lt}
 use Rattle.std.specs.List.{position_or_len}
 use Rattle.lc3_machine.specs.Console.{words_from}
+use Rattle.lc3_word.specs.Segment.{first_device}
 
 -- whether a range lies below the device registers; one of no words always does
 abbrev pub is_in_memory : ℕ → ℕ → Bool
-is_in_memory at len = (len == 0) || nat_le (at + len) 0xFE00
+is_in_memory at len = (len == 0) || nat_le (at + len) first_device
 
 -- the words of a range
 abbrev pub words_at : List ℕ → ℕ → ℕ → List ℕ

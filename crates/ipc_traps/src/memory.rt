@@ -5,11 +5,8 @@ ghost use Rattle.lc3_machine.specs.Process.{reg};
 ghost use Rattle.ipc_traps.specs.Names.{is_in_memory, words_at, name_length, reaches_devices};
 
 use lc3_machine::AtCall;
-use lc3_word::Reg;
+use lc3_word::{FIRST_DEVICE, Reg};
 use std::alloc::{AllocError, Global};
-
-/// The address of the first device register.
-const DEVICES: u32 = 0xfe00;
 
 /// The word of a register.
 #[inline(always)]
@@ -24,7 +21,7 @@ pub(crate) fn register(call: &AtCall, number: u16) -> u16
 pub(crate) fn is_in_memory(at: u16, len: u16) -> bool
     ensures { result ≡ is_in_memory at len }
 {
-    len == 0 || at as u32 + len as u32 <= DEVICES
+    len == 0 || at as u32 + len as u32 <= FIRST_DEVICE as u32
 }
 
 /// The words of a range.
@@ -67,7 +64,7 @@ pub(crate) fn name_length(call: &AtCall, at: u16) -> Option<u16>
     // A look at memory, whose contract says that there are 65,536 words.
     let _ = call.word(at);
     for k in 0..256 {
-        if at as u32 + k as u32 >= DEVICES {
+        if at as u32 + k as u32 >= FIRST_DEVICE as u32 {
             return None;
         }
         if call.word(at + k) == 0 {

@@ -10,13 +10,10 @@ ghost use Rattle.ipc_traps.specs.Asked.{IsAsked, request_of, asked, trap_asks, n
 use crate::Asked;
 use crate::memory::{is_in_memory, name_length, read_four, read_words, register};
 use ipc_kernel::Call;
-use ipc_names::{Errno, Name};
+use ipc_names::{Errno, Name, O_CREAT};
 use ipc_objects::Words;
 use lc3_machine::{AtCall, Want};
 use std::alloc::{AllocError, Global};
-
-/// The flag of mq_open that asks for a queue to be made.
-const O_CREAT: u16 = 0x40;
 
 /// What a process asks of the kernel by the trap that it stands before, or the refusal; a process at its end asks for
 /// `Exit`. The arguments are as they stand in the registers and in memory, not yet tested. An error is want of memory.
@@ -52,8 +49,9 @@ fn read_trap(alloc: Global, call: &AtCall, vector: u8) -> Result<Asked, AllocErr
         0x52 => read_sem_unlink(alloc, call),
         0x53 => Ok(Asked::Kernel(Call::SemWait { slot: first })),
         0x54 => Ok(Asked::Kernel(Call::SemTrywait { slot: first })),
+        0x55 => Ok(Asked::Kernel(Call::SemPost { slot: first })),
         0x56 => Ok(read_getvalue(call)),
-        _ => Ok(Asked::Kernel(Call::SemPost { slot: first })),
+        _ => Ok(Asked::Kernel(Call::Exit)),
     }
 }
 

@@ -1,6 +1,12 @@
 -- The first bad word of a list.
-use Rattle.std.proofs.Common.{rules, nat_lt, ap, sym, ◌∙◌, ◌++◌, ◌∷◌, is_none, zero, ◌≡◌, ℕ, ◌+◌, ◌^◌, ◌<◌, suc, List, [], length, take, get_or, true, false, Ok, Err, Some, None, refl, arith}
-use Rattle.std.specs.List.{filter_map, position_or_len}
+use Rattle.std.proofs.Common.{rules, nat_lt, ap, sym, ◌∙◌, ◌++◌, ◌∷◌, is_none, ◌≡◌, ℕ, ◌+◌, ◌^◌, ◌<◌, ◌≤◌, lit<, cond, subst, Bool, List, [], length, take, get_or, true, false, Ok, Err, Some, None, refl, arith}
+use Rattle.std.specs.List.{filter_map, list_all, position_or_len}
+use Rattle.std.specs.Char.{digit_value}
+use Rattle.std.specs.Str.Parse.{digits_value, AllDigits}
+use Rattle.std.proofs.lemmas.Bool.{and_parts}
+use Rattle.std.proofs.lemmas.Int.Digits.{digits_value-lt}
+use Rattle.std.proofs.Math.Nat.{pow-le-pow_right}
+use Rattle.lc3_word.specs.Numbers.{unsigned}
 use Rattle.std.proofs.lemmas.Bool.Decides.{nat_tests}
 use Rattle.std.proofs.lemmas.List.{take_more}
 use Rattle.std.proofs.lemmas.List.Elements.{filter_map-append}
@@ -25,13 +31,31 @@ numbers_of-good words good =
     let past : nat_lt (length words) (length words) ≡ false = grind (arith, nat_tests) in
     rw (first, past) refl
 
--- the number of at most three digits has room for one more
-pub below_4096 : (i n : ℕ) → n < 16 ^ i → i < 4 → n < 4096
-below_4096 zero n h l = omega (arith, h)
-below_4096 (suc zero) n h l = omega (arith, h)
-below_4096 (suc (suc zero)) n h l = omega (arith, h)
-below_4096 (suc (suc (suc zero))) n h l = omega (arith, h)
-below_4096 (suc (suc (suc (suc i)))) n h l = absurd (omega (arith, l))
+-- digits that pass the test are digits
+all_digits : (base : ℕ) (ds : List ℕ) → list_all (λ c. nat_lt (digit_value c) base) ds ≡ true → AllDigits base ds
+all_digits base [] h = tt
+all_digits base (d ∷ ds) h =
+    let parts = and_parts (nat_lt (digit_value d) base) (list_all (λ c. nat_lt (digit_value c) base) ds) h in
+    let first : digit_value d < base = let p = parts.0 in grind (arith, nat_tests, p) in
+    (first, all_digits base ds parts.1)
+
+-- what four digits write is a word
+pub short_value : (ds : List ℕ) → length ds ≤ 4 → AllDigits 16 ds → digits_value 16 ds < 65536
+short_value ds short all =
+    let below = digits_value-lt 16 ds all in
+    let room : 16 ^ length ds ≤ 16 ^ 4 = pow-le-pow_right {n = 16} (lit< tt) short in
+    omega (arith, below, room)
+
+pub short_number : (ds : List ℕ) (n : ℕ) → length ds ≤ 4 → unsigned 16 ds ≡ Some n → n < 65536
+unfolding unsigned
+short_number [] n short e = cc
+short_number (d ∷ ds) n short e = by (list_all (λ c. nat_lt (digit_value c) 16) (d ∷ ds)) refl e
+  where
+    by : (b : Bool) → list_all (λ c. nat_lt (digit_value c) 16) (d ∷ ds) ≡ b → cond b (Some (digits_value 16 (d ∷ ds))) None ≡ Some n → n < 65536
+    by true all h =
+        let same : digits_value 16 (d ∷ ds) ≡ n = cc in
+        subst (λ v. v < 65536) same (short_value (d ∷ ds) short (all_digits 16 (d ∷ ds) all))
+    by false all h = cc
 
 pub is_bad-none : (word : List ℕ) → None ≡ number_of word → is_bad word ≡ true
 is_bad-none word e = ap is_none (sym e)

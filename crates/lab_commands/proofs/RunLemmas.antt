@@ -6,7 +6,7 @@ use Rattle.lab_commands.specs.Fault.{Explains}
 use Rattle.lab_commands.specs.Hex.{is_bad, words_of, number_of, segment_of, image_of}
 use Rattle.lab_commands.specs.declared.fault.CliFault.{CliFault}
 use Rattle.lab_commands.specs.declared.fault.CliFault.TheVariants.{Empty, BadWord, TooLong, TooLarge, Read, Write, NoMemory}
-use Rattle.lc3_word.specs.Segment.{Segment}
+use Rattle.lc3_word.specs.Segment.{Segment, first_device}
 use Rattle.lc3_table.specs.declared.profile.Profile.TheVariants.{A}
 use Rattle.lab_sched.specs.Worlds.{WorldState, run}
 use Rattle.lab_sched.specs.Schedules.{steps_of}
@@ -56,7 +56,7 @@ good_words text at = rw at refl
 
 fault_of_segment : (numbers : List ℕ) (e : CliFault) → segment_of numbers ≡ Err e → IsOfText e
 fault_of_segment [] e h = let same : Empty ≡ e = cc in subst IsOfText same tt
-fault_of_segment (origin ∷ words) e h = by (nat_lt 0xFE00 (origin + length words)) h
+fault_of_segment (origin ∷ words) e h = by (nat_lt first_device (origin + length words)) h
   where
     by : (b : Bool) → cond {A = Result Segment CliFault} b (Err TooLong) (Ok (record { origin = origin; words = words })) ≡ Err e → IsOfText e
     by true h = let same : TooLong ≡ e = cc in subst IsOfText same tt

@@ -1,10 +1,14 @@
 //! Hexadecimal words as text.
-ghost use Rattle.std.specs.Prelude.{◌≡◌, ◌≢◌, ◌<◌, IfSome, Ok, Err, map, IfOk, IfErr, IsTrue, is_some, option_map};
-ghost use Rattle.lab_commands.specs.Hex.{is_blank as is_blank_of, words_of, digit_of, digits_of, number_of, numbers_of, segment_of, image_of};
+ghost use Rattle.std.specs.Prelude.{◌≡◌, ◌≢◌, ◌≤◌, Ok, Err, length, map, IfOk, IfErr};
+ghost use Rattle.lc3_word.specs.Numbers.{unsigned};
+ghost use Rattle.lab_commands.specs.Hex.{digits_of, number_of, numbers_of, segment_of, image_of};
 
 use crate::fault::CliFault;
-use lc3_word::Image;
+use lc3_word::{Image, unsigned, words_between};
 use std::alloc::{AllocError, Global};
+
+/// Blank, tab, carriage return, line feed.
+const BLANKS: &[u8] = b" \t\r\n";
 
 /// The image that a text of hexadecimal words says.
 #[tactic(auto, unfolding(crate::specs::Hex::image_of))]
@@ -12,24 +16,9 @@ pub fn read_text(alloc: Global, text: &[u8]) -> Result<Image, CliFault>
     ensures ok { IfOk result (λ image. image_of text.now ≡ Ok image) }
     ensures err { IfErr result (λ e. e ≢ CliFault.NoMemory → image_of text.now ≡ Err e) }
 {
-    let words = split_words(alloc, text)?;
+    let words = words_between(alloc, BLANKS, text)?;
     let numbers = read_numbers(alloc, words.as_slice())?;
     to_image(alloc, numbers.as_slice())
-}
-
-/// What stands between blanks.
-fn split_words(alloc: Global, text: &[u8]) -> Result<Vec<&[u8]>, AllocError>
-    ensures { IfOk result (λ words. map (λ word. word.now) words.items ≡ words_of text.now) }
-{
-    text.split(|b| is_blank(*b))
-        .filter(|piece| !piece.is_empty())
-        .collect(alloc)
-}
-
-fn is_blank(byte: u8) -> bool
-    ensures { result ≡ is_blank_of byte }
-{
-    matches!(byte, b'\t' | b'\n' | b'\r' | b' ')
 }
 
 /// The numbers of the words, or the first that is none.
@@ -47,39 +36,34 @@ fn read_numbers(alloc: Global, words: &[&[u8]]) -> Result<Vec<u16>, CliFault>
     Ok(numbers)
 }
 
+/// The number that one to four hexadecimal digits write.
+#[tactic(auto, using(crate::proofs::HexLemmas::short_number))]
+fn short_number(digits: &[u8]) -> Option<u16>
+    requires { length digits.now ≤ 4 }
+    ensures { result ≡ unsigned 16 digits.now }
+{
+    let number = unsigned(16, digits)?;
+    Some(number as u16)
+}
+
 /// The number of one to four hexadecimal digits after an optional `x`.
 fn read_number(word: &[u8]) -> Option<u16>
     ensures { result ≡ number_of word.now }
 {
     let digits = after_mark(word);
-    if digits.is_empty() || digits.len() > 4 {
+    if digits.len() > 4 {
         return None;
     }
-    let mut number = 0;
-    for digit in digits {
-        number = 16 * number + read_digit(*digit)?;
-    }
-    Some(number)
+    short_number(digits)
 }
 
+/// What stands after an optional `x`.
 fn after_mark(word: &[u8]) -> &[u8]
     ensures { result.now ≡ digits_of word.now }
 {
     match word {
         [b'x' | b'X', digits @ ..] => digits,
         _ => word,
-    }
-}
-
-fn read_digit(byte: u8) -> Option<u16>
-    ensures value { result ≡ digit_of byte }
-    ensures small { IfSome result (λ d. d < 16) }
-{
-    match byte {
-        b'0'..=b'9' => Some((byte - b'0') as u16),
-        b'A'..=b'F' => Some((byte - b'A' + 10) as u16),
-        b'a'..=b'f' => Some((byte - b'a' + 10) as u16),
-        _ => None,
     }
 }
 

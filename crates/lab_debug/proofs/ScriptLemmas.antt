@@ -8,11 +8,10 @@ use Rattle.std.specs.Io.KnownBytes.{Appends, Keeps, IsAtEnd, prepend_known}
 use Rattle.std.proofs.KnownBytes.{Appends-trans}
 use Rattle.lab_io.specs.Device.{AppendsPrefix}
 use Rattle.lab_io.proofs.Prefixes.{AppendsPrefix-after}
-use Rattle.lab_debug.specs.declared.TheConstants.{LINE_LIMIT, LINE_COUNT_LIMIT}
 use Rattle.lab_debug.specs.declared.fault.SessionFault.{SessionFault}
 use Rattle.lab_debug.specs.declared.fault.SessionFault.TheVariants.{TooManyLines}
-use Rattle.lab_debug.specs.Lines.{lines, TakesLine}
-use Rattle.lab_debug.specs.Script.{Effect, Script, before, script_of, script}
+use Rattle.lab_debug.specs.Lines.{lines, TakesLine, line_limit}
+use Rattle.lab_debug.specs.Script.{Effect, Script, before, script_of, script, line_count_limit}
 
 -- bytes begin a line
 lines-some : (b : ℕ) (bs : List ℕ) → (first : List ℕ) × (more : List (List ℕ)) × (lines (b ∷ bs) ≡ first ∷ more)
@@ -56,16 +55,16 @@ module _ {W : Type 0} where
       let as_text : List ℕ → Script W = λ t. record { text = t; end = end } in
       ap as_text (append-nil a)
 
-  script_of-line : (effect : W → List ℕ → Effect W) (room : ℕ) (world : W) (line : List ℕ) (more : List (List ℕ)) → 0 < room → length line ≤ LINE_LIMIT
+  script_of-line : (effect : W → List ℕ → Effect W) (room : ℕ) (world : W) (line : List ℕ) (more : List (List ℕ)) → 0 < room → length line ≤ line_limit
       → script_of effect room world (line ∷ more) ≡ before (effect world line).text (rest_of effect room (effect world line) more)
   script_of-line effect room world line more some short =
       let open_ : (room == 0) ≡ false = grind (arith, nat_tests, some) in
-      let fits : nat_lt LINE_LIMIT (length line) ≡ false = grind (arith, nat_tests, short) in
+      let fits : nat_lt line_limit (length line) ≡ false = grind (arith, nat_tests, short) in
       rw (open_, fits) refl
 
   -- a line that was taken, by its effect
   IsReached-line : (effect : W → List ℕ → Effect W) (first : W) (bytes rest after sent : List ℕ) (room : ℕ) (world : W) (line : List ℕ) (e : Effect W)
-      → e ≡ effect world line → 0 < room → length line ≤ LINE_LIMIT
+      → e ≡ effect world line → 0 < room → length line ≤ line_limit
       → script effect first bytes ≡ before sent (script_of effect room world (lines rest)) → lines rest ≡ line ∷ lines after
       → script effect first bytes ≡ before (sent ++ e.text) (rest_of effect room e (lines after))
   IsReached-line effect first bytes rest after sent room world line e is some short reached cut =
@@ -75,13 +74,13 @@ module _ {W : Type 0} where
       ∙ before-before sent e.text (rest_of effect room e (lines after))
 
   pub IsReached-start : (effect : W → List ℕ → Effect W) (first : W) (known : Option (List ℕ)) (left : List ℕ) → left ≡ []
-      → IsReached effect first known (prepend_known left known) [] LINE_COUNT_LIMIT first
+      → IsReached effect first known (prepend_known left known) [] line_count_limit first
   unfolding script
   IsReached-start effect first None left none = tt
-  IsReached-start effect first (Some bytes) left none = ap (λ l. script_of effect LINE_COUNT_LIMIT first (lines (l ++ bytes))) (sym none)
+  IsReached-start effect first (Some bytes) left none = ap (λ l. script_of effect line_count_limit first (lines (l ++ bytes))) (sym none)
 
   pub IsReached-more : (effect : W → List ℕ → Effect W) (first : W) (start now next : Option (List ℕ)) (sent : List ℕ) (room : ℕ) (world : W) (line : List ℕ) (e : Effect W)
-      → e ≡ effect world line → e.ends ≡ false → 0 < room → length line ≤ LINE_LIMIT
+      → e ≡ effect world line → e.ends ≡ false → 0 < room → length line ≤ line_limit
       → IsReached effect first start now sent room world → TakesLine now next (Some line) → IsReached effect first start next (sent ++ e.text) (room - 1) e.world
   IsReached-more effect first None now next sent room world line e is on some short r t = tt
   IsReached-more effect first (Some bytes) None next sent room world line e is on some short r t = absurd r
@@ -112,7 +111,7 @@ module _ {W : Type 0} where
 
   -- a line ends the session
   pub IsReached-ends : (effect : W → List ℕ → Effect W) (first : W) (start now next old mid new : Option (List ℕ)) (sent : List ℕ) (room : ℕ) (world : W) (line : List ℕ) (e : Effect W)
-      → e ≡ effect world line → e.ends ≡ true → 0 < room → length line ≤ LINE_LIMIT
+      → e ≡ effect world line → e.ends ≡ true → 0 < room → length line ≤ line_limit
       → IsReached effect first start now sent room world → TakesLine now next (Some line) → Appends old mid sent → Appends mid new e.text
       → IfSome start (λ bytes. Appends old new (script effect first bytes).text)
   IsReached-ends effect first None now next old mid new sent room world line e is off some short r t a b = tt
@@ -126,7 +125,7 @@ module _ {W : Type 0} where
 
   -- and so is that with a beginning of the next line's text
   pub IsReached-part : (effect : W → List ℕ → Effect W) (first : W) (start now next old mid new : Option (List ℕ)) (sent : List ℕ) (room : ℕ) (world : W) (line : List ℕ) (e : Effect W)
-      → e ≡ effect world line → 0 < room → length line ≤ LINE_LIMIT
+      → e ≡ effect world line → 0 < room → length line ≤ line_limit
       → IsReached effect first start now sent room world → TakesLine now next (Some line) → Appends old mid sent → AppendsPrefix mid new e.text
       → IfSome start (λ bytes. AppendsPrefix old new (script effect first bytes).text)
   IsReached-part effect first None now next old mid new sent room world line e is some short r t a part = tt

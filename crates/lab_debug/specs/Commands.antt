@@ -1,28 +1,22 @@
 -- The commands of a script, as they are written.
-use Rattle.std.specs.Prelude.{ℕ, ◌+◌, ◌==◌, ◌||◌, ◌&&◌, not, nat_le, if◌then◌else◌, ℤ, pos, negsuc, Bool, Option, Some, None, Result, Ok, Err, List, [], ◌∷◌, codes, length, filter, flat_map}
+use Rattle.std.specs.Prelude.{ℕ, ◌+◌, ◌-◌, ◌&&◌, nat_le, if◌then◌else◌, ℤ, pos, negsuc, Bool, Option, Some, None, Result, Ok, Err, List, [], ◌∷◌, codes}
 use Rattle.std.specs.Option.{option_map, option_and_then}
-use Rattle.std.specs.List.{slice_split}
 use Rattle.std.specs.Str.{bytes_eq}
+use Rattle.lc3_word.specs.Blanks.{words_between}
 use Rattle.lc3_word.specs.Numbers.{number}
+use Rattle.ipc_kernel.specs.Limits.{process_max}
 use Rattle.lab_sched.specs.declared.schedule.block.Block.{Block}
 use Rattle.lab_sched.specs.declared.schedule.fault.SchedFault.{SchedFault}
-use Rattle.lab_sched.specs.ScheduleTexts.{reading}
+use Rattle.lab_sched.specs.ScheduleTexts.{reading_of_words}
 use Rattle.lab_debug.specs.declared.command.Command.{Command}
 use Rattle.lab_debug.specs.declared.command.Command.TheVariants.{Step, Run, Until, Regs, Mem, Dis, Procs, Mqs, Sems, Fds, Out, Profile, Quit}
 use Rattle.lab_debug.specs.declared.command.Range.{Range}
 use Rattle.lab_debug.specs.declared.command.Refusal.{Refusal}
 use Rattle.lab_debug.specs.declared.command.Refusal.TheVariants.{UnknownCommand, BadOperands}
 
--- a blank, a tab or a carriage return
-abbrev pub is_blank : ℕ → Bool
-is_blank b = (b == 32) || ((b == 9) || (b == 13))
-
-abbrev pub is_word : List ℕ → Bool
-is_word piece = not (length piece == 0)
-
--- the words of a line are what stands between blanks
-unfoldable pub words_of : List ℕ → List (List ℕ)
-words_of line = filter is_word (slice_split is_blank line)
+-- the words of a line, between blanks, tabs and carriage returns
+abbrev pub words_of : List ℕ → List (List ℕ)
+words_of line = words_between (codes " \t\r") line
 
 -- a number from low to high
 abbrev pub within : ℕ → ℕ → ℤ → Option ℕ
@@ -34,13 +28,17 @@ unfoldable pub number_within : ℕ → ℕ → List ℕ → Option ℕ
 number_within low high word = option_and_then (within low high) (number word)
 
 abbrev pub process_of : List ℕ → Option ℕ
-process_of word = number_within 0 63 word
+process_of word = number_within 0 (process_max - 1) word
 
 abbrev pub address_of : List ℕ → Option ℕ
 address_of word = number_within 0 65535 word
 
+-- the most steps that a command asks for
+abbrev pub step_count_max : ℕ
+step_count_max = 1_000_000
+
 abbrev pub count_of : List ℕ → Option ℕ
-count_of word = number_within 1 1000000 word
+count_of word = number_within 1 step_count_max word
 
 -- the operands where there are just one, two or three
 abbrev pub one_of : List (List ℕ) → Option (List ℕ)
@@ -83,10 +81,6 @@ abbrev pub bare_of : Command → List (List ℕ) → Option Command
 bare_of command [] = Some command
 bare_of command (w ∷ ws) = None
 
--- the operands of `run` as one text, each after a blank
-abbrev pub after_blanks : List (List ℕ) → List ℕ
-after_blanks ws = flat_map (λ word. 32 ∷ word) ws
-
 -- BLOCKS: a schedule
 abbrev pub run_of : Result (List Block) SchedFault → Result Command Refusal
 run_of (Ok schedule) = Ok (Run schedule)
@@ -119,4 +113,4 @@ plain_command name ws =
 
 -- a command by its name and its operands
 unfoldable pub command_of : List ℕ → List (List ℕ) → Result Command Refusal
-command_of name ws = if is_named (codes "run") name then run_of (reading (after_blanks ws)) else plain_command name ws
+command_of name ws = if is_named (codes "run") name then run_of (reading_of_words ws) else plain_command name ws

@@ -4,6 +4,7 @@ use Rattle.std.specs.Fmt.{decimal, digit_glyph}
 use Rattle.lc3_word.specs.Words.{hex_text, register_text}
 use Rattle.lc3_word.specs.declared.code.Cc.{Cc}
 use Rattle.lc3_word.specs.declared.code.Cc.TheVariants.{N, Z, P}
+use Rattle.lc3_word.specs.Segment.{first_device}
 use Rattle.lc3_table.specs.Profiles.{letter}
 use Rattle.lc3_table.specs.Text.{word_text, line_text}
 use Rattle.lc3_machine.specs.declared.want.How.{How}
@@ -36,7 +37,7 @@ address_text a = codes "x" ++ hex_text a
 
 -- the word at the program counter, or a dash in the device register page
 unfoldable pub place_text : Machine → List ℕ
-place_text m = if nat_lt m.pc 0xFE00 then word_text (slice_index m.memory m.pc) else codes "-"
+place_text m = if nat_lt m.pc first_device then word_text (slice_index m.memory m.pc) else codes "-"
 
 -- where a process stands
 abbrev pub state_text : Process → List ℕ

@@ -1,10 +1,10 @@
 //! The commands of a script, as they are written.
 ghost use Rattle.std.specs.Prelude.{◌≡◌, ◌≤◌, ◌+◌, IfOk, IfSome, map, codes};
-ghost use Rattle.lab_sched.specs.ScheduleTexts.{reading};
+ghost use Rattle.lab_sched.specs.ScheduleTexts.{reading_of_words};
 ghost use Rattle.lab_debug.specs.Effects.{IsCommand};
-ghost use Rattle.lab_debug.specs.Commands.{step_of, until_of, bare_of, of_process, range_of, of_range, run_of, after_blanks, is_named, plain_command, command_of};
+ghost use Rattle.lab_debug.specs.Commands.{step_of, until_of, bare_of, of_process, range_of, of_range, run_of, is_named, plain_command, command_of};
 
-use crate::operands::{address_in, count_in, join_words, number_in, one, process_in, three, two};
+use crate::operands::{address_in, count_in, number_in, one, process_in, three, two};
 use lab_sched::{SchedFault, Schedule};
 use std::alloc::{AllocError, Global};
 
@@ -233,11 +233,10 @@ fn read_plain(name: &[u8], operands: &[&[u8]]) -> Result<Command, Refusal>
 
 /// `BLOCKS`, a schedule
 fn read_run(alloc: Global, operands: &[&[u8]]) -> Result<Result<Command, Refusal>, AllocError>
-    ensures value { IfOk result (λ read. read ≡ run_of (reading (after_blanks (map (λ word. word.now) operands.now)))) }
+    ensures value { IfOk result (λ read. read ≡ run_of (reading_of_words (map (λ word. word.now) operands.now))) }
     ensures ranges { IfOk result (λ read. IfOk read (λ command. IsCommand command)) }
 {
-    let text = join_words(alloc, operands)?;
-    match Schedule::read_bytes(alloc, text.as_slice()) {
+    match Schedule::read_words(alloc, operands) {
         Ok(schedule) => Ok(Ok(Command::Run(schedule))),
         Err(SchedFault::NoMemory) => Err(AllocError),
         Err(SchedFault::BadBlock { .. } | SchedFault::TooLong { .. }) => {

@@ -2,12 +2,9 @@
 ghost use Rattle.std.specs.Prelude.{◌≡◌, ◌<◌, ◌++◌, OnOk, length, string_bytes};
 ghost use Rattle.lab_debug.specs.Objects.{access_text, mode_text, descriptor_line, slot_line, descriptor_lines, slot_lines, fds_text};
 
-use ipc_kernel::{Descriptor, Slot};
+use ipc_kernel::{Descriptor, OPEN_MAX, Slot};
 use lab_sched::World;
 use std::alloc::AllocError;
-
-/// The number of descriptors, and of slots, of a process.
-const OPEN_MAX: u16 = 16;
 
 /// To receive, to send, or both.
 fn access_name(access: u8) -> &'static str
@@ -67,7 +64,7 @@ fn push_descriptors(text: &mut String, world: &World, pid: usize) -> Result<(), 
     ensures { OnOk result (string_bytes text.new ≡ string_bytes text.old ++ descriptor_lines pid world.now) }
 {
     let kernel = world.kernel();
-    for mqd in 0..OPEN_MAX {
+    for mqd in 0..OPEN_MAX as u16 {
         push_descriptor(text, mqd, kernel.mqd(pid, mqd))?;
     }
     Ok(())
@@ -80,7 +77,7 @@ fn push_slots(text: &mut String, world: &World, pid: usize) -> Result<(), AllocE
     ensures { OnOk result (string_bytes text.new ≡ string_bytes text.old ++ slot_lines pid world.now) }
 {
     let kernel = world.kernel();
-    for slot in 0..OPEN_MAX {
+    for slot in 0..OPEN_MAX as u16 {
         push_slot(text, slot, kernel.slot(pid, slot))?;
     }
     Ok(())

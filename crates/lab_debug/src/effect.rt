@@ -1,9 +1,11 @@
 //! What a line of a script does.
 ghost use Rattle.std.specs.Prelude.{◌≡◌, true, false, ◌≤◌, ◌<◌, IfOk, OnOk, string_bytes, length, replicate, slice_get};
+ghost use Rattle.ipc_kernel.specs.Limits.{process_max};
 ghost use Rattle.std.specs.List.{list_all};
 ghost use Rattle.lab_sched.specs.Worlds.{run};
 ghost use Rattle.lab_sched.specs.Schedules.{steps_of};
 ghost use Rattle.lab_sched.specs.declared.stepped.Stepped.TheVariants.{Same};
+ghost use Rattle.lab_debug.specs.Commands.{step_count_max};
 ghost use Rattle.lab_debug.specs.Texts.{status_text};
 ghost use Rattle.lab_debug.specs.Verdicts.{verdict_text};
 ghost use Rattle.lab_debug.specs.Effects.{IsCommand, is_at, until, is_there, are_there, carried_out, obeyed, line_effect, refusal_text};
@@ -51,9 +53,9 @@ fn run_schedule(world: &mut World, schedule: &Schedule) -> Result<(), AllocError
 /// Takes so many steps of a process.
 #[tactic(auto, unfolding(lab_sched::specs::Schedules::steps_of))]
 fn step_times(alloc: Global, world: &mut World, pid: usize, count: u32) -> Result<(), AllocError>
-    requires process { pid < 64 }
+    requires process { pid < process_max }
     requires some { 1 ≤ count }
-    requires few { count ≤ 1_000_000 }
+    requires few { count ≤ step_count_max }
     ensures { OnOk result (world.new ≡ run world.old (replicate count pid)) }
 {
     let mut schedule = Schedule::new(alloc);

@@ -3,7 +3,7 @@ ghost use Rattle.std.specs.Prelude.{◌≡◌, ℕ, List, ◌≤◌, [], ◌∷�
 ghost use Rattle.std.specs.Option.{option_map};
 ghost use Rattle.std.specs.Io.KnownBytes.{Consumes, Keeps, IsAtEnd, prepend_known};
 ghost use Rattle.lab_debug.specs.declared.lines.TheConstants.{CHUNK};
-ghost use Rattle.lab_debug.specs.Lines.{TakesLine, TakesByte, Stops};
+ghost use Rattle.lab_debug.specs.Lines.{TakesLine, TakesByte, Stops, line_limit};
 
 use crate::LINE_LIMIT;
 use crate::fault::SessionFault;
@@ -90,7 +90,7 @@ impl Pending {
     ) -> Result<Option<Vec<u8>>, SessionFault>
         ensures line { IfOk result (λ found. TakesLine (prepend_known self.old (R.remaining input.old.device))
             (prepend_known self.new (R.remaining input.new.device)) (option_map (λ line. line.items) found)) }
-        ensures limit { IfOk result (λ found. IfSome found (λ line. length line.items ≤ LINE_LIMIT)) }
+        ensures limit { IfOk result (λ found. IfSome found (λ line. length line.items ≤ line_limit)) }
         ensures err { IfErr result (λ e. Stops e (prepend_known self.old (R.remaining input.old.device)) input.new.failed) }
     {
         let mut line = Vec::new(alloc);

@@ -1,37 +1,21 @@
 //! The words of a line, and operands that they write.
 ghost use Rattle.std.specs.Prelude.{◌≡◌, ◌≤◌, ◌<◌, IfOk, IfSome, map};
 ghost use Rattle.std.specs.Option.{option_map};
-ghost use Rattle.lab_debug.specs.Commands.{is_blank as is_blank_of, words_of, number_within, process_of, address_of, count_of, one_of, two_of, three_of, after_blanks};
+ghost use Rattle.ipc_kernel.specs.Limits.{process_max};
+ghost use Rattle.lab_debug.specs.Commands.{words_of, number_within, process_of, address_of, count_of, one_of, two_of, three_of, step_count_max};
 
-use lc3_word::number_of;
+use ipc_kernel::PROCESS_MAX;
+use lc3_word::{number_of, words_between};
 use std::alloc::{AllocError, Global};
 
-/// A blank, a tab or a carriage return.
-fn is_blank(byte: u8) -> bool
-    ensures { result ≡ is_blank_of byte }
-{
-    matches!(byte, b' ' | b'\t' | b'\r')
-}
+/// Blank, tab, carriage return.
+const BLANKS: &[u8] = b" \t\r";
 
-/// What stands between blanks.
+/// The words of a line.
 pub fn split_words(alloc: Global, line: &[u8]) -> Result<Vec<&[u8]>, AllocError>
     ensures { IfOk result (λ words. map (λ word. word.now) words.items ≡ words_of line.now) }
 {
-    line.split(|b| is_blank(*b))
-        .filter(|piece| !piece.is_empty())
-        .collect(alloc)
-}
-
-/// The words as one text, each after a blank.
-pub fn join_words(alloc: Global, words: &[&[u8]]) -> Result<Vec<u8>, AllocError>
-    ensures { IfOk result (λ text. text.items ≡ after_blanks (map (λ word. word.now) words.now)) }
-{
-    let mut text = Vec::new(alloc);
-    for word in words {
-        text.push(b' ')?;
-        text.extend_from_slice(word)?;
-    }
-    Ok(text)
+    words_between(alloc, BLANKS, line)
 }
 
 /// The number that a word writes, from `low` to `high`.
@@ -49,12 +33,12 @@ pub fn number_in(low: u32, high: u32, word: &[u8]) -> Option<u32>
     }
 }
 
-/// A process, 0 to 63.
+/// A process, below [`PROCESS_MAX`].
 pub fn process_in(word: &[u8]) -> Option<usize>
     ensures value { result ≡ process_of word.now }
-    ensures range { IfSome result (λ pid. pid < 64) }
+    ensures range { IfSome result (λ pid. pid < process_max) }
 {
-    let pid = number_in(0, 63, word)?;
+    let pid = number_in(0, PROCESS_MAX as u32 - 1, word)?;
     Some(pid as usize)
 }
 
@@ -66,12 +50,15 @@ pub fn address_in(word: &[u8]) -> Option<u16>
     Some(address as u16)
 }
 
-/// A number of steps, 1 to 1,000,000.
+/// The most steps that a command asks for.
+const STEP_COUNT_MAX: u32 = 1_000_000;
+
+/// A number of steps, from 1 to [`STEP_COUNT_MAX`].
 pub fn count_in(word: &[u8]) -> Option<u32>
     ensures value { result ≡ count_of word.now }
-    ensures range { IfSome result (λ n. (1 ≤ n) × (n ≤ 1_000_000)) }
+    ensures range { IfSome result (λ n. (1 ≤ n) × (n ≤ step_count_max)) }
 {
-    number_in(1, 1_000_000, word)
+    number_in(1, STEP_COUNT_MAX, word)
 }
 
 /// The operand, where there is just one.

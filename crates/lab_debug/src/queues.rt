@@ -4,15 +4,13 @@ ghost use Rattle.std.specs.Option.{option_copied};
 ghost use Rattle.ipc_kernel.specs.Places.{place_at, queue_and_name};
 ghost use Rattle.lab_debug.specs.Objects.{name_text, object_part, sizes_part, queue_line, word_part, message_line, queue_lines, mqs_text};
 
+use ipc_kernel::OBJECT_PLACES;
 use ipc_names::Name;
 use ipc_objects::Queue;
 use lab_sched::World;
 use lc3_word::Hex;
 use std::alloc::AllocError;
 use std::fmt;
-
-/// The number of object places.
-pub const PLACES: u8 = 64;
 
 /// The name of an object, or a dash once it is unlinked.
 #[derive(Drop)]
@@ -122,7 +120,7 @@ fn push_place(text: &mut String, world: &World, place: u8) -> Result<(), AllocEr
 pub fn push_mqs(text: &mut String, world: &World) -> Result<(), AllocError>
     ensures { OnOk result (string_bytes text.new ≡ string_bytes text.old ++ mqs_text world.now) }
 {
-    for place in 0..PLACES {
+    for place in 0..OBJECT_PLACES as u8 {
         push_place(text, world, place)?;
     }
     Ok(())

@@ -3,7 +3,8 @@ ghost use Rattle.std.specs.Prelude.{◌≡◌, ◌++◌, OnOk, string_bytes};
 ghost use Rattle.ipc_kernel.specs.Places.{place_at, value_and_name};
 ghost use Rattle.lab_debug.specs.Objects.{semaphore_line, sems_text};
 
-use crate::queues::{PLACES, push_object};
+use crate::queues::push_object;
+use ipc_kernel::OBJECT_PLACES;
 use lab_sched::World;
 use std::alloc::AllocError;
 
@@ -26,7 +27,7 @@ fn push_place(text: &mut String, world: &World, place: u8) -> Result<(), AllocEr
 pub fn push_sems(text: &mut String, world: &World) -> Result<(), AllocError>
     ensures { OnOk result (string_bytes text.new ≡ string_bytes text.old ++ sems_text world.now) }
 {
-    for place in 0..PLACES {
+    for place in 0..OBJECT_PLACES as u8 {
         push_place(text, world, place)?;
     }
     Ok(())

@@ -7,12 +7,9 @@ use crate::machine;
 use lab_sched::{Process, World};
 use lc3_machine::How;
 use lc3_table::WordText;
-use lc3_word::Hex;
+use lc3_word::{FIRST_DEVICE, Hex};
 use std::alloc::AllocError;
 use std::fmt;
-
-/// The device register page begins here.
-const DEVICES: u16 = 0xFE00;
 
 /// The word at the program counter, or a dash in the device register page.
 #[derive(Drop)]
@@ -24,7 +21,7 @@ impl fmt::Display for Place<'_> {
     #[tactic(auto, unfolding(crate::specs::Texts::place_text))]
     fn fmt<W: fmt::Write>(&self, f: &mut fmt::Formatter<W>) -> fmt::Result {
         let pc = machine::pc(self.0);
-        if pc < DEVICES {
+        if pc < FIRST_DEVICE {
             let word = WordText(machine::word(self.0, pc));
             write!(f, "{word}")
         } else {

@@ -1,5 +1,6 @@
 //! The ends among the worlds of a search, each reached again from the start.
 ghost use Rattle.std.specs.Prelude.{◌≡◌, ◌<◌, ◌≤◌, ℕ, All, Some, IsTrue, false, length, map, IfOk, IfSome, OnOk};
+ghost use Rattle.ipc_kernel.specs.Limits.{process_max};
 ghost use Rattle.lab_sched.specs.Worlds.{HaveOneProfile, WorldState};
 ghost use Rattle.lab_sched.specs.Held.{seen};
 ghost use Rattle.lab_sched.specs.Starts.{Runs};
@@ -14,8 +15,8 @@ use crate::ExploreFault;
 use crate::search::Search;
 use crate::store::Store;
 use crate::trying::discard;
-use ipc_kernel::Kernel;
-use lab_sched::{MOST_STEPS, PROCESSES, Process, Schedule, Stepped, Verdict, World};
+use ipc_kernel::{Kernel, PROCESS_MAX};
+use lab_sched::{MOST_STEPS, Process, Schedule, Stepped, Verdict, World};
 use std::alloc::{AllocError, Global};
 
 /// A world at rest, how it stands, and a schedule that leads to it.
@@ -56,7 +57,7 @@ fn changes(stepped: Stepped) -> bool
 pub(crate) fn go(walk: &mut Walk, pid: usize) -> Result<(), ExploreFault>
     ensures walk { OnOk result ((start : WorldState) → IsWalk start walk.old → IsWalk start walk.new) }
 {
-    if pid >= PROCESSES || walk.schedule.total() >= MOST_STEPS {
+    if pid >= PROCESS_MAX || walk.schedule.total() >= MOST_STEPS {
         return Err(ExploreFault::Unvouched);
     }
     let Ok(stepped) = walk.world.step(pid) else {
@@ -181,7 +182,7 @@ pub(crate) fn world_of(alloc: Global, processes: &[Process]) -> Result<World, Ex
     requires running { All Runs processes.now }
     requires profile { HaveOneProfile (map seen processes.now) }
     requires some { 1 ≤ length processes.now }
-    requires few { length processes.now ≤ 64 }
+    requires few { length processes.now ≤ process_max }
     ensures world { IfOk result (λ w. w ≡ first_world processes.now) }
 {
     let kernel = Kernel::new(alloc, processes.len())?;
@@ -259,7 +260,7 @@ impl Search {
         requires running { All Runs processes.now }
         requires profile { HaveOneProfile (map seen processes.now) }
         requires some { 1 ≤ length processes.now }
-        requires few { length processes.now ≤ 64 }
+        requires few { length processes.now ≤ process_max }
         ensures end { IfOk result (λ e. IsEnd (first_world processes.now) e) }
         ensures row { IfOk result (λ e. IsLike self.now.store at e.world) }
     {
@@ -290,7 +291,7 @@ impl Search {
         requires running { All Runs processes.now }
         requires profile { HaveOneProfile (map seen processes.now) }
         requires some { 1 ≤ length processes.now }
-        requires few { length processes.now ≤ 64 }
+        requires few { length processes.now ≤ process_max }
         ensures each { OnOk result (Each (IsEnd (first_world processes.now)) ends.old.items → Each (IsEnd (first_world processes.now)) ends.new.items) }
         ensures keeps { OnOk result (Keeps ends.old.items ends.new.items) }
         ensures here { OnOk result ((w : WorldState) → IsAt self.now.store at w → AreAtRest w → HasEnd ends.new.items w) }
@@ -312,7 +313,7 @@ impl Search {
         requires running { All Runs processes.now }
         requires profile { HaveOneProfile (map seen processes.now) }
         requires some { 1 ≤ length processes.now }
-        requires few { length processes.now ≤ 64 }
+        requires few { length processes.now ≤ process_max }
         ensures ends { IfOk result (λ ends. Each (IsEnd (first_world processes.now)) ends.items) }
         ensures all { IfOk result (λ ends. (i : ℕ) (w : WorldState) → IsAt self.now.store i w → AreAtRest w → HasEnd ends.items w) }
     {

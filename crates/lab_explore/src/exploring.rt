@@ -1,5 +1,6 @@
 //! Explorations.
 ghost use Rattle.std.specs.Prelude.{◌≡◌, ◌≤◌, ℕ, All, IsTrue, length, map, None, IfOk, IfSome};
+ghost use Rattle.ipc_kernel.specs.Limits.{process_max};
 ghost use Rattle.lab_sched.specs.Worlds.{HaveOneProfile, WorldState};
 ghost use Rattle.lab_sched.specs.Held.{seen};
 ghost use Rattle.lab_sched.specs.Starts.{Runs};
@@ -71,7 +72,7 @@ impl Search {
         requires running { All Runs processes.now }
         requires profile { HaveOneProfile (map seen processes.now) }
         requires some { 1 ≤ length processes.now }
-        requires few { length processes.now ≤ 64 }
+        requires few { length processes.now ≤ process_max }
         ensures ends { IfOk result (λ found.
             Each (IsEnd (first_world processes.now)) found.ends.items) }
         ensures all { IfOk result (λ found. (i : ℕ) (w : WorldState) → IsAt self.now.store i w

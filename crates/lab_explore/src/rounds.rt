@@ -1,5 +1,6 @@
 //! Rounds: steps that lead from a world to one alike, so that some interleaving never ends.
 ghost use Rattle.std.specs.Prelude.{◌≡◌, ◌≤◌, ℕ, All, IsTrue, length, map, None, IfOk, IfSome, OnOk};
+ghost use Rattle.ipc_kernel.specs.Limits.{process_max};
 ghost use Rattle.lab_sched.specs.Worlds.{HaveOneProfile, WorldState};
 ghost use Rattle.lab_sched.specs.Held.{seen};
 ghost use Rattle.lab_sched.specs.Starts.{Runs};
@@ -94,7 +95,7 @@ impl Search {
         requires running { All Runs processes.now }
         requires profile { HaveOneProfile (map seen processes.now) }
         requires some { 1 ≤ length processes.now }
-        requires few { length processes.now ≤ 64 }
+        requires few { length processes.now ≤ process_max }
         ensures round { IfOk result (λ r. IsRound (first_world processes.now) r) }
     {
         let mut walk = Walk {
@@ -122,7 +123,7 @@ impl Search {
         requires running { All Runs processes.now }
         requires profile { HaveOneProfile (map seen processes.now) }
         requires some { 1 ≤ length processes.now }
-        requires few { length processes.now ≤ 64 }
+        requires few { length processes.now ≤ process_max }
         ensures round { IfOk result (λ round.
             IfSome round (λ r. IsRound (first_world processes.now) r)) }
         ensures none { IfOk result (λ round. round ≡ None → AreRising self.now.store.edges.items) }

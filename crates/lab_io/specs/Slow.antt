@@ -7,9 +7,9 @@ pub record SlowReader : Type 0 where
   pub per_call : ℕ
   pub before_failure : ℕ
 
--- a slow writer: the bytes written, how many more find room, how many a call moves at most, and how many all calls move before they fail
+-- a slow writer: what was written to the front of its slice, what stands in the slice after that, how many bytes a call moves at most, and how many all calls move before they fail
 pub record SlowWriter : Type 0 where
   pub written : List ℕ
-  pub room : ℕ
+  pub rest : List ℕ
   pub per_call : ℕ
   pub before_failure : ℕ

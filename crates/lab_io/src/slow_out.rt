@@ -1,5 +1,5 @@
 //! A writer to a lent slice that moves few bytes per call and fails after a number of them.
-ghost use Rattle.std.specs.Prelude.{◌≡◌, ◌≤◌, ◌-◌, ◌↔◌, ◌++◌, [], Some, min, length, take, IfOk, IsErr, IsOk, OnErr};
+ghost use Rattle.std.specs.Prelude.{◌≡◌, ◌≤◌, ◌-◌, ◌↔◌, ◌++◌, [], Some, min, length, take, drop, IfOk, IsErr, IsOk, OnErr};
 ghost use Rattle.std.specs.Io.{WritesAtMost};
 ghost use Rattle.std.specs.Io.KnownBytes.{WriteAppends, Keeps};
 
@@ -7,7 +7,8 @@ use std::io;
 use std::io::{ErrorKind, Write};
 use std::marker::Model;
 
-/// A writer to the front of a slice, for tests: it moves few bytes in a call, and fails after a number of them.
+/// A writer to the front of a slice, for tests: it moves few bytes in a call, and fails after a number of them. What
+/// stands in the slice after the bytes written stays as it was.
 #[derive(Debug, Drop)]
 pub struct SlowOut<'a> {
     bytes: &'a mut [u8],
@@ -17,14 +18,14 @@ pub struct SlowOut<'a> {
 }
 
 impl<'a> Model for SlowOut<'a> {
-    ghost use Rattle.std.specs.Prelude.{◌≤◌, ◌-◌, length, take};
+    ghost use Rattle.std.specs.Prelude.{◌≤◌, length, take, drop};
     ghost use Rattle.lab_io.specs.Slow.{SlowWriter};
 
     ghost Value = { SlowWriter };
 
     ghost view = { λ s. record {
       written = take s.written s.bytes.now;
-      room = length s.bytes.now - s.written;
+      rest = drop s.written s.bytes.now;
       per_call = s.per_call;
       before_failure = s.before_failure;
     } };
@@ -40,7 +41,7 @@ impl<'a> SlowOut<'a> {
         ensures start { result
             ≡ record {
               written = [];
-              room = length bytes.old;
+              rest = bytes.old;
               per_call = per_call;
               before_failure = before_failure;
             } }
@@ -63,13 +64,13 @@ impl Write for SlowOut<'_> {
         ensures fails { IsErr result ↔ (self.old.before_failure ≡ 0) }
         ensures count { IfOk result
             (λ n. n
-            ≡ min (min (length buf.now) self.old.room)
+            ≡ min (min (length buf.now) (length self.old.rest))
             (min self.old.per_call self.old.before_failure)) }
         ensures ok { IfOk result
             (λ n. self.new
             ≡ record self.old {
               written = self.old.written ++ take n buf.now;
-              room = self.old.room - n;
+              rest = drop n self.old.rest;
               before_failure = self.old.before_failure - n;
             }) }
         ensures err { OnErr result (self.new ≡ self.old) }

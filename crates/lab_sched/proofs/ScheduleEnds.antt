@@ -5,8 +5,7 @@ use Rattle.std.proofs.lemmas.Bool.{eq-eqb, eqb-true, false_from_ne_true}
 use Rattle.std.proofs.lemmas.List.{replicate-append-replicate, replicate_more, set_at, length-append}
 use Rattle.std.proofs.lemmas.List.Sums.{sum_by_push}
 use Rattle.lab_sched.specs.declared.schedule.block.Block.{Block}
-use Rattle.lab_sched.specs.declared.schedule.block.TheConstants.{MOST_STEPS}
-use Rattle.lab_sched.specs.Schedules.{block, steps_of, total_of, IsBlock, AreApart, IsSchedule}
+use Rattle.lab_sched.specs.Schedules.{block, steps_of, total_of, IsBlock, AreApart, IsSchedule, most_steps}
 use Rattle.lab_sched.specs.Settling.{resized}
 use Rattle.lab_sched.proofs.ScheduleJoins.{last-split, length-front, steps-append, steps-one}
 
@@ -66,7 +65,7 @@ resized_none d n e = rw (eq-eqb (d.count - 1 + n) 0 e) refl
 resized_some : (d : Block) (n : ℕ) → ((d.count - 1 + n == 0) ≡ false) → resized d n ≡ block d.pid (d.count - 1 + n) ∷ []
 resized_some d n e = rw e refl
 
-schedule-resized : (front : List Block) (d : Block) (n : ℕ) (t : Bool) → (d.count - 1 + n == 0) ≡ t → IsSchedule (front ++ d ∷ []) → total_of (front ++ d ∷ []) + n ≤ MOST_STEPS + 1
+schedule-resized : (front : List Block) (d : Block) (n : ℕ) (t : Bool) → (d.count - 1 + n == 0) ≡ t → IsSchedule (front ++ d ∷ []) → total_of (front ++ d ∷ []) + n ≤ most_steps + 1
     → IsSchedule (front ++ cond t [] (block d.pid (d.count - 1 + n) ∷ []))
 schedule-resized front d n true e h room =
     let ends = valid-ends front d h.valid in
@@ -86,7 +85,7 @@ schedule-resized front d n false e h room =
     some_of zero e = absurd (cc)
     some_of (suc m) e = omega arith
 
-pub resized_schedule : (front : List Block) (d : Block) (n : ℕ) → IsSchedule (front ++ d ∷ []) → total_of (front ++ d ∷ []) + n ≤ MOST_STEPS + 1 → IsSchedule (front ++ resized d n)
+pub resized_schedule : (front : List Block) (d : Block) (n : ℕ) → IsSchedule (front ++ d ∷ []) → total_of (front ++ d ∷ []) + n ≤ most_steps + 1 → IsSchedule (front ++ resized d n)
 resized_schedule front d n h room = schedule-resized front d n (d.count - 1 + n == 0) refl h room
 
 total-resized : (front : List Block) (d : Block) (n : ℕ) (t : Bool) → (d.count - 1 + n == 0) ≡ t → 1 ≤ d.count
@@ -160,7 +159,7 @@ pub record IsResized (xs ys : List Block) (n : ℕ) : Type 0 where
   pub total : total_of ys + 1 ≡ total_of xs + n
   pub steps : (ps : List ℕ) (p : ℕ) → steps_of xs ≡ ps ++ p ∷ [] → steps_of ys ≡ ps ++ replicate n p
 
-pub is_resized : (xs ys : List Block) (n : ℕ) → IsSchedule xs → 1 ≤ total_of xs → total_of xs + n ≤ MOST_STEPS + 1
+pub is_resized : (xs ys : List Block) (n : ℕ) → IsSchedule xs → 1 ≤ total_of xs → total_of xs + n ≤ most_steps + 1
     → ((front : List Block) (last : Block) → xs ≡ front ++ last ∷ [] → ys ≡ front ++ resized last n) → IsResized xs ys n
 is_resized xs ys n h some room is =
     let e = some_last xs some in

@@ -7,12 +7,12 @@ use Rattle.std.proofs.lemmas.Bool.Decides.{nat_tests}
 use Rattle.lab_sched.specs.declared.schedule.block.Block.{Block}
 use Rattle.lab_sched.specs.declared.schedule.fault.SchedFault.{SchedFault}
 use Rattle.lab_sched.specs.declared.schedule.fault.SchedFault.TheVariants.{BadBlock, TooLong}
-use Rattle.lab_sched.specs.declared.schedule.block.TheConstants.{PROCESSES, MOST_STEPS}
-use Rattle.lab_sched.specs.Schedules.{block, total_of, steps_of, joined, IsBlock, IsSchedule}
+use Rattle.lab_sched.specs.Schedules.{block, total_of, steps_of, joined, IsBlock, IsSchedule, most_steps}
 use Rattle.lc3_word.specs.Numbers.{unsigned}
-use Rattle.lab_sched.specs.ScheduleTexts.{words, is_star, in_range, process_in, count_in, block_at, block_from, block_in, block_or, written, too_long, scheduled, within, reading, Gives, Fails, ◌>>=◌}
+use Rattle.lab_sched.specs.ScheduleTexts.{words, is_star, in_range, process_in, count_in, block_at, block_from, block_in, block_or, written, too_long, scheduled, within, reading_of_words, reading, Gives, Fails, ◌>>=◌}
 use Rattle.lab_sched.specs.ScheduleLaws.{IsFirst, IsFirstOver, IsFirstTooLong, FirstBadBlock, FirstTooLong, ReadSteps}
 use Rattle.lab_sched.proofs.ScheduleJoins.{apart-joined, total-joined, steps-joined, valid-joined}
+use Rattle.ipc_kernel.specs.Limits.{process_max}
 
 -- words that are all blocks
 with_block : (b : Block) (w : List ℕ) (ws : List (List ℕ)) (read : Result (List Block) SchedFault) (bs : List Block)
@@ -42,15 +42,15 @@ range_at_most low high n m (Some k) h = go (nat_le low k) (nat_le k high) refl r
     go true false e f g = cc
     go false b e f g = cc
 
-process_in-valid : (w : List ℕ) (p : ℕ) → process_in w ≡ Some p → p < PROCESSES
+process_in-valid : (w : List ℕ) (p : ℕ) → process_in w ≡ Some p → p < process_max
 unfolding process_in
 process_in-valid w p h = let r = range_at_most 0 63 p 0 (unsigned 10 w) h in omega (arith, r.1)
 
 count_in-valid : (w : List ℕ) (n : ℕ) → count_in w ≡ Some n → 1 ≤ n
 unfolding count_in
-count_in-valid w n h = let r = range_at_most 1 MOST_STEPS n 0 (unsigned 10 w) h in omega (arith, r.0)
+count_in-valid w n h = let r = range_at_most 1 most_steps n 0 (unsigned 10 w) h in omega (arith, r.0)
 
-block_from-valid : (p n : Option ℕ) (b : Block) → ((k : ℕ) → p ≡ Some k → k < PROCESSES) → ((k : ℕ) → n ≡ Some k → 1 ≤ k)
+block_from-valid : (p n : Option ℕ) (b : Block) → ((k : ℕ) → p ≡ Some k → k < process_max) → ((k : ℕ) → n ≡ Some k → 1 ≤ k)
     → block_from p n ≡ Some b → IsBlock b
 block_from-valid None n b f g h = cc
 block_from-valid (Some p) None b f g h = cc
@@ -79,16 +79,16 @@ words-valid (w ∷ ws) (b ∷ bs) h =
 
 -- totals
 
-within-limit : (at total : ℕ) (bs : List Block) → total ≤ MOST_STEPS → too_long at total bs ≡ None → total + total_of bs ≤ MOST_STEPS
+within-limit : (at total : ℕ) (bs : List Block) → total ≤ most_steps → too_long at total bs ≡ None → total + total_of bs ≤ most_steps
 unfolding too_long
 within-limit at total [] k h = omega arith
-within-limit at total (b ∷ bs) k h = go (within-limit (at + 1) (total + b.count) bs) (nat_lt MOST_STEPS (total + b.count)) refl h
+within-limit at total (b ∷ bs) k h = go (within-limit (at + 1) (total + b.count) bs) (nat_lt most_steps (total + b.count)) refl h
   where
-    go : (total + b.count ≤ MOST_STEPS → too_long (at + 1) (total + b.count) bs ≡ None → total + b.count + total_of bs ≤ MOST_STEPS) → (t : Bool) → nat_lt MOST_STEPS (total + b.count) ≡ t → cond t (Some at) (too_long (at + 1) (total + b.count) bs) ≡ None → total + total_of (b ∷ bs) ≤ MOST_STEPS
+    go : (total + b.count ≤ most_steps → too_long (at + 1) (total + b.count) bs ≡ None → total + b.count + total_of bs ≤ most_steps) → (t : Bool) → nat_lt most_steps (total + b.count) ≡ t → cond t (Some at) (too_long (at + 1) (total + b.count) bs) ≡ None → total + total_of (b ∷ bs) ≤ most_steps
     go ih true e f = cc
     go ih false e f =
-        let room : total + b.count ≤ MOST_STEPS = grind (arith, nat_tests) in
-        let left : total + b.count + total_of bs ≤ MOST_STEPS = ih room f in
+        let room : total + b.count ≤ most_steps = grind (arith, nat_tests) in
+        let left : total + b.count + total_of bs ≤ most_steps = ih room f in
         omega (arith, left, sum_by-cons (λ (d : Block). d.count) b bs)
 
 take-more : (b : Block) (bs : List Block) (i : ℕ) → total_of (take (suc i + 1) (b ∷ bs)) ≡ b.count + total_of (take (i + 1) bs)
@@ -97,8 +97,8 @@ take-more b bs i =
     ap (λ k. total_of (take k (b ∷ bs))) e ∙ sum_by-cons (λ (d : Block). d.count) b (take (i + 1) bs)
 
 over-step : (at total found : ℕ) (b : Block) (bs : List Block)
-    → (i : ℕ) × (found ≡ at + 1 + i) × (i < length bs) × (MOST_STEPS < total + b.count + total_of (take (i + 1) bs)) × (total + b.count + total_of (take i bs) ≤ MOST_STEPS)
-    → (i : ℕ) × (found ≡ at + i) × (i < length (b ∷ bs)) × (MOST_STEPS < total + total_of (take (i + 1) (b ∷ bs))) × (total + total_of (take i (b ∷ bs)) ≤ MOST_STEPS)
+    → (i : ℕ) × (found ≡ at + 1 + i) × (i < length bs) × (most_steps < total + b.count + total_of (take (i + 1) bs)) × (total + b.count + total_of (take i bs) ≤ most_steps)
+    → (i : ℕ) × (found ≡ at + i) × (i < length (b ∷ bs)) × (most_steps < total + total_of (take (i + 1) (b ∷ bs))) × (total + total_of (take i (b ∷ bs)) ≤ most_steps)
 over-step at total found b bs r = (
   suc r.0,
   omega (arith, r.1),
@@ -108,22 +108,22 @@ over-step at total found b bs r = (
 )
 
 -- the block with which there are too many steps: i blocks before it, in these blocks
-over : (at total found : ℕ) (bs : List Block) → total ≤ MOST_STEPS → too_long at total bs ≡ Some found
-    → (i : ℕ) × (found ≡ at + i) × (i < length bs) × (MOST_STEPS < total + total_of (take (i + 1) bs)) × (total + total_of (take i bs) ≤ MOST_STEPS)
+over : (at total found : ℕ) (bs : List Block) → total ≤ most_steps → too_long at total bs ≡ Some found
+    → (i : ℕ) × (found ≡ at + i) × (i < length bs) × (most_steps < total + total_of (take (i + 1) bs)) × (total + total_of (take i bs) ≤ most_steps)
 unfolding too_long
 over at total found [] k h = cc
-over at total found (b ∷ bs) k h = go (over (at + 1) (total + b.count) found bs) (nat_lt MOST_STEPS (total + b.count)) refl h
+over at total found (b ∷ bs) k h = go (over (at + 1) (total + b.count) found bs) (nat_lt most_steps (total + b.count)) refl h
   where
-    go : (total + b.count ≤ MOST_STEPS → too_long (at + 1) (total + b.count) bs ≡ Some found
-        → (i : ℕ) × (found ≡ at + 1 + i) × (i < length bs) × (MOST_STEPS < total + b.count + total_of (take (i + 1) bs)) × (total + b.count + total_of (take i bs) ≤ MOST_STEPS))
-        → (t : Bool) → nat_lt MOST_STEPS (total + b.count) ≡ t → cond t (Some at) (too_long (at + 1) (total + b.count) bs) ≡ Some found
-        → (i : ℕ) × (found ≡ at + i) × (i < length (b ∷ bs)) × (MOST_STEPS < total + total_of (take (i + 1) (b ∷ bs))) × (total + total_of (take i (b ∷ bs)) ≤ MOST_STEPS)
+    go : (total + b.count ≤ most_steps → too_long (at + 1) (total + b.count) bs ≡ Some found
+        → (i : ℕ) × (found ≡ at + 1 + i) × (i < length bs) × (most_steps < total + b.count + total_of (take (i + 1) bs)) × (total + b.count + total_of (take i bs) ≤ most_steps))
+        → (t : Bool) → nat_lt most_steps (total + b.count) ≡ t → cond t (Some at) (too_long (at + 1) (total + b.count) bs) ≡ Some found
+        → (i : ℕ) × (found ≡ at + i) × (i < length (b ∷ bs)) × (most_steps < total + total_of (take (i + 1) (b ∷ bs))) × (total + total_of (take i (b ∷ bs)) ≤ most_steps)
     go ih true e f =
         let same : at ≡ found = cc in
-        let above : MOST_STEPS < total + b.count = grind (arith, nat_tests) in
+        let above : most_steps < total + b.count = grind (arith, nat_tests) in
         (0, omega arith, omega arith, omega arith, omega arith)
     go ih false e f =
-        let room : total + b.count ≤ MOST_STEPS = grind (arith, nat_tests) in
+        let room : total + b.count ≤ most_steps = grind (arith, nat_tests) in
         over-step at total found b bs (ih room f)
 
 -- the three laws
@@ -144,7 +144,7 @@ scheduled-reads bs s v h = go (too_long 1 0 bs) refl h
     go (Some at) e f = cc
 
 pub read_steps_lem : ReadSteps
-unfolding reading
+unfolding reading_of_words
 read_steps_lem text s h = go (written 1 (words text)) refl h
   where
     go : (read : Result (List Block) SchedFault) → written 1 (words text) ≡ read → (read >>= scheduled) ≡ Ok s
@@ -190,7 +190,7 @@ written-long at found (w ∷ ws) h = go (written-long (at + 1) found ws) (block_
     go ih (Some b) k = then_none b (written (at + 1) ws) ih k
 
 pub first_too_long_lem : FirstTooLong
-unfolding reading
+unfolding reading_of_words
 first_too_long_lem text at h = go (written 1 (words text)) refl h
   where
     go : (read : Result (List Block) SchedFault) → written 1 (words text) ≡ read → (read >>= scheduled) ≡ Err (TooLong at)
@@ -241,7 +241,7 @@ bad_first at (suc i) (w ∷ ws) l h f = go (bad_first (at + 1) i ws (omega arith
         (ih ∙ ap (λ n. Err (BadBlock n)) (omega arith))
 
 pub first_bad_block_lem : FirstBadBlock
-unfolding reading
+unfolding reading_of_words
 first_bad_block_lem text at = (to, from)
   where
     to_read : (read : Result (List Block) SchedFault) → (read >>= scheduled) ≡ Err (BadBlock at) → read ≡ Err (BadBlock at)

@@ -6,9 +6,8 @@ use Rattle.std.proofs.lemmas.List.{replicate-append-replicate, take_all, take_mo
 use Rattle.std.proofs.lemmas.List.Sums.{sum_by-cons, sum_by_push}
 use Rattle.std.proofs.lemmas.Bool.Decides.{nat_tests}
 use Rattle.lab_sched.specs.declared.schedule.block.Block.{Block}
-use Rattle.lab_sched.specs.declared.schedule.block.TheConstants.{MOST_STEPS}
 use Rattle.lab_sched.specs.ScheduleLaws.{StepsTell}
-use Rattle.lab_sched.specs.Schedules.{block, steps_of, total_of, before, joined, IsBlock, AreApart, IsSchedule}
+use Rattle.lab_sched.specs.Schedules.{block, steps_of, total_of, before, joined, IsBlock, AreApart, IsSchedule, most_steps}
 
 same_pid : (m n : ℕ) → (m == n) ≡ true → m ≡ n
 same_pid m n h = grind (arith, nat_tests)
@@ -176,7 +175,7 @@ steps-one b = append-nil (replicate b.count b.pid)
 pub steps-push : (bs : List Block) (b : Block) → steps_of (joined (bs ++ b ∷ [])) ≡ steps_of bs ++ replicate b.count b.pid
 steps-push bs b = steps-joined (bs ++ b ∷ []) ∙ steps-append bs (b ∷ []) ∙ ap (λ s. steps_of bs ++ s) (steps-one b)
 
-pub schedule-push : (bs : List Block) (b : Block) → IsSchedule bs → IsBlock b → total_of bs + b.count ≤ MOST_STEPS → IsSchedule (joined (bs ++ b ∷ []))
+pub schedule-push : (bs : List Block) (b : Block) → IsSchedule bs → IsBlock b → total_of bs + b.count ≤ most_steps → IsSchedule (joined (bs ++ b ∷ []))
 schedule-push bs b h k room = record {
   valid = valid-joined (bs ++ b ∷ []) (valid-push bs b h.valid k);
   apart = apart-joined (bs ++ b ∷ []);

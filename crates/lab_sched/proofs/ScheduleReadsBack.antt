@@ -12,15 +12,15 @@ use Rattle.std.proofs.lemmas.List.Sums.{sum_by-cons}
 use Rattle.std.proofs.lemmas.List.Elements.{All-nil, All-cons, All-append}
 use Rattle.std.proofs.Common.{lt-ltb}
 use Rattle.lab_sched.specs.declared.schedule.block.Block.{Block}
-use Rattle.lab_sched.specs.declared.schedule.block.TheConstants.{PROCESSES, MOST_STEPS}
 use Rattle.lab_sched.specs.ScheduleLaws.{ReadsBack}
-use Rattle.lab_sched.specs.Schedules.{total_of, IsBlock, IsSchedule}
-use Rattle.lab_sched.specs.ScheduleTexts.{block_text, schedule_text, words, is_space, is_star, in_range, process_in, count_in, block_at, block_from, block_in, written, too_long, scheduled, reading, ◌>>=◌}
+use Rattle.lab_sched.specs.Schedules.{total_of, IsBlock, IsSchedule, most_steps}
+use Rattle.lab_sched.specs.ScheduleTexts.{block_text, schedule_text, words, is_star, in_range, process_in, count_in, block_at, block_from, block_in, written, too_long, scheduled, reading_of_words, reading, ◌>>=◌}
 use Rattle.lab_sched.proofs.ScheduleJoins.{joined-apart}
-use Rattle.lab_sched.proofs.ScheduleWords.{words-blank, words-last, words-none}
+use Rattle.lab_sched.proofs.ScheduleWords.{is_space, words-blank, words-last, words-none}
 use Rattle.lc3_word.proofs.Numerals.{unsigned-decimal}
 use Rattle.lab_sched.proofs.ScheduleTextLemmas.{later_text}
 use Rattle.lab_sched.proofs.ScheduleSteps.{fits}
+use Rattle.ipc_kernel.specs.Limits.{process_max}
 
 digit_no_space : (c : ℕ) → digit_value c < 10 → is_space c ≡ false
 digit_no_space c h = let r = digit_from_value c h in grind (arith, nat_tests, r)
@@ -39,19 +39,19 @@ star_after (d ∷ ds) rest h = rw (digit_no_star d h.0, star_after ds rest h.1, 
 star_at : (ds rest : List ℕ) → AllDigits 10 ds → position is_star (ds ++ 42 ∷ rest) ≡ Some (length ds)
 star_at ds rest h = rw (star_after ds rest h, lt-ltb (length ds) (length (ds ++ 42 ∷ rest)) (omega (arith, length-append ds (42 ∷ rest)))) refl
 
-process_in-decimal : (p : ℕ) → p < PROCESSES → process_in (decimal p) ≡ Some p
+process_in-decimal : (p : ℕ) → p < process_max → process_in (decimal p) ≡ Some p
 unfolding process_in
 process_in-decimal p h = ap (in_range 0 63) (unsigned-decimal p (omega arith)) ∙ grind (arith, nat_tests)
 
-count_in-decimal : (n : ℕ) → 1 ≤ n → n ≤ MOST_STEPS → count_in (decimal n) ≡ Some n
+count_in-decimal : (n : ℕ) → 1 ≤ n → n ≤ most_steps → count_in (decimal n) ≡ Some n
 unfolding count_in
-count_in-decimal n h k = ap (in_range 1 MOST_STEPS) (unsigned-decimal n (omega arith)) ∙ grind (arith, nat_tests)
+count_in-decimal n h k = ap (in_range 1 most_steps) (unsigned-decimal n (omega arith)) ∙ grind (arith, nat_tests)
 
 drop_star : (ds rest : List ℕ) → drop (length ds + 1) (ds ++ 42 ∷ rest) ≡ rest
 drop_star [] rest = refl
 drop_star (d ∷ ds) rest = rw (add-one (length (d ∷ ds))) (rw (add-one (length ds)) at (drop_star ds rest))
 
-block_in-text : (b : Block) → IsBlock b → b.count ≤ MOST_STEPS → block_in (block_text b) ≡ Some b
+block_in-text : (b : Block) → IsBlock b → b.count ≤ most_steps → block_in (block_text b) ≡ Some b
 unfolding block_in block_text
 block_in-text b h k =
     let pid : IsNumeral 10 (decimal b.pid) = (decimal_is_IsNumeral b.pid (omega (arith, h.process))).0 in
@@ -60,7 +60,7 @@ block_in-text b h k =
     ∙ ap (λ w. block_from (process_in (decimal b.pid)) (count_in w)) (drop_star (decimal b.pid) (decimal b.count))
     ∙ rw (process_in-decimal b.pid h.process, count_in-decimal b.count h.some k) refl
 
-text_no_space : (b : Block) → IsBlock b → b.count ≤ MOST_STEPS → All (λ c. is_space c ≡ false) (block_text b)
+text_no_space : (b : Block) → IsBlock b → b.count ≤ most_steps → All (λ c. is_space c ≡ false) (block_text b)
 unfolding block_text
 text_no_space b h k =
     All-append (λ c. is_space c ≡ false) (decimal b.pid) (42 ∷ decimal b.count)
@@ -73,7 +73,7 @@ text_some b = omega (arith, length-append (decimal b.pid) (42 ∷ decimal b.coun
 
 -- small enough, each of them
 abbrev AreSmall : List Block → Type 0
-AreSmall bs = AllByRecursion (λ b. b.count ≤ MOST_STEPS) bs
+AreSmall bs = AllByRecursion (λ b. b.count ≤ most_steps) bs
 
 words-text : (b : Block) (rest : List Block) → AllByRecursion IsBlock (b ∷ rest) → AreSmall (b ∷ rest)
     → words (block_text b ++ later_text rest) ≡ block_text b ∷ map block_text rest
@@ -87,14 +87,14 @@ unfolding written
 written-text at [] v s = refl
 written-text at (b ∷ rest) v s = rw (block_in-text b v.0 s.0, written-text (at + 1) rest v.1 s.1) refl
 
-too_long-none : (at total : ℕ) (bs : List Block) → total + total_of bs ≤ MOST_STEPS → too_long at total bs ≡ None
+too_long-none : (at total : ℕ) (bs : List Block) → total + total_of bs ≤ most_steps → too_long at total bs ≡ None
 unfolding too_long
 too_long-none at total [] h = refl
 too_long-none at total (b ∷ rest) h =
     let sum : total_of (b ∷ rest) ≡ b.count + total_of rest = sum_by-cons (λ (d : Block). d.count) b rest in
-    rw (fits (total + b.count) MOST_STEPS (omega arith)) (too_long-none (at + 1) (total + b.count) rest (omega arith))
+    rw (fits (total + b.count) most_steps (omega arith)) (too_long-none (at + 1) (total + b.count) rest (omega arith))
 
-small-from_total : (bs : List Block) → total_of bs ≤ MOST_STEPS → AreSmall bs
+small-from_total : (bs : List Block) → total_of bs ≤ most_steps → AreSmall bs
 small-from_total [] h = tt
 small-from_total (b ∷ rest) h =
     let sum : total_of (b ∷ rest) ≡ b.count + total_of rest = sum_by-cons (λ (d : Block). d.count) b rest in
@@ -106,7 +106,7 @@ words-schedule [] h = words-none
 words-schedule (b ∷ rest) h = words-text b rest h.valid (small-from_total (b ∷ rest) h.within)
 
 pub reads_back_lem : ReadsBack
-unfolding reading scheduled
+unfolding reading_of_words scheduled
 reads_back_lem bs h =
     ap (λ ws. written 1 ws >>= scheduled) (words-schedule bs h)
     ∙ ap (λ r. r >>= scheduled) (written-text 1 bs h.valid (small-from_total bs h.within))

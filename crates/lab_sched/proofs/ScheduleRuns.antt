@@ -2,8 +2,7 @@
 use Rattle.std.proofs.Common.{ℕ, zero, suc, ◌+◌, ◌≡◌, ◌<◌, ◌≤◌, ◌++◌, List, [], ◌∷◌, refl, sym, ap, ◌∙◌, arith, length, take, drop, get_or, replicate, append_assoc, drop-cons, length-append}
 use Rattle.std.proofs.lemmas.List.{append-nil, take-append-drop, take_more, length-replicate}
 use Rattle.lab_sched.specs.declared.schedule.block.Block.{Block}
-use Rattle.lab_sched.specs.Schedules.{steps_of, IsSchedule}
-use Rattle.lab_sched.specs.declared.schedule.block.TheConstants.{MOST_STEPS}
+use Rattle.lab_sched.specs.Schedules.{steps_of, IsSchedule, most_steps}
 use Rattle.lab_sched.proofs.ScheduleJoins.{length-steps}
 use Rattle.lab_sched.specs.Worlds.{WorldState, run}
 use Rattle.lab_sched.proofs.Runs.{run-append}
@@ -98,5 +97,5 @@ steps-among bs i d within =
     ∙ ap (λ n. length (steps_of (take i bs)) + n) (length-append (replicate b.count b.pid) _ ∙ ap (λ n. n + length (steps_of (drop (suc i) bs))) (length-replicate b.count b.pid)) in
     omega (arith, all)
 
-pub steps-few : (bs : List Block) → IsSchedule bs → length (steps_of bs) ≤ MOST_STEPS
+pub steps-few : (bs : List Block) → IsSchedule bs → length (steps_of bs) ≤ most_steps
 steps-few bs is = omega (arith, length-steps bs, is.within)

@@ -6,9 +6,8 @@ use Rattle.std.proofs.lemmas.Bool.Decides.{nat_tests}
 use Rattle.lab_sched.specs.declared.schedule.block.Block.{Block}
 use Rattle.lab_sched.specs.declared.schedule.fault.SchedFault.{SchedFault}
 use Rattle.lab_sched.specs.declared.schedule.fault.SchedFault.TheVariants.{BadBlock, TooLong, NoMemory}
-use Rattle.lab_sched.specs.declared.schedule.block.TheConstants.{MOST_STEPS}
-use Rattle.lab_sched.specs.Schedules.{joined}
-use Rattle.lab_sched.specs.ScheduleTexts.{words, written, block_in, too_long, scheduled, reading, Fails, ◌>>=◌}
+use Rattle.lab_sched.specs.Schedules.{joined, most_steps}
+use Rattle.lab_sched.specs.ScheduleTexts.{written, block_in, too_long, scheduled, reading_of_words, Fails, ◌>>=◌}
 use Rattle.lab_sched.proofs.ScheduleJoins.{joined-joined}
 
 -- blocks found so far, and those that are read
@@ -49,15 +48,15 @@ fits m n h = grind (arith, nat_tests)
 exceeds : (m n : ℕ) → n < m → nat_lt n m ≡ true
 exceeds m n h = grind (arith, nat_tests)
 
-pub too_long-more : (bs : List Block) (i total : ℕ) (d : Block) → i < length bs → total + (get_or bs i d).count ≤ MOST_STEPS
+pub too_long-more : (bs : List Block) (i total : ℕ) (d : Block) → i < length bs → total + (get_or bs i d).count ≤ most_steps
     → too_long (i + 1) total (drop i bs) ≡ too_long (i + 1 + 1) (total + (get_or bs i d).count) (drop (i + 1) bs)
 unfolding too_long
-too_long-more bs i total d h room = rw (drop_more bs i d h, fits (total + (get_or bs i d).count) MOST_STEPS room) refl
+too_long-more bs i total d h room = rw (drop_more bs i d h, fits (total + (get_or bs i d).count) most_steps room) refl
 
-pub too_long-here : (bs : List Block) (i total : ℕ) (d : Block) → i < length bs → MOST_STEPS < total + (get_or bs i d).count
+pub too_long-here : (bs : List Block) (i total : ℕ) (d : Block) → i < length bs → most_steps < total + (get_or bs i d).count
     → too_long (i + 1) total (drop i bs) ≡ Some (i + 1)
 unfolding too_long
-too_long-here bs i total d h room = rw (drop_more bs i d h, exceeds (total + (get_or bs i d).count) MOST_STEPS room) refl
+too_long-here bs i total d h room = rw (drop_more bs i d h, exceeds (total + (get_or bs i d).count) most_steps room) refl
 
 pub too_long-end : (bs : List Block) (i total : ℕ) → length bs ≤ i → too_long (i + 1) total (drop i bs) ≡ None
 unfolding too_long
@@ -78,21 +77,15 @@ pub scheduled-ok : (bs made : List Block) (i : ℕ) → too_long 1 0 bs ≡ None
 unfolding scheduled
 scheduled-ok bs made i e m h = rw e (ap Ok (ap joined (sym (take_all i bs h)) ∙ sym m))
 
--- one more word
-pub written-step : (found new : List Block) (ws rest : List (List ℕ)) (word : List ℕ) (b : Block) → ws ≡ word ∷ rest → Some b ≡ block_in word → new ≡ found ++ b ∷ []
-    → with_front found (written (length found + 1) ws) ≡ with_front new (written (length new + 1) rest)
-written-step found new ws rest word b e f g =
-    rw (e, g, length_push found b) (written-more found (length found + 1) word rest b f)
-
 pub fails-then : {A B : Type 0} (e : SchedFault) (read : Result A SchedFault) (next : A → Result B SchedFault) → Fails e read → Fails e (read >>= next)
 fails-then (BadBlock at) read next h = rw h refl
 fails-then (TooLong at) read next h = rw h refl
 fails-then NoMemory read next h = tt
 
-pub reading-fails : (e : SchedFault) (text : List ℕ) → Fails e (written 1 (words text)) → Fails e (reading text)
-unfolding reading
-reading-fails e text h = fails-then e (written 1 (words text)) scheduled h
+pub reading-fails : (e : SchedFault) (ws : List (List ℕ)) → Fails e (written 1 ws) → Fails e (reading_of_words ws)
+unfolding reading_of_words
+reading-fails e ws h = fails-then e (written 1 ws) scheduled h
 
-pub reading-ok : (text : List ℕ) (blocks : List Block) → written 1 (words text) ≡ Ok blocks → reading text ≡ scheduled blocks
-unfolding reading
-reading-ok text blocks h = rw h refl
+pub reading-ok : (ws : List (List ℕ)) (blocks : List Block) → written 1 ws ≡ Ok blocks → reading_of_words ws ≡ scheduled blocks
+unfolding reading_of_words
+reading-ok ws blocks h = rw h refl

@@ -1,5 +1,6 @@
 -- The processes that a world holds, as the definitions see them.
 use Rattle.std.specs.Prelude.{◌≡◌, ◌≤◌, ℕ, List, Some, length, map, All}
+use Rattle.ipc_kernel.specs.Limits.{process_max}
 use Rattle.ipc_kernel.specs.Kernel.{KernelState}
 use Rattle.ipc_kernel.specs.Answer.{answer}
 use Rattle.ipc_kernel.specs.declared.call.Answer.TheVariants.{Done, Wait}
@@ -28,7 +29,7 @@ pub record IsWorld (ps : List Kept) (k : KernelState) : Type 0 where
   pub held : All IsHeld ps
   pub profile : HaveOneProfile (map seen ps)
   pub some : 1 ≤ length ps
-  pub few : length ps ≤ 64
+  pub few : length ps ≤ process_max
   pub count : length ps ≡ length k.processes
 
 -- what a step is, as it is told

@@ -2,8 +2,7 @@
 use Rattle.std.specs.Prelude.{◌≡◌, ◌↔◌, ◌<◌, ◌≤◌, ◌-◌, ℕ, List, [], length, map, take, slice_index_or, Some, None, Ok, Err}
 use Rattle.lab_sched.specs.declared.schedule.block.Block.{Block}
 use Rattle.lab_sched.specs.declared.schedule.fault.SchedFault.TheVariants.{BadBlock, TooLong}
-use Rattle.lab_sched.specs.declared.schedule.block.TheConstants.{MOST_STEPS}
-use Rattle.lab_sched.specs.Schedules.{IsSchedule, steps_of, total_of}
+use Rattle.lab_sched.specs.Schedules.{IsSchedule, steps_of, total_of, most_steps}
 use Rattle.lab_sched.specs.ScheduleTexts.{reading, schedule_text, words, block_in}
 
 -- a schedule's text reads back as the schedule
@@ -29,8 +28,8 @@ FirstBadBlock = (text : List ℕ) (at : ℕ) → (reading text ≡ Err (BadBlock
 pub record IsFirstOver (blocks : List Block) (at : ℕ) : Type 0 where
   pub some : 1 ≤ at
   pub within : at ≤ length blocks
-  pub here : MOST_STEPS < total_of (take at blocks)
-  pub earlier : total_of (take (at - 1) blocks) ≤ MOST_STEPS
+  pub here : most_steps < total_of (take at blocks)
+  pub earlier : total_of (take (at - 1) blocks) ≤ most_steps
 
 -- each word is a block, and with word number `at`, counted from 1, there are first more than the most steps
 abbrev pub IsFirstTooLong : List (List ℕ) → ℕ → Type 0

@@ -1,12 +1,13 @@
 -- The text of a schedule, and what a text is read as.
-use Rattle.std.specs.Prelude.{ℕ, ◌+◌, ◌==◌, ◌||◌, ◌&&◌, ◌≡◌, nat_lt, nat_le, not, Bool, true, false, if◌then◌else◌, Option, Some, None, Result, Ok, Err, List, [], ◌∷◌, ◌++◌, take, drop, decimal, position}
-use Rattle.std.specs.List.{filter, slice_split, flat_map}
+use Rattle.std.specs.Prelude.{ℕ, ◌+◌, ◌-◌, ◌==◌, ◌||◌, ◌&&◌, ◌≡◌, nat_lt, nat_le, not, Bool, true, false, if◌then◌else◌, Option, Some, None, Result, Ok, Err, List, [], ◌∷◌, ◌++◌, take, drop, codes, decimal, position}
+use Rattle.ipc_kernel.specs.Limits.{process_max}
+use Rattle.std.specs.List.{flat_map}
+use Rattle.lc3_word.specs.Blanks.{words_between}
 use Rattle.lc3_word.specs.Numbers.{unsigned}
 use Rattle.lab_sched.specs.declared.schedule.block.Block.{Block}
 use Rattle.lab_sched.specs.declared.schedule.fault.SchedFault.{SchedFault}
 use Rattle.lab_sched.specs.declared.schedule.fault.SchedFault.TheVariants.{BadBlock, TooLong, NoMemory}
-use Rattle.lab_sched.specs.declared.schedule.block.TheConstants.{MOST_STEPS}
-use Rattle.lab_sched.specs.Schedules.{block, joined}
+use Rattle.lab_sched.specs.Schedules.{block, joined, most_steps}
 
 -- `P*N`
 unfoldable pub block_text : Block → List ℕ
@@ -17,20 +18,12 @@ unfoldable pub schedule_text : List Block → List ℕ
 schedule_text [] = []
 schedule_text (b ∷ rest) = block_text b ++ flat_map (λ c. 32 ∷ block_text c) rest
 
--- blank, tab, carriage return, line feed
-abbrev pub is_space : ℕ → Bool
-is_space c = c == 32 || c == 9 || c == 13 || c == 10
-
 abbrev pub is_star : ℕ → Bool
 is_star c = c == 42
 
-abbrev pub is_empty : List ℕ → Bool
-is_empty [] = true
-is_empty (c ∷ cs) = false
-
--- the words of a text, which runs of spaces separate
-unfoldable pub words : List ℕ → List (List ℕ)
-words text = filter (λ word. not (is_empty word)) (slice_split is_space text)
+-- the words of a text, between blanks, tabs, carriage returns and line feeds
+abbrev pub words : List ℕ → List (List ℕ)
+words text = words_between (codes " \t\r\n") text
 
 -- a number that is at least low and at most high
 abbrev pub in_range : ℕ → ℕ → Option ℕ → Option ℕ
@@ -39,10 +32,10 @@ in_range low high (Some n) = if nat_le low n && nat_le n high then Some n else N
 
 -- decimal digits
 unfoldable pub process_in : List ℕ → Option ℕ
-process_in text = in_range 0 63 (unsigned 10 text)
+process_in text = in_range 0 (process_max - 1) (unsigned 10 text)
 
 unfoldable pub count_in : List ℕ → Option ℕ
-count_in text = in_range 1 MOST_STEPS (unsigned 10 text)
+count_in text = in_range 1 most_steps (unsigned 10 text)
 
 abbrev pub block_from : Option ℕ → Option ℕ → Option Block
 block_from (Some pid) (Some n) = Some (block pid n)
@@ -76,7 +69,7 @@ written at (word ∷ rest) = block_or at (block_in word) >>= λ b. written (at +
 -- the number of the block with which more than the most steps are reached, where these steps come before block number `at`
 unfoldable pub too_long : ℕ → ℕ → List Block → Option ℕ
 too_long at total [] = None
-too_long at total (b ∷ rest) = if nat_lt MOST_STEPS (total + b.count) then Some at else too_long (at + 1) (total + b.count) rest
+too_long at total (b ∷ rest) = if nat_lt most_steps (total + b.count) then Some at else too_long (at + 1) (total + b.count) rest
 
 abbrev pub within : Option ℕ → List Block → Result (List Block) SchedFault
 within None blocks = Ok blocks
@@ -86,9 +79,13 @@ within (Some at) blocks = Err (TooLong at)
 unfoldable pub scheduled : List Block → Result (List Block) SchedFault
 scheduled blocks = within (too_long 1 0 blocks) (joined blocks)
 
+-- what words are read as
+unfoldable pub reading_of_words : List (List ℕ) → Result (List Block) SchedFault
+reading_of_words ws = written 1 ws >>= scheduled
+
 -- what a text is read as
-unfoldable pub reading : List ℕ → Result (List Block) SchedFault
-reading text = written 1 (words text) >>= scheduled
+abbrev pub reading : List ℕ → Result (List Block) SchedFault
+reading text = reading_of_words (words text)
 
 -- want of memory says nothing of what is read; another fault is what is read
 abbrev pub Fails : {A : Type 0} → SchedFault → Result A SchedFault → Type 0

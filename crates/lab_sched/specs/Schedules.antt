@@ -2,7 +2,11 @@
 use Rattle.std.specs.Prelude.{ℕ, ◌+◌, ◌<◌, ◌≤◌, ◌==◌, ◌≢◌, if◌then◌else◌, List, [], ◌∷◌, replicate}
 use Rattle.std.specs.List.{AllByRecursion, flat_map, sum_by}
 use Rattle.lab_sched.specs.declared.schedule.block.Block.{Block}
-use Rattle.lab_sched.specs.declared.schedule.block.TheConstants.{PROCESSES, MOST_STEPS}
+use Rattle.ipc_kernel.specs.Limits.{process_max}
+
+-- the greatest number of steps of a schedule
+abbrev pub most_steps : ℕ
+most_steps = 999_999_999
 
 -- n steps of a process
 abbrev pub block : ℕ → ℕ → Block
@@ -28,7 +32,7 @@ joined (b ∷ rest) = before b (joined rest)
 
 -- a process number and at least one step
 pub record IsBlock (b : Block) : Type 0 where
-  pub process : b.pid < PROCESSES
+  pub process : b.pid < process_max
   pub some : 1 ≤ b.count
 
 -- neighbours have different processes
@@ -41,4 +45,4 @@ AreApart (b ∷ c ∷ rest) = (b.pid ≢ c.pid) × AreApart (c ∷ rest)
 pub record IsSchedule (blocks : List Block) : Type 0 where
   pub valid : AllByRecursion IsBlock blocks
   pub apart : AreApart blocks
-  pub within : total_of blocks ≤ MOST_STEPS
+  pub within : total_of blocks ≤ most_steps

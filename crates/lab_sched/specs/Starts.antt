@@ -1,5 +1,6 @@
 -- Laboratories before their first step.
 use Rattle.std.specs.Prelude.{◌≡◌, ◌≤◌, ℕ, List, All, length, map}
+use Rattle.ipc_kernel.specs.Limits.{process_max}
 use Rattle.lc3_table.specs.declared.profile.Profile.{Profile}
 use Rattle.lc3_machine.specs.Process.{start}
 use Rattle.ipc_kernel.specs.Kernel.{KernelState, empty_kernel}
@@ -19,7 +20,7 @@ fresh profile ps = record { processes = map (start_of profile) ps; kernel = empt
 
 -- 1 to 64 programs
 abbrev pub IsCount : ℕ → Type 0
-IsCount n = (1 ≤ n) × (n ≤ 64)
+IsCount n = (1 ≤ n) × (n ≤ process_max)
 
 -- a process that runs
 abbrev pub Runs : Kept → Type 0
@@ -32,6 +33,6 @@ pub record IsFresh (ps : List Kept) (k : KernelState) : Type 0 where
   pub running : All Runs ps
   pub profile : HaveOneProfile (map seen ps)
   pub some : 1 ≤ length ps
-  pub few : length ps ≤ 64
+  pub few : length ps ≤ process_max
   pub count : length ps ≡ length k.processes
   pub empty : k ≡ empty_kernel (length ps)

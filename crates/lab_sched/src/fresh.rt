@@ -1,5 +1,6 @@
 //! Laboratories before their first step.
 ghost use Rattle.std.specs.Prelude.{◌≡◌, ◌≤◌, ◌↔◌, length, map, All, Err, IfOk};
+ghost use Rattle.ipc_kernel.specs.Limits.{process_max};
 ghost use Rattle.ipc_kernel.specs.Kernel.{empty_kernel};
 ghost use Rattle.lab_sched.specs.Starts.{start_of, fresh, IsCount, Runs};
 ghost use Rattle.lab_sched.specs.Held.{seen};
@@ -7,7 +8,7 @@ ghost use Rattle.lab_sched.specs.Worlds.{HaveOneProfile};
 ghost use Rattle.lab_sched.specs.declared.fresh.FreshFault.TheVariants.{Count, NoMemory};
 
 use crate::{Process, World};
-use ipc_kernel::Kernel;
+use ipc_kernel::{Kernel, PROCESS_MAX};
 use lc3_machine::Running;
 use lc3_table::Profile;
 use lc3_word::Image;
@@ -94,7 +95,7 @@ impl Fresh {
         ensures count { (result ≡ Err Count) ↔ (¬ IsCount (length programs.now)) }
         ensures start { IfOk result (λ f. f ≡ fresh profile programs.now) }
     {
-        if !matches!(programs.len(), 1..=64) {
+        if !matches!(programs.len(), 1..=PROCESS_MAX) {
             return Err(FreshFault::Count);
         }
         let processes = started(alloc, programs, profile)?;
@@ -109,7 +110,7 @@ impl Fresh {
         ensures running { All Runs result.items }
         ensures profile { HaveOneProfile (map seen result.items) }
         ensures some { 1 ≤ length self.processes }
-        ensures few { length self.processes ≤ 64 }
+        ensures few { length self.processes ≤ process_max }
         ensures empty { self.kernel ≡ empty_kernel (length self.processes) }
     {
         self.processes

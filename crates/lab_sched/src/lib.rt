@@ -17,7 +17,7 @@ pub use entry::Entry;
 pub use fresh::{Fresh, FreshFault, Program};
 pub use next::{Next, find_next};
 pub use process::Process;
-pub use schedule::{Block, MOST_STEPS, PROCESSES, SchedFault, Schedule};
+pub use schedule::{Block, MOST_STEPS, SchedFault, Schedule};
 pub use stepped::Stepped;
 pub use stepping::{
     Asking, begin_call, end_process, local_steps, take_back, take_reply, take_step,

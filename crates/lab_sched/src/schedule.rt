@@ -1,19 +1,19 @@
 //! Schedules: which process takes how many steps, in order.
-ghost use Rattle.std.specs.Prelude.{◌≡◌, ◌+◌, ◌<◌, ◌≤◌, [], ◌∷◌, ◌++◌, ◌^◌, length, replicate, ℕ, None, Ok, Err, OnOk, OnErr, IfOk, IfErr, string_bytes};
-ghost use Rattle.lab_sched.specs.Schedules.{block, steps_of, total_of, joined, AreApart, IsSchedule};
-ghost use Rattle.lab_sched.specs.declared.schedule.block.TheConstants.{PROCESSES, MOST_STEPS};
+ghost use Rattle.std.specs.Prelude.{◌≡◌, ◌+◌, ◌<◌, ◌≤◌, [], ◌∷◌, ◌++◌, ◌^◌, length, map, replicate, ℕ, None, Ok, Err, OnOk, OnErr, IfOk, IfErr, string_bytes};
+ghost use Rattle.lab_sched.specs.Schedules.{block, steps_of, total_of, joined, AreApart, IsSchedule, most_steps};
 ghost use Rattle.lab_sched.specs.declared.schedule.fault.SchedFault.TheVariants.{BadBlock, TooLong};
-ghost use Rattle.lab_sched.specs.ScheduleTexts.{schedule_text, block_in, words, reading, Fails};
+ghost use Rattle.lab_sched.specs.ScheduleTexts.{schedule_text, block_in, words, reading, reading_of_words, Fails};
 ghost use Rattle.lab_sched.specs.ScheduleLaws.{IsFirst, IsFirstTooLong};
+ghost use Rattle.ipc_kernel.specs.Limits.{process_max};
 
 mod block;
 mod fault;
 mod last;
 mod reading;
 
-pub use block::{Block, MOST_STEPS, PROCESSES};
+pub use block::{Block, MOST_STEPS};
 pub use fault::SchedFault;
-use reading::schedule_of;
+use reading::{schedule_of, schedule_of_words};
 use std::alloc::{AllocError, Global};
 use std::fmt::Write;
 use std::marker::Model;
@@ -83,7 +83,7 @@ impl Schedule {
     /// The number of steps.
     pub fn total(&self) -> u32
         ensures value { result ≡ total_of self.now }
-        ensures within { result ≤ MOST_STEPS }
+        ensures within { result ≤ most_steps }
         ensures steps { result ≡ length (steps_of self.now) }
     {
         self.total
@@ -100,9 +100,9 @@ impl Schedule {
     /// Adds `n` steps of process `pid` at the end; they join the last block where that has the same
     /// process.
     pub fn push(&mut self, pid: usize, n: u32) -> Result<(), AllocError>
-        requires process { pid < PROCESSES }
+        requires process { pid < process_max }
         requires some { 1 ≤ n }
-        requires room { total_of self.old + n ≤ MOST_STEPS }
+        requires room { total_of self.old + n ≤ most_steps }
         ensures blocks { OnOk result (self.new ≡ joined (self.old ++ block pid n ∷ [])) }
         ensures steps { OnOk result (steps_of self.new ≡ steps_of self.old ++ replicate n pid) }
         ensures total { OnOk result (total_of self.new ≡ total_of self.old + n) }
@@ -133,11 +133,13 @@ impl Schedule {
         schedule_of(alloc, text.as_bytes())
     }
 
-    /// The schedule that the bytes of a text write, as [`Schedule::read`] the text.
-    pub fn read_bytes(alloc: Global, text: &[u8]) -> Result<Schedule, SchedFault>
-        ensures ok { IfOk result (λ schedule. reading text.now ≡ Ok schedule) }
-        ensures err { IfErr result (λ fault. Fails fault (reading text.now)) }
+    /// The schedule that words write, as [`Schedule::read`] a text of these words.
+    pub fn read_words(alloc: Global, words: &[&[u8]]) -> Result<Schedule, SchedFault>
+        ensures ok { IfOk result
+            (λ schedule. reading_of_words (map (λ word. word.now) words.now) ≡ Ok schedule) }
+        ensures err { IfErr result
+            (λ fault. Fails fault (reading_of_words (map (λ word. word.now) words.now))) }
     {
-        schedule_of(alloc, text)
+        schedule_of_words(alloc, words)
     }
 }

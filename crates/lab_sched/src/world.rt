@@ -1,5 +1,6 @@
 //! Worlds of processes over one kernel.
 ghost use Rattle.std.specs.Prelude.{◌≡◌, ◌<◌, ◌≤◌, ◌↔◌, ℕ, map, length, slice_get, All, Err, Some, true, false, IfOk, OnOk, OnErr};
+ghost use Rattle.ipc_kernel.specs.Limits.{process_max};
 ghost use Rattle.std.specs.Option.{option_map, option_copied};
 ghost use Rattle.lab_sched.specs.Worlds.{HasProfile, Process as Seen, first_profile, turn, turn_in, step, nothing, IsEffective};
 ghost use Rattle.lab_sched.specs.Verdicts.{HasEnded};
@@ -81,7 +82,7 @@ impl World {
     pub fn count(&self) -> usize
         ensures count { result ≡ length self.now.processes }
         ensures some { 1 ≤ result }
-        ensures few { result ≤ 64 }
+        ensures few { result ≤ process_max }
     {
         self.processes.len()
     }

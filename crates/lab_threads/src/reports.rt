@@ -7,11 +7,10 @@ ghost use Rattle.lab_sched.specs.Course.{AreEffective, IsCourse, count};
 ghost use Rattle.lab_sched.specs.Finished.{IsFinished};
 ghost use Rattle.lab_sched.specs.Held.{seen, IsHeld};
 ghost use Rattle.lab_sched.specs.History.{IsLegal, replay};
-ghost use Rattle.lab_sched.specs.Schedules.{steps_of, total_of};
+ghost use Rattle.lab_sched.specs.Schedules.{steps_of, total_of, most_steps};
 ghost use Rattle.lab_sched.specs.Starts.{Runs};
 ghost use Rattle.lab_sched.specs.Verdicts.{IsVerdict};
 ghost use Rattle.lab_sched.specs.declared.process.Process.{Process as ProcessValue};
-ghost use Rattle.lab_sched.specs.declared.schedule.block.TheConstants.{MOST_STEPS};
 ghost use Rattle.lab_threads.specs.WorkerResults.{AreWorkerResults};
 ghost use Rattle.lab_threads.specs.Merged.{initial_world, final_world};
 ghost use Rattle.lab_threads.specs.declared.worker_result.WorkerResult.{WorkerResult as WorkerResultValue};
@@ -60,7 +59,7 @@ fn ends(alloc: Global, workers: Vec<WorkerResult>) -> Result<Vec<Process>, Alloc
 
 /// Whether a schedule has room for all steps that are left.
 fn has_room(schedule: &Schedule, left: &[u32]) -> bool
-    ensures { result ≡ true → total_of schedule.now + sum left.now ≤ MOST_STEPS }
+    ensures { result ≡ true → total_of schedule.now + sum left.now ≤ most_steps }
 {
     let mut room = MOST_STEPS - schedule.total();
     for steps in left {
@@ -88,7 +87,7 @@ fn merged(
         → IsCourse (initial_world starts) (steps_of r.0) (final_world (length starts) workers.now history.now) history.now) }
     ensures counts { IfOk result (λ r. (p : ℕ) (k : WorkerResultValue) → slice_get workers.now p ≡ Some k → count p (steps_of r.0) ≡ steps k.trace) }
     ensures left { IfOk result (λ r. r.1.items ≡ map (λ k. k.left) workers.now) }
-    ensures room { IfOk result (λ r. total_of r.0 + sum r.1.items ≤ MOST_STEPS) }
+    ensures room { IfOk result (λ r. total_of r.0 + sum r.1.items ≤ most_steps) }
 {
     if !all_fit(workers) {
         return Err(RunFault::Unvouched);
@@ -108,7 +107,7 @@ fn settled(
     mut left: Vec<u32>,
 ) -> Result<Report, RunFault>
     requires len { length left.items ≡ length world.processes }
-    requires room { total_of schedule + sum left.items ≤ MOST_STEPS }
+    requires room { total_of schedule + sum left.items ≤ most_steps }
     ensures course { IfOk result (λ r. (start : WorldState) → IsCourse start (steps_of schedule) world history.items → IsCourse start (steps_of r.schedule) r.world r.history.items) }
     ensures finished { IfOk result (λ r. (limit : ℕ) → ((p : ℕ) → p < length left.items → count p (steps_of schedule) + get_or left.items p 0 ≡ limit)
         → IsFinished r.world (steps_of r.schedule) limit) }

@@ -4,9 +4,10 @@ use Rattle.lc3_machine.proofs.Strings.{position-first, position-none}
 use Rattle.ipc_traps.specs.Names.{window}
 use Rattle.ipc_traps.proofs.Ranges.{IsWithoutEnd, length-window, get-window}
 use Rattle.lab_trace.specs.Words.{name_end}
+use Rattle.lc3_word.specs.Segment.{first_device}
 
 -- a zero word ends it
-pub name_end-some : (memory : List ℕ) (a k : ℕ) → length memory ≡ 65536 → k < 256 → a + k < 65024 → IsWithoutEnd memory a k → get_or memory (a + k) 0 ≡ 0 → name_end memory a ≡ Some k
+pub name_end-some : (memory : List ℕ) (a k : ℕ) → length memory ≡ 65536 → k < 256 → a + k < first_device → IsWithoutEnd memory a k → get_or memory (a + k) 0 ≡ 0 → name_end memory a ≡ Some k
 unfolding name_end
 name_end-some memory a k whole within below before is_zero =
     let n = length-window memory a whole in
@@ -16,7 +17,7 @@ name_end-some memory a k whole within below before is_zero =
     (omega (arith, at, is_zero))
 
 -- no zero word does among all that are looked at
-pub name_end-none : (memory : List ℕ) (a k : ℕ) → length memory ≡ 65536 → min 256 (65024 - a) ≤ k → IsWithoutEnd memory a k → name_end memory a ≡ None
+pub name_end-none : (memory : List ℕ) (a k : ℕ) → length memory ≡ 65536 → min 256 (first_device - a) ≤ k → IsWithoutEnd memory a k → name_end memory a ≡ None
 unfolding name_end
 name_end-none memory a k whole all before =
     let n = length-window memory a whole in

@@ -1,5 +1,6 @@
 -- The attributes of a queue by their names in POSIX.1-2017, <mqueue.h>.
 use Rattle.std.specs.Prelude.{ℕ, if◌then◌else◌, List, ◌++◌, codes, length}
+use Rattle.ipc_names.specs.Flags.{o_nonblock}
 use Rattle.std.specs.Fmt.{decimal}
 use Rattle.ipc_objects.specs.Queue.{QueueState}
 use Rattle.ipc_kernel.specs.declared.process.Descriptor.{Descriptor}
@@ -27,7 +28,7 @@ flags_text w = codes "{" ++ flags_field w ++ codes "}"
 
 -- the flags of a descriptor
 abbrev pub descriptor_field : Descriptor → List ℕ
-descriptor_field d = flags_field (if d.nonblock then 0x800 else 0)
+descriptor_field d = flags_field (if d.nonblock then o_nonblock else 0)
 
 -- the limits of a queue, and how many messages it has
 abbrev pub queue_fields : QueueState → List ℕ

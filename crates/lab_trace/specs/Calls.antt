@@ -2,7 +2,7 @@
 use Rattle.std.specs.Prelude.{ℕ, ◌+◌, ◌==◌, if◌then◌else◌, List, [], ◌++◌, codes, slice_index}
 use Rattle.std.specs.Fmt.{decimal}
 use Rattle.lc3_machine.specs.Process.{Process as Machine, reg}
-use Rattle.ipc_names.specs.Flags.{has_flag}
+use Rattle.ipc_names.specs.Flags.{has_flag, o_creat}
 use Rattle.ipc_kernel.specs.Kernel.{KernelState}
 use Rattle.ipc_traps.specs.Names.{is_in_memory, words_at}
 use Rattle.lab_debug.specs.Texts.{address_text}
@@ -28,12 +28,12 @@ attributes_asked m at =
 unfoldable pub mq_open_arguments : Machine → List ℕ
 mq_open_arguments m =
     name_text m.memory (reg m 0) ++ comma ++ mq_flags (reg m 1)
-    ++ (if has_flag 0x40 (reg m 1) then comma ++ attributes_asked m (reg m 2) else [])
+    ++ (if has_flag o_creat (reg m 1) then comma ++ attributes_asked m (reg m 2) else [])
 
 -- sem_open: name, flags, and with O_CREAT the value
 unfoldable pub sem_open_arguments : Machine → List ℕ
 sem_open_arguments m =
-    name_text m.memory (reg m 0) ++ comma ++ sem_flags (reg m 1) ++ (if has_flag 0x40 (reg m 1) then comma ++ decimal (reg m 2) else [])
+    name_text m.memory (reg m 0) ++ comma ++ sem_flags (reg m 1) ++ (if has_flag o_creat (reg m 1) then comma ++ decimal (reg m 2) else [])
 
 -- the message in a buffer that lies in memory, else its address
 unfoldable pub buffer_text : Machine → ℕ → ℕ → List ℕ

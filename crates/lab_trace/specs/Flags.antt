@@ -1,6 +1,6 @@
 -- Flags by their names in POSIX.1-2017, <fcntl.h>.
-use Rattle.std.specs.Prelude.{ℕ, ◌-◌, ◌==◌, Bool, true, false, if◌then◌else◌, List, [], ◌++◌, codes, bit_and}
-use Rattle.ipc_names.specs.Flags.{has_flag}
+use Rattle.std.specs.Prelude.{ℕ, ◌+◌, ◌-◌, ◌==◌, Bool, true, false, if◌then◌else◌, List, [], ◌++◌, codes, bit_and}
+use Rattle.ipc_names.specs.Flags.{has_flag, o_accmode, o_creat, o_excl, o_nonblock, unnamed_flags}
 use Rattle.lab_debug.specs.Texts.{address_text}
 
 -- what stands between two flags
@@ -26,15 +26,15 @@ access_text access =
 -- the flags of mq_open
 unfoldable pub mq_flags : ℕ → List ℕ
 mq_flags w =
-    access_text (bit_and w 3) ++ flag_part true 0x40 (codes "O_CREAT") w ++ flag_part true 0x80 (codes "O_EXCL") w
-    ++ flag_part true 0x800 (codes "O_NONBLOCK") w ++ rest_part true (0xffff - 0x8c3) w
+    access_text (bit_and w o_accmode) ++ flag_part true o_creat (codes "O_CREAT") w ++ flag_part true o_excl (codes "O_EXCL") w
+    ++ flag_part true o_nonblock (codes "O_NONBLOCK") w ++ rest_part true unnamed_flags w
 
 -- the flags of sem_open
 unfoldable pub sem_flags : ℕ → List ℕ
 sem_flags w =
     if w == 0 then codes "0" else
-    flag_part false 0x40 (codes "O_CREAT") w ++ flag_part (has_flag 0x40 w) 0x80 (codes "O_EXCL") w ++ rest_part (has_flag 0xc0 w) (0xffff - 0xc0) w
+    flag_part false o_creat (codes "O_CREAT") w ++ flag_part (has_flag o_creat w) o_excl (codes "O_EXCL") w ++ rest_part (has_flag (o_creat + o_excl) w) (0xffff - (o_creat + o_excl)) w
 
 -- mq_flags of the attributes of a queue
 unfoldable pub flag_word : ℕ → List ℕ
-flag_word w = if w == 0 then codes "0" else flag_part false 0x800 (codes "O_NONBLOCK") w ++ rest_part (has_flag 0x800 w) (0xffff - 0x800) w
+flag_word w = if w == 0 then codes "0" else flag_part false o_nonblock (codes "O_NONBLOCK") w ++ rest_part (has_flag o_nonblock w) (0xffff - o_nonblock) w

@@ -6,6 +6,7 @@ use Rattle.lc3_table.specs.Decoding.{instruction_at}
 use Rattle.lc3_machine.specs.Process.{Process as Machine}
 use Rattle.lab_trace.specs.declared.service.Service.{Service}
 use Rattle.lab_trace.specs.declared.service.Service.TheVariants.{MqOpen, MqClose, MqUnlink, MqSend, MqReceive, MqGetattr, MqSetattr, SemOpen, SemClose, SemUnlink, SemWait, SemTrywait, SemPost, SemGetvalue}
+use Rattle.lc3_word.specs.Segment.{first_device}
 
 -- the call with this vector
 unfoldable pub service_in : ℕ → Option Service
@@ -33,7 +34,7 @@ service_of other = None
 
 -- the call that a process stands before; none in the device registers
 unfoldable pub service_at : Machine → Option Service
-service_at m = if nat_lt m.pc 0xFE00 then service_of (instruction_at (slice_index m.memory m.pc)) else None
+service_at m = if nat_lt m.pc first_device then service_of (instruction_at (slice_index m.memory m.pc)) else None
 
 -- the name of a call
 abbrev pub service_name : Service → List ℕ

@@ -6,12 +6,13 @@ ghost use Rattle.lab_trace.specs.declared.service.Service.TheVariants.{MqSend, M
 ghost use Rattle.lab_trace.specs.Calls.{attributes_asked, mq_open_arguments, sem_open_arguments, flags_asked, further_arguments, arguments, call_text};
 
 use crate::attributes::{push_flags, push_sizes};
-use crate::flags::{O_CREAT, has_flag, push_mq_flags, push_sem_flags};
+use crate::flags::{has_flag, push_mq_flags, push_sem_flags};
 use crate::handles::push_handle;
 use crate::message::push_buffer;
 use crate::service::Service;
 use crate::words::{is_in_memory, push_address, push_name, push_pointer, register};
 use ipc_kernel::Kernel;
+use ipc_names::O_CREAT;
 use lab_debug::machine;
 use lab_sched::Process;
 use std::alloc::{AllocError, Global};

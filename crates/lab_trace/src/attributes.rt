@@ -2,8 +2,9 @@
 ghost use Rattle.std.specs.Prelude.{◌≡◌, ◌++◌, OnOk, string_bytes};
 ghost use Rattle.lab_trace.specs.Attributes.{flags_field, most_field, size_field, count_field, sizes_text, flags_text, descriptor_field, queue_fields, attributes_text};
 
-use crate::flags::{O_NONBLOCK, push_flag_word};
+use crate::flags::push_flag_word;
 use ipc_kernel::Descriptor;
+use ipc_names::O_NONBLOCK;
 use ipc_objects::Queue;
 use std::alloc::AllocError;
 

@@ -4,25 +4,17 @@ ghost use Rattle.ipc_names.specs.Flags.{has_flag};
 ghost use Rattle.lab_trace.specs.Flags.{bar, flag_part, rest_part, access_text, mq_flags, sem_flags, flag_word};
 
 use crate::words::push_address;
+use ipc_names::{O_ACCMODE, O_CREAT, O_EXCL, O_NONBLOCK};
 use std::alloc::AllocError;
 
-/// The flag that asks for an object to be made.
-pub const O_CREAT: u16 = 0x40;
-
-/// The flag that refuses an object that exists.
-const O_EXCL: u16 = 0x80;
-
-/// The flag under which a call that would wait is refused.
-pub const O_NONBLOCK: u16 = 0x800;
-
 /// The bits that have no name in the flags of mq_open.
-const UNNAMED_OF_QUEUES: u16 = 0xFFFF - 0x8C3;
+const UNNAMED_OF_QUEUES: u16 = 0xFFFF - O_ACCMODE - O_CREAT - O_EXCL - O_NONBLOCK;
 
 /// The bits that have no name in the flags of sem_open.
-const UNNAMED_OF_SEMAPHORES: u16 = 0xFFFF - 0xC0;
+const UNNAMED_OF_SEMAPHORES: u16 = 0xFFFF - O_CREAT - O_EXCL;
 
 /// The bits that have no name in the flags of attributes.
-const UNNAMED_OF_ATTRIBUTES: u16 = 0xFFFF - 0x800;
+const UNNAMED_OF_ATTRIBUTES: u16 = 0xFFFF - O_NONBLOCK;
 
 /// Whether a word has a one in some of these bits.
 pub fn has_flag(flag: u16, word: u16) -> bool
@@ -85,7 +77,7 @@ fn access_name(access: u16) -> &'static str
 pub fn push_mq_flags(text: &mut String, word: u16) -> Result<(), AllocError>
     ensures { OnOk result (string_bytes text.new ≡ string_bytes text.old ++ mq_flags word) }
 {
-    text.push_str(access_name(word & 3))?;
+    text.push_str(access_name(word & O_ACCMODE))?;
     push_flag(text, true, O_CREAT, "O_CREAT", word)?;
     push_flag(text, true, O_EXCL, "O_EXCL", word)?;
     push_flag(text, true, O_NONBLOCK, "O_NONBLOCK", word)?;

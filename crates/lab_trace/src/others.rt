@@ -5,12 +5,9 @@ ghost use Rattle.lab_debug.specs.Rows.{each};
 ghost use Rattle.lab_trace.specs.Ends.{can_do, has_queue, has_semaphore, has_open, other_text, or_nobody, others_text, others_title};
 
 use crate::service::Service;
-use ipc_kernel::{Descriptor, Kernel, Slot};
+use ipc_kernel::{Descriptor, Kernel, OPEN_MAX, Slot};
 use lab_sched::World;
 use std::alloc::{AllocError, Global};
-
-/// The number of descriptors, and of slots, of a process.
-const OPEN_MAX: u16 = 16;
 
 /// The access to receive alone.
 const RECEIVE: u8 = 0;
@@ -45,7 +42,7 @@ fn has_queue(kernel: &Kernel, pid: usize, place: u8, other: u8) -> bool
     ensures value { result ≡ has_queue kernel.now pid place other }
 {
     let mut found = false;
-    for mqd in 0..OPEN_MAX {
+    for mqd in 0..OPEN_MAX as u16 {
         found = found || can_do(kernel.mqd(pid, mqd), place, other);
     }
     found
@@ -58,7 +55,7 @@ fn has_semaphore(kernel: &Kernel, pid: usize, place: u8) -> bool
     ensures value { result ≡ has_semaphore kernel.now pid place }
 {
     let mut found = false;
-    for slot in 0..OPEN_MAX {
+    for slot in 0..OPEN_MAX as u16 {
         found = found || refers(kernel.slot(pid, slot), place);
     }
     found

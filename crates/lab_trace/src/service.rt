@@ -7,9 +7,7 @@ ghost use Rattle.lab_trace.specs.Services.{service_in, service_of, service_at, s
 use lab_debug::machine;
 use lab_sched::Process;
 use lc3_table::{Instr, decode};
-
-/// The device register page begins here.
-pub const DEVICES: u16 = 0xFE00;
+use lc3_word::FIRST_DEVICE;
 
 /// A call of the kernel.
 #[derive(Clone, Copy, Debug, PartialEq, Eq)]
@@ -70,7 +68,7 @@ pub fn service_at(process: &Process) -> Option<Service>
     ensures service { result ≡ service_at (machine_of (seen process.now)) }
 {
     let pc = machine::pc(process);
-    if pc < DEVICES {
+    if pc < FIRST_DEVICE {
         service_of(decode(machine::word(process, pc)))
     } else {
         None

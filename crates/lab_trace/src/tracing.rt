@@ -3,8 +3,7 @@ ghost use Rattle.std.specs.Prelude.{◌≡◌, ◌<◌, ◌≤◌, ◌+◌, ℕ,
 ghost use Rattle.std.specs.Io.KnownBytes.{Appends, Keeps};
 ghost use Rattle.lab_io.specs.Device.{AppendsPrefix};
 ghost use Rattle.lab_sched.specs.Worlds.{run};
-ghost use Rattle.lab_sched.specs.Schedules.{steps_of, total_of};
-ghost use Rattle.lab_sched.specs.declared.schedule.block.TheConstants.{MOST_STEPS};
+ghost use Rattle.lab_sched.specs.Schedules.{steps_of, total_of, most_steps};
 ghost use Rattle.lab_sched.specs.declared.stepped.Stepped.TheVariants.{Same};
 ghost use Rattle.lab_trace.specs.Scenes.{events, scene_after, IsKept};
 ghost use Rattle.lab_trace.specs.Traces.{ending, trace_text, missing_after, AreThere, Explains, IsFault};
@@ -102,7 +101,7 @@ fn trace_blocks<W: Write>(
     output: &mut Output<W>,
 ) -> Result<(), TraceFault>
     requires kept { IsKept (record { number = 1; world = world.old; tally = tally.old }) }
-    requires room { total_of blocks.now ≤ MOST_STEPS }
+    requires room { total_of blocks.now ≤ most_steps }
     requires there { AreThere world.old blocks.now }
     ensures scene { OnOk result ((number : ℕ) × (record { number = number; world = world.new; tally = tally.new }
         ≡ scene_after (record { number = 1; world = world.old; tally = tally.old }) (steps_of blocks.now))) }

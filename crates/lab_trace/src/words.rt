@@ -6,10 +6,9 @@ ghost use Rattle.lc3_machine.specs.Process.{reg};
 ghost use Rattle.ipc_traps.specs.Names.{is_in_memory, words_at};
 ghost use Rattle.lab_trace.specs.Words.{pointer_text, signed_text, is_quotable, character_text, string_text, byte_text, bytes_text, name_end, name_text, blanks, at_left, at_right};
 
-use crate::service::DEVICES;
 use lab_debug::{Escape, machine};
 use lab_sched::Process;
-use lc3_word::{Hex, Reg};
+use lc3_word::{FIRST_DEVICE, Hex, Reg};
 use std::alloc::{AllocError, Global};
 
 /// The most words that are looked at for a name.
@@ -27,7 +26,7 @@ pub fn register(process: &Process, number: u16) -> u16
 pub fn is_in_memory(at: u16, len: u16) -> bool
     ensures value { result ≡ is_in_memory at len }
 {
-    len == 0 || u32::from(at) + u32::from(len) <= u32::from(DEVICES)
+    len == 0 || u32::from(at) + u32::from(len) <= u32::from(FIRST_DEVICE)
 }
 
 /// Adds an address.
@@ -151,7 +150,7 @@ fn name_end(process: &Process, at: u16) -> Option<u16>
     // A look at memory, whose contract says that there are 65,536 words.
     let _ = machine::word(process, at);
     for k in 0..NAME_WINDOW {
-        if u32::from(at) + u32::from(k) >= u32::from(DEVICES) {
+        if u32::from(at) + u32::from(k) >= u32::from(FIRST_DEVICE) {
             return None;
         }
         if machine::word(process, at + k) == 0 {

@@ -1,7 +1,7 @@
 //! Worlds by the calls of the library: what each step is told as, copies of processes, and settling. A step for which
 //! memory is refused hasn't happened and is taken once more, so that the tests pass whichever allocation fails.
 ghost use Rattle.std.specs.Prelude.{◌≤◌, ◌+◌};
-ghost use Rattle.lab_sched.specs.declared.schedule.block.TheConstants.{MOST_STEPS};
+ghost use Rattle.lab_sched.specs.Schedules.{most_steps};
 
 use crate::programs::{FIRST, HALT, SECOND, WAITER, world};
 use ipc_kernel::Call;
@@ -92,7 +92,7 @@ fn copies_of_processes(rt: HostRuntime) -> Result<(), Fail> {
 /// Settles the two programs from their start, where they have so many steps left: the schedule, the number of entries,
 /// what is left, and the verdict.
 fn settle_once(alloc: Global, first: u32, second: u32) -> Result<String, FreshFault>
-    requires room { first + second ≤ MOST_STEPS }
+    requires room { first + second ≤ most_steps }
 {
     let mut world = world(alloc, &[FIRST, SECOND])?;
     if world.count() != 2 {
@@ -114,7 +114,7 @@ fn settle_once(alloc: Global, first: u32, second: u32) -> Result<String, FreshFa
 }
 
 fn settle(alloc: Global, first: u32, second: u32) -> Result<String, FreshFault>
-    requires room { first + second ≤ MOST_STEPS }
+    requires room { first + second ≤ most_steps }
 {
     match settle_once(alloc, first, second) {
         Err(FreshFault::NoMemory) => settle_once(alloc, first, second),

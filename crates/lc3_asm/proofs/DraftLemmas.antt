@@ -15,6 +15,7 @@ use Rattle.lc3_asm.proofs.SymbolsLemmas.{absent}
 use Rattle.lc3_table.specs.Meaning.{size}
 use Rattle.lc3_asm.specs.Texts.{origin, origin_named, is_origin, address_after, labels_after, labels, entry, label_of}
 use Rattle.lc3_table.specs.declared.operation.Operation.TheVariants as op
+use Rattle.lc3_word.specs.Segment.{first_device}
 
 -- the sizes, with one more line
 sizes-append : (ls : List (Line Operand)) (l : Line Operand) → sum_by size (ls ++ l ∷ []) ≡ sum_by size ls + size l
@@ -81,11 +82,11 @@ unstarted_size (Operates a o xs) h e = cc
 unstarted_origin_named : (l : Line Operand) → is_origin l ≡ false → origin_named l ≡ None
 unstarted_origin_named l h = absent (origin_named l) h
 
-pub fits_from_test : (d : Bool) (n : ℕ) → option_or (if d then Some fault.DuplicateLabel else None) (if nat_le n 0xFE00 then None else Some fault.TooLong) ≡ None → n ≤ 0xFE00
+pub fits_from_test : (d : Bool) (n : ℕ) → option_or (if d then Some fault.DuplicateLabel else None) (if nat_le n first_device then None else Some fault.TooLong) ≡ None → n ≤ first_device
 fits_from_test true n h = cc
-fits_from_test false n h = by (nat_le n 0xFE00) refl h
+fits_from_test false n h = by (nat_le n first_device) refl h
   where
-    by : (b : Bool) → nat_le n 0xFE00 ≡ b → option_or None (if b then None else Some fault.TooLong) ≡ None → n ≤ 0xFE00
+    by : (b : Bool) → nat_le n first_device ≡ b → option_or None (if b then None else Some fault.TooLong) ≡ None → n ≤ first_device
     by true e k = grind (arith, nat_tests)
     by false e k = cc
 

@@ -9,6 +9,7 @@ use Rattle.lc3_asm.specs.Laws.{HasLine}
 use Rattle.lc3_asm.proofs.Outcomes.{first_false}
 use Rattle.lc3_asm.proofs.SymbolsLemmas.{absent}
 use Rattle.lc3_asm.proofs.ReadLemmas.{AreRead, meant, lines-read, read-at, read-below}
+use Rattle.lc3_word.specs.Segment.{first_device}
 
 skip-step : (x : List ℕ × ℕ) (xs ys : List (List ℕ × ℕ)) (name : List ℕ) (b : Bool) → bytes_eq name x.0 ≡ b → (value xs name ≡ None → value (xs ++ ys) name ≡ value ys name)
     → value (x ∷ xs) name ≡ None → value (x ∷ (xs ++ ys)) name ≡ value ys name
@@ -53,8 +54,8 @@ label_is_line_address text p before l name accepted has named =
     ap (λ q. value q.symbols name) (sym means.laid) ∙ label-value before has.0 l name new named
 
 -- the value of a label is an address below the device registers, or their first
-named-below : (n : List ℕ) (address : ℕ) (rest : List (List ℕ × ℕ)) (name : List ℕ) (target : ℕ) (b : Bool) → bytes_eq name n ≡ b → address ≤ 0xFE00
-    → (value rest name ≡ Some target → target ≤ 0xFE00) → value ((n, address) ∷ rest) name ≡ Some target → target ≤ 0xFE00
+named-below : (n : List ℕ) (address : ℕ) (rest : List (List ℕ × ℕ)) (name : List ℕ) (target : ℕ) (b : Bool) → bytes_eq name n ≡ b → address ≤ first_device
+    → (value rest name ≡ Some target → target ≤ first_device) → value ((n, address) ∷ rest) name ≡ Some target → target ≤ first_device
 named-below n address rest name target true h small more e =
     let here : value ((n, address) ∷ rest) name ≡ Some address = rw h refl in
     let same : address ≡ target = cc in
@@ -63,12 +64,12 @@ named-below n address rest name target false h small more e =
     let there : value ((n, address) ∷ rest) name ≡ value rest name = rw h refl in
     more (sym there ∙ e)
 
-entry-below : (o : Option (List ℕ)) (address : ℕ) (rest : List (List ℕ × ℕ)) (name : List ℕ) (target : ℕ) → address ≤ 0xFE00
-    → (value rest name ≡ Some target → target ≤ 0xFE00) → value (entry o address ++ rest) name ≡ Some target → target ≤ 0xFE00
+entry-below : (o : Option (List ℕ)) (address : ℕ) (rest : List (List ℕ × ℕ)) (name : List ℕ) (target : ℕ) → address ≤ first_device
+    → (value rest name ≡ Some target → target ≤ first_device) → value (entry o address ++ rest) name ≡ Some target → target ≤ first_device
 entry-below None address rest name target small more e = more e
 entry-below (Some n) address rest name target small more e = named-below n address rest name target (bytes_eq name n) refl small more e
 
-pub labels-below : (front ls : List (Line Operand)) (name : List ℕ) (target : ℕ) → AreRead front ls → address_after front ≤ 0xFE00 → value (labels_after front ls) name ≡ Some target → target ≤ 0xFE00
+pub labels-below : (front ls : List (Line Operand)) (name : List ℕ) (target : ℕ) → AreRead front ls → address_after front ≤ first_device → value (labels_after front ls) name ≡ Some target → target ≤ first_device
 labels-below front [] name target r small e = cc
 labels-below front (l ∷ ls) name target r small e =
     entry-below (label_of l) (address_after front) (labels_after (front ++ l ∷ []) ls) name target small

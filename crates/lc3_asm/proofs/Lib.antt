@@ -1,5 +1,6 @@
 pub mod DraftLemmas
 pub mod FieldSteps
+pub mod FirstFaults
 pub mod LabelLemmas
 pub mod LayoutLemmas
 pub mod LineLemmas

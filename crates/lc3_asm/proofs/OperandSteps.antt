@@ -6,6 +6,7 @@ use Rattle.std.specs.Prelude.{option_map, int_le, ◌-ℤ◌, neg_ℤ, Result, O
 use lib.IntN.{ℤ, pos, negsuc}
 use Rattle.std.proofs.lemmas.Bool.{cases_lt}
 use Rattle.lc3_word.specs.Numbers.{capped}
+use Rattle.lc3_word.specs.Segment.{first_device}
 use Rattle.lc3_table.specs.Statements.{fits_field, is_between}
 use Rattle.lc3_table.specs.Statements.{onto, accepts, counted, ◌>>=◌}
 use Rattle.lc3_table.specs.declared.operation.Fault.{Fault}
@@ -51,8 +52,8 @@ accepts-large form.Offset n h = large 6 n (omega arith) h (omega arith)
 accepts-large form.Target n h = large 9 n (omega arith) h (omega arith)
 accepts-large form.FarTarget n h = large 11 n (omega arith) h (omega arith)
 accepts-large form.Vector n h = above (pos 0) (pos 255) (pos n) (omega (arith, ints))
-accepts-large form.Address n h = above (pos 0) (pos 65024) (pos n) (omega (arith, ints))
-accepts-large form.Count n h = above (pos 1) (pos 65024) (pos n) (omega (arith, ints))
+accepts-large form.Address n h = above (pos 0) (pos first_device) (pos n) (omega (arith, ints))
+accepts-large form.Count n h = above (pos 1) (pos first_device) (pos n) (omega (arith, ints))
 accepts-large form.Value n h = above (neg_ℤ (pos 32768)) (pos 65535) (pos n) (omega (arith, ints))
 accepts-large f n h = refl
 
@@ -62,8 +63,8 @@ accepts-small form.Offset n h = small 6 n h (omega arith)
 accepts-small form.Target n h = small 9 n h (omega arith)
 accepts-small form.FarTarget n h = small 11 n h (omega arith)
 accepts-small form.Vector n h = below (pos 0) (pos 255) (negsuc n) (omega (arith, ints))
-accepts-small form.Address n h = below (pos 0) (pos 65024) (negsuc n) (omega (arith, ints))
-accepts-small form.Count n h = below (pos 1) (pos 65024) (negsuc n) (omega (arith, ints))
+accepts-small form.Address n h = below (pos 0) (pos first_device) (negsuc n) (omega (arith, ints))
+accepts-small form.Count n h = below (pos 1) (pos first_device) (negsuc n) (omega (arith, ints))
 accepts-small form.Value n h = below (neg_ℤ (pos 32768)) (pos 65535) (negsuc n) (omega (arith, ints))
 accepts-small f n h = refl
 

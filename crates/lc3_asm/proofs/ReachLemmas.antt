@@ -6,6 +6,7 @@ use Rattle.std.specs.List.{list_any}
 use Rattle.std.proofs.lemmas.Int.{ints}
 use Rattle.std.proofs.lemmas.Bool.{and_parts, ltb-true}
 use Rattle.lc3_word.specs.Words.{IsSigned, low_bits}
+use Rattle.lc3_word.specs.Segment.{first_device}
 use Rattle.lc3_table.specs.declared.instr.Instr.{Instr}
 use Rattle.lc3_table.specs.declared.instr.Instr.TheVariants.{Br, Jsr, Ld, Ldi, Lea, St, Sti}
 use Rattle.lc3_table.specs.declared.operation.Operation.{Operation}
@@ -286,7 +287,7 @@ fill_holds_address text p before label name accepted has =
     let word = filled (value (labels ls)) (address_after before) name place.here place.here_is in
     let started = fill-started (list_any is_origin before) (line_ordered (list_any is_origin before) read.bytes l read.read) in
     let first : origin ls ≡ origin before = origin-front before (l ∷ has.0) started in
-    let small : word.0 ≤ 0xFE00 = labels-below [] ls name word.0 reads (omega arith) word.1 in
+    let small : word.0 ≤ first_device = labels-below [] ls name word.0 reads (omega arith) word.1 in
     let whole : low_bits 16 (pos word.0) ≡ word.0 = omega (arith, small) in
     let at : word_at (record { origin = origin ls; words = words_of means.made }) (address_after before) ≡ Some word.0 =
     word-at (origin ls) (address_after before) (words_of means.made) place.earlier place.later word.0 (place.cut ∙ ap (λ u. place.earlier ++ (u ++ place.later)) (word.2 ∙ ap (λ w. w ∷ []) whole))

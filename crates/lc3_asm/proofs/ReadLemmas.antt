@@ -8,6 +8,7 @@ use Rattle.lc3_table.specs.declared.operation.Fault.TheVariants as fault
 use Rattle.lc3_asm.specs.Texts.{LineWords, Program, at_line, lines, is_origin, is_end, label_of, labels, line_after, read_after, lines_read, words_after, place_fault, is_duplicate, address_after, laid_out, program_of, assembled, program}
 use Rattle.lc3_asm.proofs.Outcomes.{then-ok, unless-ok, ok-same}
 use Rattle.lc3_asm.proofs.DraftLemmas.{fits_from_test}
+use Rattle.lc3_word.specs.Segment.{first_device}
 
 -- a line that was read after these
 pub record IsRead (before : List (Line Operand)) (l : Line Operand) : Type 0 where
@@ -56,12 +57,12 @@ read-at front [] l after r = subst (λ u. IsRead u l) (sym (append-nil front)) r
 read-at front (k ∷ before) l after r = subst (λ u. IsRead u l) (append_assoc front (k ∷ []) before) (read-at (front ++ k ∷ []) before l after r.1)
 
 -- a line that was read ends below the device registers
-pub read-below : (before : List (Line Operand)) (l : Line Operand) → IsRead before l → address_after (before ++ l ∷ []) ≤ 0xFE00
+pub read-below : (before : List (Line Operand)) (l : Line Operand) → IsRead before l → address_after (before ++ l ∷ []) ≤ first_device
 read-below before l r = fits_from_test (is_duplicate before (label_of l)) (address_after (before ++ l ∷ [])) r.placed
 
-pub all-below : (front ls : List (Line Operand)) → AreRead front ls → address_after front ≤ 0xFE00 → address_after (front ++ ls) ≤ 0xFE00
+pub all-below : (front ls : List (Line Operand)) → AreRead front ls → address_after front ≤ first_device → address_after (front ++ ls) ≤ first_device
 all-below front [] r h = rw (append-nil front) h
-all-below front (l ∷ ls) r h = subst (λ u. address_after u ≤ 0xFE00) (append_assoc front (l ∷ []) ls) (all-below (front ++ l ∷ []) ls r.1 (read-below front l r.0))
+all-below front (l ∷ ls) r h = subst (λ u. address_after u ≤ first_device) (append_assoc front (l ∷ []) ls) (all-below (front ++ l ∷ []) ls r.1 (read-below front l r.0))
 
 -- the words and the program of an accepted text with these lines
 pub record Meant (p : Program) (ls : List (Line Operand)) : Type 0 where

@@ -17,6 +17,7 @@ use Rattle.lc3_asm.proofs.Outcomes.{ok-same}
 use Rattle.lc3_asm.proofs.LineLemmas.{line_ordered}
 use Rattle.lc3_asm.proofs.ReadLemmas.{AreRead, meant, has-lines, lines-read, all-below}
 use Rattle.lc3_asm.proofs.PlaceLemmas.{first-words, words-count, origin-front}
+use Rattle.lc3_word.specs.Segment.{first_device}
 
 follow-row : (address place count line : ℕ) (rest : List Row) (end : ℕ) → (0 < count → place ≡ address) → Follow (address + count) rest end → Follow address (row line place count ++ rest) end
 follow-row address place count line rest end at f = by (count == 0) refl
@@ -92,7 +93,7 @@ listing_shows text p accepted =
     let has = has-lines text p accepted in
     let means = meant text p has.lines accepted has.read in
     let reads = lines-read text has.lines has.read in
-    let below : address_after has.lines ≤ 0xFE00 = all-below [] has.lines reads (omega arith) in
+    let below : address_after has.lines ≤ first_device = all-below [] has.lines reads (omega arith) in
     let count = words-count (labels has.lines) [] has.lines means.made reads means.words_are in
     rw (← means.laid)
     (rows-listed (origin has.lines) (rows_of means.made) (words_of means.made)

@@ -1,6 +1,7 @@
 -- What is true of every accepted text, in the words of the book: where labels stand, what instructions
 -- reach, and how the rows and the listing cover the image.
-use Rattle.std.specs.Prelude.{ℕ, ℤ, ◌≡◌, ◌+◌, ◌-◌, ◌<◌, ◌+ℤ◌, pos, nat_lt, slice_get, Option, Some, None, option_and_then, Ok, List, [], ◌∷◌, ◌++◌, map, length, replicate, if◌then◌else◌}
+use Rattle.std.specs.Prelude.{ℕ, ℤ, ◌≡◌, ◌↔◌, ◌+◌, ◌-◌, ◌<◌, ◌+ℤ◌, pos, nat_lt, slice_get, Option, Some, None, option_and_then, Ok, Err, IsOk, true, false, List, [], ◌∷◌, ◌++◌, map, length, replicate, if◌then◌else◌}
+use Rattle.std.specs.List.{list_any}
 use Rattle.lc3_word.specs.Segment.{Segment}
 use Rattle.lc3_table.specs.declared.instr.Instr.{Instr}
 use Rattle.lc3_table.specs.declared.instr.Instr.TheVariants.{Br, Jsr, Ld, Ldi, Lea, St, Sti}
@@ -10,8 +11,10 @@ use Rattle.lc3_table.specs.declared.fields.Field.{Field}
 use Rattle.lc3_table.specs.declared.fields.Field.TheVariants as field
 use Rattle.lc3_table.specs.Decoding.{instruction_at}
 use Rattle.lc3_table.specs.Statements.{Line, Operates, Operand, Register, Label}
-use Rattle.lc3_table.specs.Meaning.{field_of, instruction}
-use Rattle.lc3_asm.specs.Texts.{Program, program, lines_read, label_of, address_after, value}
+use Rattle.lc3_table.specs.declared.operation.Fault.{Fault}
+use Rattle.lc3_table.specs.declared.operation.Fault.TheVariants as fault
+use Rattle.lc3_table.specs.Meaning.{field_of, instruction, words}
+use Rattle.lc3_asm.specs.Texts.{Program, program, lines, lines_read, line_after, label_of, labels, address_after, value, is_origin, is_end}
 use Rattle.lc3_asm.specs.Listings.{word_line, rows_text}
 use Rattle.lc3_asm.specs.declared.assembled.Row.{Row}
 
@@ -106,3 +109,56 @@ words_listed address _ _ = []
 abbrev pub ListingShowsImage : Type 0
 ListingShowsImage = (text : List ℕ) (p : Program) → program text ≡ Ok p
     → rows_text p.rows p.image.words ≡ words_listed p.image.origin p.image.words (line_numbers p.rows)
+
+-- these texts are read as these lines, one by one behind the lines before them, and none of them is `.END`
+abbrev pub AreReadAs : List (Line Operand) → List (List ℕ) → List (Line Operand) → Type 0
+AreReadAs before [] [] = Unit {0}
+AreReadAs before (bytes ∷ rest) (l ∷ ls) = (line_after before bytes ≡ Ok l) × (is_end l ≡ false) × AreReadAs (before ++ l ∷ []) rest ls
+AreReadAs before _ _ = ⊥
+
+-- each of these lines has words, behind the lines before them
+abbrev pub HaveWords : List (List ℕ × ℕ) → List (Line Operand) → List (Line Operand) → Type 0
+HaveWords known before [] = Unit {0}
+HaveWords known before (l ∷ ls) = IsOk (words (value known) (address_after before) l) × HaveWords known (before ++ l ∷ []) ls
+
+-- line n is the first that can't be read, and this is the first that is wrong with it
+pub record IsFirstUnread (text : List ℕ) (n : ℕ) (kind : Fault) : Type 0 where
+  pub front : List (List ℕ)
+  pub bytes : List ℕ
+  pub rest : List (List ℕ)
+  pub before : List (Line Operand)
+  pub lines_are : lines text ≡ front ++ bytes ∷ rest
+  pub number : n ≡ length front + 1
+  pub earlier : AreReadAs [] front before
+  pub here : line_after before bytes ≡ Err kind
+
+-- each line up to `.END` can be read, none is a `.ORIG`, and n is the last line of the text
+pub record LacksOrigin (text : List ℕ) (n : ℕ) (kind : Fault) : Type 0 where
+  pub read : List (Line Operand)
+  pub lines_are : lines_read text ≡ Ok read
+  pub unstarted : list_any is_origin read ≡ false
+  pub number : n ≡ length (lines text)
+  pub here : kind ≡ fault.NoOrig
+
+-- each line up to `.END` can be read, and line n is the first that has no words, for this fault
+pub record IsFirstWithoutWords (text : List ℕ) (n : ℕ) (kind : Fault) : Type 0 where
+  pub read : List (Line Operand)
+  pub before : List (Line Operand)
+  pub line : Line Operand
+  pub after : List (Line Operand)
+  pub lines_are : lines_read text ≡ Ok read
+  pub started : list_any is_origin read ≡ true
+  pub split : read ≡ before ++ line ∷ after
+  pub number : n ≡ length before + 1
+  pub earlier : HaveWords (labels read) [] before
+  pub here : words (value (labels read)) (address_after before) line ≡ Err kind
+
+-- what a text is refused for: where its lines are read, for want of a `.ORIG`, or where its words are made
+pub data HasFirstFault (text : List ℕ) (n : ℕ) (kind : Fault) : Type 0 where
+  Unread : IsFirstUnread text n kind → HasFirstFault text n kind
+  Unstarted : LacksOrigin text n kind → HasFirstFault text n kind
+  WithoutWords : IsFirstWithoutWords text n kind → HasFirstFault text n kind
+
+-- A text has a fault at a line exactly where this line is the first with a fault, and the fault is its first.
+abbrev pub FaultIsFirst : Type 0
+FaultIsFirst = (text : List ℕ) (n : ℕ) (kind : Fault) → (program text ≡ Err (record { line = n; kind = kind })) ↔ HasFirstFault text n kind

@@ -2,7 +2,7 @@
 use Rattle.std.specs.Prelude.{ℕ, ◌+◌, nat_abs, Bool, true, false, ◌==◌, nat_le, bytes_eq, sum_by, Option, Some, None, is_some, unwrap_or, option_map, find, Result, Ok, Err, List, [], ◌∷◌, ◌++◌, length, if◌then◌else◌}
 use Rattle.std.specs.List.{list_any, slice_split}
 use Rattle.lc3_table.specs.Statements.{Line, Blank, LabelAlone, Operates, Operand, Number, line, unless, option_or, ◌>>=◌}
-use Rattle.lc3_word.specs.Segment.{Segment}
+use Rattle.lc3_word.specs.Segment.{Segment, first_device}
 use Rattle.lc3_table.specs.Meaning.{size, words}
 use Rattle.lc3_asm.specs.declared.assembled.Row.{Row}
 use Rattle.lc3_table.specs.declared.operation.Operation.TheVariants as op
@@ -76,7 +76,7 @@ is_duplicate before (Some name) = is_some (value (labels before) name)
 abbrev pub place_fault : List (Line Operand) → Line Operand → Option Fault
 place_fault before l =
     option_or (if is_duplicate before (label_of l) then Some fault.DuplicateLabel else None)
-    (if nat_le (address_after (before ++ l ∷ [])) 0xFE00 then None else Some fault.TooLong)
+    (if nat_le (address_after (before ++ l ∷ [])) first_device then None else Some fault.TooLong)
 
 -- a fault, and the number of its line, from 1
 pub record At : Type 0 where

@@ -2,6 +2,7 @@
 
 ghost use Rattle.std.specs.Prelude.{◌≡◌, ◌+◌, ◌≤◌, sum_by, List, [], ◌∷◌, ◌++◌, map, None, IfOk, length, ◌<◌, ◌^◌};
 ghost use Rattle.std.specs.List.{list_any};
+ghost use Rattle.lc3_word.specs.Segment.{first_device};
 ghost use Rattle.lc3_asm.specs.Texts.{is_origin, origin, labels, address_after, place_fault};
 ghost use Rattle.lc3_table.specs.Statements.{Line, Operand, order_fault};
 ghost use Rattle.lc3_asm.specs.Views.{seen_line};
@@ -13,11 +14,9 @@ use crate::fault::LineError;
 use crate::line::{Line, read_line};
 use crate::symbols::Symbols;
 use lc3_table::Fault;
+use lc3_word::FIRST_DEVICE;
 use std::alloc::{AllocError, Global};
 use std::marker::Model;
-
-/// The end of the memory that a program may take.
-const LIMIT: u64 = 0xFE00;
 
 /// The lines of a text that are read so far, with what follows from them.
 #[derive(Drop)]
@@ -79,7 +78,7 @@ impl Draft {
                 return Some(Fault::DuplicateLabel);
             }
         }
-        if self.address_with(line) > LIMIT {
+        if self.address_with(line) > u64::from(FIRST_DEVICE) {
             return Some(Fault::TooLong);
         }
         None
@@ -177,7 +176,7 @@ impl Draft {
     /// The address that `.ORIG` names.
     pub fn origin(&self) -> u16
         ensures value { result ≡ origin self.now }
-        ensures fits { origin self.now + sum_by size self.now ≤ 65024 }
+        ensures fits { origin self.now + sum_by size self.now ≤ first_device }
     {
         self.first as u16
     }

@@ -1,7 +1,7 @@
-//! What is true of every accepted text. The functions do nothing: each one's contract is a law of the
+//! What is true of every accepted text, and of every refused one. The functions do nothing: each one's contract is a law of the
 //! definitions in specs/.
 
-ghost use Rattle.lc3_asm.specs.Laws.{LabelsAreLineAddresses, InstructionsReachLabels, FillsHoldAddresses, RowsCoverImage, ListingShowsImage};
+ghost use Rattle.lc3_asm.specs.Laws.{LabelsAreLineAddresses, InstructionsReachLabels, FillsHoldAddresses, RowsCoverImage, ListingShowsImage, FaultIsFirst};
 
 /// A label has the address of the line that defines it.
 pub fn labels_are_line_addresses()
@@ -30,4 +30,13 @@ pub fn rows_cover_image()
 /// The listing shows each word of the image at its address, in order.
 pub fn listing_shows_image()
     ensures law { ListingShowsImage }
+{}
+
+/// The fault of a text is at the first line that has one, and is the first that is wrong with that line.
+///
+/// First all lines up to `.END` are read, each behind those before it; then the text needs a `.ORIG`, and without one the
+/// fault is at its last line; then each line makes its words. A line's first fault is that of its reading, in the order of
+/// docs/source-language.md.
+pub fn fault_is_first()
+    ensures law { FaultIsFirst }
 {}

@@ -78,7 +78,7 @@ fn second_pass(alloc: Global, draft: Draft) -> Result<Assembled, AsmFault>
 /// Assembles a source text.
 ///
 /// The first pass reads the lines in order up to `.END`. The first line that can't be read, whose label
-/// is defined already or that reaches xFE00 is the fault, with the first that is wrong with it; a text
+/// is defined already or that reaches the device registers is the fault, with the first that is wrong with it; a text
 /// without a `.ORIG` is `NoOrig` at its last line. The second pass takes the lines in order once more,
 /// and the first that names a label which isn't defined, or one too far away, is the fault. Labels are
 /// kept in upper case, lines are counted from 1, and want of memory says nothing about the text.

@@ -12,7 +12,7 @@ use crate::fault::LineError;
 use crate::token::Token;
 use crate::word::{is_label, operation, register};
 use lc3_table::{Fault, Form, Operation};
-use lc3_word::{Reg, number_of};
+use lc3_word::{FIRST_DEVICE, Reg, number_of};
 use std::alloc::{AllocError, Global};
 
 /// An operand.
@@ -194,8 +194,8 @@ fn accepts(form: Form, number: i64) -> bool
         Form::Target => is_in_field(-256, 511, number),
         Form::FarTarget => is_in_field(-1024, 2047, number),
         Form::Vector => is_between(0, 255, number),
-        Form::Address => is_between(0, 65_024, number),
-        Form::Count => is_between(1, 65_024, number),
+        Form::Address => is_between(0, i64::from(FIRST_DEVICE), number),
+        Form::Count => is_between(1, i64::from(FIRST_DEVICE), number),
         Form::Value => is_between(-32_768, 65_535, number),
         Form::Register | Form::Characters => false,
     }

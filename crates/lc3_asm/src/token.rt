@@ -18,10 +18,13 @@ pub enum Token<'a> {
 }
 
 /// Blank, tab, comma, carriage return.
+const SEPARATORS: &[u8] = b" \t,\r";
+
+/// Whether a byte separates words.
 fn is_separator(byte: u8) -> bool
     ensures { result ≡ is_separator byte }
 {
-    matches!(byte, b' ' | b'\t' | b',' | b'\r')
+    SEPARATORS.contains(&byte)
 }
 
 /// Whether a word goes on with this byte: no separator, `;` or `"`.

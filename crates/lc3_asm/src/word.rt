@@ -2,9 +2,9 @@
 
 ghost use Rattle.std.specs.Prelude.{◌≡◌, ◌↔◌, IsTrue, true, map, IfOk, string_bytes, find, IsAscii};
 ghost use Rattle.std.specs.List.{list_all};
-ghost use Rattle.lc3_table.specs.Words.{register, operation, same_name, name, is_label, is_label_byte, begins_with_digit, has_label_form, is_taken, upper};
+ghost use Rattle.lc3_table.specs.Words.{register, operation, operations, same_name, name, is_label, is_label_byte, begins_with_digit, has_label_form, is_taken, upper};
 
-use lc3_table::{OPERATIONS, Operation};
+use lc3_table::{Operation, operations};
 use lc3_word::{Reg, number_of};
 
 /// The register that a word names, in either case.
@@ -28,9 +28,9 @@ fn is_name(name: &str, word: &[u8]) -> bool
 
 /// The operation that is shown by this name.
 fn operation_shown(word: &[u8]) -> Option<Operation>
-    ensures { result ≡ find (λ o. same_name (name o) word.now) OPERATIONS }
+    ensures { result ≡ find (λ o. same_name (name o) word.now) operations }
 {
-    OPERATIONS
+    operations()
         .iter()
         .copied()
         .find(|operation| is_name(operation.name(), word))

@@ -10,6 +10,7 @@ use Rattle.lc3_machine.specs.Process.{Process, Outcome, GoesOn, Stops, at_word, 
 use Rattle.lc3_machine.specs.Console.{getc, prompted, wrote, low_byte, packed_bytes, string_at}
 use Rattle.lc3_machine.specs.Effects.{effect, effect_of_word, trapped, next_step, is_among, is_kernel_trap}
 use Rattle.lc3_machine.specs.Reply.{ended}
+use Rattle.lc3_word.specs.Segment.{first_device}
 
 -- what goes on has this profile
 abbrev Keeps : Profile → Outcome → Type 0
@@ -21,13 +22,13 @@ keeps_if profile true o o' h h' = h
 keeps_if profile false o o' h h' = h'
 
 keeps_at : (p : Process) (address : ℕ) (continued : ℕ → Outcome) → ((word : ℕ) → Keeps p.profile (continued word)) → Keeps p.profile (at_word p address continued)
-keeps_at p address continued h = keeps_if p.profile (nat_lt address 0xFE00) _ _ (h (slice_index p.memory address)) tt
+keeps_at p address continued h = keeps_if p.profile (nat_lt address first_device) _ _ (h (slice_index p.memory address)) tt
 
 keeps_load : (p : Process) (r address : ℕ) → Keeps p.profile (at_word p address (λ word. GoesOn (advanced (with_result p r word))))
-keeps_load p r address = keeps_if p.profile (nat_lt address 0xFE00) _ _ refl tt
+keeps_load p r address = keeps_if p.profile (nat_lt address first_device) _ _ refl tt
 
 keeps_stored : (p : Process) (address word : ℕ) → Keeps p.profile (stored p address word)
-keeps_stored p address word = keeps_if p.profile (nat_lt address 0xFE00) _ _ refl tt
+keeps_stored p address word = keeps_if p.profile (nat_lt address first_device) _ _ refl tt
 
 keeps_getc : (p : Process) (input : List ℕ) → Keeps p.profile (getc p input)
 keeps_getc p [] = tt

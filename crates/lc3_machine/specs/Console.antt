@@ -6,6 +6,7 @@ use Rattle.lc3_machine.specs.declared.want.How.TheVariants.{Device, NoInput}
 use Rattle.lc3_table.specs.declared.profile.Profile.{Profile}
 use Rattle.lc3_table.specs.declared.profile.Profile.TheVariants as profile
 use Rattle.lc3_machine.specs.Process.{Process, Outcome, GoesOn, Stops, reg, next_pc, with_reg, advanced, with_output}
+use Rattle.lc3_word.specs.Segment.{first_device}
 
 -- the registers after a trap that goes on at an address: it stands in R7 in profile A, and in profile B R7 is as it was
 abbrev pub linked : Profile → List ℕ → ℕ → List ℕ
@@ -18,7 +19,7 @@ returned p = advanced (record p { regs = linked p.profile p.regs (next_pc p) })
 
 -- the words from an address on, up to the device registers
 unfoldable pub words_from : List ℕ → ℕ → List ℕ
-words_from memory address = drop address (take 0xFE00 memory)
+words_from memory address = drop address (take first_device memory)
 
 -- the words from an address up to the first x0000, if there is one before the device registers
 unfoldable pub string_at : List ℕ → ℕ → Option (List ℕ)

@@ -1,5 +1,6 @@
 -- Memory as its words, and what of it can be written without taking memory.
 use Rattle.std.specs.Prelude.{◌≡◌, ℕ, ◌+◌, ◌<◌, ◌/◌, ◌++◌, Bool, true, List, length, take, drop, slice_get, Some}
+use Rattle.lc3_word.specs.Segment.{first_device}
 
 -- the words, and for each page of 256 words whether it can be written without taking memory
 pub record Store : Type 0 where
@@ -12,7 +13,7 @@ IsReadyAt ready address = slice_get ready (address / 256) ≡ Some true
 
 -- each word of a range lies below the device registers and can be written without taking memory
 abbrev pub IsWritable : List Bool → ℕ → ℕ → Type 0
-IsWritable ready at len = (k : ℕ) → k < len → (at + k < 0xFE00) × IsReadyAt ready (at + k)
+IsWritable ready at len = (k : ℕ) → k < len → (at + k < first_device) × IsReadyAt ready (at + k)
 
 -- what was ready still is
 abbrev pub StaysReady : List Bool → List Bool → Type 0

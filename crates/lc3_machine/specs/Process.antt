@@ -5,6 +5,7 @@ use Rattle.lc3_word.specs.declared.code.Cc.{Cc}
 use Rattle.lc3_word.specs.declared.code.Cc.TheVariants.{Z}
 use Rattle.lc3_word.specs.Words.{low_bits, signed_value}
 use Rattle.lc3_word.specs.Codes.{code_of}
+use Rattle.lc3_word.specs.Segment.{first_device}
 use Rattle.lc3_table.specs.declared.profile.Profile.{Profile}
 use Rattle.lc3_machine.specs.declared.want.Want.{Want}
 use Rattle.lc3_machine.specs.declared.want.Want.TheVariants.{End}
@@ -109,11 +110,11 @@ with_output p bytes = record p { output = p.output ++ bytes }
 -- what happens with the word at an address; the device registers, xFE00 and above, end the process (A.1)
 abbrev pub at_word : Process → ℕ → (ℕ → Outcome) → Outcome
 at_word p address continued =
-    if nat_lt address 0xFE00 then continued (slice_index p.memory address) else Stops (End Device)
+    if nat_lt address first_device then continued (slice_index p.memory address) else Stops (End Device)
 
 -- what happens once a word is stored; the device registers end the process
 abbrev pub stored : Process → ℕ → ℕ → Outcome
-stored p address word = if nat_lt address 0xFE00 then GoesOn (advanced (with_word p address word)) else Stops (End Device)
+stored p address word = if nat_lt address first_device then GoesOn (advanced (with_word p address word)) else Stops (End Device)
 
 -- whether an outcome is that the process goes on
 abbrev pub goes_on : Outcome → Bool

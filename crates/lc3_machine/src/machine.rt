@@ -1,4 +1,5 @@
 ghost use Rattle.std.specs.Prelude.{◌≡◌, ◌↔◌, ℕ, ◌+◌, ◌<◌, ◌≤◌, IsTrue, OnOk, IfOk, length, slice_index};
+ghost use Rattle.lc3_word.specs.Segment.{first_device};
 ghost use Rattle.lc3_machine.specs.Process.{start, reg, next_pc, word_sum, advanced};
 ghost use Rattle.lc3_machine.specs.Console.{returned};
 ghost use Rattle.lc3_machine.specs.Memory.{IsWritable, StaysReady};
@@ -62,7 +63,7 @@ impl Machine {
         words: &[u16],
         input: &[u8],
     ) -> Result<Machine, AllocError>
-        requires below_devices { origin + length words.now ≤ 0xFE00 }
+        requires below_devices { origin + length words.now ≤ first_device }
         ensures start { IfOk result (λ m. m.process ≡ start profile origin words.now input.now) }
     {
         Ok(Machine {
@@ -131,7 +132,7 @@ impl Machine {
 
     /// Makes the words of a range writable; where memory is refused some of them may be.
     pub(crate) fn reserve(&mut self, at: u16, len: u16) -> Result<(), AllocError>
-        requires below_devices { (k : ℕ) → k < len → at + k < 0xFE00 }
+        requires below_devices { (k : ℕ) → k < len → at + k < first_device }
         ensures process { self.new.process ≡ self.old.process }
         ensures ready { StaysReady self.old.ready self.new.ready }
         ensures ok { OnOk result (IsWritable self.new.ready at len) }

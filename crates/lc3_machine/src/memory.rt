@@ -1,15 +1,14 @@
 ghost use Rattle.std.specs.Prelude.{◌≡◌, ℕ, ◌+◌, ◌<◌, ◌≤◌, ◌↔◌, MatchOption, IfSome, IfOk, IsOk, IsTrue, List, OnErr, OnOk, Option, length, slice_index, slice_set, take};
+ghost use Rattle.lc3_word.specs.Segment.{first_device};
 ghost use Rattle.lc3_machine.specs.Process.{memory_of, zeros};
 ghost use Rattle.lc3_machine.specs.Memory.{IsReadyAt, IsWritable, StaysReady, written};
 ghost use Rattle.lc3_machine.specs.Console.{words_from, string_at};
 
 use crate::pages::{PAGE, PAGES, Pages};
+use lc3_word::FIRST_DEVICE;
 use std::alloc::{AllocError, Global};
 use std::hash::FoldHasher;
 use std::marker::Model;
-
-/// The address of the first device register.
-pub(crate) const DEVICES: u16 = 0xfe00;
 
 /// The memory of a process: a table of pages, each made at the first write to it.
 #[derive(Drop)]
@@ -37,7 +36,7 @@ impl Memory {
 
     /// Memory with these words from the origin on, and zeros around them.
     pub(crate) fn load(alloc: Global, origin: u16, words: &[u16]) -> Result<Memory, AllocError>
-        requires below_devices { origin + length words.now ≤ 0xFE00 }
+        requires below_devices { origin + length words.now ≤ first_device }
         ensures words { IfOk result (λ m. m.words ≡ memory_of origin words.now) }
     {
         let mut memory = Memory::zero(alloc)?;
@@ -71,7 +70,7 @@ impl Memory {
 
     /// Makes the words of a range writable; where memory is refused some of them may be.
     pub(crate) fn reserve(&mut self, at: u16, len: u16) -> Result<(), AllocError>
-        requires below_devices { (k : ℕ) → k < len → at + k < 0xFE00 }
+        requires below_devices { (k : ℕ) → k < len → at + k < first_device }
         ensures words { self.new.words ≡ self.old.words }
         ensures ready { StaysReady self.old.ready self.new.ready }
         ensures ok { OnOk result (IsWritable self.new.ready at len) }
@@ -93,7 +92,7 @@ impl Memory {
     {
         for k in 0..len as u32 {
             let address = at as u32 + k;
-            if address >= DEVICES as u32 {
+            if address >= FIRST_DEVICE as u32 {
                 return false;
             }
             if !self.pages.is_made(address as usize / PAGE) {
@@ -121,9 +120,9 @@ impl Memory {
     pub(crate) fn string_len(&self, address: u16) -> Option<u16>
         ensures string { MatchOption result (string_at self.now.words address ≡ None)
             (λ n. string_at self.now.words address ≡ Some (take n (words_from self.now.words address))) }
-        ensures in_memory { IfSome result (λ n. address + n < 0xFE00) }
+        ensures in_memory { IfSome result (λ n. address + n < first_device) }
     {
-        for at in address..DEVICES {
+        for at in address..FIRST_DEVICE {
             if self.get(at) == 0 {
                 return Some(at - address);
             }

@@ -15,7 +15,7 @@ pub enum ObjFault {
     /// The file ends within a word.
     #[error("the file ends within a word")]
     OddLength,
-    /// The words would reach the device register page, which begins at xFE00.
+    /// The words would reach the device register page (`FIRST_DEVICE`).
     #[error("the words reach the device registers")]
     TooLong,
     /// There is no memory for the words.

@@ -1,13 +1,14 @@
 //! Object files as images.
 ghost use Rattle.std.specs.Prelude.{◌≡◌, ◌≢◌, ◌+◌, ◌*◌, slice_index, ◌%◌, ◌<◌, ◌≤◌, ◌↔◌, [], ◌∷◌, length, IfOk, IfErr, IsErrOf};
+ghost use Rattle.lc3_word.specs.Segment.{first_device};
 ghost use Rattle.lc3_obj.specs.Object.{word_bytes, object_bytes, origin_of, word_count, IsNoObject};
 
 use crate::ObjFault;
-use lc3_word::Image;
+use lc3_word::{FIRST_DEVICE, Image};
 use std::alloc::Global;
 
 /// The first address that no image reaches.
-const IMAGE_END: usize = 0xFE00;
+const IMAGE_END: usize = FIRST_DEVICE as usize;
 
 /// Reads the image that an object file holds. The first fault of `Empty`, `OddLength` and `TooLong` is answered, and
 /// `NoMemory` only where the bytes have none of them.
@@ -19,7 +20,7 @@ pub fn read_image(alloc: Global, bytes: &[u8]) -> Result<Image, ObjFault>
     ensures too_long { IsErrOf result ObjFault.TooLong
         ↔ ((2 ≤ length bytes.now)
         × (length bytes.now % 2 ≡ 0)
-        × (65024 < origin_of bytes.now + word_count bytes.now)) }
+        × (first_device < origin_of bytes.now + word_count bytes.now)) }
     ensures no_write { ¬ IsErrOf result ObjFault.Write }
     ensures refused { IfErr result (λ e. e ≢ ObjFault.NoMemory → IsNoObject bytes.now) }
 {

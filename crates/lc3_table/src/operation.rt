@@ -1,7 +1,7 @@
 //! Operations and directives, and what each takes.
 
 ghost use Rattle.std.specs.Prelude.{◌≡◌};
-ghost use Rattle.lc3_table.specs.Words.{name};
+ghost use Rattle.lc3_table.specs.Words.{name, operations};
 ghost use Rattle.lc3_table.specs.declared.operation.Operation.TheVariants as op;
 
 /// An operation or directive, as a line names it.
@@ -56,9 +56,9 @@ pub enum Form {
     FarTarget,
     /// A number from 0 to 255.
     Vector,
-    /// A number from 0 to 65,024.
+    /// A number from 0 to `FIRST_DEVICE`.
     Address,
-    /// A number from 1 to 65,024.
+    /// A number from 1 to `FIRST_DEVICE`.
     Count,
     /// A label, or a number from -32,768 to 65,535.
     Value,
@@ -83,8 +83,8 @@ pub enum Fault {
     OffsetRange,
 }
 
-/// Each operation and directive.
-pub const OPERATIONS: [Operation; 35] = [
+/// Each operation and directive; a branch by each choice of codes but none.
+const OPERATIONS: [Operation; 35] = [
     Operation::Add,
     Operation::And,
     Operation::Not,
@@ -149,6 +149,14 @@ pub const OPERATIONS: [Operation; 35] = [
     Operation::Text,
     Operation::End,
 ];
+
+/// Each operation and directive, a branch by each choice of codes but none: what a line's word can name (Patt and
+/// Patel, appendix A and section 7.2).
+pub fn operations() -> &'static [Operation]
+    ensures list { result.now ≡ operations }
+{
+    &OPERATIONS
+}
 
 /// `BR` and its letters in the order n, z, p.
 #[tactic(auto, unfolding(crate::specs::Words::name))]

@@ -1,11 +1,14 @@
 //! Images of memory.
 
-ghost use Rattle.std.specs.Prelude.{◌≡◌, ◌≤◌, ◌+◌, ◌↔◌, length, IsOk, IfOk, IfErr};
+ghost use Rattle.std.specs.Prelude.{◌≡◌, ◌↔◌, IsOk, IfOk, IfErr};
+ghost use Rattle.lc3_word.specs.Segment.{IsBelowDevices};
 
 use std::marker::Model;
 
-/// What is loaded into memory: an origin and the words from there on. All of it lies below xFE00, where the device
-/// register page begins (Patt and Patel, appendix A.1).
+/// The address of the first device register, where the device register page begins (Patt and Patel, appendix A.1).
+pub const FIRST_DEVICE: u16 = 0xFE00;
+
+/// What is loaded into memory: an origin and the words from there on. All of it lies below [`FIRST_DEVICE`].
 #[derive(Debug, Drop)]
 pub struct Image {
     origin: u16,
@@ -23,13 +26,14 @@ impl Model for Image {
 }
 
 impl Image {
-    /// The image of these words at this origin. Where they would reach xFE00 or beyond, they are handed back.
+    /// The image of these words at this origin. Where they would reach [`FIRST_DEVICE`] or beyond, they are handed back.
     pub fn new(origin: u16, words: Vec<u16>) -> Result<Self, Vec<u16>>
-        ensures fits { IsOk result ↔ (origin + length words.items ≤ 65024) }
+        ensures fits { IsOk result ↔ IsBelowDevices (record { origin = origin; words = words.items }) }
         ensures ok { IfOk result (λ i. i ≡ record { origin = origin; words = words.items }) }
         ensures err { IfErr result (λ v. v ≡ words) }
     {
-        if words.len() <= 0xFE00 && origin as usize + words.len() <= 0xFE00 {
+        let end = usize::from(FIRST_DEVICE);
+        if words.len() <= end && origin as usize + words.len() <= end {
             Ok(Image { origin, words })
         } else {
             Err(words)
@@ -39,7 +43,7 @@ impl Image {
     /// The address of the first word.
     pub fn origin(&self) -> u16
         ensures value { result ≡ self.now.origin }
-        ensures below_devices { self.now.origin + length self.now.words ≤ 65024 }
+        ensures below_devices { IsBelowDevices self.now }
     {
         self.origin
     }
@@ -47,7 +51,7 @@ impl Image {
     /// The words from the origin on.
     pub fn words(&self) -> &[u16]
         ensures value { result.now ≡ self.now.words }
-        ensures below_devices { self.now.origin + length self.now.words ≤ 65024 }
+        ensures below_devices { IsBelowDevices self.now }
     {
         self.words.as_slice()
     }

@@ -2,6 +2,7 @@
 
 use crate::processes::{loaded, run, stopped};
 use lc3_machine::{AtCall, Ended, Running, Waiting, Want};
+use lc3_word::FIRST_DEVICE;
 use std::alloc::{AllocError, Global};
 use std::process::Abort;
 use std::test::Fail;
@@ -92,7 +93,7 @@ fn each_part_counts(rt: HostRuntime) -> Result<(), Fail> {
 
 /// Makes the page of an address.
 fn make_page(call: &mut AtCall, at: u16) -> Result<(), AllocError> {
-    if at < 0xfe00 {
+    if at < FIRST_DEVICE {
         again!(call.reserve(at, 1));
     }
     Ok(())

@@ -2,6 +2,7 @@
 
 use crate::processes::{loaded, stopped, vec_of};
 use lc3_machine::{AtCall, Effect, Running, Want};
+use lc3_word::FIRST_DEVICE;
 use std::alloc::{AllocError, Global};
 use std::process::Abort;
 use std::test::Fail;
@@ -47,7 +48,7 @@ impl Plain {
     }
 
     fn write(&mut self, at: u16, words: &[u16]) {
-        for (address, word) in (at..0xfe00).zip(words.iter()) {
+        for (address, word) in (at..FIRST_DEVICE).zip(words.iter()) {
             self.set(address, *word);
         }
     }
@@ -65,7 +66,7 @@ const STORES: [u16; 7] = [0x2204, 0x2404, 0x7280, 0xf044, 0x0ffb, 0, 0x0300];
 
 /// Makes a range up to the device registers writable.
 fn reserve(call: &mut AtCall, at: u16, len: u16) -> Result<(), AllocError> {
-    if at < 0xfe00 && len <= 0xfe00 - at {
+    if at < FIRST_DEVICE && len <= FIRST_DEVICE - at {
         again!(call.reserve(at, len));
     }
     Ok(())
@@ -98,7 +99,7 @@ fn answered(
 /// Some words for an address, which stand before the device registers.
 fn message(alloc: Global, numbers: &mut Numbers, at: u16) -> Result<Vec<u16>, AllocError> {
     let mut words = Vec::new(alloc);
-    for _ in 0..(numbers.next() % 300).min(0xfe00u16.saturating_sub(at)) {
+    for _ in 0..(numbers.next() % 300).min(FIRST_DEVICE.saturating_sub(at)) {
         let word = numbers.next();
         again!(words.push(word));
     }
@@ -117,7 +118,7 @@ fn disturb(
         assert_eq!(rt; call.word(address), plain.get(address));
     }
     let at = numbers.address();
-    let len = (numbers.next() % 600).min(0xfe00u16.saturating_sub(at));
+    let len = (numbers.next() % 600).min(FIRST_DEVICE.saturating_sub(at));
     reserve(call, at, len)
 }
 

@@ -1,5 +1,6 @@
 //! The rules of the calls on message queues.
 ghost use Rattle.std.specs.Prelude.{◌≡◌, ℕ, ◌<◌, ◌≤◌, false, None, length, IsTrue};
+ghost use Rattle.ipc_objects.specs.Limits.{mq_msgsize_max};
 ghost use Rattle.ipc_names.specs.Flags.{flags_read};
 ghost use Rattle.ipc_kernel.specs.Limits.{object_places};
 ghost use Rattle.ipc_kernel.specs.Decisions.{outcome_of, IsPossible, decision_may_grow};
@@ -12,13 +13,10 @@ ghost use Rattle.ipc_kernel.specs.Replies.{message_length};
 use super::Kernel;
 use super::decision::{Change, Decision, NewQueue, block};
 use crate::{Descriptor, Reply};
-use ipc_names::{Errno, Flags, Name};
+use ipc_names::{Errno, Flags, Name, O_NONBLOCK};
 use ipc_objects::{
     MQ_MAXMSG_DEFAULT, MQ_MAXMSG_MAX, MQ_MSGSIZE_DEFAULT, MQ_MSGSIZE_MAX, MQ_PRIO_MAX, Queue, Words,
 };
-
-/// The flag of a descriptor whose calls do not wait.
-const NONBLOCK: u16 = 0x800;
 
 /// The greatest numbers of messages and of words of a message that mq_open asks for.
 #[inline(always)]
@@ -47,7 +45,7 @@ fn attributes(descriptor: Descriptor, queue: &Queue) -> [u16; 4]
     ensures { result ≡ attributes descriptor queue.now }
 {
     let (max, size, count) = queue.attr();
-    let flags = if descriptor.nonblock { NONBLOCK } else { 0 };
+    let flags = if descriptor.nonblock { O_NONBLOCK } else { 0 };
     [flags, max, size, count]
 }
 
@@ -245,7 +243,7 @@ impl Kernel {
         ensures possible { IsPossible self.now result }
         ensures memory { decision_may_grow result ≡ false }
         ensures size { message_length (outcome_of self.now pid result).0 ≤ len }
-        ensures limit { message_length (outcome_of self.now pid result).0 ≤ MQ_MSGSIZE_MAX }
+        ensures limit { message_length (outcome_of self.now pid result).0 ≤ mq_msgsize_max }
     {
         let Some((descriptor, queue)) = self.open_queue(pid, mqd) else {
             return Decision::Refused(Errno::BadDescriptor);
@@ -288,11 +286,11 @@ impl Kernel {
         let Some((descriptor, queue)) = self.open_queue(pid, mqd) else {
             return Decision::Refused(Errno::BadDescriptor);
         };
-        if flags & !NONBLOCK != 0 {
+        if flags & !O_NONBLOCK != 0 {
             return Decision::Refused(Errno::Invalid);
         }
         let held = Some(Descriptor {
-            nonblock: flags & NONBLOCK != 0,
+            nonblock: flags & O_NONBLOCK != 0,
             ..descriptor
         });
         let mqd = mqd as usize;

@@ -1,5 +1,6 @@
 //! The rules of the calls on semaphores.
 ghost use Rattle.std.specs.Prelude.{◌≡◌, ℕ, ◌<◌, ◌≤◌, false, None, length, IsTrue};
+ghost use Rattle.ipc_objects.specs.Limits.{sem_value_max};
 ghost use Rattle.ipc_kernel.specs.Limits.{object_places, open_max};
 ghost use Rattle.ipc_kernel.specs.Decisions.{outcome_of, IsPossible, decision_may_grow};
 ghost use Rattle.ipc_kernel.specs.Outcomes.{open_semaphore, unlink};
@@ -8,15 +9,10 @@ ghost use Rattle.ipc_kernel.specs.Processes.{slot_of, slot_for, free_slot_of};
 
 use super::Kernel;
 use super::decision::{Change, Decision, NewSemaphore};
+use crate::limits::OPENS_MAX;
 use crate::{Reply, Slot};
-use ipc_names::{Errno, Name};
+use ipc_names::{Errno, Name, O_CREAT, O_EXCL};
 use ipc_objects::SEM_VALUE_MAX;
-
-/// Make the semaphore where it does not exist.
-const CREATE: u16 = 0x40;
-
-/// With `CREATE`, refuse a semaphore that exists.
-const EXCLUSIVE: u16 = 0x80;
 
 impl Kernel {
     ghost use Rattle.ipc_kernel.specs.Semaphores.{new_slot, one_more_open, sem_open_place, sem_create, sem_look_up, sem_open, sem_close, sem_wait, sem_trywait, sem_post, sem_getvalue};
@@ -33,8 +29,8 @@ impl Kernel {
         ensures outcome { outcome_of self.now pid result ≡ sem_open self.now pid name.now flags value }
         ensures possible { IsPossible self.now result }
     {
-        let create = flags & CREATE != 0;
-        let exclusive = flags & EXCLUSIVE != 0;
+        let create = flags & O_CREAT != 0;
+        let exclusive = flags & O_EXCL != 0;
         if create && value > SEM_VALUE_MAX {
             return Decision::Refused(Errno::Invalid);
         }
@@ -52,7 +48,7 @@ impl Kernel {
         value: u16,
     ) -> Decision<'a>
         requires process { pid < length self.now.processes }
-        requires value { IsTrue create → value ≤ SEM_VALUE_MAX }
+        requires value { IsTrue create → value ≤ sem_value_max }
         ensures outcome { outcome_of self.now pid result ≡
             sem_look_up self.now pid name.now create exclusive value (semaphore_named self.now.places name.now) }
         ensures possible { IsPossible self.now result }
@@ -78,7 +74,7 @@ impl Kernel {
     #[inline(always)]
     fn decide_sem_create<'a>(&self, pid: usize, name: &'a Name, value: u16) -> Decision<'a>
         requires process { pid < length self.now.processes }
-        requires value { value ≤ SEM_VALUE_MAX }
+        requires value { value ≤ sem_value_max }
         requires absent { semaphore_named self.now.places name.now ≡ None }
         ensures outcome { outcome_of self.now pid result ≡
             sem_create self.now pid name.now value (free_slot_of self.now.processes pid) }
@@ -143,7 +139,12 @@ impl Kernel {
     {
         match self.processes.slot(pid, slot as u16) {
             None => Decision::Refused(Errno::Invalid),
-            Some(Slot { opens: 255, .. }) => Decision::Refused(Errno::TooManyOpen),
+            Some(
+                Slot {
+                    opens: OPENS_MAX,
+                    ..
+                },
+            ) => Decision::Refused(Errno::TooManyOpen),
             Some(held) => {
                 let held = Some(Slot {
                     opens: held.opens + 1,

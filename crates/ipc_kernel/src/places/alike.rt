@@ -4,7 +4,8 @@ ghost use Rattle.ipc_kernel.specs.Limits.{object_places};
 ghost use Rattle.ipc_kernel.specs.Places.{place_at, has_name};
 ghost use Rattle.ipc_kernel.specs.Alike.{IsPermutation, Permutes, Follows, renamed_by};
 
-use super::{PLACES, Places};
+use super::Places;
+use crate::limits::OBJECT_PLACES;
 use crate::place::Place;
 use crate::renaming::{Renaming, renamed};
 
@@ -24,7 +25,7 @@ fn are_renamed(places: &[Place], others: &[Place], to: &[u8]) -> bool
     ensures { IsTrue result ↔ ((i : ℕ) → i < object_places
         → place_at others.now (renamed_by to.now i) ≡ place_at places.now i) }
 {
-    for at in 0..PLACES as u8 {
+    for at in 0..OBJECT_PLACES as u8 {
         if !is_same_at(places, at, others, renamed(to, at)) {
             return false;
         }

@@ -1,7 +1,8 @@
 //! Copies of the places, and whether they hold the same.
 ghost use Rattle.std.specs.Prelude.{◌≡◌, ◌↔◌, IfOk, IsTrue};
 
-use super::{PLACES, Places};
+use super::Places;
+use crate::limits::OBJECT_PLACES;
 use crate::place::Place;
 use std::alloc::{AllocError, Global};
 
@@ -53,10 +54,10 @@ impl Places {
     }
 
     /// A number for what each place holds, and 0 for an empty place.
-    pub(crate) fn digests(&self) -> [u64; PLACES] {
-        let mut digests = [0; PLACES];
+    pub(crate) fn digests(&self) -> [u64; OBJECT_PLACES] {
+        let mut digests = [0; OBJECT_PLACES];
         for (at, place) in self.places.iter().enumerate() {
-            if at < PLACES {
+            if at < OBJECT_PLACES {
                 digests[at] = place.digest();
             }
         }

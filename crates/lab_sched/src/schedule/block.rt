@@ -4,16 +4,13 @@ ghost use Rattle.lab_sched.specs.declared.schedule.block.Block.{Block};
 
 use std::fmt;
 
-/// Process numbers are below this.
-pub const PROCESSES: usize = 64;
-
 /// The greatest number of steps of a schedule.
 pub const MOST_STEPS: u32 = 999_999_999;
 
 /// Steps of one process in a row, shown as `P*N`.
 #[derive(Clone, Copy, Debug, PartialEq, Eq)]
 pub struct Block {
-    /// The process, from 0 to 63.
+    /// The process, below `PROCESS_MAX`.
     pub pid: usize,
     /// The number of steps, from 1.
     pub count: u32,

@@ -1,10 +1,9 @@
 //! The last step of a schedule.
 ghost use Rattle.std.specs.Prelude.{◌≡◌, ◌+◌, ◌<◌, ◌≤◌, ◌++◌, ◌∷◌, ◌^◌, [], ℕ, List, length, replicate};
 ghost use Rattle.std.specs.List.{AllByRecursion};
-ghost use Rattle.lab_sched.specs.Schedules.{IsBlock, steps_of, total_of};
+ghost use Rattle.lab_sched.specs.Schedules.{IsBlock, steps_of, total_of, most_steps};
 ghost use Rattle.lab_sched.specs.Settling.{resized};
 ghost use Rattle.lab_sched.specs.declared.schedule.block.Block.{Block as BlockSeen};
-ghost use Rattle.lab_sched.specs.declared.schedule.block.TheConstants.{MOST_STEPS};
 
 use super::{Block, Schedule};
 
@@ -28,7 +27,7 @@ impl Schedule {
     /// Puts `n` steps of the same process in the place of the last step.
     pub(crate) fn replace_last(&mut self, n: u32)
         requires some { 1 ≤ total_of self.old }
-        requires room { total_of self.old + n ≤ MOST_STEPS + 1 }
+        requires room { total_of self.old + n ≤ most_steps + 1 }
         ensures steps { (ps : List ℕ) (pid : ℕ) → steps_of self.old ≡ ps ++ pid ∷ [] → steps_of self.new ≡ ps ++ replicate n pid }
         ensures total { total_of self.new + 1 ≡ total_of self.old + n }
     {

@@ -1,61 +1,22 @@
 //! Reading a schedule's text.
-ghost use Rattle.std.specs.Prelude.{◌≡◌, ◌≤◌, ◌<◌, [], ◌∷◌, length, not, false, slice_index, position, IfNone, IfSome, IfOk};
-ghost use Rattle.std.specs.List.{prefix_len, All};
+ghost use Rattle.std.specs.Prelude.{◌≡◌, ◌≤◌, ◌<◌, length, map, position, IfSome, IfOk};
+ghost use Rattle.std.specs.List.{All};
 ghost use Rattle.lc3_word.specs.Numbers.{unsigned};
-ghost use Rattle.lab_sched.specs.Schedules.{IsBlock};
-ghost use Rattle.lab_sched.specs.ScheduleTexts.{is_space, is_star, words, in_range, process_in, count_in, block_in, written, scheduled, reading, Gives};
+ghost use Rattle.lab_sched.specs.Schedules.{IsBlock, most_steps};
+ghost use Rattle.lab_sched.specs.ScheduleTexts.{is_star, in_range, process_in, count_in, block_in, written, scheduled, reading_of_words, reading, Gives};
+ghost use Rattle.ipc_kernel.specs.Limits.{process_max};
 
-use crate::{Block, MOST_STEPS, PROCESSES, SchedFault, Schedule};
-use lc3_word::unsigned;
+use crate::{Block, MOST_STEPS, SchedFault, Schedule};
+use ipc_kernel::PROCESS_MAX;
+use lc3_word::{unsigned, words_between};
 use std::alloc::Global;
 
-fn is_space(byte: u8) -> bool
-    ensures { result ≡ is_space byte }
-{
-    matches!(byte, b' ' | b'\t' | b'\r' | b'\n')
-}
-
-/// How many bytes at the front are spaces.
-fn spaces_len(text: &[u8]) -> usize
-    ensures count { result ≡ prefix_len is_space text.now }
-    ensures within { result ≤ length text.now }
-{
-    text.iter().take_while(|byte| is_space(**byte)).count()
-}
-
-/// How many bytes at the front are no spaces.
-fn word_len(text: &[u8]) -> usize
-    ensures count { result ≡ prefix_len (λ byte. not (is_space byte)) text.now }
-    ensures within { result ≤ length text.now }
-{
-    text.iter().take_while(|byte| !is_space(**byte)).count()
-}
-
-/// A text from its first word on.
-fn without_spaces(text: &[u8]) -> &[u8]
-    ensures same { words text.now ≡ words result.now }
-    ensures shorter { length result.now ≤ length text.now }
-    ensures begun { 0 < length result.now → is_space (slice_index result.now 0) ≡ false }
-{
-    &text[spaces_len(text)..]
-}
-
-/// The first word of a text, and what follows it.
-fn first_word(text: &[u8]) -> Option<(&[u8], &[u8])>
-    ensures none { IfNone result (words text.now ≡ []) }
-    ensures first { IfSome result (λ found. words text.now ≡ found.0.now ∷ words found.1.now) }
-    ensures shorter { IfSome result (λ found. length found.1.now < length text.now) }
-{
-    let text = without_spaces(text);
-    if text.is_empty() {
-        return None;
-    }
-    Some(text.split_at(word_len(text)))
-}
+/// Blank, tab, carriage return, line feed.
+const BLANKS: &[u8] = b" \t\r\n";
 
 /// The number that digits write, from low to high.
 fn in_range(low: u32, high: u32, digits: &[u8]) -> Option<u32>
-    requires { high ≤ MOST_STEPS }
+    requires { high ≤ most_steps }
     ensures value { result ≡ in_range low high (unsigned 10 digits.now) }
     ensures bounds { IfSome result (λ n. (low ≤ n) × (n ≤ high)) }
 {
@@ -70,16 +31,16 @@ fn in_range(low: u32, high: u32, digits: &[u8]) -> Option<u32>
 #[tactic(auto, unfolding(crate::specs::ScheduleTexts::process_in))]
 fn process_in(digits: &[u8]) -> Option<usize>
     ensures value { result ≡ process_in digits.now }
-    ensures bounds { IfSome result (λ pid. pid < PROCESSES) }
+    ensures bounds { IfSome result (λ pid. pid < process_max) }
 {
-    let pid = in_range(0, PROCESSES as u32 - 1, digits)?;
+    let pid = in_range(0, PROCESS_MAX as u32 - 1, digits)?;
     Some(pid as usize)
 }
 
 #[tactic(auto, unfolding(crate::specs::ScheduleTexts::count_in))]
 fn count_in(digits: &[u8]) -> Option<u32>
     ensures value { result ≡ count_in digits.now }
-    ensures bounds { IfSome result (λ n. (1 ≤ n) × (n ≤ MOST_STEPS)) }
+    ensures bounds { IfSome result (λ n. (1 ≤ n) × (n ≤ most_steps)) }
 {
     in_range(1, MOST_STEPS, digits)
 }
@@ -107,20 +68,17 @@ fn block_in(word: &[u8]) -> Option<Block>
     Some(Block { pid, count })
 }
 
-/// The blocks of a text as written.
-fn written(alloc: Global, text: &[u8]) -> Result<Vec<Block>, SchedFault>
-    ensures exact { Gives (λ v. v.items) result (written 1 (words text.now)) }
+/// The blocks that words write, one each.
+fn written(alloc: Global, words: &[&[u8]]) -> Result<Vec<Block>, SchedFault>
+    ensures exact { Gives (λ v. v.items) result (written 1 (map (λ word. word.now) words.now)) }
     ensures valid { IfOk result (λ v. All IsBlock v.items) }
 {
     let mut blocks = Vec::new(alloc);
-    let mut rest = text;
-    while let Some((word, after)) = first_word(rest) {
-        let at = blocks.len() + 1;
+    for (i, word) in words.iter().enumerate() {
         let Some(block) = block_in(word) else {
-            return Err(SchedFault::BadBlock { at });
+            return Err(SchedFault::BadBlock { at: i + 1 });
         };
         blocks.push(block)?;
-        rest = after;
     }
     Ok(blocks)
 }
@@ -140,10 +98,18 @@ fn scheduled(alloc: Global, blocks: &[Block]) -> Result<Schedule, SchedFault>
     Ok(schedule)
 }
 
-/// The schedule that a text writes. A word that isn't a block goes before a total that is too large.
+/// The schedule that words write. A word that isn't a block goes before a total that is too large.
+pub(crate) fn schedule_of_words(alloc: Global, words: &[&[u8]]) -> Result<Schedule, SchedFault>
+    ensures { Gives (λ s. s) result (reading_of_words (map (λ word. word.now) words.now)) }
+{
+    let blocks = written(alloc, words)?;
+    scheduled(alloc, blocks.as_slice())
+}
+
+/// The schedule that a text writes, by its words.
 pub(crate) fn schedule_of(alloc: Global, text: &[u8]) -> Result<Schedule, SchedFault>
     ensures { Gives (λ s. s) result (reading text.now) }
 {
-    let blocks = written(alloc, text)?;
-    scheduled(alloc, blocks.as_slice())
+    let words = words_between(alloc, BLANKS, text)?;
+    schedule_of_words(alloc, words.as_slice())
 }

@@ -2,10 +2,10 @@
 ghost use Rattle.std.specs.Prelude.{◌≡◌, ◌<◌, ◌≤◌, ◌+◌, ◌⊎◌, ℕ, length, replicate, IsTrue, sum, true, false};
 ghost use Rattle.std.specs.Int.{bit_at};
 ghost use Rattle.lab_sched.specs.Worlds.{nothing, turn_in, IsEffective};
-ghost use Rattle.lab_sched.specs.Schedules.{steps_of, total_of};
+ghost use Rattle.lab_sched.specs.Schedules.{steps_of, total_of, most_steps};
 ghost use Rattle.lab_sched.specs.Settled.{IsAdded, IsSettled, HasStopped, IsShort};
 ghost use Rattle.lab_sched.specs.Settling.{AsksIn, IsNextIn, IsTaken};
-ghost use Rattle.lab_sched.specs.declared.schedule.block.TheConstants.{PROCESSES, MOST_STEPS};
+ghost use Rattle.ipc_kernel.specs.Limits.{process_max};
 
 use super::World;
 use super::bits::{has_bit, with_bit};
@@ -84,10 +84,10 @@ impl World {
         entries: &mut Vec<Entry>,
     ) -> u32
         requires process { pid < length self.old.processes }
-        requires few { pid < PROCESSES }
+        requires few { pid < process_max }
         requires effective { IsEffective (turn_in self.old pid) }
         requires some { 1 ≤ most }
-        requires room { total_of schedule.old + most ≤ MOST_STEPS }
+        requires room { total_of schedule.old + most ≤ most_steps }
         ensures added { IsAdded (record { world = self.old; steps = steps_of schedule.old; entries = entries.old.items }) (replicate result pid)
             (record { world = self.new; steps = steps_of schedule.new; entries = entries.new.items }) }
         ensures within { result ≤ most }
@@ -111,8 +111,8 @@ impl World {
         entries: &mut Vec<Entry>,
     ) -> (u32, bool)
         requires process { pid < length self.old.processes }
-        requires few { pid < PROCESSES }
-        requires room { total_of schedule.old + left ≤ MOST_STEPS }
+        requires few { pid < process_max }
+        requires room { total_of schedule.old + left ≤ most_steps }
         ensures added { IsAdded (record { world = self.old; steps = steps_of schedule.old; entries = entries.old.items }) (replicate result.0 pid)
             (record { world = self.new; steps = steps_of schedule.new; entries = entries.new.items }) }
         ensures stops { (result.0 ≡ left) ⊎ (turn_in self.new pid ≡ nothing) ⊎ IsTrue result.1 }
@@ -144,7 +144,7 @@ impl World {
         entries: &mut Vec<Entry>,
     ) -> (bool, u64)
         requires len { length left.old ≡ length self.old.processes }
-        requires room { total_of schedule.old + sum left.old ≤ MOST_STEPS }
+        requires room { total_of schedule.old + sum left.old ≤ most_steps }
         requires bits { (p : ℕ) → bit_at refused p ≡ 1 → IsShort self.old left.old p }
         ensures settled { IsSettled (record { world = self.old; steps = steps_of schedule.old; entries = entries.old.items })
             (record { world = self.new; steps = steps_of schedule.new; entries = entries.new.items }) left.old left.new }
@@ -179,7 +179,7 @@ impl World {
         entries: &mut Vec<Entry>,
     ) -> u64
         requires len { length left.old ≡ length self.old.processes }
-        requires room { total_of schedule.old + sum left.old ≤ MOST_STEPS }
+        requires room { total_of schedule.old + sum left.old ≤ most_steps }
         ensures settled { IsSettled (record { world = self.old; steps = steps_of schedule.old; entries = entries.old.items })
             (record { world = self.new; steps = steps_of schedule.new; entries = entries.new.items }) left.old left.new }
         ensures stopped { (p : ℕ) → p < length left.new → HasStopped self.new left.new result p }

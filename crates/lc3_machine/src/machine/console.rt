@@ -1,6 +1,7 @@
 //! The console traps. Each looks at its input or string, then makes room for what it writes, and only then writes.
 
 ghost use Rattle.std.specs.Prelude.{[], ◌∷◌, ◌≡◌, ◌++◌, ◌+◌, ◌*◌, ◌<◌, ◌≤◌, map, take, flat_map, vec_len, vec_capacity};
+ghost use Rattle.lc3_word.specs.Segment.{first_device};
 ghost use Rattle.lc3_machine.specs.Console.{prompt, words_from, low_byte, packed_bytes, getc, out, puts, prompted, putsp};
 ghost use Rattle.lc3_machine.specs.Effects.{trapped};
 ghost use Rattle.lc3_machine.specs.Steps.{CarriedOut};
@@ -129,7 +130,7 @@ fn write_echo(output: &mut Vec<u8>, byte: u8)
 
 /// Writes the low bytes of words of memory, for which there is room.
 fn write_low_bytes(output: &mut Vec<u8>, memory: &Memory, address: u16, count: u16)
-    requires in_memory { address + count < 0xFE00 }
+    requires in_memory { address + count < first_device }
     requires room { vec_len output.old + count ≤ vec_capacity output.old }
     ensures { output.new.items ≡ output.old.items ++ map low_byte (take count (words_from memory.now.words address)) }
 {
@@ -141,7 +142,7 @@ fn write_low_bytes(output: &mut Vec<u8>, memory: &Memory, address: u16, count: u
 
 /// Writes both bytes of words of memory, for which there is room.
 fn write_packed_bytes(output: &mut Vec<u8>, memory: &Memory, address: u16, count: u16)
-    requires in_memory { address + count < 0xFE00 }
+    requires in_memory { address + count < first_device }
     requires room { vec_len output.old + 2 * count ≤ vec_capacity output.old }
     ensures { output.new.items ≡ output.old.items ++ flat_map packed_bytes (take count (words_from memory.now.words address)) }
 {

@@ -6,10 +6,9 @@ ghost use Rattle.lc3_machine.specs.Effects.{effect, next_step, is_among, operand
 ghost use Rattle.lc3_machine.specs.Steps.{CarriedOut, HasRun};
 
 use super::{Machine, Progress};
-use crate::memory::DEVICES;
 use crate::want::{How, Want};
 use lc3_table::{Instr, Operand, Profile, decode};
-use lc3_word::{Reg, add};
+use lc3_word::{FIRST_DEVICE, Reg, add};
 
 impl Machine {
     /// Puts a result into a register, sets the code from it, and goes on at the next instruction.
@@ -90,7 +89,7 @@ impl Machine {
     fn load_into(&mut self, dr: Reg, address: u16) -> Progress
         ensures { CarriedOut (at_word self.old.process address (λ word. GoesOn (advanced (with_result self.old.process dr word)))) self.old.process result self.new.process }
     {
-        if address >= DEVICES {
+        if address >= FIRST_DEVICE {
             return Progress::Stopped(Want::End(How::Device));
         }
         let word = self.memory.get(address);
@@ -102,7 +101,7 @@ impl Machine {
     fn load_indirect(&mut self, dr: Reg, address: u16) -> Progress
         ensures { CarriedOut (at_word self.old.process address (λ pointer. at_word self.old.process pointer (λ word. GoesOn (advanced (with_result self.old.process dr word))))) self.old.process result self.new.process }
     {
-        if address >= DEVICES {
+        if address >= FIRST_DEVICE {
             return Progress::Stopped(Want::End(How::Device));
         }
         let pointer = self.memory.get(address);
@@ -114,7 +113,7 @@ impl Machine {
     fn store(&mut self, address: u16, word: u16) -> Progress
         ensures { CarriedOut (stored self.old.process address word) self.old.process result self.new.process }
     {
-        if address >= DEVICES {
+        if address >= FIRST_DEVICE {
             return Progress::Stopped(Want::End(How::Device));
         }
         match self.memory.set(address, word) {
@@ -131,7 +130,7 @@ impl Machine {
     fn store_indirect(&mut self, address: u16, word: u16) -> Progress
         ensures { CarriedOut (at_word self.old.process address (λ pointer. stored self.old.process pointer word)) self.old.process result self.new.process }
     {
-        if address >= DEVICES {
+        if address >= FIRST_DEVICE {
             return Progress::Stopped(Want::End(How::Device));
         }
         let pointer = self.memory.get(address);
@@ -187,7 +186,7 @@ impl Machine {
     pub(crate) fn step(&mut self) -> Progress
         ensures step { CarriedOut (next_step self.old.process) self.old.process result self.new.process }
     {
-        if self.pc >= DEVICES {
+        if self.pc >= FIRST_DEVICE {
             return Progress::Stopped(Want::End(How::Device));
         }
         let Some(instr) = decode(self.memory.get(self.pc)) else {

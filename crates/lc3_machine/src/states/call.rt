@@ -1,6 +1,7 @@
 //! A process that stands before a call or its end.
 
 ghost use Rattle.std.specs.Prelude.{◌≡◌, ℕ, ◌+◌, ◌<◌, ◌↔◌, IsTrue, OnOk, length, slice_index};
+ghost use Rattle.lc3_word.specs.Segment.{first_device};
 ghost use Rattle.lc3_machine.specs.Process.{reg, Stops};
 ghost use Rattle.lc3_machine.specs.Memory.{IsWritable, StaysReady};
 ghost use Rattle.lc3_machine.specs.Effects.{next_step};
@@ -26,7 +27,7 @@ impl AtCall {
     /// Makes the words of a range writable; what they hold stays the same. An error is want of memory: part of the
     /// range may be writable then.
     pub fn reserve(&mut self, at: u16, len: u16) -> Result<(), AllocError>
-        requires below_devices { (k : ℕ) → k < len → at + k < 0xFE00 }
+        requires below_devices { (k : ℕ) → k < len → at + k < first_device }
         ensures process { self.new.process ≡ self.old.process }
         ensures ready { StaysReady self.old.ready self.new.ready }
         ensures ok { OnOk result (IsWritable self.new.ready at len) }

@@ -1,5 +1,5 @@
 use Rattle.std.proofs.Common.{arith}
-use Rattle.ipc_objects.specs.declared.limits.TheConstants.{MQ_MSGSIZE_MAX}
+use Rattle.ipc_objects.specs.Limits.{mq_msgsize_max}
 use Rattle.ipc_kernel.proofs.AnswerLemmas.{first_short}
 use Rattle.ipc_kernel.proofs.kernel.Kernel.decide_mq_receive.Goals as goal
 
@@ -12,4 +12,4 @@ returns-clause-size c =
 
 pub returns-clause-limit : goal.returns-clause-limit
 returns-clause-limit c =
-    first_short c.args.self.now c.args.pid c.in-Some.descriptor.place MQ_MSGSIZE_MAX c.in-Some.queue.now c.in-Some.ensures.there c.attr-size.ensures.ranges c.attr-size.ensures.ranges.size_at_most
+    first_short c.args.self.now c.args.pid c.in-Some.descriptor.place mq_msgsize_max c.in-Some.queue.now c.in-Some.ensures.there c.attr-size.ensures.ranges c.attr-size.ensures.ranges.size_at_most

@@ -1,13 +1,12 @@
 use Rattle.std.proofs.Common.{◌≡◌, ◌+◌, ◌≤◌, ap, sym, ◌∙◌}
-use Rattle.lab_sched.specs.declared.schedule.block.TheConstants.{MOST_STEPS}
-use Rattle.lab_sched.specs.Schedules.{total_of, block}
+use Rattle.lab_sched.specs.Schedules.{total_of, block, most_steps}
 use Rattle.lab_sched.proofs.ScheduleJoins.{schedule-push, total-push, steps-push}
 use Rattle.lab_sched.proofs.schedule.Schedule.push.Goals as goal
 
 pub invariant_of-self-2 : goal.invariant_of-self-2
 invariant_of-self-2 c =
     let view : c.self.inside.blocks.items ≡ c.args.self.now = c.self.view_is in
-    let room : total_of c.self.inside.blocks.items + c.args.n ≤ MOST_STEPS = rw view c.requires.room in
+    let room : total_of c.self.inside.blocks.items + c.args.n ≤ most_steps = rw view c.requires.room in
     rw c.in_ok-append.ensures.ok (
       schedule-push c.self.inside.blocks.items (block c.args.pid c.args.n) c.self.invariant.0 (record { process = c.requires.process; some = c.requires.some }) room,
       ap (λ t. t + c.args.n) c.self.invariant.1 ∙ sym (total-push c.self.inside.blocks.items (block c.args.pid c.args.n)),

@@ -1,36 +1,48 @@
-use Rattle.std.proofs.Common.{◌≡◌, ◌+◌, length, ap, ◌∙◌, arith, Err}
-use Rattle.std.proofs.lemmas.List.{length_push}
-use Rattle.std.proofs.lemmas.List.Elements.{All-push}
-use Rattle.lab_sched.specs.declared.schedule.fault.SchedFault.TheVariants.{BadBlock}
+use Rattle.std.proofs.Common.{◌≡◌, ◌<◌, ◌≤◌, ◌+◌, [], length, map, drop, get_or, ap, sym, ◌∙◌, arith}
+use Rattle.std.proofs.lemmas.List.{get_or-map, length-map, drop_all, drop_more}
+use Rattle.std.proofs.lemmas.List.Elements.{All-nil, All-push}
 use Rattle.lab_sched.specs.Schedules.{IsBlock}
-use Rattle.lab_sched.specs.ScheduleTexts.{words, written}
-use Rattle.lab_sched.proofs.ScheduleSteps.{with_front, written-step, written-bad, written-end}
+use Rattle.lab_sched.specs.ScheduleTexts.{block_in, written}
+use Rattle.lab_sched.proofs.ScheduleSteps.{with_front, written-start, written-more, written-bad, written-end}
 use Rattle.lab_sched.proofs.schedule.reading.written.Goals as goal
 
-pub returns-in_default-block_in-clause-exact : goal.returns-in_default-block_in-clause-exact
-returns-in_default-block_in-clause-exact c =
-    let found = c.loop-word.blocks.items in
-    let len : length found ≡ c.len-at.result = omega arith in
-    c.loop-word.invariant.read
-    ∙ ap (λ ws. with_front found (written (length found + 1) ws)) c.in-Some.ensures.first
-    ∙ written-bad found (length found + 1) c.in-Some.word.now (words c.in-Some.after.now) c.in_default-block_in.ensures.value
-    ∙ ap (λ n. Err (BadBlock (n + 1))) len
+pub loop-i-init : goal.loop-i-init
+loop-i-init c = record {
+  read = rw c.new-blocks.ensures.items (written-start 1 (map (λ word. word.now) c.args.words.now));
+  valid = rw c.new-blocks.ensures.items (All-nil IsBlock);
+}
 
-pub loop-word-preserved : goal.loop-word-preserved
-loop-word-preserved c =
-    let items = c.in_ok-push.ensures.items in
-    let len : length c.push.new.self.items ≡ length c.loop-word.blocks.items + 1 = ap length items ∙ length_push c.loop-word.blocks.items c.in-Some-block_in.block in
+pub returns-in_default-clause-exact : goal.returns-in_default-clause-exact
+returns-in_default-clause-exact c =
+    let ws = map (λ word. word.now) c.args.words.now in
+    let i = c.loop-i.i in
+    let at = get_or-map (λ word. word.now) c.args.words.now i (record { ref_ptr = (0, 0); now = [] }) [] c.loop-i-test.true in
+    let within : i < length ws = rw length-map c.loop-i-test.true in
+    c.loop-i.invariant.read
+    ∙ ap (λ rest. with_front c.loop-i.blocks.items (written (i + 1) rest)) (drop_more ws i [] within)
+    ∙ written-bad c.loop-i.blocks.items (i + 1) (get_or ws i []) (drop (i + 1) ws) (c.in_default.ensures.value ∙ ap block_in (sym at))
+
+pub loop-i-preserved : goal.loop-i-preserved
+loop-i-preserved c =
+    let ws = map (λ word. word.now) c.args.words.now in
+    let i = c.loop-i.i in
+    let found = c.loop-i.blocks.items in
+    let b = c.in-Some.block in
+    let at = get_or-map (λ word. word.now) c.args.words.now i (record { ref_ptr = (0, 0); now = [] }) [] c.loop-i-test.true in
+    let within : i < length ws = rw length-map c.loop-i-test.true in
     record {
       read =
-          c.loop-word.invariant.read
-          ∙ written-step c.loop-word.blocks.items c.push.new.self.items (words c.loop-word.rest.now) (words c.in-Some.after.now) c.in-Some.word.now c.in-Some-block_in.block
-          c.in-Some.ensures.first c.in-Some-block_in.ensures.value items;
-      valid = rw items (All-push IsBlock c.loop-word.blocks.items c.in-Some-block_in.block c.loop-word.invariant.valid c.in-Some-block_in.ensures.valid);
-      room = omega (arith, c.in-Some.ensures.shorter, c.loop-word.invariant.room, len);
+          rw c.in_ok-push.ensures.items (c.loop-i.invariant.read
+          ∙ ap (λ rest. with_front found (written (i + 1) rest)) (drop_more ws i [] within)
+          ∙ written-more found (i + 1) (get_or ws i []) (drop (i + 1) ws) b (c.in-Some.ensures.value ∙ ap block_in (sym at)));
+      valid = rw c.in_ok-push.ensures.items (All-push IsBlock found b c.loop-i.invariant.valid c.in-Some.ensures.valid);
     }
 
 pub returns-clause-exact : goal.returns-clause-exact
 returns-clause-exact c =
-    c.loop-word.invariant.read
-    ∙ ap (λ ws. with_front c.loop-word.blocks.items (written (length c.loop-word.blocks.items + 1) ws)) c.in_default.ensures.none
-    ∙ written-end c.loop-word.blocks.items (length c.loop-word.blocks.items + 1)
+    let ws = map (λ word. word.now) c.args.words.now in
+    let count = length-map c.args.words.now (λ word. word.now) in
+    let past : length ws ≤ c.loop-i.i = omega (arith, count) in
+    c.loop-i.invariant.read
+    ∙ ap (λ rest. with_front c.loop-i.blocks.items (written (c.loop-i.i + 1) rest)) (drop_all c.loop-i.i ws past)
+    ∙ written-end c.loop-i.blocks.items (c.loop-i.i + 1)

@@ -4,6 +4,7 @@ use Rattle.lc3_machine.specs.Memory.{IsReadyAt}
 use Rattle.lc3_machine.specs.Pages.{absent}
 use Rattle.lc3_machine.proofs.PageLemmas.{IsReadyAt-made, made-IsReadyAt}
 use Rattle.lc3_machine.proofs.memory.Memory.is_writable.Goals as goal
+use Rattle.lc3_word.specs.Segment.{first_device}
 
 pub returns-then-not-is_made : goal.returns-then-not-is_made
 returns-then-not-is_made c =
@@ -26,7 +27,7 @@ loop-k-preserved c =
     let ps = c.self.inside.pages in
     let i = (c.args.at + c.loop-k.k) / 256 in
     let h : (c.args.at + c.loop-k.k) / 256 < length c.self.inside.pages = omega (arith, c.is_made.ensures.count) in
-    below_more (λ k. (c.args.at + k < 65024) × IsReadyAt c.args.self.now.ready (c.args.at + k)) c.loop-k.k c.loop-k.invariant (
+    below_more (λ k. (c.args.at + k < first_device) × IsReadyAt c.args.self.now.ready (c.args.at + k)) c.loop-k.k c.loop-k.invariant (
       omega arith,
       let made = IsReadyAt-made ps (c.args.at + c.loop-k.k) (get_or ps i absent) h (get_or_default ps i absent (get_or ps i absent) h) (sym (c.if-not-is_made.ensures.made absent)) in
           rw (ap (λ s. s.ready) c.self.view_is) at made,
