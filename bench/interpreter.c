@@ -1,15 +1,17 @@
 /* A plain interpreter of the LC-3 without traps, as a measure for lc3lab.
 
-   usage: interpreter OBJECT STEPS
+   usage: interpreter OBJECT STEPS [THREADS]
 
-   Executes so many instructions of the object file, and prints the program counter. It stops early at a TRAP, RTI or
-   reserved word, and where an address is one of the devices, xFE00 or above. */
+   Executes so many instructions of the object file, on each of so many threads (1 to 64, as a rule 1) with a machine of its
+   own, and prints the program counter of the first. A machine stops early at a TRAP, RTI or reserved word, and where an
+   address is one of the devices, xFE00 or above. */
+#include <pthread.h>
 #include <stdbool.h>
 #include <stdint.h>
 #include <stdio.h>
 #include <stdlib.h>
 
-enum { WORDS = 65536, FIRST_DEVICE = 0xFE00 };
+enum { WORDS = 65536, FIRST_DEVICE = 0xFE00, MOST_THREADS = 64 };
 enum { NEGATIVE = 4, ZERO = 2, POSITIVE = 1 };
 
 struct machine {
@@ -17,6 +19,7 @@ struct machine {
     uint16_t registers[8];
     uint16_t counter;
     uint16_t condition;
+    long left;
 };
 
 /* The number of this many low bits of a word, with its sign. */
@@ -115,14 +118,29 @@ static bool read_object(struct machine *machine, const char *name) {
     return true;
 }
 
+static void *run(void *given) {
+    struct machine *machine = given;
+    long left = machine->left;
+    while (left > 0 && step(machine)) left--;
+    machine->left = left;
+    return NULL;
+}
+
 int main(int count, char **words) {
-    static struct machine machine = {.condition = ZERO};
-    if (count != 3 || !read_object(&machine, words[1])) {
-        fprintf(stderr, "usage: interpreter OBJECT STEPS\n");
+    static struct machine machines[MOST_THREADS];
+    static pthread_t threads[MOST_THREADS];
+    int used = count == 4 ? atoi(words[3]) : 1;
+    if (count < 3 || count > 4 || used < 1 || used > MOST_THREADS || !read_object(&machines[0], words[1])) {
+        fprintf(stderr, "usage: interpreter OBJECT STEPS [THREADS]\n");
         return 1;
     }
-    long steps = atol(words[2]);
-    while (steps > 0 && step(&machine)) steps--;
-    printf("x%04X\n", machine.counter);
-    return steps != 0;
+    machines[0].condition = ZERO;
+    machines[0].left = atol(words[2]);
+    for (int i = 1; i < used; i++) machines[i] = machines[0];
+    for (int i = 1; i < used; i++)
+        if (pthread_create(&threads[i], NULL, run, &machines[i]) != 0) return 1;
+    run(&machines[0]);
+    for (int i = 1; i < used; i++) pthread_join(threads[i], NULL);
+    printf("x%04X\n", machines[0].counter);
+    return machines[0].left != 0;
 }

@@ -212,6 +212,12 @@ pub carried_form : {E : Type 0} (r : Result Answer E) (k new : KernelState) (p :
 carried_form (Err e) k new p c d same size limit is = tt
 carried_form (Ok a) k new p c d same size limit is = subst (λ (o : Outcome). IsAnswerTo c o.0) (sym is) (decided_form k p c d same size limit)
 
+-- the same of an answer with a copy
+pub carried_copy_form : {E : Type 0} (r : Result (Answer × Answer) E) (k new : KernelState) (p : ℕ) (c : Call) (d : Decision) → outcome_of k p d ≡ answer k p c
+    → ((m len : ℕ) → c ≡ MqReceive m len → message_length (answer k p c).0 ≤ len) → ((m len : ℕ) → c ≡ MqReceive m len → message_length (answer k p c).0 ≤ MQ_MSGSIZE_MAX) → IfOk r (λ a. (a.0, new) ≡ outcome_of k p d) → IfOk r (λ a. IsAnswerTo c a.0)
+carried_copy_form (Err e) k new p c d same size limit is = tt
+carried_copy_form (Ok a) k new p c d same size limit is = subst (λ (o : Outcome). IsAnswerTo c o.0) (sym is) (decided_form k p c d same size limit)
+
 -- a message answers mq_receive alone
 message_received : (c : Call) (words : List ℕ) (priority : ℕ) → IsReplyTo c (received words priority) → IsTrue (is_receive c)
 message_received (MqOpen name flags attr) words priority h = absurd h

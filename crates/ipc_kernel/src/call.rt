@@ -4,7 +4,7 @@ ghost use Rattle.std.specs.Prelude.{◌↔◌, IsTrue};
 
 use ipc_names::Name;
 use ipc_objects::Words;
-use std::alloc::{AllocError, Global};
+use std::alloc::AllocError;
 
 /// A call of a process, with its arguments as they were asked: only a name has been tested.
 #[derive(Drop)]
@@ -101,13 +101,14 @@ pub enum Answer {
 }
 
 impl Call {
-    /// An equal call.
-    pub fn copy(&self, alloc: Global) -> Result<Call, AllocError>
+    /// An equal call, whose name and words are shared. Takes no memory: an error is that they are
+    /// shared 2^63 times.
+    pub fn copy(&self) -> Result<Call, AllocError>
         ensures copy { IfOk result (λ copy. copy ≡ self.now) }
     {
         Ok(match self {
             Call::MqOpen { name, flags, attr } => {
-                let name = name.copy(alloc)?;
+                let name = name.copy()?;
                 Call::MqOpen {
                     name,
                     flags: *flags,
@@ -116,11 +117,11 @@ impl Call {
             }
             Call::MqClose { mqd } => Call::MqClose { mqd: *mqd },
             Call::MqUnlink { name } => {
-                let name = name.copy(alloc)?;
+                let name = name.copy()?;
                 Call::MqUnlink { name }
             }
             Call::MqSend { mqd, words, prio } => {
-                let words = words.copy(alloc)?;
+                let words = words.copy()?;
                 Call::MqSend {
                     mqd: *mqd,
                     words,
@@ -137,7 +138,7 @@ impl Call {
                 flags: *flags,
             },
             Call::SemOpen { name, flags, value } => {
-                let name = name.copy(alloc)?;
+                let name = name.copy()?;
                 Call::SemOpen {
                     name,
                     flags: *flags,
@@ -146,7 +147,7 @@ impl Call {
             }
             Call::SemClose { slot } => Call::SemClose { slot: *slot },
             Call::SemUnlink { name } => {
-                let name = name.copy(alloc)?;
+                let name = name.copy()?;
                 Call::SemUnlink { name }
             }
             Call::SemWait { slot } => Call::SemWait { slot: *slot },
@@ -220,14 +221,15 @@ impl Call {
 }
 
 impl Reply {
-    /// An equal reply.
-    pub fn copy(&self, alloc: Global) -> Result<Reply, AllocError>
+    /// An equal reply, whose words are shared. Takes no memory: an error is that they are shared
+    /// 2^63 times.
+    pub fn copy(&self) -> Result<Reply, AllocError>
         ensures copy { IfOk result (λ copy. copy ≡ self.now) }
     {
         Ok(match self {
             Reply::Plain(word) => Reply::Plain(*word),
             Reply::Message { words, prio } => {
-                let words = words.copy(alloc)?;
+                let words = words.copy()?;
                 Reply::Message { words, prio: *prio }
             }
             Reply::Attr(words) => Reply::Attr(*words),
@@ -237,12 +239,13 @@ impl Reply {
 }
 
 impl Answer {
-    /// An equal answer.
-    pub fn copy(&self, alloc: Global) -> Result<Answer, AllocError>
+    /// An equal answer, whose words are shared. Takes no memory: an error is that they are shared
+    /// 2^63 times.
+    pub fn copy(&self) -> Result<Answer, AllocError>
         ensures copy { IfOk result (λ copy. copy ≡ self.now) }
     {
         match self {
-            Answer::Done(reply) => Ok(Answer::Done(reply.copy(alloc)?)),
+            Answer::Done(reply) => Ok(Answer::Done(reply.copy()?)),
             Answer::Wait => Ok(Answer::Wait),
         }
     }

@@ -143,16 +143,38 @@ impl Kernel {
         !matches!(self.decide(pid, call), Decision::Waits)
     }
 
-    /// The answer that a call would be given now; nothing changes. A message that would be received
-    /// is copied, and only that takes memory.
-    pub fn answer(&self, alloc: Global, pid: usize, call: &Call) -> Result<Answer, AllocError>
+    /// Answers a call as `call` does, with an equal answer beside it, whose words are shared. Where
+    /// memory is refused nothing has changed.
+    pub fn call_with_copy(
+        &mut self,
+        pid: usize,
+        call: &Call,
+    ) -> Result<(Answer, Answer), AllocError>
+        requires process { pid < length self.old.processes }
+        ensures answered { IfOk result (λ r. (r.0, self.new) ≡ answer self.old pid call.now) }
+        ensures copy { IfOk result (λ r. r.1 ≡ r.0) }
+        ensures form { IfOk result (λ r. IsAnswerTo call.now r.0) }
+        ensures err { OnErr result (self.new ≡ self.old) }
+        ensures count { length self.new.processes ≡ length self.old.processes }
+        ensures settled { IsSettled self.new }
+    {
+        let decision = self.decide(pid, call);
+        let answers = self.carry_out_with_copy(pid, decision);
+        // The invariant, which `settled` tells, is known where a field is named.
+        let _ = &self.places;
+        answers
+    }
+
+    /// The answer that a call would be given now; nothing changes. Takes no memory: the words of a
+    /// message that would be received are shared, and an error is that they are shared 2^63 times.
+    pub fn answer(&self, pid: usize, call: &Call) -> Result<Answer, AllocError>
         requires process { pid < length self.now.processes }
         ensures answered { IfOk result (λ a. a ≡ (answer self.now pid call.now).0) }
         ensures form { IfOk result (λ a. IsAnswerTo call.now a) }
         ensures memory { IsErr result → IsTrue (is_receive call.now) }
     {
         let decision = self.decide(pid, call);
-        self.preview(alloc, decision)
+        self.preview(decision)
     }
 
     /// What becomes of a call now.

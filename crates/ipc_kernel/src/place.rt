@@ -10,7 +10,7 @@ ghost use Rattle.ipc_kernel.specs.declared.place.Place.TheVariants.{Empty};
 mod copies;
 
 use ipc_names::Name;
-use ipc_objects::{Queue, Semaphore};
+use ipc_objects::{Queue, Semaphore, Words};
 use std::alloc::AllocError;
 
 /// What an object place holds: nothing, or a queue or a semaphore. An unlinked object has no name.
@@ -91,11 +91,11 @@ impl Place {
 
     /// Adds a message to the queue.
     #[inline(always)]
-    pub(crate) fn send(&mut self, priority: u16, words: Vec<u16>) -> Result<(), AllocError>
-        requires queue { IsSomeAnd (queue_in self.old) (HasRoomFor words.items) }
+    pub(crate) fn send(&mut self, priority: u16, words: Words) -> Result<(), AllocError>
+        requires queue { IsSomeAnd (queue_in self.old) (HasRoomFor words) }
         requires priority { priority < mq_prio_max }
         ensures ok { OnOk result ((q : QueueState) → queue_in self.old ≡ Some q →
-            self.new ≡ with_queue (with_message priority words.items q) self.old) }
+            self.new ≡ with_queue (with_message priority words q) self.old) }
         ensures err { OnErr result (self.new ≡ self.old) }
     {
         if let Place::Mq { queue, .. } = self {
@@ -108,10 +108,10 @@ impl Place {
 
     /// Takes the first message from the queue.
     #[inline(always)]
-    pub(crate) fn receive(&mut self) -> (u16, Vec<u16>)
+    pub(crate) fn receive(&mut self) -> (u16, Words)
         requires { IsSomeAnd (queue_in self.old) HasMessage }
         ensures first { (q : QueueState) → queue_in self.old ≡ Some q →
-            q.messages ≡ record { priority = result.0; words = result.1.items } ∷ drop 1 q.messages }
+            q.messages ≡ record { priority = result.0; words = result.1 } ∷ drop 1 q.messages }
         ensures rest { (q : QueueState) → queue_in self.old ≡ Some q →
             self.new ≡ with_queue (without_first q) self.old }
     {

@@ -39,12 +39,11 @@ fn empty_unused_in(places: &mut [Place], processes: &Processes)
     }
 }
 
-/// Adds a copy of a message to the queue in a place.
+/// Adds a message, whose words are shared, to the queue in a place.
 #[tactic(auto, using(crate::proofs::PlaceLemmas::queue_in_range, crate::proofs::PlaceLemmas::place_at_read))]
 #[inline(always)]
 fn send_at(
     places: &mut Vec<Place>,
-    alloc: Global,
     place: u8,
     priority: u16,
     words: &Words,
@@ -55,17 +54,17 @@ fn send_at(
         places.new.items ≡ slice_set places.old.items place (with_queue (with_message priority words.now q) (place_at places.old.items place))) }
     ensures err { OnErr result (places.new.items ≡ places.old.items) }
 {
-    let words = words.copy(alloc)?;
+    let words = words.copy()?;
     let place = &mut places[place as usize];
-    place.send(priority, words.into_vec())
+    place.send(priority, words)
 }
 
 #[tactic(auto, using(crate::proofs::PlaceLemmas::queue_in_range, crate::proofs::PlaceLemmas::place_at_read))]
 #[inline(always)]
-fn receive_at(places: &mut Vec<Place>, place: u8) -> (u16, Vec<u16>)
+fn receive_at(places: &mut Vec<Place>, place: u8) -> (u16, Words)
     requires { IsSomeAnd (queue_in (place_at places.old.items place)) HasMessage }
     ensures first { (q : QueueState) → queue_in (place_at places.old.items place) ≡ Some q →
-        q.messages ≡ record { priority = result.0; words = result.1.items } ∷ drop 1 q.messages }
+        q.messages ≡ record { priority = result.0; words = result.1 } ∷ drop 1 q.messages }
     ensures rest { (q : QueueState) → queue_in (place_at places.old.items place) ≡ Some q →
         places.new.items ≡ slice_set places.old.items place (with_queue (without_first q) (place_at places.old.items place)) }
 {
@@ -130,24 +129,6 @@ fn new_queue(alloc: Global, max_messages: u16, message_size: u16) -> Result<Queu
     ensures { IfOk result (λ q. q ≡ empty_queue (max_messages, message_size)) }
 {
     Queue::new(alloc, max_messages, message_size)
-}
-
-/// Adds a copy of a name to an index.
-fn index_name(
-    names: &mut NameTable,
-    alloc: Global,
-    name: &Name,
-    place: u8,
-) -> Result<(), AllocError>
-    requires { fin.get names.old name.now ≡ None }
-    ensures ok { OnOk result (names.new ≡ fin.insert names.old name.now place) }
-    ensures err { OnErr result (names.new ≡ names.old) }
-{
-    let key = name.copy(alloc)?;
-    match names.put(key, place) {
-        Ok(()) => Ok(()),
-        Err(_) => Err(AllocError),
-    }
 }
 
 fn empty_unused_at(places: &mut Vec<Place>, processes: &Processes)
@@ -268,7 +249,7 @@ impl Places {
         }
     }
 
-    /// Adds a copy of a message to the queue in a place.
+    /// Adds a message, whose words are shared, to the queue in a place.
     #[inline(always)]
     pub(crate) fn send(&mut self, place: u8, priority: u16, words: &Words) -> Result<(), AllocError>
         requires queue { IsSomeAnd (queue_in (place_at self.old place)) (HasRoomFor words.now) }
@@ -277,15 +258,15 @@ impl Places {
             self.new ≡ slice_set self.old place (with_queue (with_message priority words.now q) (place_at self.old place))) }
         ensures err { OnErr result (self.new ≡ self.old) }
     {
-        send_at(&mut self.places, self.alloc, place, priority, words)
+        send_at(&mut self.places, place, priority, words)
     }
 
     /// Takes the first message from the queue in a place.
     #[inline(always)]
-    pub(crate) fn receive(&mut self, place: u8) -> (u16, Vec<u16>)
+    pub(crate) fn receive(&mut self, place: u8) -> (u16, Words)
         requires { IsSomeAnd (queue_in (place_at self.old place)) HasMessage }
         ensures first { (q : QueueState) → queue_in (place_at self.old place) ≡ Some q →
-            q.messages ≡ record { priority = result.0; words = result.1.items } ∷ drop 1 q.messages }
+            q.messages ≡ record { priority = result.0; words = result.1 } ∷ drop 1 q.messages }
         ensures rest { (q : QueueState) → queue_in (place_at self.old place) ≡ Some q →
             self.new ≡ slice_set self.old place (with_queue (without_first q) (place_at self.old place)) }
     {
@@ -353,8 +334,8 @@ impl Places {
         ensures err { OnErr result (self.new ≡ self.old) }
     {
         let queue = new_queue(self.alloc, max_messages, message_size)?;
-        let kept = name.copy(self.alloc)?;
-        index_name(&mut self.queue_names, self.alloc, name, place)?;
+        let kept = name.copy()?;
+        self.queue_names.put(self.alloc, name, place)?;
         put_queue_at(&mut self.places, place, kept, queue);
         Ok(())
     }
@@ -373,8 +354,8 @@ impl Places {
         ensures ok { OnOk result (self.new ≡ slice_set self.old place (Sem (Some name.now) value)) }
         ensures err { OnErr result (self.new ≡ self.old) }
     {
-        let kept = name.copy(self.alloc)?;
-        index_name(&mut self.semaphore_names, self.alloc, name, place)?;
+        let kept = name.copy()?;
+        self.semaphore_names.put(self.alloc, name, place)?;
         put_semaphore_at(&mut self.places, place, kept, value);
         Ok(())
     }

@@ -7,6 +7,7 @@ ghost use Rattle.ipc_names.specs.Name.{IsName, is_name_character, has_name_form,
 use crate::Errno;
 use std::alloc::{AllocError, Global};
 use std::marker::Model;
+use std::sync::ArcStr;
 
 /// The character `/`.
 const SLASH: u16 = 0x2f;
@@ -18,18 +19,19 @@ const NAME_MAX: usize = 255;
 /// more of x21 to x7E without `/`, at most 255 in all.
 #[derive(Drop)]
 pub struct Name {
-    text: String,
+    text: ArcStr,
 }
 
 impl Model for Name {
-    ghost use Rattle.std.specs.Prelude.{List, ℕ, string_bytes};
+    ghost use Rattle.std.specs.Prelude.{List, ℕ};
+    ghost use Rattle.std.specs.Arc.{arc_str_bytes};
     ghost use Rattle.ipc_names.specs.Name.{IsName};
 
     ghost Value = { List ℕ };
 
-    ghost view = { λ a. string_bytes a.text };
+    ghost view = { λ a. arc_str_bytes a.text };
 
-    ghost invariant = { λ a. IsName (string_bytes a.text) };
+    ghost invariant = { λ a. IsName (arc_str_bytes a.text) };
 }
 
 fn is_name_character(word: u16) -> bool
@@ -77,7 +79,7 @@ impl Name {
         if !has_name_form(words) {
             return Ok(Err(Errno::Invalid));
         }
-        let text = ascii_text(alloc, words)?;
+        let text = ArcStr::from_string(ascii_text(alloc, words)?)?;
         Ok(Ok(Name { text }))
     }
 
@@ -89,25 +91,12 @@ impl Name {
         self.text.as_str()
     }
 
-    /// An equal name.
-    pub fn copy(&self, alloc: Global) -> Result<Name, AllocError>
+    /// The same name, which is shared. Takes no memory: an error is that it is shared 2^63 times.
+    #[inline(always)]
+    pub fn copy(&self) -> Result<Name, AllocError>
         ensures equal { IfOk result (λ copy. copy ≡ self.now) }
     {
-        let text = String::from_str(alloc, self.text.as_str())?;
+        let text = self.text.clone()?;
         Ok(Name { text })
-    }
-
-    pub(crate) fn into_text(self) -> String
-        ensures text { string_bytes result ≡ self }
-        ensures form { IsName self }
-    {
-        self.text
-    }
-
-    pub(crate) fn of_text(text: String) -> Name
-        requires { IsName (string_bytes text) }
-        ensures { result ≡ string_bytes text }
-    {
-        Name { text }
     }
 }

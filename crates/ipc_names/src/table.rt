@@ -1,5 +1,5 @@
 //! Tables from names to places.
-ghost use Rattle.std.specs.Prelude.{◌≡◌, None, IfOk, IfErr, OnOk, OnErr};
+ghost use Rattle.std.specs.Prelude.{◌≡◌, None, IfOk, OnOk, OnErr};
 ghost use Rattle.std.specs.FinMap as fin;
 
 use crate::Name;
@@ -41,20 +41,16 @@ impl NameTable {
         self.places.get(name.text()).copied()
     }
 
-    /// Adds a name that isn't there. Where memory is refused the name is handed back and nothing
-    /// changes.
-    pub fn put(&mut self, name: Name, place: u8) -> Result<(), Name>
-        requires absent { fin.get self.old name ≡ None }
-        ensures ok { OnOk result (self.new ≡ fin.insert self.old name place) }
+    /// Adds a name that isn't there. Where memory is refused nothing changes.
+    pub fn put(&mut self, alloc: Global, name: &Name, place: u8) -> Result<(), AllocError>
+        requires absent { fin.get self.old name.now ≡ None }
+        ensures ok { OnOk result (self.new ≡ fin.insert self.old name.now place) }
         ensures err { OnErr result (self.new ≡ self.old) }
-        ensures handed_back { IfErr result (λ back. back ≡ name) }
     {
-        match self.places.insert(name.into_text(), place) {
+        let text = String::from_str(alloc, name.text())?;
+        match self.places.insert(text, place) {
             Ok(_) => Ok(()),
-            Err(failed) => {
-                let (text, _) = failed.value;
-                Err(Name::of_text(text))
-            }
+            Err(_) => Err(AllocError),
         }
     }
 

@@ -3,12 +3,14 @@
 
 mod bucket;
 mod buckets;
+mod few_words;
 mod limits;
 mod messages;
 mod queue;
 mod semaphore;
 mod words;
 
+pub use few_words::{FEW_WORDS, FewWords};
 pub use limits::{
     MQ_MAXMSG_DEFAULT, MQ_MAXMSG_MAX, MQ_MSGSIZE_DEFAULT, MQ_MSGSIZE_MAX, MQ_PRIO_MAX,
     SEM_VALUE_MAX, limits_are_defined,

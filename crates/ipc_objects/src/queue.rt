@@ -1,6 +1,6 @@
 //! Message queues.
 ghost use Rattle.std.specs.Prelude.{◌≡◌, ◌<◌, ◌≤◌, [], ◌∷◌, length, drop, slice_get, IfOk, IfErr, OnOk, OnErr};
-ghost use Rattle.std.specs.Option.{option_map};
+ghost use Rattle.std.specs.Option.{option_copied, option_map};
 ghost use Rattle.ipc_objects.specs.Limits.{mq_prio_max, mq_maxmsg_max, mq_msgsize_max};
 
 mod copies;
@@ -72,36 +72,39 @@ impl Queue {
 
     /// Adds a message behind all of its priority or a greater one and before all of a lesser one.
     /// Where memory is refused the words are handed back and nothing changes.
-    pub fn send(&mut self, priority: u16, words: Vec<u16>) -> Result<(), Vec<u16>>
+    pub fn send(&mut self, priority: u16, words: Words) -> Result<(), Words>
         requires room { length self.old.messages < self.old.max_messages }
         requires priority { priority < mq_prio_max }
-        requires size { length words.items ≤ self.old.message_size }
-        ensures ok { OnOk result (self.new ≡ record self.old { messages = sent (record { priority = priority; words = words.items }) self.old.messages }) }
+        requires size { length words ≤ self.old.message_size }
+        ensures ok { OnOk result (self.new ≡ record self.old { messages = sent (record { priority = priority; words = words }) self.old.messages }) }
         ensures err { OnErr result (self.new ≡ self.old) }
-        ensures handed_back { IfErr result (λ back. back.items ≡ words.items) }
+        ensures handed_back { IfErr result (λ back. back ≡ words) }
     {
-        let message = Message {
-            priority,
-            words: Words::from_vec(words),
-        };
-        match self.messages.push(message) {
+        match self.messages.push(Message { priority, words }) {
             Ok(()) => {
                 self.count += 1;
                 Ok(())
             }
-            Err(back) => Err(back.words.into_vec()),
+            Err(back) => Err(back.words),
         }
     }
 
     /// Takes out the oldest message of the greatest priority. Takes no memory.
-    pub fn receive(&mut self) -> (u16, Vec<u16>)
+    pub fn receive(&mut self) -> (u16, Words)
         requires some { 0 < length self.old.messages }
-        ensures first { self.old.messages ≡ record { priority = result.0; words = result.1.items } ∷ drop 1 self.old.messages }
+        ensures first { self.old.messages ≡ record { priority = result.0; words = result.1 } ∷ drop 1 self.old.messages }
         ensures rest { self.new ≡ record self.old { messages = drop 1 self.old.messages } }
     {
         let message = self.messages.pop_front();
         self.count -= 1;
-        (message.priority, message.words.into_vec())
+        (message.priority, message.words)
+    }
+
+    /// The message that would be received first.
+    pub fn first(&self) -> Option<&Message>
+        ensures message { option_copied result ≡ slice_get self.now.messages 0 }
+    {
+        self.messages.get(0)
     }
 
     /// The priority and words of the message that would be received after `i` others.

@@ -1,58 +1,80 @@
 //! Lists of words.
 ghost use Rattle.std.specs.Prelude.{◌≡◌, length, IfOk};
+ghost use Rattle.std.specs.Arc.{arc_slice_items};
+ghost use Rattle.ipc_objects.specs.Words.{kept};
 
-use std::alloc::{AllocError, Global};
+use crate::FewWords;
+use std::alloc::AllocError;
 use std::marker::Model;
+use std::sync::ArcSlice;
 
-/// A list of words: a vector of which contracts see the items alone.
+/// Where words are kept.
+#[derive(Drop)]
+enum Store {
+    Few(FewWords),
+    Shared(ArcSlice<u16>),
+}
+
+/// A list of words that doesn't change. Copies of a long one share its words.
 #[derive(Drop)]
 pub struct Words {
-    items: Vec<u16>,
+    store: Store,
 }
 
 impl Model for Words {
     ghost use Rattle.std.specs.Prelude.{List, ℕ};
+    ghost use Rattle.ipc_objects.specs.Words.{kept};
 
     ghost Value = { List ℕ };
 
-    ghost view = { λ a. a.items.items };
+    ghost view = { λ a. kept a.store };
 }
 
 impl Words {
-    /// These words.
-    pub fn from_vec(items: Vec<u16>) -> Words
-        ensures words { result ≡ items.items }
+    /// These words, in memory that copies share.
+    pub fn from_vec(items: Vec<u16>) -> Result<Words, AllocError>
+        ensures words { IfOk result (λ words. words ≡ items.items) }
     {
-        Words { items }
+        let items = ArcSlice::from_vec(items)?;
+        Ok(Words {
+            store: Store::Shared(items),
+        })
     }
 
-    /// The words as a vector.
-    pub fn into_vec(self) -> Vec<u16>
-        ensures words { result.items ≡ self }
+    /// These words, which take no memory of their own.
+    pub fn from_few(few: FewWords) -> Words
+        ensures words { result ≡ few }
     {
-        let Words { items } = self;
-        items
+        Words {
+            store: Store::Few(few),
+        }
     }
 
     /// The words as a slice.
     pub fn as_slice(&self) -> &[u16]
         ensures words { result.now ≡ self.now }
     {
-        self.items.as_slice()
+        match &self.store {
+            Store::Few(few) => few.as_slice(),
+            Store::Shared(items) => items.as_slice(),
+        }
     }
 
     /// The number of words.
     pub fn len(&self) -> usize
         ensures length { result ≡ length self.now }
     {
-        self.items.len()
+        self.as_slice().len()
     }
 
-    /// Equal words.
-    pub fn copy(&self, alloc: Global) -> Result<Words, AllocError>
+    /// Equal words. Takes no memory: an error is that the words are shared 2^63 times.
+    pub fn copy(&self) -> Result<Words, AllocError>
         ensures equal { IfOk result (λ copy. copy ≡ self.now) }
     {
-        let items = Vec::from_slice(alloc, self.items.as_slice())?;
-        Ok(Words { items })
+        let store = match &self.store {
+            Store::Few(few) => Store::Few(few.copy()),
+            Store::Shared(items) => Store::Shared(items.clone()?),
+        };
+        Ok(Words { store })
     }
 }

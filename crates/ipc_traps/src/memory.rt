@@ -4,6 +4,7 @@ ghost use Rattle.std.specs.Prelude.{◌≡◌, ℕ, ◌+◌, ◌<◌, ◌≤◌,
 ghost use Rattle.lc3_machine.specs.Process.{reg};
 ghost use Rattle.ipc_traps.specs.Names.{is_in_memory, words_at, name_length, reaches_devices};
 
+use ipc_objects::{FEW_WORDS, FewWords};
 use lc3_machine::AtCall;
 use lc3_word::{FIRST_DEVICE, Reg};
 use std::alloc::{AllocError, Global};
@@ -39,6 +40,19 @@ pub(crate) fn read_words(
         words.push(call.word(at + k))?;
     }
     Ok(words)
+}
+
+/// The words of a short range.
+pub(crate) fn read_few(call: &AtCall, at: u16, len: u16) -> FewWords
+    requires range { is_in_memory at len ≡ true }
+    requires few { len ≤ FEW_WORDS }
+    ensures { result ≡ words_at call.now.process.memory at len }
+{
+    let mut words = FewWords::new();
+    for k in 0..len {
+        words.push(call.word(at + k));
+    }
+    words
 }
 
 /// The four words at an address.

@@ -4,14 +4,14 @@ ghost use Rattle.std.specs.Prelude.{◌≡◌, IfOk, ◌<◌, true, ℕ, Result,
 ghost use Rattle.lc3_machine.specs.Process.{reg};
 ghost use Rattle.lc3_machine.specs.Steps.{AsksTrap};
 ghost use Rattle.ipc_kernel.specs.declared.call.Call.TheVariants.{MqUnlink, SemOpen, SemUnlink};
-ghost use Rattle.ipc_traps.specs.Names.{is_in_memory};
+ghost use Rattle.ipc_traps.specs.Names.{is_in_memory, words_at};
 ghost use Rattle.ipc_traps.specs.Asked.{IsAsked, request_of, asked, trap_asks, name_at, by_name, has_attributes, attributes, queue_opened, message_sent, message_received, attributes_read, attributes_set, value_read};
 
 use crate::Asked;
-use crate::memory::{is_in_memory, name_length, read_four, read_words, register};
+use crate::memory::{is_in_memory, name_length, read_few, read_four, read_words, register};
 use ipc_kernel::Call;
 use ipc_names::{Errno, Name, O_CREAT};
-use ipc_objects::Words;
+use ipc_objects::{FEW_WORDS, Words};
 use lc3_machine::{AtCall, Want};
 use std::alloc::{AllocError, Global};
 
@@ -138,6 +138,17 @@ fn read_sem_unlink(alloc: Global, call: &AtCall) -> Result<Asked, AllocError>
     }
 }
 
+/// The words of a message.
+fn read_message(alloc: Global, call: &AtCall, at: u16, len: u16) -> Result<Words, AllocError>
+    requires { is_in_memory at len ≡ true }
+    ensures { IfOk result (λ words. words ≡ words_at call.now.process.memory at len) }
+{
+    if len as usize <= FEW_WORDS {
+        return Ok(Words::from_few(read_few(call, at, len)));
+    }
+    Words::from_vec(read_words(alloc, call, at, len)?)
+}
+
 /// mq_send
 fn read_send(alloc: Global, call: &AtCall) -> Result<Asked, AllocError>
     ensures { IfOk result (λ a. request_of a ≡ message_sent call.now.process) }
@@ -147,10 +158,10 @@ fn read_send(alloc: Global, call: &AtCall) -> Result<Asked, AllocError>
     if !is_in_memory(at, len) {
         return Ok(Asked::Refused(Errno::Fault));
     }
-    let words = read_words(alloc, call, at, len)?;
+    let words = read_message(alloc, call, at, len)?;
     Ok(Asked::Kernel(Call::MqSend {
         mqd: register(call, 0),
-        words: Words::from_vec(words),
+        words,
         prio: register(call, 3),
     }))
 }

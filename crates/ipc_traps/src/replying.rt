@@ -33,25 +33,25 @@ fn four_words_go(call: &AtCall) -> Option<u16>
 /// What a reply does to the process that made the call: `finish` with this effect is the reply.
 #[tactic(auto, unfolding(crate::specs::Reply::replied, crate::specs::Reply::HasRoom))]
 #[inline(always)]
-pub fn effect_of(call: &AtCall, reply: Reply) -> Effect
-    ensures effect { answered call.now.process result ≡ replied call.now.process reply }
-    ensures room { HasRoom call.now reply → CanTake call.now.ready result }
+pub fn effect_of<'a>(call: &AtCall, reply: &'a Reply) -> Effect<'a>
+    ensures effect { answered call.now.process result ≡ replied call.now.process reply.now }
+    ensures room { HasRoom call.now reply.now → CanTake call.now.ready result }
 {
     match reply {
-        Reply::Plain(word) => Effect::Plain(word),
+        Reply::Plain(word) => Effect::Plain(*word),
         Reply::Message { words, prio } => Effect::Message {
             at: register(call, 1),
-            words: words.into_vec(),
+            words: words.as_slice(),
             prio_at: unless_zero(register(call, 3)),
-            prio,
+            prio: *prio,
         },
         Reply::Attr(words) => Effect::Four {
             at: four_words_go(call),
-            words,
+            words: *words,
         },
         Reply::Value(word) => Effect::One {
             at: register(call, 1),
-            word,
+            word: *word,
         },
     }
 }

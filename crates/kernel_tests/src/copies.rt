@@ -1,9 +1,8 @@
 //! Copies of kernels, calls and answers, and pairs of kernels that differ in one part alone.
 use crate::support::{
-    copy_of, is_message, kernel_of, mq_open, mq_send, receives, sem_open, succeeds, vector,
+    copy_of, is_message, kernel_of, mq_open, mq_send, receives, sem_open, succeeds, words_of,
 };
 use ipc_kernel::{Answer, Call, Kernel, Reply};
-use ipc_objects::Words;
 use std::alloc::Global;
 use std::process::Abort;
 
@@ -106,11 +105,8 @@ fn numbers_of_processes_differ(rt: HostRuntime) {
     differ(&rt, &one, &other);
 }
 
-fn is_copied(rt: &impl Abort, alloc: Global, call: Call) {
-    let copy = match call.copy(alloc) {
-        Ok(copy) => copy,
-        Err(_) => call.copy(alloc).expect(rt, "memory"),
-    };
+fn is_copied(rt: &impl Abort, call: Call) {
+    let copy = call.copy().expect(rt, "it takes no memory");
     assert!(rt; copy.is_same(&call), "the same call");
     assert!(rt; !copy.is_same(&Call::SemClose { slot: 7 }), "another call");
 }
@@ -118,13 +114,10 @@ fn is_copied(rt: &impl Abort, alloc: Global, call: Call) {
 #[test]
 fn copies_of_calls_and_answers(rt: HostRuntime) {
     let alloc = rt.alloc();
-    is_copied(&rt, alloc, mq_open(&rt, alloc, 0x42));
-    is_copied(&rt, alloc, mq_send(&rt, alloc, &[5, 6], 3));
-    let words = Words::from_vec(vector(&rt, alloc, &[5, 6]));
+    is_copied(&rt, mq_open(&rt, alloc, 0x42));
+    is_copied(&rt, mq_send(&rt, alloc, &[5, 6], 3));
+    let words = words_of(&rt, alloc, &[5, 6]);
     let message = Answer::Done(Reply::Message { words, prio: 3 });
-    let copy = match message.copy(alloc) {
-        Ok(copy) => copy,
-        Err(_) => message.copy(alloc).expect(&rt, "memory"),
-    };
+    let copy = message.copy().expect(&rt, "it takes no memory");
     assert!(rt; is_message(&copy, &[5, 6], 3), "the same message");
 }

@@ -1,6 +1,6 @@
 //! Copies of queues, and pairs of queues that differ in one part alone.
-use crate::support::vector;
-use ipc_objects::{MQ_PRIO_MAX, Queue};
+use crate::support::words_of;
+use ipc_objects::{MQ_PRIO_MAX, Queue, Words};
 use std::alloc::Global;
 use std::process::Abort;
 
@@ -11,13 +11,13 @@ fn queue_of(rt: &impl Abort, alloc: Global, messages: &[(u16, u16)]) -> Queue {
         Err(_) => Queue::new(alloc, 4, 2).expect(rt, "memory"),
     };
     for (priority, word) in messages {
-        send(rt, &mut queue, *priority, vector(rt, alloc, &[*word]));
+        send(rt, &mut queue, *priority, words_of(rt, alloc, &[*word]));
     }
     queue
 }
 
 /// Sends to a queue that has room. Where memory is refused the words come back, and are sent once more.
-fn send(rt: &impl Abort, queue: &mut Queue, priority: u16, words: Vec<u16>) {
+fn send(rt: &impl Abort, queue: &mut Queue, priority: u16, words: Words) {
     let (max, size, count) = queue.attr();
     assert!(rt;
         count < max && priority < MQ_PRIO_MAX && words.len() <= size as usize,

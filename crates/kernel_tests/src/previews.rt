@@ -1,15 +1,11 @@
 //! The answers that calls would be given.
 use crate::support::{is_message, kernel_of, mq_open, mq_send, succeeds};
 use ipc_kernel::{Answer, Call, Kernel};
-use std::alloc::Global;
 use std::process::Abort;
 
-fn preview(rt: &impl Abort, alloc: Global, kernel: &Kernel, call: &Call) -> Answer {
+fn preview(rt: &impl Abort, kernel: &Kernel, call: &Call) -> Answer {
     assert!(rt; 0 < kernel.count(), "a process");
-    match kernel.answer(alloc, 0, call) {
-        Ok(answer) => answer,
-        Err(_) => kernel.answer(alloc, 0, call).expect(rt, "memory"),
-    }
+    kernel.answer(0, call).expect(rt, "it takes no memory")
 }
 
 /// A receive would wait, and then would be given the message, which stays.
@@ -20,12 +16,12 @@ fn previews_of_a_receive(rt: HostRuntime) {
     let mut kernel = kernel_of(&rt, alloc, 1);
     succeeds(&rt, alloc, &mut kernel, 0, mq_open(&rt, alloc, 0x42));
     assert!(rt;
-        matches!(preview(&rt, alloc, &kernel, &receive), Answer::Wait),
+        matches!(preview(&rt, &kernel, &receive), Answer::Wait),
         "a wait"
     );
     succeeds(&rt, alloc, &mut kernel, 0, mq_send(&rt, alloc, &[7], 3));
-    let first = preview(&rt, alloc, &kernel, &receive);
-    let second = preview(&rt, alloc, &kernel, &receive);
+    let first = preview(&rt, &kernel, &receive);
+    let second = preview(&rt, &kernel, &receive);
     assert!(rt;
         is_message(&first, &[7], 3) && is_message(&second, &[7], 3),
         "the message"

@@ -30,10 +30,18 @@ pub(crate) fn name(rt: &impl Abort, alloc: Global, text: &[u16]) -> Name {
     read.expect(rt, "a name")
 }
 
-pub(crate) fn vector(rt: &impl Abort, alloc: Global, items: &[u16]) -> Vec<u16> {
+fn vector(rt: &impl Abort, alloc: Global, items: &[u16]) -> Vec<u16> {
     match Vec::from_slice(alloc, items) {
         Ok(items) => items,
         Err(_) => Vec::from_slice(alloc, items).expect(rt, "memory"),
+    }
+}
+
+/// These words, which calls share.
+pub(crate) fn words_of(rt: &impl Abort, alloc: Global, items: &[u16]) -> Words {
+    match Words::from_vec(vector(rt, alloc, items)) {
+        Ok(words) => words,
+        Err(_) => Words::from_vec(vector(rt, alloc, items)).expect(rt, "memory"),
     }
 }
 
@@ -50,7 +58,7 @@ pub(crate) fn mq_open(rt: &impl Abort, alloc: Global, flags: u16) -> Call {
 pub(crate) fn mq_send(rt: &impl Abort, alloc: Global, items: &[u16], prio: u16) -> Call {
     Call::MqSend {
         mqd: 0,
-        words: Words::from_vec(vector(rt, alloc, items)),
+        words: words_of(rt, alloc, items),
         prio,
     }
 }

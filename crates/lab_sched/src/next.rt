@@ -67,7 +67,7 @@ fn next_call(alloc: Global, process: &mut Process, progress: Progress) -> Next
             Progress::Stopped(Want::End(_)) => Next::Asks(Call::Exit),
             Progress::Short | Progress::Moved => Next::Short,
         },
-        Process::Waiting(_, call) => match call.copy(alloc) {
+        Process::Waiting(_, call) => match call.copy() {
             Ok(copy) => Next::Asks(copy),
             Err(_) => Next::Short,
         },

@@ -37,7 +37,7 @@ impl Process {
             Process::Running(running) => Process::Running(running.copy(alloc)?),
             Process::Waiting(waiting, call) => {
                 let waiting = waiting.copy(alloc)?;
-                let call = call.copy(alloc)?;
+                let call = call.copy()?;
                 Process::Waiting(waiting, call)
             }
             Process::Ended(ended) => Process::Ended(ended.copy(alloc)?),

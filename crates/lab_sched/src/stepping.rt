@@ -76,7 +76,8 @@ fn ask(alloc: Global, call: AtCall) -> (Process, Asking)
     match read_call(alloc, &call) {
         Ok(Asked::Kernel(request)) => wait(call, request),
         Ok(Asked::Refused(e)) => {
-            let effect = effect_of(&call, Reply::Plain(e.reply()));
+            let reply = Reply::Plain(e.reply());
+            let effect = effect_of(&call, &reply);
             (Process::Running(call.finish(effect)), Asking::Refused)
         }
         Err(_) => (Process::Running(call.back()), Asking::Short),
@@ -108,19 +109,20 @@ pub fn begin_call(alloc: Global, process: &mut Process, vector: u8) -> Asking
     replace_with(process, TrapAt { alloc, vector }, ask_by)
 }
 
-/// The process that the reply to its call makes of one that waits, and the call.
+/// The process that the reply to its call makes of one that waits; with the call and the reply.
 #[inline(always)]
-fn replied_with_call(process: Process, reply: Reply) -> (Process, Call)
+fn replied_with_call(process: Process, reply: Reply) -> (Process, (Call, Reply))
     requires held { IsHeld process }
     requires reply { CanTakeReply process reply }
     ensures told { seen result.0 ≡ after_reply (seen process) reply }
-    ensures call { AsksFor (seen process) result.1 }
+    ensures call { AsksFor (seen process) result.1.0 }
+    ensures reply { result.1.1 ≡ reply }
     ensures held { IsHeld result.0 }
 {
     match process {
         Process::Waiting(waiting, call) => {
-            let effect = effect_of(waiting.at_call(), reply);
-            (Process::Running(waiting.finish(effect)), call)
+            let effect = effect_of(waiting.at_call(), &reply);
+            (Process::Running(waiting.finish(effect)), (call, reply))
         }
         Process::Running(_) | Process::Ended(_) => unreachable!(),
     }
@@ -138,12 +140,14 @@ fn replied(process: Process, reply: Reply) -> (Process, ())
     (process, ())
 }
 
-/// Gives a process that waits the reply to its call; with the call.
-pub fn take_reply(process: &mut Process, reply: Reply) -> Call
+/// Gives a process that waits the reply to its call, of which it keeps nothing; with the call and
+/// the reply.
+pub fn take_reply(process: &mut Process, reply: Reply) -> (Call, Reply)
     requires held { IsHeld process.old }
     requires reply { CanTakeReply process.old reply }
     ensures told { seen process.new ≡ after_reply (seen process.old) reply }
-    ensures call { AsksFor (seen process.old) result }
+    ensures call { AsksFor (seen process.old) result.0 }
+    ensures reply { result.1 ≡ reply }
     ensures held { IsHeld process.new }
 {
     replace_with(process, reply, replied_with_call)

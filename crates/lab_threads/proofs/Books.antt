@@ -1,19 +1,36 @@
 -- A book after a call.
-use Rattle.std.proofs.Common.{ℕ, zero, suc, ◌≡◌, ◌==◌, ◌<◌, ◌++◌, List, [], ◌∷◌, Option, Some, None, true, false, Bool, cond, refl, sym, ap, subst, ◌∙◌, arith, length, slice_get, set}
+use Rattle.std.proofs.Common.{ℕ, zero, suc, ◌≡◌, ◌==◌, ◌<◌, ◌++◌, List, [], ◌∷◌, Option, Some, None, true, false, Bool, cond, refl, sym, ap, subst, ◌∙◌, arith, is_some, length, slice_get, set}
 use Rattle.std.proofs.lemmas.List.{length-set, length-replicate}
 use Rattle.ipc_kernel.specs.Kernel.{KernelState, empty_kernel}
 use Rattle.ipc_kernel.specs.Processes.{closed_process}
 use Rattle.ipc_kernel.specs.Answer.{answer}
+use Rattle.ipc_kernel.specs.Outcomes.{Outcome}
 use Rattle.ipc_kernel.specs.declared.call.Call.{Call}
 use Rattle.ipc_kernel.specs.declared.call.Answer.{Answer}
-use Rattle.ipc_kernel.specs.declared.call.Answer.TheVariants.{Wait}
+use Rattle.ipc_kernel.specs.declared.call.Reply.{Reply}
+use Rattle.ipc_kernel.specs.declared.call.Answer.TheVariants.{Done, Wait}
 use Rattle.ipc_kernel.proofs.LawfulAnswers.{answer_count, answer_wait}
 use Rattle.lab_sched.specs.declared.entry.Entry.{Entry}
 use Rattle.lab_sched.specs.History.{IsLegal, replay, still, waits}
 use Rattle.lab_sched.proofs.Histories.{replay-append, legal-append, waits-append}
 use Rattle.lab_sched.proofs.Places.{get-set}
 use Rattle.lab_threads.specs.BookInvariant.{BookInvariant}
-use Rattle.lab_threads.specs.BookState.{BookState}
+use Rattle.lab_threads.specs.BookState.{BookState, added}
+
+-- what a first call adds
+pub added_first : (o : Option Call) (p : ℕ) (c : Call) (a : Answer) → is_some o ≡ false → added o p c a ≡ record { pid = p; call = c; answer = a } ∷ []
+added_first None p c a none = refl
+added_first (Some d) p c a none = let never : ⊥ = cc in absurd never
+
+-- what an answered call adds
+pub added_done : (o : Option Call) (p : ℕ) (c : Call) (r : Reply) → added o p c (Done r) ≡ record { pid = p; call = c; answer = Done r } ∷ []
+added_done None p c r = refl
+added_done (Some d) p c r = refl
+
+-- the try of a process that must still wait adds nothing
+pub added_still : (o : Option Call) (p : ℕ) (c : Call) → is_some o ≡ true → added o p c Wait ≡ []
+added_still None p c some = let never : ⊥ = cc in absurd never
+added_still (Some d) p c some = refl
 
 pick : (b : Bool) (x : Option Call) (y : Option (Option Call)) (z : Option Call) → y ≡ Some z → cond b (Some x) y ≡ Some (cond b x z)
 pick true x y z e = refl
@@ -66,6 +83,13 @@ none_more (w ∷ ws) none (suc p) below = none_more ws (λ q h. none (suc q) (om
 pub none_after : (ws ws' : List (Option Call)) → ws' ≡ ws ++ None ∷ [] → ((p : ℕ) → p < length ws → slice_get ws p ≡ Some None)
     → (p : ℕ) → p < length ws' → slice_get ws' p ≡ Some None
 none_after ws ws' is none = rw is (none_more ws none)
+
+-- a book in which a process must still wait
+pub book_still : {k k' : KernelState} {h h' : List Entry} {ws : List (Option Call)} (p : ℕ) (c : Call) (a : Answer)
+    → BookInvariant k h ws → a ≡ Wait → (a, k') ≡ answer k p c → h' ≡ h → BookInvariant k' h' ws
+book_still {k} {k'} {h} {h'} {ws} p c a book waits is h-is =
+    let same : k' ≡ k = ap (λ (o : Outcome). o.1) is ∙ answer_wait k p c (sym (ap (λ (o : Outcome). o.0) is) ∙ waits) in
+    rw (same, h-is) book
 
 -- the kernel of a book in which a process must still wait
 pub kernel_still : (k : KernelState) (h : List Entry) (ws : List (Option Call)) (p : ℕ) (c : Call) (a : Answer) (b : BookState) → BookInvariant k h ws

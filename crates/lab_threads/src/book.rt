@@ -1,5 +1,5 @@
 //! Books: the kernel that processes share, with the history of their calls.
-ghost use Rattle.std.specs.Prelude.{◌≡◌, ◌<◌, ◌≤◌, ◌++◌, ◌∷◌, ◌↔◌, [], length, Some, None, IfOk, OnOk, OnErr, IsTrue, true, false};
+ghost use Rattle.std.specs.Prelude.{◌≡◌, ℕ, ◌<◌, ◌≤◌, ◌++◌, ◌∷◌, ◌↔◌, [], length, Option, Some, None, is_some, IfOk, OnOk, OnErr, IsTrue, true, false};
 ghost use Rattle.std.specs.Option.{option_copied};
 ghost use Rattle.ipc_kernel.specs.Limits.{process_max};
 ghost use Rattle.ipc_kernel.specs.Kernel.{empty_kernel};
@@ -36,24 +36,28 @@ impl Model for Book {
     ghost invariant = { λ b. BookInvariant b.kernel b.history.items b.waiting.items };
 }
 
-/// The entry of a call with its answer.
-fn entry_of(alloc: Global, pid: usize, call: &Call, answer: Answer) -> Result<Entry, AllocError>
-    ensures { IfOk result (λ e. e ≡ record { pid = pid; call = call.now; answer = answer }) }
-{
-    Ok(Entry {
-        pid,
-        call: call.copy(alloc)?,
-        answer,
-    })
-}
-
 /// The call that waits after this answer.
-fn pending_call(alloc: Global, call: &Call, answer: &Answer) -> Result<Option<Call>, AllocError>
-    ensures { IfOk result (λ o. o ≡ still call.now answer.now) }
+fn pending_call(call: Call, answer: &Answer) -> Option<Call>
+    ensures { result ≡ still call answer.now }
 {
     match answer {
-        Answer::Wait => Ok(Some(call.copy(alloc)?)),
-        Answer::Done(_) => Ok(None),
+        Answer::Wait => Some(call),
+        Answer::Done(_) => None,
+    }
+}
+
+/// Whether this answer to a call of a process has an entry, by whether the process waited for it.
+/// The try of a process that waits and must still wait has none.
+#[tactic(auto, using(crate::proofs::Books::added_first, crate::proofs::Books::added_done, crate::proofs::Books::added_still))]
+fn has_entry(waited: bool, answer: &Answer) -> bool
+    ensures yes { result ≡ true → (o : Option CallValue) (p : ℕ) (c : CallValue) → is_some o ≡ waited →
+        added o p c answer.now ≡ record { pid = p; call = c; answer = answer.now } ∷ [] }
+    ensures no { result ≡ false → (answer.now ≡ Wait) × ((o : Option CallValue) (p : ℕ) (c : CallValue) → is_some o ≡ waited →
+        added o p c Wait ≡ []) }
+{
+    match answer {
+        Answer::Done(_) => true,
+        Answer::Wait => !waited,
     }
 }
 
@@ -108,6 +112,17 @@ impl Book {
         self.waiting[pid].as_ref()
     }
 
+    /// Whether a process waits for a call.
+    fn is_waiting(&self, pid: usize) -> bool
+        requires { pid < self.now.count }
+        ensures { is_some (waits self.now.history pid) ≡ result }
+    {
+        match self.waits(pid) {
+            Some(_) => true,
+            None => false,
+        }
+    }
+
     /// Whether there is such a process, and it may make this call: one that waits may make the call
     /// that it waits for again, and no other.
     pub fn fits(&self, pid: usize, call: &Call) -> bool
@@ -134,23 +149,10 @@ impl Book {
         }
     }
 
-    /// Whether a call of a process with this answer has an entry. The try of a process that waits
-    /// and must still wait has none.
-    fn has_entry(&self, pid: usize, answer: &Answer) -> bool
-        requires { pid < self.now.count }
-        ensures yes { result ≡ true → (c : CallValue) → added (waits self.now.history pid) pid c answer.now ≡ record { pid = pid; call = c; answer = answer.now } ∷ [] }
-        ensures no { result ≡ false → (answer.now ≡ Wait) × ((c : CallValue) → added (waits self.now.history pid) pid c Wait ≡ []) }
-    {
-        match answer {
-            Answer::Done(_) => true,
-            Answer::Wait => self.waits(pid).is_none(),
-        }
-    }
-
     /// Answers a call of a process, and adds its entry to the history. Where the process waits for
-    /// the answer of this call and must still wait, nothing changes. An error is want of memory:
-    /// nothing has changed then.
-    pub fn call(&mut self, alloc: Global, pid: usize, call: &Call) -> Result<Answer, AllocError>
+    /// the answer of this call and must still wait, nothing changes. The entry shares the words of the
+    /// call and of the answer. An error is want of memory: nothing has changed then.
+    pub fn call(&mut self, pid: usize, call: &Call) -> Result<Answer, AllocError>
         requires process { pid < self.old.count }
         requires call { MayCall (waits self.old.history pid) call.now }
         ensures answer { IfOk result (λ a. a ≡ (answer (replay (empty_kernel self.old.count) self.old.history) pid call.now).0) }
@@ -160,15 +162,20 @@ impl Book {
         ensures count { self.new.count ≡ self.old.count }
         ensures err { OnErr result (self.new ≡ self.old) }
     {
-        let preview = self.kernel.answer(alloc, pid, call)?;
-        if !self.has_entry(pid, &preview) {
-            return Ok(Answer::Wait);
-        }
-        let waits = pending_call(alloc, call, &preview)?;
-        let entry = entry_of(alloc, pid, call, preview)?;
+        let waited = self.is_waiting(pid);
+        let pending = call.copy()?;
+        let written = call.copy()?;
         self.history.reserve(1)?;
-        let answer = self.kernel.call(pid, call)?;
-        self.waiting[pid] = waits;
+        let (answer, copy) = self.kernel.call_with_copy(pid, call)?;
+        if !has_entry(waited, &answer) {
+            return Ok(answer);
+        }
+        self.waiting[pid] = pending_call(pending, &answer);
+        let entry = Entry {
+            pid,
+            call: written,
+            answer: copy,
+        };
         self.history.push_reserved(entry);
         Ok(answer)
     }

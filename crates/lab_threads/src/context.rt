@@ -29,6 +29,6 @@ impl<G: Gate> WorkerContext<'_, G> {
     {
         *nth = nth.saturating_add(1);
         self.gate.arrive(self.pid, *nth);
-        self.monitor.call(rt, self.alloc, self.pid, call, may_wait)
+        self.monitor.call(rt, self.pid, call, may_wait)
     }
 }

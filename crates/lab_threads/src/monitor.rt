@@ -29,7 +29,7 @@ pub(crate) struct Monitor {
     start: CommonStart,
 }
 
-/// What comes of a call. A reply comes with a copy, made before the call.
+/// What comes of a call.
 #[derive(Drop)]
 pub(crate) enum CallOutcome {
     /// The call doesn't fit the book.
@@ -39,28 +39,23 @@ pub(crate) enum CallOutcome {
     /// The process waits. `fits` is false where a later try didn't fit the book.
     Blocked { fits: bool },
     /// The first try was answered.
-    Answered { reply: Reply, copy: Reply },
+    Answered(Reply),
     /// The process waited, and then a try was answered.
-    AnsweredAfterWait { reply: Reply, copy: Reply },
+    AnsweredAfterWait(Reply),
 }
 
 impl SharedState {
     /// Tries a call.
-    fn try_call(&mut self, alloc: Global, pid: usize, call: &Call) -> CallOutcome
+    fn try_call(&mut self, pid: usize, call: &Call) -> CallOutcome
         ensures { IsCallOutcome call.now false result }
     {
         if !self.book.fits(pid, call) {
             return CallOutcome::Rejected;
         }
-        let Ok(copy) = self.book.kernel().answer(alloc, pid, call) else {
-            return CallOutcome::NoMemory;
-        };
-        let Ok(answer) = self.book.call(alloc, pid, call) else {
-            return CallOutcome::NoMemory;
-        };
-        match (answer, copy) {
-            (Answer::Done(reply), Answer::Done(copy)) => CallOutcome::Answered { reply, copy },
-            _ => CallOutcome::Blocked { fits: true },
+        match self.book.call(pid, call) {
+            Ok(Answer::Done(reply)) => CallOutcome::Answered(reply),
+            Ok(Answer::Wait) => CallOutcome::Blocked { fits: true },
+            Err(_) => CallOutcome::NoMemory,
         }
     }
 
@@ -137,7 +132,6 @@ impl Monitor {
     pub(crate) fn call<R: Wait>(
         &self,
         rt: &R,
-        alloc: Global,
         pid: usize,
         call: &Call,
         may_wait: bool,
@@ -145,9 +139,9 @@ impl Monitor {
         ensures { IsCallOutcome call.now may_wait result }
     {
         let mut state = self.state.lock(rt);
-        match state.try_call(alloc, pid, call) {
+        match state.try_call(pid, call) {
             CallOutcome::Blocked { .. } if may_wait => {
-                self.wait_for_answer(rt, alloc, state, pid, call)
+                self.wait_for_answer(rt, state, pid, call)
             }
             outcome => {
                 self.wake_ready(&mut *state);
@@ -161,7 +155,6 @@ impl Monitor {
     fn wait_for_answer<'a, R: Wait>(
         &'a self,
         rt: &R,
-        alloc: Global,
         mut state: MutexGuard<'a, SharedState>,
         pid: usize,
         call: &Call,
@@ -174,10 +167,10 @@ impl Monitor {
             if state.is_blocked(pid) {
                 break;
             }
-            match state.try_call(alloc, pid, call) {
-                CallOutcome::Answered { reply, copy } => {
+            match state.try_call(pid, call) {
+                CallOutcome::Answered(reply) => {
                     self.wake_ready(&mut *state);
-                    return CallOutcome::AnsweredAfterWait { reply, copy };
+                    return CallOutcome::AnsweredAfterWait(reply);
                 }
                 CallOutcome::Rejected => return CallOutcome::Blocked { fits: false },
                 CallOutcome::Blocked { .. } => {}

@@ -96,15 +96,14 @@ fn step_end<R: Wait, G: Gate>(
         return Continuation::Stops;
     }
     match context.call(rt, &Call::Exit, false, &mut log.calls) {
-        CallOutcome::Answered { reply: _, copy } => {
+        CallOutcome::Answered(reply) => {
             end_process(process, how);
-            log.add_call(Call::Exit, Answer::Done(copy));
+            log.add_call(Call::Exit, Answer::Done(reply));
             Continuation::GoesOn
         }
         CallOutcome::NoMemory => Continuation::Stops,
-        CallOutcome::Rejected
-        | CallOutcome::Blocked { .. }
-        | CallOutcome::AnsweredAfterWait { .. } => Continuation::Misfits,
+        CallOutcome::Rejected | CallOutcome::Blocked { .. } | CallOutcome::AnsweredAfterWait(_) =>
+            Continuation::Misfits,
     }
 }
 
@@ -183,7 +182,7 @@ fn outcome_of<R: Wait, G: Gate>(
 {
     match process {
         Process::Waiting(_, call) => {
-            let copy = call.copy(context.alloc)?;
+            let copy = call.copy()?;
             Ok((copy, context.call(rt, call, may_wait, calls)))
         }
         Process::Running(_) | Process::Ended(_) => unreachable!(),
@@ -225,15 +224,15 @@ fn write_down(
             log.add_call(call, Answer::Wait);
             after_wait(fits)
         }
-        CallOutcome::Answered { reply, copy } => {
-            let _ = take_reply(process, reply);
-            log.add_call(call, Answer::Done(copy));
+        CallOutcome::Answered(reply) => {
+            let (_, reply) = take_reply(process, reply);
+            log.add_call(call, Answer::Done(reply));
             Continuation::GoesOn
         }
-        CallOutcome::AnsweredAfterWait { reply, copy } => {
+        CallOutcome::AnsweredAfterWait(reply) => {
             log.add_call(call, Answer::Wait);
-            let again = take_reply(process, reply);
-            log.add_call(again, Answer::Done(copy));
+            let (again, reply) = take_reply(process, reply);
+            log.add_call(again, Answer::Done(reply));
             Continuation::GoesOn
         }
     }

@@ -4,7 +4,7 @@ use ipc_kernel::{Answer, Call, Reply};
 use ipc_names::Name;
 use ipc_objects::Words;
 use lab_threads::Book;
-use std::alloc::Global;
+use std::alloc::{AllocError, Global};
 use std::process::Abort;
 
 fn name(rt: &impl Abort, alloc: Global) -> Name {
@@ -23,26 +23,30 @@ fn open(rt: &impl Abort, alloc: Global, flags: u16, attr: Option<[u16; 4]>) -> C
     Call::MqOpen { name, flags, attr }
 }
 
+fn one_word(alloc: Global, word: u16) -> Result<Words, AllocError> {
+    Words::from_vec(Vec::from_slice(alloc, &[word])?)
+}
+
 fn send(rt: &impl Abort, alloc: Global, word: u16) -> Call {
-    let words = match Vec::from_slice(alloc, &[word]) {
+    let words = match one_word(alloc, word) {
         Ok(words) => words,
-        Err(_) => Vec::from_slice(alloc, &[word]).expect(rt, "memory"),
+        Err(_) => one_word(alloc, word).expect(rt, "memory"),
     };
     Call::MqSend {
         mqd: 0,
-        words: Words::from_vec(words),
+        words,
         prio: 0,
     }
 }
 
 /// Makes a call that fits the book.
-fn make(rt: &impl Abort, alloc: Global, book: &mut Book, pid: usize, call: &Call) {
+fn make(rt: &impl Abort, book: &mut Book, pid: usize, call: &Call) {
     assert!(rt; book.fits(pid, call), "a call that fits");
     let entries = book.history().len();
-    if book.call(alloc, pid, call).is_err() {
+    if book.call(pid, call).is_err() {
         assert_eq!(rt; book.history().len(), entries);
         assert!(rt; book.fits(pid, call), "a call that still fits");
-        assert!(rt; book.call(alloc, pid, call).is_ok(), "memory");
+        assert!(rt; book.call(pid, call).is_ok(), "memory");
     }
 }
 
@@ -69,29 +73,23 @@ fn book(rt: &impl Abort, alloc: Global) -> Book {
 
 /// Process 0 opens the queue without waiting, sends 7, and tries to send it again.
 fn fill(rt: &impl Abort, alloc: Global, book: &mut Book) {
-    make(
-        rt,
-        alloc,
-        book,
-        0,
-        &open(rt, alloc, 0x0842, Some([0, 1, 1, 0])),
-    );
+    make(rt, book, 0, &open(rt, alloc, 0x0842, Some([0, 1, 1, 0])));
     let seven = send(rt, alloc, 7);
-    make(rt, alloc, book, 0, &seven);
-    make(rt, alloc, book, 0, &seven);
+    make(rt, book, 0, &seven);
+    make(rt, book, 0, &seven);
 }
 
 /// Process 1 opens the queue and tries twice to send 8, which process 0's receive lets it do. While it waits it may make no
 /// other call.
 fn wait(rt: &impl Abort, alloc: Global, book: &mut Book) {
-    make(rt, alloc, book, 1, &open(rt, alloc, 0x0002, None));
+    make(rt, book, 1, &open(rt, alloc, 0x0002, None));
     let eight = send(rt, alloc, 8);
-    make(rt, alloc, book, 1, &eight);
-    make(rt, alloc, book, 1, &eight);
+    make(rt, book, 1, &eight);
+    make(rt, book, 1, &eight);
     let receive = Call::MqReceive { mqd: 0, len: 1 };
     assert!(rt; !book.fits(1, &receive), "it waits for another call");
-    make(rt, alloc, book, 0, &receive);
-    make(rt, alloc, book, 1, &eight);
+    make(rt, book, 0, &receive);
+    make(rt, book, 1, &eight);
 }
 
 /// The second send is refused (EAGAIN); of the two tries that must wait the first alone has an entry.

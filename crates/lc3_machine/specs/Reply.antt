@@ -11,7 +11,7 @@ use Rattle.lc3_machine.specs.Memory.{IsWritable, written}
 -- what R0 becomes
 abbrev pub result_of : Effect → ℕ
 result_of (Plain r) = r
-result_of (Message at words prio_at prio) = length words.items
+result_of (Message at words prio_at prio) = length words.now
 result_of (Four at words) = 0
 result_of (One at word) = 0
 
@@ -23,7 +23,7 @@ written_if memory (Some at) words = written memory at words
 -- the memory after an effect; the words of a message come before its priority
 abbrev pub memory_after : Effect → List ℕ → List ℕ
 memory_after (Plain r) memory = memory
-memory_after (Message at words prio_at prio) memory = written_if (written memory at words.items) prio_at (prio ∷ [])
+memory_after (Message at words prio_at prio) memory = written_if (written memory at words.now) prio_at (prio ∷ [])
 memory_after (Four at words) memory = written_if memory at words
 memory_after (One at word) memory = written memory at (word ∷ [])
 
@@ -40,7 +40,7 @@ IsWritableIf ready (Some at) len = IsWritable ready at len
 abbrev pub CanTake : List Bool → Effect → Type 0
 CanTake ready (Plain r) = Unit {0}
 CanTake ready (Message at words prio_at prio) =
-    IsWritable ready at (length words.items) × IsWritableIf ready prio_at 1
+    IsWritable ready at (length words.now) × IsWritableIf ready prio_at 1
 CanTake ready (Four at words) = IsWritableIf ready at 4
 CanTake ready (One at word) = IsWritable ready at 1
 

@@ -1,12 +1,12 @@
 /// What the answer of a call writes into the process that made it.
 #[derive(Drop)]
-pub enum Effect {
+pub enum Effect<'a> {
     /// A word for R0.
     Plain(u16),
     /// The words of a message from `at` on, and then its priority where `prio_at` says; their number for R0.
     Message {
         at: u16,
-        words: Vec<u16>,
+        words: &'a [u16],
         prio_at: Option<u16>,
         prio: u16,
     },

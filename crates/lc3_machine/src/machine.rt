@@ -149,9 +149,9 @@ impl Machine {
 
     /// Answers the call that the process stands before.
     #[inline(always)]
-    pub(crate) fn answer(&mut self, effect: Effect)
+    pub(crate) fn answer(&mut self, effect: Effect<'_>)
         requires room { CanTake self.old.ready effect }
-        ensures answered { self.new.process ≡ answered self.old.process effect }
+        ensures answered { self.new.process ≡ answered self.old.process effect.entry }
     {
         let result = match effect {
             Effect::Plain(result) => result,
@@ -162,7 +162,7 @@ impl Machine {
                 prio,
             } => {
                 let count = words.len() as u16;
-                self.memory.put(at, &words);
+                self.memory.put(at, words);
                 if let Some(at) = prio_at {
                     self.memory.put(at, &[prio]);
                 }

@@ -87,7 +87,7 @@ fn answered(
             if words.len() == len as usize && call.ready(at, len) && call.ready(prio_at, 1) => {
             call.finish(Effect::Message {
                 at,
-                words,
+                words: words.as_slice(),
                 prio_at: Some(prio_at),
                 prio,
             })

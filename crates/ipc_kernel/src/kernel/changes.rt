@@ -12,8 +12,7 @@ use super::{Kernel, refusal};
 use crate::places::Places;
 use crate::processes::Processes;
 use crate::{Answer, Reply, Slot};
-use ipc_objects::Words;
-use std::alloc::{AllocError, Global};
+use std::alloc::AllocError;
 
 /// Makes a change by a process in the places and the tables. Where memory is refused nothing has changed.
 #[inline(always)]
@@ -123,18 +122,41 @@ impl Kernel {
         ensures count { length self.new.processes ≡ length self.old.processes }
     {
         let (prio, words) = self.places.receive(place);
-        Reply::Message {
-            words: Words::from_vec(words),
-            prio,
+        Reply::Message { words, prio }
+    }
+
+    /// Carries out a decision; with its answer, and an equal one whose words are shared. Where
+    /// memory is refused nothing has changed.
+    pub(super) fn carry_out_with_copy(
+        &mut self,
+        pid: usize,
+        decision: Decision<'_>,
+    ) -> Result<(Answer, Answer), AllocError>
+        requires process { pid < length self.old.processes }
+        requires possible { IsPossible self.old decision }
+        ensures outcome { IfOk result (λ r. (r.0, self.new) ≡ outcome_of self.old pid decision.entry) }
+        ensures copy { IfOk result (λ r. r.1 ≡ r.0) }
+        ensures err { OnErr result (self.new ≡ self.old) }
+        ensures count { length self.new.processes ≡ length self.old.processes }
+    {
+        match decision {
+            Decision::Refused(errno) => Ok((refusal(errno), refusal(errno))),
+            Decision::Waits => Ok((Answer::Wait, Answer::Wait)),
+            Decision::Receives(place) => {
+                let copy = self.first_message(place)?;
+                let reply = self.receive(place);
+                Ok((Answer::Done(reply), Answer::Done(copy)))
+            }
+            Decision::Answered(reply, change) => {
+                let copy = reply.copy()?;
+                self.change(pid, change)?;
+                Ok((Answer::Done(reply), Answer::Done(copy)))
+            }
         }
     }
 
-    /// What a decision answers. Only the copy of a message takes memory.
-    pub(super) fn preview(
-        &self,
-        alloc: Global,
-        decision: Decision<'_>,
-    ) -> Result<Answer, AllocError>
+    /// What a decision answers. Takes no memory: the words of a message are shared.
+    pub(super) fn preview(&self, decision: Decision<'_>) -> Result<Answer, AllocError>
         requires { IsPossible self.now decision }
         ensures outcome { (p : ℕ) → IfOk result (λ a. a ≡ (outcome_of self.now p decision.entry).0) }
         ensures memory { IsErr result → IsTrue (decision_receives decision.entry) }
@@ -142,23 +164,24 @@ impl Kernel {
         match decision {
             Decision::Refused(errno) => Ok(refusal(errno)),
             Decision::Waits => Ok(Answer::Wait),
-            Decision::Receives(place) => Ok(Answer::Done(self.first_message(alloc, place)?)),
+            Decision::Receives(place) => Ok(Answer::Done(self.first_message(place)?)),
             Decision::Answered(reply, _) => Ok(Answer::Done(reply)),
         }
     }
 
-    /// A copy of the first message of the queue in a place.
-    fn first_message(&self, alloc: Global, place: u8) -> Result<Reply, AllocError>
+    /// The first message of the queue in a place, with shared words.
+    fn first_message(&self, place: u8) -> Result<Reply, AllocError>
         requires { IsSomeAnd (queue_in (place_at self.now.places place)) HasMessage }
         ensures { IfOk result (λ r. r ≡ reply_with_first (queue_at self.now place).messages) }
     {
         let Some(queue) = self.places.queue(place) else {
             unreachable!();
         };
-        let Some((prio, words)) = queue.entry(0) else {
+        let Some(message) = queue.first() else {
             unreachable!();
         };
-        let words = Words::from_vec(Vec::from_slice(alloc, words)?);
+        let words = message.words.copy()?;
+        let prio = message.priority;
         Ok(Reply::Message { words, prio })
     }
 }

@@ -7,11 +7,11 @@ use ipc_objects::Semaphore;
 use std::alloc::{AllocError, Global};
 use std::hash::{FoldHasher, Hasher};
 
-fn copy_of_name(alloc: Global, name: &Option<Name>) -> Result<Option<Name>, AllocError>
+fn copy_of_name(name: &Option<Name>) -> Result<Option<Name>, AllocError>
     ensures { IfOk result (λ copy. copy ≡ name.now) }
 {
     match name {
-        Some(name) => Ok(Some(name.copy(alloc)?)),
+        Some(name) => Ok(Some(name.copy()?)),
         None => Ok(None),
     }
 }
@@ -36,19 +36,19 @@ fn feed_name(name: &Option<Name>, hasher: &mut FoldHasher) {
 }
 
 impl Place {
-    /// An equal place.
+    /// An equal place. Its name, and the words of its messages, are shared.
     pub(crate) fn copy(&self, alloc: Global) -> Result<Place, AllocError>
         ensures equal { IfOk result (λ copy. copy ≡ self.now) }
     {
         Ok(match self {
             Place::Empty => Place::Empty,
             Place::Mq { name, queue } => {
-                let name = copy_of_name(alloc, name)?;
+                let name = copy_of_name(name)?;
                 let queue = queue.copy(alloc)?;
                 Place::Mq { name, queue }
             }
             Place::Sem { name, semaphore } => {
-                let name = copy_of_name(alloc, name)?;
+                let name = copy_of_name(name)?;
                 let semaphore = Semaphore::new(semaphore.value());
                 Place::Sem { name, semaphore }
             }

@@ -6,11 +6,11 @@ use std::alloc::{AllocError, Global};
 use std::hash::{FoldHasher, Hasher};
 
 impl Message {
-    /// An equal message.
-    pub(crate) fn copy(&self, alloc: Global) -> Result<Message, AllocError>
+    /// An equal message, whose words are shared.
+    pub(crate) fn copy(&self) -> Result<Message, AllocError>
         ensures equal { IfOk result (λ copy. copy ≡ self.now) }
     {
-        let words = self.words.copy(alloc)?;
+        let words = self.words.copy()?;
         Ok(Message {
             priority: self.priority,
             words,
@@ -28,7 +28,7 @@ impl Message {
 }
 
 impl Queue {
-    /// An equal queue.
+    /// An equal queue. The words of its messages are shared.
     pub fn copy(&self, alloc: Global) -> Result<Queue, AllocError>
         ensures equal { IfOk result (λ copy. copy ≡ self.now) }
     {

@@ -43,8 +43,7 @@ impl World {
         ensures taken { IsTaken self.old entries.old.items (replicate result pid) self.new entries.new.items }
         ensures within { result ≤ 1 }
     {
-        let alloc = *self.processes.allocator();
-        let Ok(answer) = self.kernel.answer(alloc, pid, &call) else {
+        let Ok(answer) = self.kernel.answer(pid, &call) else {
             return 0;
         };
         let Ok(()) = entries.reserve(1) else {

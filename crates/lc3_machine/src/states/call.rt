@@ -53,10 +53,10 @@ impl AtCall {
 
     /// Answers the trap: the process goes on behind it, with what the effect writes. It takes no memory.
     #[inline(always)]
-    pub fn finish(self, effect: Effect) -> Running
+    pub fn finish(self, effect: Effect<'_>) -> Running
         requires trap { AsksTrap self.process }
         requires room { CanTake self.ready effect }
-        ensures answered { result ≡ answered self.process effect }
+        ensures answered { result ≡ answered self.process effect.entry }
     {
         let AtCall {
             mut machine,

@@ -30,9 +30,9 @@ impl Waiting {
 
     /// Answers the trap: the process goes on behind it, with what the effect writes. It takes no memory.
     #[inline(always)]
-    pub fn finish(self, effect: Effect) -> Running
+    pub fn finish(self, effect: Effect<'_>) -> Running
         requires room { CanTake self.ready effect }
-        ensures answered { result ≡ answered self.process effect }
+        ensures answered { result ≡ answered self.process effect.entry }
     {
         let Waiting { call } = self;
         call.finish(effect)

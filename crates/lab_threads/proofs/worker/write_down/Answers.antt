@@ -1,4 +1,3 @@
-use Rattle.std.proofs.Common.{rules}
 use Rattle.lab_sched.specs.Held.{seen}
 use Rattle.lab_sched.specs.Stepping.{before_wait}
 use Rattle.lab_threads.proofs.Steps.{told_wait, told_first, told_later}
@@ -12,9 +11,9 @@ returns-in-Blocked-clause-alone c s before =
 pub returns-in-Answered-clause-alone : goal.returns-in-Answered-clause-alone
 returns-in-Answered-clause-alone c s before =
     let p = c.args.process.now in
-    let u = seen c.take_reply.new.process in
+    let u = seen c.take_reply-reply.new.process in
     c.add_call-in-Answered.ensures.alone (before_wait (seen p)) u
-    (told_first p u c.args.call c.in-Answered.reply c.in-Answered.copy c.requires.held c.requires.waits c.requires.call c.take_reply.ensures.told (search rules)) s before
+    (told_first p u c.args.call c.in-Answered.reply c.take_reply-reply.result.1 c.requires.held c.requires.waits c.requires.call c.take_reply-reply.ensures.told c.take_reply-reply.ensures.reply) s before
 
 pub returns-in-AnsweredAfterWait-clause-alone : goal.returns-in-AnsweredAfterWait-clause-alone
 returns-in-AnsweredAfterWait-clause-alone c s before =
@@ -22,4 +21,4 @@ returns-in-AnsweredAfterWait-clause-alone c s before =
     let u = seen c.take_reply-again.new.process in
     let waited = c.add_call-in-AnsweredAfterWait.ensures.alone (before_wait (seen p)) (seen p) (told_wait p c.args.call c.requires.held c.requires.waits c.requires.call) s before in
     c.add_call-in-AnsweredAfterWait-2.ensures.alone (seen p) u
-    (told_later p u c.take_reply-again.result c.in-AnsweredAfterWait.reply c.in-AnsweredAfterWait.copy c.requires.waits c.take_reply-again.ensures.call c.take_reply-again.ensures.told (search rules)) s waited
+    (told_later p u c.take_reply-again.result.0 c.in-AnsweredAfterWait.reply c.take_reply-again.result.1 c.requires.waits c.take_reply-again.ensures.call c.take_reply-again.ensures.told c.take_reply-again.ensures.reply) s waited

@@ -1,0 +1,7 @@
+use Rattle.ipc_kernel.proofs.LawfulAnswers.{carried_copy_form}
+use Rattle.ipc_kernel.proofs.kernel.Kernel.call_with_copy.Goals as goal
+
+pub returns-clause-form : goal.returns-clause-form
+returns-clause-form c =
+    carried_copy_form c.carry_out_with_copy-answers.result c.args.self.now c.carry_out_with_copy-answers.new.self c.args.pid c.args.call.now c.decide-decision.result
+    c.decide-decision.ensures.outcome c.decide-decision.ensures.size c.decide-decision.ensures.limit c.carry_out_with_copy-answers.ensures.outcome
