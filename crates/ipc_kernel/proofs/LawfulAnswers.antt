@@ -214,7 +214,7 @@ carried_form (Ok a) k new p c d same size limit is = subst (λ (o : Outcome). Is
 
 -- the same of an answer with a copy
 pub carried_copy_form : {E : Type 0} (r : Result (Answer × Answer) E) (k new : KernelState) (p : ℕ) (c : Call) (d : Decision) → outcome_of k p d ≡ answer k p c
-    → ((m len : ℕ) → c ≡ MqReceive m len → message_length (answer k p c).0 ≤ len) → ((m len : ℕ) → c ≡ MqReceive m len → message_length (answer k p c).0 ≤ MQ_MSGSIZE_MAX) → IfOk r (λ a. (a.0, new) ≡ outcome_of k p d) → IfOk r (λ a. IsAnswerTo c a.0)
+    → ((m len : ℕ) → c ≡ MqReceive m len → message_length (answer k p c).0 ≤ len) → ((m len : ℕ) → c ≡ MqReceive m len → message_length (answer k p c).0 ≤ mq_msgsize_max) → IfOk r (λ a. (a.0, new) ≡ outcome_of k p d) → IfOk r (λ a. IsAnswerTo c a.0)
 carried_copy_form (Err e) k new p c d same size limit is = tt
 carried_copy_form (Ok a) k new p c d same size limit is = subst (λ (o : Outcome). IsAnswerTo c o.0) (sym is) (decided_form k p c d same size limit)
 
