@@ -1,3 +1,4 @@
+pub mod OriginLemmas
 pub mod NameLemmas
 pub mod BelowLemmas
 pub mod SceneLemmas

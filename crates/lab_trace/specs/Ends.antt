@@ -12,7 +12,7 @@ use Rattle.lab_trace.specs.Calls.{call_text}
 use Rattle.lab_trace.specs.Objects.{held_place, level_text}
 use Rattle.lab_trace.specs.Services.{service_at}
 use Rattle.lab_trace.specs.Lines.{head, process_text}
-use Rattle.lab_trace.specs.Tallies.{account_of}
+use Rattle.lab_trace.specs.Tallies.{TallyState, account_of}
 use Rattle.lab_trace.specs.declared.lines.Widths.{Widths}
 use Rattle.lab_trace.specs.declared.tally.Account.{Account}
 use Rattle.lab_trace.specs.declared.service.Service.{Service}
@@ -83,10 +83,10 @@ stand v w a p (Waiting m c) = head v (codes "end") p m.pc a.local ++ wait_text w
 stand v w a p (Ended e) = []
 
 -- where process p stands, if it hasn't ended
-abbrev pub stand_line : Widths → WorldState → List Account → ℕ → Option Process → List ℕ
+abbrev pub stand_line : Widths → WorldState → TallyState → ℕ → Option Process → List ℕ
 stand_line v w t p None = []
 stand_line v w t p (Some s) = stand v w (account_of t p) p s
 
 -- where each process stands that hasn't ended
-unfoldable pub end_lines : Widths → WorldState → List Account → List ℕ
+unfoldable pub end_lines : Widths → WorldState → TallyState → List ℕ
 end_lines v w t = each (length w.processes) (λ p. stand_line v w t p (slice_get w.processes p))

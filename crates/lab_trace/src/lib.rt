@@ -12,6 +12,7 @@ mod flags;
 mod handles;
 mod lines;
 mod message;
+mod origins;
 mod others;
 mod service;
 mod step;

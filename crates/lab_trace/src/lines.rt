@@ -3,14 +3,18 @@ ghost use Rattle.std.specs.Prelude.{◌≡◌, ◌≤◌, ◌<◌, ◌^◌, ◌+
 ghost use Rattle.std.specs.Fmt.{decimal};
 ghost use Rattle.lab_sched.specs.Held.{seen};
 ghost use Rattle.lab_debug.specs.Texts.{machine_of};
+ghost use Rattle.lab_trace.specs.Answers.{result_of};
 ghost use Rattle.lab_trace.specs.Questions.{question_of};
-ghost use Rattle.lab_trace.specs.Lines.{widths_for, process_column, local_column, head, opened_place, told_place, separator, level_note, waited_text, wait_note, notes, call_line, output_text, end_text};
+ghost use Rattle.lab_trace.specs.Origins.{first_in, origin_by};
+ghost use Rattle.lab_trace.specs.Tallies.{account_of};
+ghost use Rattle.lab_trace.specs.Lines.{widths_for, process_column, local_column, head, opened_place, told_place, separator, level_note, waited_text, wait_note, origin_text, origin_note, notes, call_line, output_text, end_text};
 
 use crate::answers::{push_answer, result_of};
 use crate::asking::{Asking, Observed};
 use crate::handles::{held_place, push_level};
+use crate::origins::Origin;
 use crate::service::Service;
-use crate::tally::Account;
+use crate::tally::{Account, Tally};
 use crate::words::{push_address, push_at_left, push_at_right, push_bytes};
 use ipc_kernel::Kernel;
 use lab_debug::{how_name, machine};
@@ -170,16 +174,66 @@ fn push_wait_note(text: &mut String, begun: bool, since: Option<u32>) -> Result<
     push_waited(text, since)
 }
 
+/// Adds where a message comes from.
+#[tactic(auto, unfolding(crate::specs::Lines::origin_text))]
+fn push_origin(text: &mut String, origin: Origin) -> Result<(), AllocError>
+    ensures { OnOk result (string_bytes text.new ≡ string_bytes text.old ++ origin_text origin) }
+{
+    let sender = origin.pid;
+    let step = origin.step;
+    match write!(text, "from P{sender} at {step}") {
+        Ok(()) => Ok(()),
+        Err(error) => Err(error),
+    }
+}
+
+/// Adds where the message comes from that was received, where one was.
+fn push_origin_note(
+    text: &mut String,
+    begun: bool,
+    origin: Option<Origin>,
+) -> Result<(), AllocError>
+    ensures { OnOk result (string_bytes text.new ≡ string_bytes text.old ++ origin_note begun origin) }
+{
+    let Some(origin) = origin else {
+        return Ok(());
+    };
+    text.push_str(separator(begun))?;
+    push_origin(text, origin)
+}
+
+/// Where the first message of the queue in a place comes from.
+fn first_in(tally: &Tally, place: Option<u8>) -> Option<Origin>
+    ensures value { result ≡ first_in place tally.now.origins }
+{
+    match place {
+        Some(place) => tally.first_origin(place),
+        None => None,
+    }
+}
+
+/// Where the message comes from that a call received.
+fn origin_of(tally: &Tally, asking: &Asking, after: &Process) -> Option<Origin>
+    ensures value { result ≡ origin_by (question_of asking.now) (result_of (seen after.now)) tally.now.origins }
+{
+    match (result_of(after), asking.service) {
+        (Some(_), Service::MqReceive) => first_in(tally, asking.place),
+        _ => None,
+    }
+}
+
 /// Adds the notes of a call.
 fn push_notes(
     text: &mut String,
     kernel: &Kernel,
     account: Account,
+    origin: Option<Origin>,
     place: Option<u8>,
 ) -> Result<(), AllocError>
-    ensures { OnOk result (string_bytes text.new ≡ string_bytes text.old ++ notes kernel.now account place) }
+    ensures { OnOk result (string_bytes text.new ≡ string_bytes text.old ++ notes kernel.now account origin place) }
 {
     push_level_note(text, kernel, place)?;
+    push_origin_note(text, place.is_some(), origin)?;
     push_wait_note(text, place.is_some(), account.since)
 }
 
@@ -188,22 +242,20 @@ fn push_notes(
 pub fn push_call_line(
     text: &mut String,
     kernel: &Kernel,
-    account: Account,
+    tally: &Tally,
     pid: usize,
     asking: &Asking,
     after: &Process,
 ) -> Result<(), AllocError>
     requires process { pid < length kernel.now.processes }
-    ensures { OnOk result (string_bytes text.new ≡ string_bytes text.old ++ call_line kernel.now account pid (question_of asking.now) (seen after.now)) }
+    ensures { OnOk result (string_bytes text.new ≡ string_bytes text.old
+        ++ call_line kernel.now (account_of tally.now pid) tally.now.origins pid (question_of asking.now) (seen after.now)) }
 {
     text.push_str(&asking.call)?;
     push_answer(text, after, &asking.reply)?;
-    push_notes(
-        text,
-        kernel,
-        account,
-        told_place(kernel, pid, asking, after),
-    )
+    let origin = origin_of(tally, asking, after);
+    let place = told_place(kernel, pid, asking, after);
+    push_notes(text, kernel, tally.account(pid), origin, place)
 }
 
 /// Adds the text of the instruction and the bytes that it wrote.
