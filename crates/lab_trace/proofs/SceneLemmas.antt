@@ -1,6 +1,7 @@
 -- The scenes of a trace, one after another.
 use Rattle.std.proofs.Common.{◌≡◌, ℕ, zero, suc, ◌+◌, ◌-◌, ◌<◌, ◌≤◌, Bool, true, false, if◌then◌else◌, List, [], ◌∷◌, ◌++◌, Option, Some, None, length, replicate, slice_get, set, refl, sym, ap, subst, ◌∙◌, append_assoc, append-nil, arith}
 use Rattle.std.proofs.lemmas.List.{length-set, length-replicate, replicate-append-replicate}
+use Rattle.std.proofs.lemmas.List.Elements.{All-nil}
 use Rattle.ipc_kernel.specs.declared.call.Answer.TheVariants.{Done, Wait}
 use Rattle.ipc_kernel.specs.Kernel.{KernelState}
 use Rattle.lab_sched.specs.Worlds.{Process, WorldState, Turn, nothing, local_step, kernel_step, turn_in, after, step, run}
@@ -11,6 +12,8 @@ use Rattle.lab_sched.proofs.Runs.{run-one, length-run}
 use Rattle.lab_trace.specs.Events.{Event, local, calls, writes, ends, event_of}
 use Rattle.lab_trace.specs.Questions.{Before}
 use Rattle.lab_trace.specs.Tallies.{TallyState, new_account, account_in, account_of, account_after, tally_after, AreBelow}
+use Rattle.lab_trace.specs.Units.{AreFew, IsFew}
+use Rattle.lab_trace.proofs.UnitLemmas.{few-more, after-few}
 use Rattle.lab_trace.specs.Scenes.{Scene, first_scene, has_effect, line_by, tally_by, before_at, line, tallied, next, events, scene_after, IsKept}
 use Rattle.lab_trace.specs.declared.lines.Widths.{Widths}
 use Rattle.lab_trace.specs.declared.tally.Account.{Account}
@@ -164,16 +167,21 @@ after-below n u (writes bytes) a h = omega arith
 after-below n u (ends how) a h = omega arith
 
 abbrev IsKeptTally : ℕ → ℕ → TallyState → Type 0
-IsKeptTally n count t = (length t.accounts ≡ count) × AreBelow (n + 1) t.accounts
+IsKeptTally n count t = (length t.accounts ≡ count) × AreBelow (n + 1) t.accounts × AreFew (n + 1) t.units
 
-kept-still : (n count : ℕ) (t : TallyState) → length t.accounts ≡ count → AreBelow n t.accounts → IsKeptTally n count t
-kept-still n count t l b = (l, λ p. let h = b p in omega arith)
+kept-still : (n count : ℕ) (t : TallyState) → length t.accounts ≡ count → AreBelow n t.accounts → AreFew n t.units → IsKeptTally n count t
+kept-still n count t l b f = (l, λ p. let h = b p in omega arith, few-more n t.units f)
 
-kept-by : (n count : ℕ) (k : KernelState) (t : TallyState) (p : ℕ) (b : Before) (u : Option Process) → length t.accounts ≡ count → AreBelow n t.accounts → IsKeptTally n count (tally_by n k t p b u)
-kept-by n count k t p b None l h = kept-still n count t l h
-kept-by n count k t p b (Some u) l h =
+kept-by : (n count : ℕ) (k : KernelState) (t : TallyState) (p : ℕ) (b : Before) (u : Option Process)
+    → length t.accounts ≡ count → AreBelow n t.accounts → AreFew n t.units → IsKeptTally n count (tally_by n k t p b u)
+kept-by n count k t p b None l h f = kept-still n count t l h f
+kept-by n count k t p b (Some u) l h f =
     let a : Account = account_after n u (event_of b u) (account_of t p) in
-    (length-set t.accounts p a ∙ l, below-set (n + 1) t.accounts p a (after-below n u (event_of b u) (account_of t p) (h p)) (λ q. let x = h q in omega arith))
+    let begun : 0 < n = let x = h p in omega arith in (
+      length-set t.accounts p a ∙ l,
+      below-set (n + 1) t.accounts p a (after-below n u (event_of b u) (account_of t p) (h p)) (λ q. let x = h q in omega arith),
+      after-few n k p u (event_of b u) t.units begun f,
+    )
 
 kept-if : (n count : ℕ) (effect : Bool) (t u : TallyState) → IsKeptTally n count u → IsKeptTally n count t → IsKeptTally n count (if effect then t else u)
 kept-if n count true t u still moved = moved
@@ -184,8 +192,8 @@ unfolding tallied
 kept-tallied s p kept =
     kept-if s.number (length s.world.processes) (has_effect (told_of (turn_in s.world p)))
     (tally_by s.number (step s.world p).kernel s.tally p (before_at s p) (slice_get (step s.world p).processes p)) s.tally
-    (kept-still s.number (length s.world.processes) s.tally kept.accounts kept.below)
-    (kept-by s.number (length s.world.processes) (step s.world p).kernel s.tally p (before_at s p) (slice_get (step s.world p).processes p) kept.accounts kept.below)
+    (kept-still s.number (length s.world.processes) s.tally kept.accounts kept.below kept.few)
+    (kept-by s.number (length s.world.processes) (step s.world p).kernel s.tally p (before_at s p) (slice_get (step s.world p).processes p) kept.accounts kept.below kept.few)
 
 pub length-step : (w : WorldState) (p : ℕ) → length (step w p).processes ≡ length w.processes
 length-step w p = sym (ap (λ (x : WorldState). length x.processes) (run-one w p)) ∙ length-run w (p ∷ [])
@@ -193,7 +201,7 @@ length-step w p = sym (ap (λ (x : WorldState). length x.processes) (run-one w p
 kept-next : (s : Scene) (p : ℕ) → IsKept s → IsKept (next s p)
 kept-next s p kept =
     let t = kept-tallied s p kept in
-    record { accounts = t.0 ∙ sym (length-step s.world p); below = t.1 }
+    record { accounts = t.0 ∙ sym (length-step s.world p); below = t.1; few = t.2 }
 
 pub kept-after : (s : Scene) (ps : List ℕ) → IsKept s → IsKept (scene_after s ps)
 unfolding scene_after
@@ -210,4 +218,5 @@ below-first (suc n) zero = omega arith
 below-first (suc n) (suc p) = below-first n p
 
 pub kept-first : (w : WorldState) → IsKept (first_scene w)
-kept-first w = record { accounts = length-replicate (length w.processes) new_account; below = below-first (length w.processes) }
+kept-first w =
+    record { accounts = length-replicate (length w.processes) new_account; below = below-first (length w.processes); few = All-nil (IsFew 1) }

@@ -8,6 +8,7 @@ pub mod Answers
 pub mod Questions
 pub mod Events
 pub mod Origins
+pub mod Units
 pub mod Tallies
 pub mod Lines
 pub mod Scenes

@@ -9,6 +9,7 @@ use Rattle.lab_debug.specs.Texts.{machine_of}
 use Rattle.lab_trace.specs.Questions.{Before, before}
 use Rattle.lab_trace.specs.Events.{event_of}
 use Rattle.lab_trace.specs.Tallies.{TallyState, new_tally, account_of, tally_after, AreBelow}
+use Rattle.lab_trace.specs.Units.{AreFew}
 use Rattle.lab_trace.specs.Lines.{event_line}
 use Rattle.lab_trace.specs.declared.lines.Widths.{Widths}
 
@@ -70,7 +71,9 @@ unfoldable pub scene_after : Scene → List ℕ → Scene
 scene_after s [] = s
 scene_after s (p ∷ ps) = scene_after (next s p) ps
 
--- before a step there is an account of each process, with fewer counted steps than steps were taken or begin
+-- before a step there is an account of each process; its counted steps, and the units that a process took or gave, are fewer
+-- than the steps that were taken or begin
 pub record IsKept (s : Scene) : Type 0 where
   pub accounts : length s.tally.accounts ≡ length s.world.processes
   pub below : AreBelow s.number s.tally.accounts
+  pub few : AreFew s.number s.tally.units

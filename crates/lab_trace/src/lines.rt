@@ -48,7 +48,7 @@ impl Widths {
     /// The widths for a schedule of so many steps of so many processes.
     pub fn new(alloc: Global, total: u32, count: usize) -> Result<Widths, AllocError>
         requires some { 1 ≤ count }
-        ensures { IfOk result (λ v. v ≡ widths_for total count) }
+        ensures widths { IfOk result (λ v. v ≡ widths_for total count) }
     {
         let step = digits(alloc, total as usize)?.max(3);
         let process = 1 + digits(alloc, count - 1)?;
@@ -64,7 +64,8 @@ fn push_process(
     width: usize,
     pid: usize,
 ) -> Result<(), AllocError>
-    ensures { OnOk result (string_bytes text.new ≡ string_bytes text.old ++ process_column width pid) }
+    ensures text { OnOk result (string_bytes text.new ≡ string_bytes text.old
+        ++ process_column width pid) }
 {
     let process = format!(in alloc; "P{pid}")?;
     push_at_left(text, width, &process)?;
@@ -74,7 +75,8 @@ fn push_process(
 /// Adds counted steps and a blank, in the width of the column.
 #[tactic(auto, unfolding(crate::specs::Lines::local_column))]
 fn push_local(alloc: Global, text: &mut String, local: u32) -> Result<(), AllocError>
-    ensures { OnOk result (string_bytes text.new ≡ string_bytes text.old ++ local_column local) }
+    ensures text { OnOk result (string_bytes text.new ≡ string_bytes text.old
+        ++ local_column local) }
 {
     let local = format!(in alloc; "+{local}")?;
     push_at_right(text, LOCAL_WIDTH, &local)?;
@@ -92,7 +94,8 @@ pub fn push_head(
     address: u16,
     local: u32,
 ) -> Result<(), AllocError>
-    ensures { OnOk result (string_bytes text.new ≡ string_bytes text.old ++ head widths step.now pid address local) }
+    ensures text { OnOk result (string_bytes text.new ≡ string_bytes text.old
+        ++ head widths step.now pid address local) }
 {
     push_at_right(text, widths.step, step)?;
     text.push_str(" ")?;
@@ -136,7 +139,8 @@ fn told_place(kernel: &Kernel, pid: usize, asking: &Asking, after: &Process) -> 
 
 /// Adds the level of the object in a place, where there is one.
 fn push_level_note(text: &mut String, kernel: &Kernel, place: Option<u8>) -> Result<(), AllocError>
-    ensures { OnOk result (string_bytes text.new ≡ string_bytes text.old ++ level_note kernel.now place) }
+    ensures text { OnOk result (string_bytes text.new ≡ string_bytes text.old
+        ++ level_note kernel.now place) }
 {
     let Some(place) = place else {
         return Ok(());
@@ -155,7 +159,8 @@ fn separator(begun: bool) -> &'static str
 /// Adds since when a process waited.
 #[tactic(auto, unfolding(crate::specs::Lines::waited_text))]
 fn push_waited(text: &mut String, since: u32) -> Result<(), AllocError>
-    ensures { OnOk result (string_bytes text.new ≡ string_bytes text.old ++ waited_text since) }
+    ensures text { OnOk result (string_bytes text.new ≡ string_bytes text.old
+        ++ waited_text since) }
 {
     match write!(text, "waited since {since}") {
         Ok(()) => Ok(()),
@@ -165,7 +170,8 @@ fn push_waited(text: &mut String, since: u32) -> Result<(), AllocError>
 
 /// Adds since when a process waited, where it did.
 fn push_wait_note(text: &mut String, begun: bool, since: Option<u32>) -> Result<(), AllocError>
-    ensures { OnOk result (string_bytes text.new ≡ string_bytes text.old ++ wait_note begun since) }
+    ensures text { OnOk result (string_bytes text.new ≡ string_bytes text.old
+        ++ wait_note begun since) }
 {
     let Some(since) = since else {
         return Ok(());
@@ -177,7 +183,8 @@ fn push_wait_note(text: &mut String, begun: bool, since: Option<u32>) -> Result<
 /// Adds where a message comes from.
 #[tactic(auto, unfolding(crate::specs::Lines::origin_text))]
 fn push_origin(text: &mut String, origin: Origin) -> Result<(), AllocError>
-    ensures { OnOk result (string_bytes text.new ≡ string_bytes text.old ++ origin_text origin) }
+    ensures text { OnOk result (string_bytes text.new ≡ string_bytes text.old
+        ++ origin_text origin) }
 {
     let sender = origin.pid;
     let step = origin.step;
@@ -193,7 +200,8 @@ fn push_origin_note(
     begun: bool,
     origin: Option<Origin>,
 ) -> Result<(), AllocError>
-    ensures { OnOk result (string_bytes text.new ≡ string_bytes text.old ++ origin_note begun origin) }
+    ensures text { OnOk result (string_bytes text.new ≡ string_bytes text.old
+        ++ origin_note begun origin) }
 {
     let Some(origin) = origin else {
         return Ok(());
@@ -214,7 +222,8 @@ fn first_in(tally: &Tally, place: Option<u8>) -> Option<Origin>
 
 /// Where the message comes from that a call received.
 fn origin_of(tally: &Tally, asking: &Asking, after: &Process) -> Option<Origin>
-    ensures value { result ≡ origin_by (question_of asking.now) (result_of (seen after.now)) tally.now.origins }
+    ensures value { result ≡ origin_by (question_of asking.now) (result_of (seen after.now))
+        tally.now.origins }
 {
     match (result_of(after), asking.service) {
         (Some(_), Service::MqReceive) => first_in(tally, asking.place),
@@ -230,7 +239,8 @@ fn push_notes(
     origin: Option<Origin>,
     place: Option<u8>,
 ) -> Result<(), AllocError>
-    ensures { OnOk result (string_bytes text.new ≡ string_bytes text.old ++ notes kernel.now account origin place) }
+    ensures text { OnOk result (string_bytes text.new ≡ string_bytes text.old
+        ++ notes kernel.now account origin place) }
 {
     push_level_note(text, kernel, place)?;
     push_origin_note(text, place.is_some(), origin)?;
@@ -248,8 +258,9 @@ pub fn push_call_line(
     after: &Process,
 ) -> Result<(), AllocError>
     requires process { pid < length kernel.now.processes }
-    ensures { OnOk result (string_bytes text.new ≡ string_bytes text.old
-        ++ call_line kernel.now (account_of tally.now pid) tally.now.origins pid (question_of asking.now) (seen after.now)) }
+    ensures text { OnOk result (string_bytes text.new ≡ string_bytes text.old
+        ++ call_line kernel.now (account_of tally.now pid) tally.now.origins pid
+        (question_of asking.now) (seen after.now)) }
 {
     text.push_str(&asking.call)?;
     push_answer(text, after, &asking.reply)?;
@@ -261,7 +272,8 @@ pub fn push_call_line(
 /// Adds the text of the instruction and the bytes that it wrote.
 #[tactic(auto, unfolding(crate::specs::Lines::output_text))]
 pub fn push_output(text: &mut String, word: u16, bytes: &[u8]) -> Result<(), AllocError>
-    ensures { OnOk result (string_bytes text.new ≡ string_bytes text.old ++ output_text word bytes.now) }
+    ensures text { OnOk result (string_bytes text.new ≡ string_bytes text.old
+        ++ output_text word bytes.now) }
 {
     let instruction = WordText(word);
     write!(text, "{instruction} ")?;
@@ -270,7 +282,7 @@ pub fn push_output(text: &mut String, word: u16, bytes: &[u8]) -> Result<(), All
 
 /// Adds how a process ended.
 pub fn push_end(text: &mut String, how: How) -> Result<(), AllocError>
-    ensures { OnOk result (string_bytes text.new ≡ string_bytes text.old ++ end_text how) }
+    ensures text { OnOk result (string_bytes text.new ≡ string_bytes text.old ++ end_text how) }
 {
     text.push_str("ends ")?;
     text.push_str(how_name(how))
