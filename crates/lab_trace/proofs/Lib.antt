@@ -1,3 +1,5 @@
+pub mod OriginLemmas
+pub mod UnitLemmas
 pub mod NameLemmas
 pub mod BelowLemmas
 pub mod SceneLemmas

@@ -1,7 +1,9 @@
 -- The scenes of a trace, one after another.
 use Rattle.std.proofs.Common.{◌≡◌, ℕ, zero, suc, ◌+◌, ◌-◌, ◌<◌, ◌≤◌, Bool, true, false, if◌then◌else◌, List, [], ◌∷◌, ◌++◌, Option, Some, None, length, replicate, slice_get, set, refl, sym, ap, subst, ◌∙◌, append_assoc, append-nil, arith}
 use Rattle.std.proofs.lemmas.List.{length-set, length-replicate, replicate-append-replicate}
+use Rattle.std.proofs.lemmas.List.Elements.{All-nil}
 use Rattle.ipc_kernel.specs.declared.call.Answer.TheVariants.{Done, Wait}
+use Rattle.ipc_kernel.specs.Kernel.{KernelState}
 use Rattle.lab_sched.specs.Worlds.{Process, WorldState, Turn, nothing, local_step, kernel_step, turn_in, after, step, run}
 use Rattle.lab_sched.specs.Held.{told_of}
 use Rattle.lab_sched.specs.declared.stepped.Stepped.{Stepped}
@@ -9,7 +11,9 @@ use Rattle.lab_sched.specs.declared.stepped.Stepped.TheVariants as stepped
 use Rattle.lab_sched.proofs.Runs.{run-one, length-run}
 use Rattle.lab_trace.specs.Events.{Event, local, calls, writes, ends, event_of}
 use Rattle.lab_trace.specs.Questions.{Before}
-use Rattle.lab_trace.specs.Tallies.{new_account, account_of, account_after, AreBelow}
+use Rattle.lab_trace.specs.Tallies.{TallyState, new_account, account_in, account_of, account_after, tally_after, AreBelow}
+use Rattle.lab_trace.specs.Units.{AreFew, IsFew}
+use Rattle.lab_trace.proofs.UnitLemmas.{few-more, after-few}
 use Rattle.lab_trace.specs.Scenes.{Scene, first_scene, has_effect, line_by, tally_by, before_at, line, tallied, next, events, scene_after, IsKept}
 use Rattle.lab_trace.specs.declared.lines.Widths.{Widths}
 use Rattle.lab_trace.specs.declared.tally.Account.{Account}
@@ -62,12 +66,12 @@ line-still v s p e =
 tallied-still : (s : Scene) (p : ℕ) → turn_in s.world p ≡ nothing → tallied s p ≡ s.tally
 unfolding tallied
 tallied-still s p e =
-    ap (λ (b : Bool). if b then tally_by s.number s.tally p (before_at s p) (slice_get (step s.world p).processes p) else s.tally)
+    ap (λ (b : Bool). if b then tally_by s.number (step s.world p).kernel s.tally p (before_at s p) (slice_get (step s.world p).processes p) else s.tally)
     (ap (λ t. has_effect (told_of t)) e)
 
 next-still : (s : Scene) (p : ℕ) → turn_in s.world p ≡ nothing → next s p ≡ renumbered s (s.number + 1)
 next-still s p e =
-    let as_scene : WorldState → List Account → Scene = λ w t. record { number = s.number + 1; world = w; tally = t } in
+    let as_scene : WorldState → TallyState → Scene = λ w t. record { number = s.number + 1; world = w; tally = t } in
     ap (λ w. as_scene w (tallied s p)) (ap (λ t. after s.world p t) e) ∙ ap (λ t. as_scene s.world t) (tallied-still s p e)
 
 -- so do n of them
@@ -162,19 +166,24 @@ after-below n u (calls q) a h = omega arith
 after-below n u (writes bytes) a h = omega arith
 after-below n u (ends how) a h = omega arith
 
-abbrev IsKeptTally : ℕ → ℕ → List Account → Type 0
-IsKeptTally n count t = (length t ≡ count) × AreBelow (n + 1) t
+abbrev IsKeptTally : ℕ → ℕ → TallyState → Type 0
+IsKeptTally n count t = (length t.accounts ≡ count) × AreBelow (n + 1) t.accounts × AreFew (n + 1) t.units
 
-kept-still : (n count : ℕ) (t : List Account) → length t ≡ count → AreBelow n t → IsKeptTally n count t
-kept-still n count t l b = (l, λ p. let h = b p in omega arith)
+kept-still : (n count : ℕ) (t : TallyState) → length t.accounts ≡ count → AreBelow n t.accounts → AreFew n t.units → IsKeptTally n count t
+kept-still n count t l b f = (l, λ p. let h = b p in omega arith, few-more n t.units f)
 
-kept-by : (n count : ℕ) (t : List Account) (p : ℕ) (b : Before) (u : Option Process) → length t ≡ count → AreBelow n t → IsKeptTally n count (tally_by n t p b u)
-kept-by n count t p b None l h = kept-still n count t l h
-kept-by n count t p b (Some u) l h =
+kept-by : (n count : ℕ) (k : KernelState) (t : TallyState) (p : ℕ) (b : Before) (u : Option Process)
+    → length t.accounts ≡ count → AreBelow n t.accounts → AreFew n t.units → IsKeptTally n count (tally_by n k t p b u)
+kept-by n count k t p b None l h f = kept-still n count t l h f
+kept-by n count k t p b (Some u) l h f =
     let a : Account = account_after n u (event_of b u) (account_of t p) in
-    (length-set t p a ∙ l, below-set (n + 1) t p a (after-below n u (event_of b u) (account_of t p) (h p)) (λ q. let x = h q in omega arith))
+    let begun : 0 < n = let x = h p in omega arith in (
+      length-set t.accounts p a ∙ l,
+      below-set (n + 1) t.accounts p a (after-below n u (event_of b u) (account_of t p) (h p)) (λ q. let x = h q in omega arith),
+      after-few n k p u (event_of b u) t.units begun f,
+    )
 
-kept-if : (n count : ℕ) (effect : Bool) (t u : List Account) → IsKeptTally n count u → IsKeptTally n count t → IsKeptTally n count (if effect then t else u)
+kept-if : (n count : ℕ) (effect : Bool) (t u : TallyState) → IsKeptTally n count u → IsKeptTally n count t → IsKeptTally n count (if effect then t else u)
 kept-if n count true t u still moved = moved
 kept-if n count false t u still moved = still
 
@@ -182,9 +191,9 @@ kept-tallied : (s : Scene) (p : ℕ) → IsKept s → IsKeptTally s.number (leng
 unfolding tallied
 kept-tallied s p kept =
     kept-if s.number (length s.world.processes) (has_effect (told_of (turn_in s.world p)))
-    (tally_by s.number s.tally p (before_at s p) (slice_get (step s.world p).processes p)) s.tally
-    (kept-still s.number (length s.world.processes) s.tally kept.accounts kept.below)
-    (kept-by s.number (length s.world.processes) s.tally p (before_at s p) (slice_get (step s.world p).processes p) kept.accounts kept.below)
+    (tally_by s.number (step s.world p).kernel s.tally p (before_at s p) (slice_get (step s.world p).processes p)) s.tally
+    (kept-still s.number (length s.world.processes) s.tally kept.accounts kept.below kept.few)
+    (kept-by s.number (length s.world.processes) (step s.world p).kernel s.tally p (before_at s p) (slice_get (step s.world p).processes p) kept.accounts kept.below kept.few)
 
 pub length-step : (w : WorldState) (p : ℕ) → length (step w p).processes ≡ length w.processes
 length-step w p = sym (ap (λ (x : WorldState). length x.processes) (run-one w p)) ∙ length-run w (p ∷ [])
@@ -192,7 +201,7 @@ length-step w p = sym (ap (λ (x : WorldState). length x.processes) (run-one w p
 kept-next : (s : Scene) (p : ℕ) → IsKept s → IsKept (next s p)
 kept-next s p kept =
     let t = kept-tallied s p kept in
-    record { accounts = t.0 ∙ sym (length-step s.world p); below = t.1 }
+    record { accounts = t.0 ∙ sym (length-step s.world p); below = t.1; few = t.2 }
 
 pub kept-after : (s : Scene) (ps : List ℕ) → IsKept s → IsKept (scene_after s ps)
 unfolding scene_after
@@ -203,10 +212,11 @@ kept-after s (p ∷ ps) kept = kept-after (next s p) ps (kept-next s p kept)
 pub length-scene : (s : Scene) (ps : List ℕ) → length (scene_after s ps).world.processes ≡ length s.world.processes
 length-scene s ps = ap (λ (w : WorldState). length w.processes) (scene-world s ps) ∙ length-run s.world ps
 
-below-first : (n p : ℕ) → (account_of (replicate n new_account) p).local < 1
+below-first : (n p : ℕ) → (account_in (replicate n new_account) p).local < 1
 below-first zero p = omega arith
 below-first (suc n) zero = omega arith
 below-first (suc n) (suc p) = below-first n p
 
 pub kept-first : (w : WorldState) → IsKept (first_scene w)
-kept-first w = record { accounts = length-replicate (length w.processes) new_account; below = below-first (length w.processes) }
+kept-first w =
+    record { accounts = length-replicate (length w.processes) new_account; below = below-first (length w.processes); few = All-nil (IsFew 1) }

@@ -1,5 +1,5 @@
 -- Where the processes stand that haven't ended.
-use Rattle.std.specs.Prelude.{ℕ, zero, suc, ◌==◌, ◌&&◌, ◌||◌, not, Bool, false, if◌then◌else◌, Option, Some, None, List, [], ◌++◌, codes, length, slice_get}
+use Rattle.std.specs.Prelude.{ℕ, zero, suc, ◌==◌, nat_lt, ◌&&◌, ◌||◌, not, Bool, false, if◌then◌else◌, Option, Some, None, List, [], ◌++◌, codes, length, slice_get}
 use Rattle.std.specs.Fmt.{decimal}
 use Rattle.lc3_machine.specs.Process.{Process as Machine, reg}
 use Rattle.ipc_kernel.specs.Kernel.{KernelState}
@@ -12,9 +12,10 @@ use Rattle.lab_trace.specs.Calls.{call_text}
 use Rattle.lab_trace.specs.Objects.{held_place, level_text}
 use Rattle.lab_trace.specs.Services.{service_at}
 use Rattle.lab_trace.specs.Lines.{head, process_text}
-use Rattle.lab_trace.specs.Tallies.{account_of}
+use Rattle.lab_trace.specs.Tallies.{TallyState, account_of}
 use Rattle.lab_trace.specs.declared.lines.Widths.{Widths}
-use Rattle.lab_trace.specs.declared.tally.Account.{Account}
+use Rattle.lab_trace.specs.Units.{units_of, balance}
+use Rattle.lab_trace.specs.declared.units.UnitCount.{UnitCount}
 use Rattle.lab_trace.specs.declared.service.Service.{Service}
 use Rattle.lab_trace.specs.declared.service.Service.TheVariants.{MqSend, MqReceive}
 
@@ -60,33 +61,61 @@ others_title MqReceive = codes ", senders"
 others_title MqSend = codes ", receivers"
 others_title s = codes ", open in"
 
--- the object that a process waits for, and who could serve its call
-abbrev pub object_part : WorldState → ℕ → Service → Option ℕ → List ℕ
-object_part w p s None = []
-object_part w p s (Some place) = level_text w.kernel place ++ others_title s ++ others_text w p place s
+-- how many units, where it is more than one
+unfoldable pub times_text : ℕ → List ℕ
+times_text n = if nat_lt 1 n then codes "*" ++ decimal n else []
+
+-- that a process has ended
+abbrev pub ended_text : Option Process → List ℕ
+ended_text None = []
+ended_text (Some (Running m)) = []
+ended_text (Some (Waiting m c)) = []
+ended_text (Some (Ended e)) = codes "(ended)"
+
+-- process p, where it took more units than it gave, by how many
+unfoldable pub taker_of : ℕ → ℕ → Option Process → List ℕ
+taker_of p n s = if n == 0 then [] else codes " " ++ process_text p ++ times_text n ++ ended_text s
+
+abbrev pub taker_text : WorldState → List UnitCount → ℕ → ℕ → List ℕ
+taker_text w cs place p = taker_of p (balance (units_of place p cs)) (slice_get w.processes p)
+
+-- the processes that took more units of the semaphore in a place than they gave
+unfoldable pub takers_text : WorldState → List UnitCount → ℕ → List ℕ
+takers_text w cs place = or_nobody (each (length w.processes) (taker_text w cs place))
+
+abbrev pub takers_part : WorldState → List UnitCount → ℕ → Service → List ℕ
+takers_part w cs place MqReceive = []
+takers_part w cs place MqSend = []
+takers_part w cs place s = codes ", taken by" ++ takers_text w cs place
+
+-- the object that a process waits for, who took its units, and who could serve its call
+abbrev pub object_part : WorldState → List UnitCount → ℕ → Service → Option ℕ → List ℕ
+object_part w cs p s None = []
+object_part w cs p s (Some place) =
+    level_text w.kernel place ++ takers_part w cs place s ++ others_title s ++ others_text w p place s
 
 abbrev pub since_part : Option ℕ → List ℕ
 since_part None = []
 since_part (Some n) = codes " since " ++ decimal n
 
 -- what a process waits for
-abbrev pub wait_text : WorldState → Account → ℕ → Machine → Option Service → List ℕ
-wait_text w a p m None = []
-wait_text w a p m (Some s) =
-    codes "waits" ++ since_part a.since ++ codes " in " ++ call_text w.kernel p m s ++ codes ": "
-    ++ object_part w p s (held_place w.kernel p s (reg m 0))
+abbrev pub wait_text : WorldState → TallyState → ℕ → Machine → Option Service → List ℕ
+wait_text w t p m None = []
+wait_text w t p m (Some s) =
+    codes "waits" ++ since_part (account_of t p).since ++ codes " in " ++ call_text w.kernel p m s ++ codes ": "
+    ++ object_part w t.units p s (held_place w.kernel p s (reg m 0))
 
--- the line of a process with this account, if it hasn't ended
-abbrev pub stand : Widths → WorldState → Account → ℕ → Process → List ℕ
-stand v w a p (Running m) = head v (codes "end") p m.pc a.local ++ codes "runs" ++ codes "\n"
-stand v w a p (Waiting m c) = head v (codes "end") p m.pc a.local ++ wait_text w a p m (service_at m) ++ codes "\n"
-stand v w a p (Ended e) = []
+-- the line of process p, if it hasn't ended
+abbrev pub stand : Widths → WorldState → TallyState → ℕ → Process → List ℕ
+stand v w t p (Running m) = head v (codes "end") p m.pc (account_of t p).local ++ codes "runs" ++ codes "\n"
+stand v w t p (Waiting m c) = head v (codes "end") p m.pc (account_of t p).local ++ wait_text w t p m (service_at m) ++ codes "\n"
+stand v w t p (Ended e) = []
 
 -- where process p stands, if it hasn't ended
-abbrev pub stand_line : Widths → WorldState → List Account → ℕ → Option Process → List ℕ
+abbrev pub stand_line : Widths → WorldState → TallyState → ℕ → Option Process → List ℕ
 stand_line v w t p None = []
-stand_line v w t p (Some s) = stand v w (account_of t p) p s
+stand_line v w t p (Some s) = stand v w t p s
 
 -- where each process stands that hasn't ended
-unfoldable pub end_lines : Widths → WorldState → List Account → List ℕ
+unfoldable pub end_lines : Widths → WorldState → TallyState → List ℕ
 end_lines v w t = each (length w.processes) (λ p. stand_line v w t p (slice_get w.processes p))

@@ -7,6 +7,8 @@ pub mod Calls
 pub mod Answers
 pub mod Questions
 pub mod Events
+pub mod Origins
+pub mod Units
 pub mod Tallies
 pub mod Lines
 pub mod Scenes

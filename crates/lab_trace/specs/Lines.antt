@@ -12,6 +12,8 @@ use Rattle.lab_trace.specs.Objects.{held_place, level_text}
 use Rattle.lab_trace.specs.Services.{is_open, is_on_level}
 use Rattle.lab_trace.specs.Questions.{Question, Before}
 use Rattle.lab_trace.specs.Events.{Event, local, calls, writes, ends, has_line}
+use Rattle.lab_trace.specs.Origins.{origin_by}
+use Rattle.lab_trace.specs.declared.origins.Origin.{Origin}
 use Rattle.lab_trace.specs.declared.lines.Widths.{Widths}
 use Rattle.lab_trace.specs.declared.tally.Account.{Account}
 use Rattle.lab_trace.specs.declared.service.Service.{Service}
@@ -65,13 +67,21 @@ abbrev pub wait_note : Bool → Option ℕ → List ℕ
 wait_note begun None = []
 wait_note begun (Some n) = separator begun ++ waited_text n
 
+-- where a message comes from
+unfoldable pub origin_text : Origin → List ℕ
+origin_text o = codes "from P" ++ decimal o.pid ++ codes " at " ++ decimal o.step
+
+abbrev pub origin_note : Bool → Option Origin → List ℕ
+origin_note begun None = []
+origin_note begun (Some o) = separator begun ++ origin_text o
+
 -- the notes of a call
-abbrev pub notes : KernelState → Account → Option ℕ → List ℕ
-notes k a place = level_note k place ++ wait_note (is_some place) a.since
+abbrev pub notes : KernelState → Account → Option Origin → Option ℕ → List ℕ
+notes k a origin place = level_note k place ++ origin_note (is_some place) origin ++ wait_note (is_some place) a.since
 
 -- a call of process p; k is the kernel after it
-unfoldable pub call_line : KernelState → Account → ℕ → Question → Process → List ℕ
-call_line k a p q after = q.call ++ answer_text after q.reply ++ notes k a (told_place k p q after)
+unfoldable pub call_line : KernelState → Account → List Origin → ℕ → Question → Process → List ℕ
+call_line k a os p q after = q.call ++ answer_text after q.reply ++ notes k a (origin_by q (result_of after) os) (told_place k p q after)
 
 -- bytes of output behind the text of the instruction that wrote them
 unfoldable pub output_text : ℕ → List ℕ → List ℕ
@@ -81,13 +91,13 @@ abbrev pub end_text : How → List ℕ
 end_text how = codes "ends " ++ how_text how
 
 -- what happened
-abbrev pub what : KernelState → Account → ℕ → Before → Process → Event → List ℕ
-what k a p b after local = []
-what k a p b after (calls q) = call_line k a p q after
-what k a p b after (writes bytes) = output_text b.word bytes
-what k a p b after (ends how) = end_text how
+abbrev pub what : KernelState → Account → List Origin → ℕ → Before → Process → Event → List ℕ
+what k a os p b after local = []
+what k a os p b after (calls q) = call_line k a os p q after
+what k a os p b after (writes bytes) = output_text b.word bytes
+what k a os p b after (ends how) = end_text how
 
 -- the line of process p in step n, where its event has one
-abbrev pub event_line : Widths → ℕ → KernelState → Account → ℕ → Before → Process → Event → List ℕ
-event_line v n k a p b after e =
-    if has_line e then head v (decimal n) p b.pc a.local ++ what k a p b after e ++ codes "\n" else []
+abbrev pub event_line : Widths → ℕ → KernelState → Account → List Origin → ℕ → Before → Process → Event → List ℕ
+event_line v n k a os p b after e =
+    if has_line e then head v (decimal n) p b.pc a.local ++ what k a os p b after e ++ codes "\n" else []

@@ -11,17 +11,19 @@ use Rattle.lab_trace.specs.declared.service.Service.{Service}
 use Rattle.lab_trace.specs.declared.asking.Asking.{Asking}
 use Rattle.lab_trace.specs.declared.asking.Observed.{Observed}
 
--- a call that a process is about to make: its text, what stands behind its result, and the place of the object that it is on
+-- a call that a process is about to make: its text, what stands behind its result, the place of the object that it is on, and
+-- the priority of a message that is sent
 pub record Question : Type 0 where
   pub service : Service
   pub call : List ℕ
   pub reply : List ℕ
   pub place : Option ℕ
+  pub priority : ℕ
 
 -- a call of process p
 abbrev pub question : KernelState → ℕ → Machine → Service → Question
 question k p m s =
-    record { service = s; call = call_text k p m s; reply = reply_text k p m s; place = held_place k p s (reg m 0) }
+    record { service = s; call = call_text k p m s; reply = reply_text k p m s; place = held_place k p s (reg m 0); priority = reg m 3 }
 
 -- a process before its step: its program counter, the word there, how many bytes it has written, and its call
 pub record Before : Type 0 where
@@ -36,7 +38,7 @@ before k p m =
 
 -- the question that is kept as texts
 abbrev pub question_of : Asking → Question
-question_of a = record { service = a.service; call = string_bytes a.call; reply = string_bytes a.reply; place = a.place }
+question_of a = record { service = a.service; call = string_bytes a.call; reply = string_bytes a.reply; place = a.place; priority = a.priority }
 
 abbrev pub before_of : Observed → Before
 before_of o = record { pc = o.pc; word = o.word; written = o.written; asking = option_map question_of o.asking }

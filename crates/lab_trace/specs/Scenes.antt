@@ -1,5 +1,5 @@
 -- The steps of a schedule, one after another, as a trace goes through them.
-use Rattle.std.specs.Prelude.{◌≡◌, ℕ, ◌+◌, Bool, true, false, if◌then◌else◌, Option, Some, None, List, [], ◌∷◌, ◌++◌, length, replicate, slice_get, slice_set}
+use Rattle.std.specs.Prelude.{◌≡◌, ℕ, ◌+◌, Bool, true, false, if◌then◌else◌, Option, Some, None, List, [], ◌∷◌, ◌++◌, length, slice_get}
 use Rattle.ipc_kernel.specs.Kernel.{KernelState}
 use Rattle.lab_sched.specs.Worlds.{Process, WorldState, turn_in, step}
 use Rattle.lab_sched.specs.Held.{told_of}
@@ -8,20 +8,20 @@ use Rattle.lab_sched.specs.declared.stepped.Stepped.TheVariants.{Same}
 use Rattle.lab_debug.specs.Texts.{machine_of}
 use Rattle.lab_trace.specs.Questions.{Before, before}
 use Rattle.lab_trace.specs.Events.{event_of}
-use Rattle.lab_trace.specs.Tallies.{account_of, account_after, new_account, AreBelow}
+use Rattle.lab_trace.specs.Tallies.{TallyState, new_tally, account_of, tally_after, AreBelow}
+use Rattle.lab_trace.specs.Units.{AreFew}
 use Rattle.lab_trace.specs.Lines.{event_line}
 use Rattle.lab_trace.specs.declared.lines.Widths.{Widths}
-use Rattle.lab_trace.specs.declared.tally.Account.{Account}
 
 -- the number of the next step, the world before it, and the tally
 pub record Scene : Type 0 where
   pub number : ℕ
   pub world : WorldState
-  pub tally : List Account
+  pub tally : TallyState
 
 -- before the first step
 abbrev pub first_scene : WorldState → Scene
-first_scene w = record { number = 1; world = w; tally = replicate (length w.processes) new_account }
+first_scene w = record { number = 1; world = w; tally = new_tally (length w.processes) }
 
 -- whether a step has an effect
 abbrev pub has_effect : Stepped → Bool
@@ -33,13 +33,13 @@ abbrev pub before_in : KernelState → ℕ → Option Process → Before
 before_in k p None = record { pc = 0; word = 0; written = 0; asking = None }
 before_in k p (Some s) = before k p (machine_of s)
 
-abbrev pub line_by : Widths → ℕ → KernelState → List Account → ℕ → Before → Option Process → List ℕ
+abbrev pub line_by : Widths → ℕ → KernelState → TallyState → ℕ → Before → Option Process → List ℕ
 line_by v n k t p b None = []
-line_by v n k t p b (Some after) = event_line v n k (account_of t p) p b after (event_of b after)
+line_by v n k t p b (Some after) = event_line v n k (account_of t p) t.origins p b after (event_of b after)
 
-abbrev pub tally_by : ℕ → List Account → ℕ → Before → Option Process → List Account
-tally_by n t p b None = t
-tally_by n t p b (Some after) = slice_set t p (account_after n after (event_of b after) (account_of t p))
+abbrev pub tally_by : ℕ → KernelState → TallyState → ℕ → Before → Option Process → TallyState
+tally_by n k t p b None = t
+tally_by n k t p b (Some after) = tally_after k n p after (event_of b after) t
 
 abbrev pub before_at : Scene → ℕ → Before
 before_at s p = before_in s.world.kernel p (slice_get s.world.processes p)
@@ -52,10 +52,10 @@ line v s p =
     else []
 
 -- the tally after the next step, of process p
-unfoldable pub tallied : Scene → ℕ → List Account
+unfoldable pub tallied : Scene → ℕ → TallyState
 tallied s p =
     if has_effect (told_of (turn_in s.world p))
-    then tally_by s.number s.tally p (before_at s p) (slice_get (step s.world p).processes p)
+    then tally_by s.number (step s.world p).kernel s.tally p (before_at s p) (slice_get (step s.world p).processes p)
     else s.tally
 
 abbrev pub next : Scene → ℕ → Scene
@@ -71,7 +71,9 @@ unfoldable pub scene_after : Scene → List ℕ → Scene
 scene_after s [] = s
 scene_after s (p ∷ ps) = scene_after (next s p) ps
 
--- before a step there is an account of each process, with fewer counted steps than steps were taken or begin
+-- before a step there is an account of each process; its counted steps, and the units that a process took or gave, are fewer
+-- than the steps that were taken or begin
 pub record IsKept (s : Scene) : Type 0 where
-  pub accounts : length s.tally ≡ length s.world.processes
-  pub below : AreBelow s.number s.tally
+  pub accounts : length s.tally.accounts ≡ length s.world.processes
+  pub below : AreBelow s.number s.tally.accounts
+  pub few : AreFew s.number s.tally.units

@@ -8,12 +8,12 @@ use Rattle.lab_trace.specs.Lines.{widths_for}
 use Rattle.lab_trace.specs.Scenes.{Scene, first_scene, events, scene_after}
 use Rattle.lab_trace.specs.Ends.{end_lines}
 use Rattle.lab_trace.specs.declared.lines.Widths.{Widths}
-use Rattle.lab_trace.specs.declared.tally.Account.{Account}
+use Rattle.lab_trace.specs.Tallies.{TallyState}
 use Rattle.lab_trace.specs.declared.fault.TraceFault.{TraceFault}
 use Rattle.lab_trace.specs.declared.fault.TraceFault.TheVariants.{NoProcess, Write, NoMemory}
 
 -- what follows the lines of the steps
-abbrev pub ending : Widths → WorldState → List Account → List ℕ
+abbrev pub ending : Widths → WorldState → TallyState → List ℕ
 ending v w t = end_lines v w t ++ report_text w
 
 abbrev pub trace_with : Widths → Scene → List ℕ → List ℕ

@@ -25,6 +25,8 @@ pub struct Asking {
     pub reply: String,
     /// The place of the object that it is on.
     pub place: Option<u8>,
+    /// The priority of a message that is sent.
+    pub priority: u16,
 }
 
 /// A process before its step.
@@ -60,6 +62,7 @@ fn asking_of(
         call,
         reply,
         place,
+        priority: register(process, 3),
     })
 }
 

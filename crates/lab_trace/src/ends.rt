@@ -10,34 +10,38 @@ use crate::handles::{held_place, push_level};
 use crate::lines::{Widths, push_head};
 use crate::others::{others_title, push_others};
 use crate::service::{Service, service_at};
-use crate::tally::{Account, Tally};
+use crate::takers::push_takers;
+use crate::tally::Tally;
 use crate::words::register;
 use lab_debug::machine;
 use lab_sched::{Process, World};
 use std::alloc::{AllocError, Global};
 
-/// Adds the object in a place, and who could serve a call of process `pid` on it.
+/// Adds the object in a place, who took its units, and who could serve a call of process `pid` on it.
 fn push_object(
     alloc: Global,
     text: &mut String,
     world: &World,
+    tally: &Tally,
     pid: usize,
     service: Service,
     place: Option<u8>,
 ) -> Result<(), AllocError>
-    ensures { OnOk result (string_bytes text.new ≡ string_bytes text.old ++ object_part world.now pid service place) }
+    ensures text { OnOk result (string_bytes text.new ≡ string_bytes text.old
+        ++ object_part world.now tally.now.units pid service place) }
 {
     let Some(place) = place else {
         return Ok(());
     };
     push_level(text, world.kernel(), place)?;
+    push_takers(alloc, text, world, tally, place, service)?;
     text.push_str(others_title(service))?;
     push_others(alloc, text, world, pid, place, service)
 }
 
 /// Adds since when a process waits.
 fn push_since(text: &mut String, since: Option<u32>) -> Result<(), AllocError>
-    ensures { OnOk result (string_bytes text.new ≡ string_bytes text.old ++ since_part since) }
+    ensures text { OnOk result (string_bytes text.new ≡ string_bytes text.old ++ since_part since) }
 {
     match since {
         Some(since) => match write!(text, " since {since}") {
@@ -53,24 +57,26 @@ fn push_wait(
     alloc: Global,
     text: &mut String,
     world: &World,
-    account: Account,
+    tally: &Tally,
     pid: usize,
     process: &Process,
 ) -> Result<(), AllocError>
     requires process { pid < length world.now.processes }
-    ensures { OnOk result (string_bytes text.new ≡ string_bytes text.old ++ wait_text world.now account pid (machine_of (seen process.now)) (service_at (machine_of (seen process.now)))) }
+    ensures text { OnOk result (string_bytes text.new ≡ string_bytes text.old
+        ++ wait_text world.now tally.now pid (machine_of (seen process.now))
+        (service_at (machine_of (seen process.now)))) }
 {
     let Some(service) = service_at(process) else {
         return Ok(());
     };
     let kernel = world.kernel();
     text.push_str("waits")?;
-    push_since(text, account.since)?;
+    push_since(text, tally.account(pid).since)?;
     text.push_str(" in ")?;
     push_call(alloc, text, kernel, pid, process, service)?;
     text.push_str(": ")?;
     let place = held_place(kernel, pid, service, register(process, 0));
-    push_object(alloc, text, world, pid, service, place)
+    push_object(alloc, text, world, tally, pid, service, place)
 }
 
 /// Adds the line of process `pid`, if it hasn't ended.
@@ -79,23 +85,25 @@ fn push_stand(
     text: &mut String,
     world: &World,
     widths: Widths,
-    account: Account,
+    tally: &Tally,
     pid: usize,
     process: &Process,
 ) -> Result<(), AllocError>
     requires process { pid < length world.now.processes }
-    ensures { OnOk result (string_bytes text.new ≡ string_bytes text.old ++ stand widths world.now account pid (seen process.now)) }
+    ensures text { OnOk result (string_bytes text.new ≡ string_bytes text.old
+        ++ stand widths world.now tally.now pid (seen process.now)) }
 {
     let pc = machine::pc(process);
+    let local = tally.account(pid).local;
     match process {
         Process::Running(_) => {
-            push_head(alloc, text, widths, "end", pid, pc, account.local)?;
+            push_head(alloc, text, widths, "end", pid, pc, local)?;
             text.push_str("runs")?;
             text.push_str("\n")
         }
         Process::Waiting(_, _) => {
-            push_head(alloc, text, widths, "end", pid, pc, account.local)?;
-            push_wait(alloc, text, world, account, pid, process)?;
+            push_head(alloc, text, widths, "end", pid, pc, local)?;
+            push_wait(alloc, text, world, tally, pid, process)?;
             text.push_str("\n")
         }
         Process::Ended(_) => Ok(()),
@@ -112,10 +120,11 @@ fn push_stand_line(
     pid: usize,
 ) -> Result<(), AllocError>
     requires process { pid < length world.now.processes }
-    ensures { OnOk result (string_bytes text.new ≡ string_bytes text.old ++ stand_line widths world.now tally.now pid (slice_get world.now.processes pid)) }
+    ensures text { OnOk result (string_bytes text.new ≡ string_bytes text.old
+        ++ stand_line widths world.now tally.now pid (slice_get world.now.processes pid)) }
 {
     match world.process(pid) {
-        Some(process) => push_stand(alloc, text, world, widths, tally.account(pid), pid, process),
+        Some(process) => push_stand(alloc, text, world, widths, tally, pid, process),
         None => Ok(()),
     }
 }
@@ -129,7 +138,8 @@ pub fn push_ends(
     widths: Widths,
     tally: &Tally,
 ) -> Result<(), AllocError>
-    ensures { OnOk result (string_bytes text.new ≡ string_bytes text.old ++ end_lines widths world.now tally.now) }
+    ensures text { OnOk result (string_bytes text.new ≡ string_bytes text.old
+        ++ end_lines widths world.now tally.now) }
 {
     for pid in 0..world.count() {
         push_stand_line(alloc, text, world, widths, tally, pid)?;

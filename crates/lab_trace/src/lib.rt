@@ -10,13 +10,17 @@ mod ends;
 mod fault;
 mod flags;
 mod handles;
+mod keeping;
 mod lines;
 mod message;
+mod origins;
 mod others;
 mod service;
 mod step;
+mod takers;
 mod tally;
 mod tracing;
+mod units;
 mod words;
 
 pub use fault::TraceFault;

@@ -3,14 +3,18 @@ ghost use Rattle.std.specs.Prelude.{◌≡◌, ◌≤◌, ◌<◌, ◌^◌, ◌+
 ghost use Rattle.std.specs.Fmt.{decimal};
 ghost use Rattle.lab_sched.specs.Held.{seen};
 ghost use Rattle.lab_debug.specs.Texts.{machine_of};
+ghost use Rattle.lab_trace.specs.Answers.{result_of};
 ghost use Rattle.lab_trace.specs.Questions.{question_of};
-ghost use Rattle.lab_trace.specs.Lines.{widths_for, process_column, local_column, head, opened_place, told_place, separator, level_note, waited_text, wait_note, notes, call_line, output_text, end_text};
+ghost use Rattle.lab_trace.specs.Origins.{first_in, origin_by};
+ghost use Rattle.lab_trace.specs.Tallies.{account_of};
+ghost use Rattle.lab_trace.specs.Lines.{widths_for, process_column, local_column, head, opened_place, told_place, separator, level_note, waited_text, wait_note, origin_text, origin_note, notes, call_line, output_text, end_text};
 
 use crate::answers::{push_answer, result_of};
 use crate::asking::{Asking, Observed};
 use crate::handles::{held_place, push_level};
+use crate::origins::Origin;
 use crate::service::Service;
-use crate::tally::Account;
+use crate::tally::{Account, Tally};
 use crate::words::{push_address, push_at_left, push_at_right, push_bytes};
 use ipc_kernel::Kernel;
 use lab_debug::{how_name, machine};
@@ -44,7 +48,7 @@ impl Widths {
     /// The widths for a schedule of so many steps of so many processes.
     pub fn new(alloc: Global, total: u32, count: usize) -> Result<Widths, AllocError>
         requires some { 1 ≤ count }
-        ensures { IfOk result (λ v. v ≡ widths_for total count) }
+        ensures widths { IfOk result (λ v. v ≡ widths_for total count) }
     {
         let step = digits(alloc, total as usize)?.max(3);
         let process = 1 + digits(alloc, count - 1)?;
@@ -60,7 +64,8 @@ fn push_process(
     width: usize,
     pid: usize,
 ) -> Result<(), AllocError>
-    ensures { OnOk result (string_bytes text.new ≡ string_bytes text.old ++ process_column width pid) }
+    ensures text { OnOk result (string_bytes text.new ≡ string_bytes text.old
+        ++ process_column width pid) }
 {
     let process = format!(in alloc; "P{pid}")?;
     push_at_left(text, width, &process)?;
@@ -70,7 +75,8 @@ fn push_process(
 /// Adds counted steps and a blank, in the width of the column.
 #[tactic(auto, unfolding(crate::specs::Lines::local_column))]
 fn push_local(alloc: Global, text: &mut String, local: u32) -> Result<(), AllocError>
-    ensures { OnOk result (string_bytes text.new ≡ string_bytes text.old ++ local_column local) }
+    ensures text { OnOk result (string_bytes text.new ≡ string_bytes text.old
+        ++ local_column local) }
 {
     let local = format!(in alloc; "+{local}")?;
     push_at_right(text, LOCAL_WIDTH, &local)?;
@@ -88,7 +94,8 @@ pub fn push_head(
     address: u16,
     local: u32,
 ) -> Result<(), AllocError>
-    ensures { OnOk result (string_bytes text.new ≡ string_bytes text.old ++ head widths step.now pid address local) }
+    ensures text { OnOk result (string_bytes text.new ≡ string_bytes text.old
+        ++ head widths step.now pid address local) }
 {
     push_at_right(text, widths.step, step)?;
     text.push_str(" ")?;
@@ -132,7 +139,8 @@ fn told_place(kernel: &Kernel, pid: usize, asking: &Asking, after: &Process) -> 
 
 /// Adds the level of the object in a place, where there is one.
 fn push_level_note(text: &mut String, kernel: &Kernel, place: Option<u8>) -> Result<(), AllocError>
-    ensures { OnOk result (string_bytes text.new ≡ string_bytes text.old ++ level_note kernel.now place) }
+    ensures text { OnOk result (string_bytes text.new ≡ string_bytes text.old
+        ++ level_note kernel.now place) }
 {
     let Some(place) = place else {
         return Ok(());
@@ -151,7 +159,8 @@ fn separator(begun: bool) -> &'static str
 /// Adds since when a process waited.
 #[tactic(auto, unfolding(crate::specs::Lines::waited_text))]
 fn push_waited(text: &mut String, since: u32) -> Result<(), AllocError>
-    ensures { OnOk result (string_bytes text.new ≡ string_bytes text.old ++ waited_text since) }
+    ensures text { OnOk result (string_bytes text.new ≡ string_bytes text.old
+        ++ waited_text since) }
 {
     match write!(text, "waited since {since}") {
         Ok(()) => Ok(()),
@@ -161,7 +170,8 @@ fn push_waited(text: &mut String, since: u32) -> Result<(), AllocError>
 
 /// Adds since when a process waited, where it did.
 fn push_wait_note(text: &mut String, begun: bool, since: Option<u32>) -> Result<(), AllocError>
-    ensures { OnOk result (string_bytes text.new ≡ string_bytes text.old ++ wait_note begun since) }
+    ensures text { OnOk result (string_bytes text.new ≡ string_bytes text.old
+        ++ wait_note begun since) }
 {
     let Some(since) = since else {
         return Ok(());
@@ -170,16 +180,70 @@ fn push_wait_note(text: &mut String, begun: bool, since: Option<u32>) -> Result<
     push_waited(text, since)
 }
 
+/// Adds where a message comes from.
+#[tactic(auto, unfolding(crate::specs::Lines::origin_text))]
+fn push_origin(text: &mut String, origin: Origin) -> Result<(), AllocError>
+    ensures text { OnOk result (string_bytes text.new ≡ string_bytes text.old
+        ++ origin_text origin) }
+{
+    let sender = origin.pid;
+    let step = origin.step;
+    match write!(text, "from P{sender} at {step}") {
+        Ok(()) => Ok(()),
+        Err(error) => Err(error),
+    }
+}
+
+/// Adds where the message comes from that was received, where one was.
+fn push_origin_note(
+    text: &mut String,
+    begun: bool,
+    origin: Option<Origin>,
+) -> Result<(), AllocError>
+    ensures text { OnOk result (string_bytes text.new ≡ string_bytes text.old
+        ++ origin_note begun origin) }
+{
+    let Some(origin) = origin else {
+        return Ok(());
+    };
+    text.push_str(separator(begun))?;
+    push_origin(text, origin)
+}
+
+/// Where the first message of the queue in a place comes from.
+fn first_in(tally: &Tally, place: Option<u8>) -> Option<Origin>
+    ensures value { result ≡ first_in place tally.now.origins }
+{
+    match place {
+        Some(place) => tally.first_origin(place),
+        None => None,
+    }
+}
+
+/// Where the message comes from that a call received.
+fn origin_of(tally: &Tally, asking: &Asking, after: &Process) -> Option<Origin>
+    ensures value { result ≡ origin_by (question_of asking.now) (result_of (seen after.now))
+        tally.now.origins }
+{
+    match (result_of(after), asking.service) {
+        (Some(_), Service::MqReceive) => first_in(tally, asking.place),
+        _ => None,
+    }
+}
+
 /// Adds the notes of a call.
 fn push_notes(
     text: &mut String,
     kernel: &Kernel,
     account: Account,
+    origin: Option<Origin>,
     place: Option<u8>,
 ) -> Result<(), AllocError>
-    ensures { OnOk result (string_bytes text.new ≡ string_bytes text.old ++ notes kernel.now account place) }
+    ensures text { OnOk result (string_bytes text.new ≡ string_bytes text.old
+        ++ notes kernel.now account origin place) }
 {
     push_level_note(text, kernel, place)?;
+    push_origin_note(text, place.is_some(), origin)?;
     push_wait_note(text, place.is_some(), account.since)
 }
 
@@ -188,28 +252,28 @@ fn push_notes(
 pub fn push_call_line(
     text: &mut String,
     kernel: &Kernel,
-    account: Account,
+    tally: &Tally,
     pid: usize,
     asking: &Asking,
     after: &Process,
 ) -> Result<(), AllocError>
     requires process { pid < length kernel.now.processes }
-    ensures { OnOk result (string_bytes text.new ≡ string_bytes text.old ++ call_line kernel.now account pid (question_of asking.now) (seen after.now)) }
+    ensures text { OnOk result (string_bytes text.new ≡ string_bytes text.old
+        ++ call_line kernel.now (account_of tally.now pid) tally.now.origins pid
+        (question_of asking.now) (seen after.now)) }
 {
     text.push_str(&asking.call)?;
     push_answer(text, after, &asking.reply)?;
-    push_notes(
-        text,
-        kernel,
-        account,
-        told_place(kernel, pid, asking, after),
-    )
+    let origin = origin_of(tally, asking, after);
+    let place = told_place(kernel, pid, asking, after);
+    push_notes(text, kernel, tally.account(pid), origin, place)
 }
 
 /// Adds the text of the instruction and the bytes that it wrote.
 #[tactic(auto, unfolding(crate::specs::Lines::output_text))]
 pub fn push_output(text: &mut String, word: u16, bytes: &[u8]) -> Result<(), AllocError>
-    ensures { OnOk result (string_bytes text.new ≡ string_bytes text.old ++ output_text word bytes.now) }
+    ensures text { OnOk result (string_bytes text.new ≡ string_bytes text.old
+        ++ output_text word bytes.now) }
 {
     let instruction = WordText(word);
     write!(text, "{instruction} ")?;
@@ -218,7 +282,7 @@ pub fn push_output(text: &mut String, word: u16, bytes: &[u8]) -> Result<(), All
 
 /// Adds how a process ended.
 pub fn push_end(text: &mut String, how: How) -> Result<(), AllocError>
-    ensures { OnOk result (string_bytes text.new ≡ string_bytes text.old ++ end_text how) }
+    ensures text { OnOk result (string_bytes text.new ≡ string_bytes text.old ++ end_text how) }
 {
     text.push_str("ends ")?;
     text.push_str(how_name(how))

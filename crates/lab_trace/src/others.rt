@@ -84,7 +84,8 @@ fn push_other(
     other: usize,
 ) -> Result<(), AllocError>
     requires process { other < length kernel.now.processes }
-    ensures { OnOk result (string_bytes text.new ≡ string_bytes text.old ++ other_text kernel.now pid place service other) }
+    ensures text { OnOk result (string_bytes text.new ≡ string_bytes text.old
+        ++ other_text kernel.now pid place service other) }
 {
     if other != pid && has_open(kernel, place, service, other) {
         match write!(text, " P{other}") {
@@ -105,7 +106,8 @@ fn others(
     place: u8,
     service: Service,
 ) -> Result<String, AllocError>
-    ensures found { IfOk result (λ s. string_bytes s ≡ each (length world.now.processes) (other_text world.now.kernel pid place service)) }
+    ensures found { IfOk result (λ s. string_bytes s
+        ≡ each (length world.now.processes) (other_text world.now.kernel pid place service)) }
 {
     let mut found = String::new(alloc);
     let kernel = world.kernel();
@@ -116,8 +118,9 @@ fn others(
 }
 
 /// Adds processes that were found, or that there is nobody.
-fn push_or_nobody(text: &mut String, found: &str) -> Result<(), AllocError>
-    ensures { OnOk result (string_bytes text.new ≡ string_bytes text.old ++ or_nobody found.now) }
+pub fn push_or_nobody(text: &mut String, found: &str) -> Result<(), AllocError>
+    ensures text { OnOk result (string_bytes text.new ≡ string_bytes text.old
+        ++ or_nobody found.now) }
 {
     if found.is_empty() {
         text.push_str(" nobody")
@@ -136,7 +139,8 @@ pub fn push_others(
     place: u8,
     service: Service,
 ) -> Result<(), AllocError>
-    ensures { OnOk result (string_bytes text.new ≡ string_bytes text.old ++ others_text world.now pid place service) }
+    ensures text { OnOk result (string_bytes text.new ≡ string_bytes text.old
+        ++ others_text world.now pid place service) }
 {
     let found = others(alloc, world, pid, place, service)?;
     push_or_nobody(text, &found)

@@ -1,15 +1,17 @@
 //! One step of a trace.
-ghost use Rattle.std.specs.Prelude.{◌≡◌, ◌<◌, ◌++◌, IfOk, OnOk, length, string_bytes, slice_get};
+ghost use Rattle.std.specs.Prelude.{◌≡◌, ◌<◌, ◌==◌, ◌++◌, IfOk, OnOk, length, string_bytes, slice_get};
 ghost use Rattle.std.specs.Fmt.{decimal};
 ghost use Rattle.lab_sched.specs.Worlds.{step, turn_in};
 ghost use Rattle.lab_sched.specs.Held.{seen, told_of};
-ghost use Rattle.lab_trace.specs.Questions.{question_of, before_of};
+ghost use Rattle.lab_trace.specs.Questions.{before_of};
 ghost use Rattle.lab_trace.specs.Events.{event_of, has_line};
 ghost use Rattle.lab_trace.specs.Tallies.{account_of, account_after, waits_from};
+ghost use Rattle.lab_trace.specs.Units.{AreFew};
 ghost use Rattle.lab_trace.specs.Lines.{what, event_line};
 ghost use Rattle.lab_trace.specs.Scenes.{has_effect, line_by, tally_by, line, tallied};
 
 use crate::asking::{Observed, observe};
+use crate::keeping::{keep_origins, keep_units};
 use crate::lines::{Widths, new_output, push_call_line, push_end, push_head, push_output};
 use crate::tally::{Account, Tally};
 use ipc_kernel::Kernel;
@@ -48,16 +50,18 @@ fn has_line(before: &Observed, after: &Process) -> bool
 fn push_what(
     text: &mut String,
     kernel: &Kernel,
-    account: Account,
+    tally: &Tally,
     pid: usize,
     before: &Observed,
     after: &Process,
 ) -> Result<(), AllocError>
     requires process { pid < length kernel.now.processes }
-    ensures { OnOk result (string_bytes text.new ≡ string_bytes text.old ++ what kernel.now account pid (before_of before.now) (seen after.now) (event_of (before_of before.now) (seen after.now))) }
+    ensures text { OnOk result (string_bytes text.new ≡ string_bytes text.old
+        ++ what kernel.now (account_of tally.now pid) tally.now.origins pid (before_of before.now)
+        (seen after.now) (event_of (before_of before.now) (seen after.now))) }
 {
     match (&before.asking, after) {
-        (Some(asking), _) => push_call_line(text, kernel, account, pid, asking, after),
+        (Some(asking), _) => push_call_line(text, kernel, tally, pid, asking, after),
         (None, Process::Ended(ended)) => push_end(text, ended.how()),
         (None, _) => {
             let bytes = new_output(before, after);
@@ -74,7 +78,7 @@ fn push_what(
 fn line_of(
     alloc: Global,
     kernel: &Kernel,
-    account: Account,
+    tally: &Tally,
     widths: Widths,
     number: u32,
     pid: usize,
@@ -82,23 +86,19 @@ fn line_of(
     after: &Process,
 ) -> Result<String, AllocError>
     requires process { pid < length kernel.now.processes }
-    ensures line { IfOk result (λ s. string_bytes s ≡ event_line widths number kernel.now account pid (before_of before.now) (seen after.now) (event_of (before_of before.now) (seen after.now))) }
+    ensures line { IfOk result (λ s. string_bytes s
+        ≡ event_line widths number kernel.now (account_of tally.now pid) tally.now.origins pid
+        (before_of before.now) (seen after.now)
+        (event_of (before_of before.now) (seen after.now))) }
 {
     let mut line = String::new(alloc);
     if !has_line(before, after) {
         return Ok(line);
     }
     let number = format!(in alloc; "{number}")?;
-    push_head(
-        alloc,
-        &mut line,
-        widths,
-        &number,
-        pid,
-        before.pc,
-        account.local,
-    )?;
-    push_what(&mut line, kernel, account, pid, before, after)?;
+    let local = tally.account(pid).local;
+    push_head(alloc, &mut line, widths, &number, pid, before.pc, local)?;
+    push_what(&mut line, kernel, tally, pid, before, after)?;
     line.push_str("\n")?;
     Ok(line)
 }
@@ -114,20 +114,13 @@ fn shown(
     before: &Observed,
 ) -> Result<String, AllocError>
     requires process { pid < length world.now.processes }
-    ensures line { IfOk result (λ s. string_bytes s ≡ line_by widths number world.now.kernel tally.now pid (before_of before.now) (slice_get world.now.processes pid)) }
+    ensures line { IfOk result (λ s. string_bytes s
+        ≡ line_by widths number world.now.kernel tally.now pid (before_of before.now)
+        (slice_get world.now.processes pid)) }
 {
     let kernel = world.kernel();
     match world.process(pid) {
-        Some(after) => line_of(
-            alloc,
-            kernel,
-            tally.account(pid),
-            widths,
-            number,
-            pid,
-            before,
-            after,
-        ),
+        Some(after) => line_of(alloc, kernel, tally, widths, number, pid, before, after),
         None => Ok(String::new(alloc)),
     }
 }
@@ -145,7 +138,8 @@ fn waits_from(number: u32, after: &Process) -> Option<u32>
 /// The account of a process after step `number`, which had an effect.
 fn account_after(number: u32, before: &Observed, after: &Process, account: Account) -> Account
     requires room { account.local < number }
-    ensures account { result ≡ account_after number (seen after.now) (event_of (before_of before.now) (seen after.now)) account }
+    ensures account { result ≡ account_after number (seen after.now)
+        (event_of (before_of before.now) (seen after.now)) account }
 {
     if has_line(before, after) {
         Account {
@@ -161,15 +155,29 @@ fn account_after(number: u32, before: &Observed, after: &Process, account: Accou
 }
 
 /// Keeps a step with an effect of process `pid`, by the world after it.
-fn keep(world: &World, tally: &mut Tally, number: u32, pid: usize, before: &Observed)
-    requires process { pid < length tally.old }
+fn keep(
+    world: &World,
+    tally: &mut Tally,
+    number: u32,
+    pid: usize,
+    before: &Observed,
+) -> Result<(), AllocError>
+    requires process { pid < length world.now.processes }
+    requires account { pid < length tally.old.accounts }
     requires room { (account_of tally.old pid).local < number }
-    ensures kept { tally.new ≡ tally_by number tally.old pid (before_of before.now) (slice_get world.now.processes pid) }
+    requires few { AreFew number tally.old.units }
+    ensures kept { OnOk result (tally.new
+        ≡ tally_by number world.now.kernel tally.old pid (before_of before.now)
+        (slice_get world.now.processes pid)) }
 {
-    if let Some(after) = world.process(pid) {
-        let account = account_after(number, before, after, tally.account(pid));
-        tally.keep(pid, account);
-    }
+    let kernel = world.kernel();
+    let Some(after) = world.process(pid) else {
+        return Ok(());
+    };
+    let account = account_after(number, before, after, tally.account(pid));
+    tally.keep(pid, account);
+    keep_origins(kernel, tally, number, pid, before, after)?;
+    keep_units(kernel, tally, pid, before, after)
 }
 
 /// Takes step number `number`, of process `pid`, and tells its line; the tally keeps it.
@@ -183,11 +191,14 @@ pub fn trace_step(
     pid: usize,
 ) -> Result<Traced, AllocError>
     requires process { pid < length world.old.processes }
-    requires account { pid < length tally.old }
+    requires account { pid < length tally.old.accounts }
     requires room { (account_of tally.old pid).local < number }
-    ensures line { IfOk result (λ r. string_bytes r.line ≡ line widths (record { number = number; world = world.old; tally = tally.old }) pid) }
+    requires few { AreFew number tally.old.units }
+    ensures line { IfOk result (λ r. string_bytes r.line
+        ≡ line widths (record { number = number; world = world.old; tally = tally.old }) pid) }
     ensures world { OnOk result (world.new ≡ step world.old pid) }
-    ensures tally { OnOk result (tally.new ≡ tallied (record { number = number; world = world.old; tally = tally.old }) pid) }
+    ensures tally { OnOk result (tally.new
+        ≡ tallied (record { number = number; world = world.old; tally = tally.old }) pid) }
     ensures told { IfOk result (λ r. r.stepped ≡ told_of (turn_in world.old pid)) }
 {
     let before = observe(alloc, world, pid)?;
@@ -201,6 +212,6 @@ pub fn trace_step(
         });
     }
     let line = shown(alloc, world, tally, widths, number, pid, &before)?;
-    keep(world, tally, number, pid, &before);
+    keep(world, tally, number, pid, &before)?;
     Ok(Traced { line, stepped })
 }

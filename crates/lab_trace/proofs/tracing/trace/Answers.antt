@@ -4,7 +4,7 @@ use Rattle.std.proofs.KnownBytes.{Appends-trans}
 use Rattle.lab_io.proofs.Prefixes.{AppendsPrefix-after}
 use Rattle.lab_sched.specs.Schedules.{steps_of}
 use Rattle.lab_trace.specs.Scenes.{Scene, events}
-use Rattle.lab_trace.specs.Tallies.{new_account}
+use Rattle.lab_trace.specs.Tallies.{new_tally}
 use Rattle.lab_trace.proofs.SceneLemmas.{scene-world}
 use Rattle.lab_trace.proofs.WrittenLemmas.{on_err, on_ok, on_err-map, on_ok-map, scene, trace-whole, lines-prefix, prefix-lines, widths-are}
 use Rattle.lab_trace.proofs.tracing.trace.Goals as goal
@@ -13,8 +13,8 @@ pub returns-in_err-trace_blocks-clause-prefix : goal.returns-in_err-trace_blocks
 returns-in_err-trace_blocks-clause-prefix g c =
     let ps = steps_of c.args.schedule.now in
     let v = c.in_ok-widths.widths in
-    let wide = widths-are v c.total.result c.count.result ps c.args.world.now c.in_ok-widths.ensures c.total.ensures.steps c.count.ensures.count in
-    let first = c.in_ok-tally.ensures.empty ∙ ap (λ n. replicate n new_account) c.count-2.ensures.count in
+    let wide = widths-are v c.total.result c.count.result ps c.args.world.now c.in_ok-widths.ensures.widths c.total.ensures.steps c.count.ensures.count in
+    let first = c.in_ok-tally.ensures.empty ∙ ap new_tally c.count-2.ensures.count in
     let part = rw c.blocks-2.ensures.value at c.in_err-trace_blocks.ensures.prefix in
     on_err _ _ (prefix-lines c.args.world.now ps v c.in_ok-tally.tally _ _ wide first part)
 
@@ -22,8 +22,8 @@ pub returns-in_err-text-clause-prefix : goal.returns-in_err-text-clause-prefix
 returns-in_err-text-clause-prefix g c =
     let ps = steps_of c.args.schedule.now in
     let v = c.in_ok-widths.widths in
-    let wide = widths-are v c.total.result c.count.result ps c.args.world.now c.in_ok-widths.ensures c.total.ensures.steps c.count.ensures.count in
-    let first = c.in_ok-tally.ensures.empty ∙ ap (λ n. replicate n new_account) c.count-2.ensures.count in
+    let wide = widths-are v c.total.result c.count.result ps c.args.world.now c.in_ok-widths.ensures.widths c.total.ensures.steps c.count.ensures.count in
+    let first = c.in_ok-tally.ensures.empty ∙ ap new_tally c.count-2.ensures.count in
     let sent = rw c.blocks-2.ensures.value at c.in_ok-trace_blocks.ensures.written in
     on_err _ _ (lines-prefix c.args.world.now ps v c.in_ok-tally.tally _ _ wide first sent)
 
@@ -31,8 +31,8 @@ pub returns-clause-written : goal.returns-clause-written
 returns-clause-written g c =
     let ps = steps_of c.args.schedule.now in
     let v = c.in_ok-widths.widths in
-    let wide = widths-are v c.total.result c.count.result ps c.args.world.now c.in_ok-widths.ensures c.total.ensures.steps c.count.ensures.count in
-    let first = c.in_ok-tally.ensures.empty ∙ ap (λ n. replicate n new_account) c.count-2.ensures.count in
+    let wide = widths-are v c.total.result c.count.result ps c.args.world.now c.in_ok-widths.ensures.widths c.total.ensures.steps c.count.ensures.count in
+    let first = c.in_ok-tally.ensures.empty ∙ ap new_tally c.count-2.ensures.count in
     let sent = rw c.blocks-2.ensures.value at c.in_ok-trace_blocks.ensures.written in
     let led = rw c.blocks-2.ensures.value at c.in_ok-trace_blocks.ensures.scene in
     let s = scene 1 c.args.world.now c.in_ok-tally.tally in
@@ -53,8 +53,8 @@ pub returns-clause-prefix : goal.returns-clause-prefix
 returns-clause-prefix g c =
     let ps = steps_of c.args.schedule.now in
     let v = c.in_ok-widths.widths in
-    let wide = widths-are v c.total.result c.count.result ps c.args.world.now c.in_ok-widths.ensures c.total.ensures.steps c.count.ensures.count in
-    let first = c.in_ok-tally.ensures.empty ∙ ap (λ n. replicate n new_account) c.count-2.ensures.count in
+    let wide = widths-are v c.total.result c.count.result ps c.args.world.now c.in_ok-widths.ensures.widths c.total.ensures.steps c.count.ensures.count in
+    let first = c.in_ok-tally.ensures.empty ∙ ap new_tally c.count-2.ensures.count in
     let sent = rw c.blocks-2.ensures.value at c.in_ok-trace_blocks.ensures.written in
     let led = rw c.blocks-2.ensures.value at c.in_ok-trace_blocks.ensures.scene in
     let s = scene 1 c.args.world.now c.in_ok-tally.tally in

@@ -1,0 +1,17 @@
+use Rattle.std.proofs.Common.{◌≡◌, ap, ◌∙◌, List, [], replicate, arith}
+use Rattle.lab_trace.specs.Tallies.{TallyState, new_account, new_tally}
+use Rattle.lab_trace.specs.declared.tally.Account.{Account}
+use Rattle.lab_trace.specs.declared.origins.Origin.{Origin}
+use Rattle.lab_trace.specs.declared.units.UnitCount.{UnitCount}
+use Rattle.lab_trace.proofs.tally.Tally.new.Goals as goal
+
+pub returns : goal.returns
+returns c =
+    let as_tally : List Account → List Origin → List UnitCount → TallyState = λ xs os us. record { accounts = xs; origins = os; units = us } in
+    let all : c.loop.counter ≡ c.args.count = omega arith in
+    let accounts = c.loop.invariant ∙ ap (λ n. replicate n new_account) all in
+    record {
+      empty = ap (λ xs. as_tally xs c.new.result c.new-2.result) accounts
+          ∙ ap (λ os. as_tally (new_tally c.args.count).accounts os c.new-2.result) c.new.ensures.empty
+          ∙ ap (λ us. as_tally (new_tally c.args.count).accounts [] us) c.new-2.ensures.empty;
+    }

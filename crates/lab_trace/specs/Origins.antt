@@ -1,0 +1,73 @@
+-- Where the messages in queues come from.
+use Rattle.std.specs.Prelude.{ℕ, ◌==◌, ◌&&◌, nat_lt, not, Bool, if◌then◌else◌, Option, Some, None, List, length}
+use Rattle.std.specs.List.{find, filter, insert, remove, position_or_len}
+use Rattle.ipc_kernel.specs.Kernel.{KernelState}
+use Rattle.ipc_kernel.specs.Decisions.{queue_at}
+use Rattle.lab_sched.specs.Worlds.{Process}
+use Rattle.lab_trace.specs.Answers.{result_of}
+use Rattle.lab_trace.specs.Objects.{held_place}
+use Rattle.lab_trace.specs.Questions.{Question}
+use Rattle.lab_trace.specs.declared.origins.Origin.{Origin}
+use Rattle.lab_trace.specs.declared.service.Service.{Service}
+use Rattle.lab_trace.specs.declared.service.Service.TheVariants.{MqOpen, MqSend, MqReceive}
+
+-- whether a message is in the queue in a place
+abbrev pub is_in : ℕ → Origin → Bool
+is_in place o = o.place == place
+
+-- whether a message is in the queue in a place, and of a lesser priority
+abbrev pub is_below : ℕ → ℕ → Origin → Bool
+is_below place priority o = (o.place == place) && nat_lt o.priority priority
+
+-- a message goes before those of its queue that have a lesser priority
+unfoldable pub sent : Origin → List Origin → List Origin
+sent o os = insert os (position_or_len (is_below o.place o.priority) os) o
+
+-- the message of the queue in a place that is received first
+unfoldable pub first : ℕ → List Origin → Option Origin
+first place os = find (is_in place) os
+
+-- the others
+unfoldable pub received : ℕ → List Origin → List Origin
+received place os = remove os (position_or_len (is_in place) os)
+
+-- those of other queues
+unfoldable pub cleared : ℕ → List Origin → List Origin
+cleared place os = filter (λ o. not (is_in place o)) os
+
+-- an open found a queue without messages: it may be a new one
+abbrev pub opened : KernelState → Option ℕ → List Origin → List Origin
+opened k None os = os
+opened k (Some place) os = if length (queue_at k place).messages == 0 then cleared place os else os
+
+abbrev pub sent_to : ℕ → ℕ → ℕ → Option ℕ → List Origin → List Origin
+sent_to n p priority None os = os
+sent_to n p priority (Some place) os = sent (record { place = place; priority = priority; step = n; pid = p }) os
+
+abbrev pub received_in : Option ℕ → List Origin → List Origin
+received_in None os = os
+received_in (Some place) os = received place os
+
+-- after a call of process p in step n that was answered and not refused; k is the kernel after it
+abbrev pub changed : KernelState → ℕ → ℕ → Question → Service → ℕ → List Origin → List Origin
+changed k n p q MqOpen result os = opened k (held_place k p MqOpen result) os
+changed k n p q MqSend result os = sent_to n p q.priority q.place os
+changed k n p q MqReceive result os = received_in q.place os
+changed k n p q other result os = os
+
+abbrev pub changed_by : KernelState → ℕ → ℕ → Question → Option ℕ → List Origin → List Origin
+changed_by k n p q None os = os
+changed_by k n p q (Some result) os = changed k n p q q.service result os
+
+abbrev pub first_in : Option ℕ → List Origin → Option Origin
+first_in None os = None
+first_in (Some place) os = first place os
+
+abbrev pub origin_in : Service → Option ℕ → List Origin → Option Origin
+origin_in MqReceive place os = first_in place os
+origin_in other place os = None
+
+-- where the message comes from that a call received
+abbrev pub origin_by : Question → Option ℕ → List Origin → Option Origin
+origin_by q None os = None
+origin_by q (Some result) os = origin_in q.service q.place os

@@ -1,0 +1,97 @@
+//! Who took units of a semaphore and didn't give them back.
+ghost use Rattle.std.specs.Prelude.{◌≡◌, ◌++◌, OnOk, IfOk, length, string_bytes, slice_get};
+ghost use Rattle.std.specs.Option.{option_map, option_copied};
+ghost use Rattle.lab_sched.specs.Held.{seen};
+ghost use Rattle.lab_debug.specs.Rows.{each};
+ghost use Rattle.lab_trace.specs.Ends.{times_text, ended_text, taker_of, taker_text, takers_text, takers_part};
+
+use crate::others::push_or_nobody;
+use crate::service::Service;
+use crate::tally::Tally;
+use lab_sched::{Process, World};
+use std::alloc::{AllocError, Global};
+
+/// Adds how many units, where it is more than one.
+#[tactic(auto, unfolding(crate::specs::Ends::times_text))]
+fn push_times(text: &mut String, count: u32) -> Result<(), AllocError>
+    ensures text { OnOk result (string_bytes text.new ≡ string_bytes text.old ++ times_text count) }
+{
+    if count > 1 {
+        match write!(text, "*{count}") {
+            Ok(()) => Ok(()),
+            Err(error) => Err(error),
+        }
+    } else {
+        Ok(())
+    }
+}
+
+/// That a process has ended, or no text.
+fn ended_text(process: Option<&Process>) -> &'static str
+    ensures text { result.now ≡ ended_text (option_map seen (option_copied process.entry)) }
+{
+    match process {
+        Some(Process::Ended(_)) => "(ended)",
+        _ => "",
+    }
+}
+
+/// Adds process `pid`, where it took more units than it gave, by how many.
+#[tactic(auto, unfolding(crate::specs::Ends::taker_of))]
+fn push_taker(
+    text: &mut String,
+    pid: usize,
+    count: u32,
+    process: Option<&Process>,
+) -> Result<(), AllocError>
+    ensures text { OnOk result (string_bytes text.new ≡ string_bytes text.old
+        ++ taker_of pid count (option_map seen (option_copied process.entry))) }
+{
+    if count == 0 {
+        return Ok(());
+    }
+    write!(text, " P{pid}")?;
+    push_times(text, count)?;
+    text.push_str(ended_text(process))
+}
+
+/// The processes that took more units of the semaphore in a place than they gave, each with a blank before it.
+#[tactic(auto, unfolding(lab_debug::specs::Rows::each))]
+fn takers(alloc: Global, world: &World, tally: &Tally, place: u8) -> Result<String, AllocError>
+    ensures found { IfOk result (λ s. string_bytes s
+        ≡ each (length world.now.processes) (taker_text world.now tally.now.units place)) }
+{
+    let mut found = String::new(alloc);
+    for pid in 0..world.count() {
+        push_taker(
+            &mut found,
+            pid,
+            tally.balance(place, pid),
+            world.process(pid),
+        )?;
+    }
+    Ok(found)
+}
+
+/// Adds who took units of the semaphore in a place that a call waits for and didn't give them back.
+#[tactic(auto, unfolding(crate::specs::Ends::takers_text))]
+pub fn push_takers(
+    alloc: Global,
+    text: &mut String,
+    world: &World,
+    tally: &Tally,
+    place: u8,
+    service: Service,
+) -> Result<(), AllocError>
+    ensures text { OnOk result (string_bytes text.new ≡ string_bytes text.old
+        ++ takers_part world.now tally.now.units place service) }
+{
+    match service {
+        Service::MqReceive | Service::MqSend => Ok(()),
+        _ => {
+            text.push_str(", taken by")?;
+            let found = takers(alloc, world, tally, place)?;
+            push_or_nobody(text, &found)
+        }
+    }
+}
