@@ -6,7 +6,7 @@ mod parser;
 mod request;
 
 pub use parser::read_words;
-pub use request::{Question, Refusal, Request, Rest, Setup};
+pub use request::{Page, Question, Refusal, Request, Rest, Setup};
 
 /// The most steps of each process that can be asked for.
 pub const MOST_STEPS: u32 = 10_000_000;

@@ -1,5 +1,5 @@
 //! The words of the command line, read by a parser of commands.
-use crate::request::{Question, Refusal, Request, Rest, Setup};
+use crate::request::{Page, Question, Refusal, Request, Rest, Setup};
 use crate::{MOST_LOCAL_STEPS, MOST_STEPS, MOST_WORLDS, examples};
 use clap::builder::ValueParser;
 use clap::error::ErrorKind;
@@ -105,6 +105,19 @@ fn trace<'a>(alloc: Global) -> Result<Command<'a>, AllocError> {
         "trace",
         "Runs programs by the schedule on standard input and prints what happened",
         examples::TRACE,
+    )?
+    .arg(
+        Arg::new(alloc, "page").long("page").value_name("FILE").help(
+            "Also writes FILE, a page that shows the run step by step in a browser",
+        ),
+    )?
+    .arg(
+        Arg::new(alloc, "source")
+            .long("source")
+            .value_name("P=FILE")
+            .action(ArgAction::Append)
+            .help("On the page, shows the lines of FILE, the source of process P")
+            .requires_arg("page")?,
     )
 }
 
@@ -230,6 +243,7 @@ fn request_of<'a>(alloc: Global, matches: &ArgMatches<'a>) -> Result<Request<'a>
         },
         Some(("trace", words)) => Request::Trace {
             setup: setup_of(alloc, words)?,
+            page: page_of(alloc, words)?,
         },
         Some(("run", words)) => Request::Run {
             setup: setup_of(alloc, words)?,
@@ -249,6 +263,15 @@ fn request_of<'a>(alloc: Global, matches: &ArgMatches<'a>) -> Result<Request<'a>
         None => Request::Disassemble { object: "" },
     };
     Ok(request)
+}
+
+/// The page that the words of `trace` ask for, if they ask for one.
+fn page_of<'a>(alloc: Global, words: &ArgMatches<'a>) -> Result<Option<Page<'a>>, AllocError> {
+    let Some(file) = words.get_str("page") else {
+        return Ok(None);
+    };
+    let sources = words.get_strs("source").unwrap_or_default().to_vec(alloc)?;
+    Ok(Some(Page { file, sources }))
 }
 
 /// What the words of `explore` ask of the exploration.

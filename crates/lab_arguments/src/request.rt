@@ -19,6 +19,7 @@ pub enum Request<'a> {
     },
     Trace {
         setup: Setup<'a>,
+        page: Option<Page<'a>>,
     },
     Run {
         setup: Setup<'a>,
@@ -42,6 +43,15 @@ pub struct Setup<'a> {
     pub programs: Vec<&'a str>,
     /// The profile of the machines.
     pub profile: Profile,
+}
+
+/// What a page of a trace is made of.
+#[derive(Drop)]
+pub struct Page<'a> {
+    /// The file to write.
+    pub file: &'a str,
+    /// The words that name sources, each `P=FILE`.
+    pub sources: Vec<&'a str>,
 }
 
 /// What is asked of an exploration.

@@ -15,6 +15,14 @@ use std::fmt;
 pub enum Reason {
     /// The object file is the source.
     SameFile,
+    /// The page is a file that the run reads.
+    OwnFile,
+    /// A word names the source of a process that isn't there, or of none.
+    UnknownProcess,
+    /// A word names a second source of a process.
+    TwoSources,
+    /// A source isn't assembled to the object of a process.
+    NotItsSource { process: usize },
     Empty,
     BadWord { at: usize },
     OddLength,
@@ -161,6 +169,10 @@ impl fmt::Display for Reason {
     fn fmt<W: fmt::Write>(&self, f: &mut fmt::Formatter<W>) -> fmt::Result {
         match *self {
             Reason::SameFile => write!(f, "OBJECT is the file of SOURCE"),
+            Reason::OwnFile => write!(f, "FILE is a file of the run"),
+            Reason::UnknownProcess => write!(f, "--source names no process of the run"),
+            Reason::TwoSources => write!(f, "--source names a process twice"),
+            Reason::NotItsSource { process } => write!(f, "not the source of process {process}"),
             Reason::Empty => write!(f, "Empty"),
             Reason::BadWord { at } => write!(f, "word {at}: BadWord"),
             Reason::OddLength => write!(f, "OddLength"),
@@ -199,7 +211,10 @@ pub struct Complaint<'a> {
 impl<'a> Complaint<'a> {
     /// Whether the words of the command line are wrong.
     pub fn is_of_words(&self) -> bool {
-        matches!(self.reason, Reason::SameFile)
+        matches!(
+            self.reason,
+            Reason::SameFile | Reason::OwnFile | Reason::UnknownProcess | Reason::TwoSources
+        )
     }
 
     /// The complaint with further lines about the fault.

@@ -5,10 +5,11 @@ use lab_io::{Input, Output};
 use lc3_obj::{read_image, write_image};
 use lc3_word::Image;
 use std::alloc::Global;
-use std::fs;
+use std::fs::File;
 use std::io::{ErrorKind, Write};
 use std::os::unix::fs::MetadataExt;
 use std::rt::Files;
+use std::{fs, io};
 
 /// Whether two names lead to one file, by whatever ways.
 pub fn is_same_file<T: Files>(rt: &T, one: &str, other: &str) -> bool {
@@ -46,6 +47,51 @@ pub fn write_object<T: Files>(rt: &T, name: &str, image: &Image) -> Result<(), R
         Err(error) if error.kind() == ErrorKind::OutOfMemory => Err(Reason::NoMemory),
         Err(_) => Err(Reason::CannotWrite),
     }
+}
+
+/// Makes a file of bytes, whole or not at all: they are written to a new file beside it, which then takes its name. What is
+/// no plain file, as a device, is written itself.
+pub fn write_whole<T: Files>(
+    rt: &T,
+    alloc: Global,
+    name: &str,
+    bytes: &[u8],
+) -> Result<(), Reason> {
+    if fs::metadata(rt, name).is_ok_and(|found| !found.is_file()) {
+        return write_bytes(
+            fs::create(rt, name).map_err(|error| not_made(&error))?,
+            bytes,
+        );
+    }
+    let Ok(beside) = format!(in alloc; "{name}.part") else {
+        return Err(Reason::NoMemory);
+    };
+    let file = File::create_new(rt, beside.as_str()).map_err(|error| not_made(&error))?;
+    let written = write_bytes(file, bytes).and_then(|()| fs::rename(
+        rt,
+        beside.as_str(),
+        name,
+    ).map_err(|_| Reason::CannotWrite));
+    if written.is_err() {
+        let _ = fs::remove_file(rt, beside.as_str());
+    }
+    written
+}
+
+/// Why a file couldn't be made.
+fn not_made(error: &io::Error) -> Reason {
+    if error.kind() == ErrorKind::OutOfMemory {
+        Reason::NoMemory
+    } else {
+        Reason::CannotWrite
+    }
+}
+
+/// Writes bytes to a file.
+fn write_bytes<W: Write + Drop>(file: W, bytes: &[u8]) -> Result<(), Reason> {
+    Output::new(file)
+        .write_all(bytes)
+        .map_err(|_| Reason::CannotWrite)
 }
 
 /// Writes a text to the output of the program.

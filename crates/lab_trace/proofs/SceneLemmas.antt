@@ -69,7 +69,7 @@ tallied-still s p e =
     ap (λ (b : Bool). if b then tally_by s.number (step s.world p).kernel s.tally p (before_at s p) (slice_get (step s.world p).processes p) else s.tally)
     (ap (λ t. has_effect (told_of t)) e)
 
-next-still : (s : Scene) (p : ℕ) → turn_in s.world p ≡ nothing → next s p ≡ renumbered s (s.number + 1)
+pub next-still : (s : Scene) (p : ℕ) → turn_in s.world p ≡ nothing → next s p ≡ renumbered s (s.number + 1)
 next-still s p e =
     let as_scene : WorldState → TallyState → Scene = λ w t. record { number = s.number + 1; world = w; tally = t } in
     ap (λ w. as_scene w (tallied s p)) (ap (λ t. after s.world p t) e) ∙ ap (λ t. as_scene s.world t) (tallied-still s p e)

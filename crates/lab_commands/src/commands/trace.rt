@@ -1,12 +1,13 @@
 //! The command `trace`.
 ghost use Rattle.std.specs.Prelude.{◌≡◌, false};
 
+use crate::commands::page::{read_sources, refuse_own_file, source_files, write_page};
 use crate::commands::step::read_schedule;
 use crate::complaint::{Complaint, Reason};
 use crate::programs::{laboratory, read_programs};
-use lab_arguments::Setup;
+use lab_arguments::{Page, Setup};
 use lab_io::{Input, Output};
-use lab_sched::World;
+use lab_sched::{Program, Schedule, World};
 use lab_trace::trace;
 use std::alloc::Global;
 use std::io::{Read, Write};
@@ -26,7 +27,43 @@ pub fn trace_programs<'a, T: Files, R: Read, W: Write>(
 {
     let programs = read_programs(rt, alloc, setup.programs.as_slice())?;
     let schedule = read_schedule(alloc, input).map_err(|reason| reason.at("schedule"))?;
+    write_trace(alloc, setup, programs.as_slice(), &schedule, output)
+}
+
+/// Reads the sources too, behind the programs, and writes the page before the text. The page can't be a file that is read.
+pub fn trace_on_page<'a, T: Files, R: Read, W: Write>(
+    rt: &T,
+    alloc: Global,
+    setup: &Setup<'a>,
+    page: &Page<'a>,
+    input: &mut Input<R>,
+    output: &mut Output<W>,
+) -> Result<(), Complaint<'a>>
+    requires input_healthy { input.old.failed ≡ false }
+    requires output_healthy { output.old.failed ≡ false }
+{
+    let words = setup.programs.as_slice();
+    let files = source_files(alloc, page.sources.as_slice(), words.len())?;
+    refuse_own_file(rt, page.file, words, files.as_slice())?;
+    let programs = read_programs(rt, alloc, words)?;
+    let sources = read_sources(rt, alloc, files.as_slice(), programs.as_slice())?;
+    let schedule = read_schedule(alloc, input).map_err(|reason| reason.at("schedule"))?;
     let fresh = laboratory(alloc, programs.as_slice(), setup.profile)?;
+    write_page(rt, alloc, fresh, &schedule, words, sources, page.file)?;
+    write_trace(alloc, setup, programs.as_slice(), &schedule, output)
+}
+
+/// Writes what happens as the laboratory of programs runs by a schedule.
+fn write_trace<'a, W: Write>(
+    alloc: Global,
+    setup: &Setup<'a>,
+    programs: &[Program],
+    schedule: &Schedule,
+    output: &mut Output<W>,
+) -> Result<(), Complaint<'a>>
+    requires output_healthy { output.old.failed ≡ false }
+{
+    let fresh = laboratory(alloc, programs, setup.profile)?;
     let mut world = World::from(fresh);
-    trace(alloc, &mut world, &schedule, output).map_err(|fault| Reason::from(fault).at("run"))
+    trace(alloc, &mut world, schedule, output).map_err(|fault| Reason::from(fault).at("run"))
 }

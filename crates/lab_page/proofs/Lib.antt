@@ -1,0 +1,3 @@
+pub mod MomentLemmas
+pub mod SafeLemmas
+pub mod StartLemmas

@@ -1,0 +1,38 @@
+//! A whole page.
+ghost use Rattle.std.specs.Prelude.{◌≡◌, List, ℕ, IfOk};
+ghost use Rattle.lab_page.specs.Pages.{page_text, safe, HasNoTag};
+
+use crate::MOST_BYTES;
+use crate::data::Run;
+use crate::fault::PageFault;
+use crate::safe::push_safe;
+use crate::template::{push_after, push_before};
+use std::alloc::{AllocError, Global};
+
+/// The page with these data, as JSON.
+fn page_with(alloc: Global, json: &str) -> Result<Vec<u8>, AllocError>
+    ensures page { IfOk result (λ v. v.items ≡ page_text json.now) }
+{
+    let mut bytes = Vec::new(alloc);
+    push_before(&mut bytes)?;
+    push_safe(&mut bytes, json.as_bytes())?;
+    push_after(&mut bytes)?;
+    Ok(bytes)
+}
+
+/// The page of a run: HTML around the run as JSON, in which no `<` stands.
+///
+/// # Errors
+///
+/// `TooLarge` tells that the data have more than [`MOST_BYTES`] bytes.
+pub fn page(alloc: Global, run: &Run) -> Result<Vec<u8>, PageFault>
+    ensures page { IfOk result (λ v. (json : List ℕ) × (v.items ≡ page_text json) × HasNoTag (safe json)) }
+{
+    let Ok(json) = serde_json::to_string(alloc, run) else {
+        return Err(PageFault::NoMemory);
+    };
+    if json.len() > MOST_BYTES {
+        return Err(PageFault::TooLarge);
+    }
+    Ok(page_with(alloc, &json)?)
+}

@@ -1,0 +1,84 @@
+//! A run by a schedule, as a page holds it.
+ghost use Rattle.std.specs.Prelude.{◌≡◌, ℕ, Some, Err, IfOk, map, string_bytes};
+ghost use Rattle.lab_sched.specs.Schedules.{steps_of};
+ghost use Rattle.lab_trace.specs.Traces.{missing_after, AreThere};
+ghost use Rattle.lab_page.specs.Moments.{moments_of, moment_shown};
+ghost use Rattle.lab_page.specs.Runs.{ending_of, run_of, run_shown, sources_shown};
+ghost use Rattle.lab_page.specs.declared.fault.PageFault.TheVariants.{NoProcess};
+
+use crate::MOST_WHOLE;
+use crate::data::{Moment, Run, Source};
+use crate::fault::PageFault;
+use crate::moments::Moments;
+use crate::start::starts;
+use lab_sched::{Schedule, World};
+use lab_trace::{Tally, Widths, ending, missing_after};
+use std::alloc::Global;
+
+/// The form of the data.
+const FORMAT: &str = "lc3lab-page-1";
+
+/// What the steps of a schedule led to.
+#[derive(Drop)]
+struct Outcome {
+    moments: Vec<Moment>,
+    ending: String,
+}
+
+/// Takes the steps of a schedule, whose processes are all there.
+fn take_steps(
+    alloc: Global,
+    world: &mut World,
+    schedule: &Schedule,
+    whole: bool,
+) -> Result<Outcome, PageFault>
+    requires there { AreThere world.old schedule.now }
+    ensures moments { IfOk result (λ o. map moment_shown o.moments.items
+        ≡ moments_of whole world.old (steps_of schedule.now)) }
+    ensures ending { IfOk result (λ o. string_bytes o.ending ≡ ending_of world.old (steps_of schedule.now)) }
+{
+    let widths = Widths::new(alloc, schedule.total(), world.count())?;
+    let mut tally = Tally::new(alloc, world.count())?;
+    let mut moments = Moments::new(alloc);
+    moments.add_blocks(alloc, world, &mut tally, widths, whole, schedule.blocks())?;
+    Ok(Outcome {
+        moments: moments.into_vec(),
+        ending: ending(alloc, world, &tally, widths)?,
+    })
+}
+
+/// What a page holds of the run of a world by a schedule. The processes are called by these names, and have these sources,
+/// each where there is one. The world takes the steps of the schedule, but for one that names a process that isn't there.
+///
+/// # Errors
+///
+/// `NoProcess` tells after how many steps the schedule names a process that isn't there, and then no step was taken;
+/// `TooLarge` that the texts of the moments have more than [`MOST_BYTES`](crate::MOST_BYTES) bytes.
+pub fn run_of(
+    alloc: Global,
+    world: &mut World,
+    schedule: &Schedule,
+    names: &[String],
+    sources: Vec<Option<Source>>,
+) -> Result<Run, PageFault>
+    ensures run { IfOk result (λ r. run_shown r
+        ≡ run_of world.old schedule.now (map string_bytes names.now) (sources_shown sources.items)) }
+    ensures no_process { (done : ℕ) → missing_after world.old (steps_of schedule.now) ≡ Some done
+        → result ≡ Err (NoProcess done) }
+{
+    if let Some(done) = missing_after(world, schedule) {
+        return Err(PageFault::NoProcess { done });
+    }
+    let whole = schedule.total() <= MOST_WHOLE;
+    let processes = starts(alloc, world, names)?;
+    let Outcome { moments, ending } = take_steps(alloc, world, schedule, whole)?;
+    Ok(Run {
+        format: FORMAT,
+        schedule: schedule.text(alloc)?,
+        whole,
+        processes,
+        sources,
+        moments,
+        ending,
+    })
+}
