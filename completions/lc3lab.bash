@@ -25,7 +25,8 @@ _lc3lab() {
     case $command in
     asm) options='--list --explain --help -h' ;;
     dis) options='--help -h' ;;
-    step | trace | debug) options='--profile --help -h' ;;
+    step | debug) options='--profile --help -h' ;;
+    trace) options='--profile --page --help -h' ;;
     run) options='--profile --limit --mix --help -h' ;;
     explore) options='--profile --limit --worlds --require --schedule --help -h' ;;
     help) options=$commands ;;

@@ -15,6 +15,7 @@ complete -c lc3lab -n '__fish_seen_subcommand_from asm' -l list -d 'Prints the l
 complete -c lc3lab -n '__fish_seen_subcommand_from asm' -l explain -d 'Shows where a fault is and what could stand there'
 complete -c lc3lab -n '__fish_seen_subcommand_from step' -x -l profile -a 'a b' -d 'The machine: of the book, or with traps that leave R7'
 complete -c lc3lab -n '__fish_seen_subcommand_from trace' -x -l profile -a 'a b' -d 'The machine: of the book, or with traps that leave R7'
+complete -c lc3lab -n '__fish_seen_subcommand_from trace' -r -l page -d 'Also writes this file, a page that shows the run in a browser'
 complete -c lc3lab -n '__fish_seen_subcommand_from run' -x -l profile -a 'a b' -d 'The machine: of the book, or with traps that leave R7'
 complete -c lc3lab -n '__fish_seen_subcommand_from run' -x -l limit -d 'The most steps of each process'
 complete -c lc3lab -n '__fish_seen_subcommand_from run' -x -l mix -d 'Pauses before calls, by random numbers from this seed'

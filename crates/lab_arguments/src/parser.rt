@@ -105,6 +105,11 @@ fn trace<'a>(alloc: Global) -> Result<Command<'a>, AllocError> {
         "trace",
         "Runs programs by the schedule on standard input and prints what happened",
         examples::TRACE,
+    )?
+    .arg(
+        Arg::new(alloc, "page").long("page").value_name("FILE").help(
+            "Also writes FILE, a page that shows the run step by step in a browser",
+        ),
     )
 }
 
@@ -230,6 +235,7 @@ fn request_of<'a>(alloc: Global, matches: &ArgMatches<'a>) -> Result<Request<'a>
         },
         Some(("trace", words)) => Request::Trace {
             setup: setup_of(alloc, words)?,
+            page: words.get_str("page"),
         },
         Some(("run", words)) => Request::Run {
             setup: setup_of(alloc, words)?,

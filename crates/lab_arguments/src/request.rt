@@ -19,6 +19,8 @@ pub enum Request<'a> {
     },
     Trace {
         setup: Setup<'a>,
+        /// The file for a page, where one is asked for.
+        page: Option<&'a str>,
     },
     Run {
         setup: Setup<'a>,

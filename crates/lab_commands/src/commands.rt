@@ -106,7 +106,9 @@ fn perform<'a, T: Files + Threads + Wait + Clock + Sync, R: Read, W: Write, P: P
             limit,
             mix,
         } => run_programs(rt, alloc, setup, limit, mix, output, progress),
-        Request::Trace { ref setup } => trace_programs(rt, alloc, setup, input, output),
+        Request::Trace { ref setup, page } => {
+            trace_programs(rt, alloc, setup, page, input, output)
+        },
         Request::Explore {
             ref setup,
             question,

@@ -48,6 +48,38 @@ pub fn write_object<T: Files>(rt: &T, name: &str, image: &Image) -> Result<(), R
     }
 }
 
+/// Makes a file of bytes, whole or not at all: they are written beside it, and then take its name. What is no plain file,
+/// as a device, is written itself.
+pub fn write_whole<T: Files>(
+    rt: &T,
+    alloc: Global,
+    name: &str,
+    bytes: &[u8],
+) -> Result<(), Reason> {
+    if fs::metadata(rt, name).is_ok_and(|found| !found.is_file()) {
+        return write_bytes(rt, name, bytes);
+    }
+    let Ok(beside) = format!(in alloc; "{name}.part") else {
+        return Err(Reason::NoMemory);
+    };
+    write_bytes(rt, &beside, bytes)
+        .and_then(|()| { fs::rename(rt, beside.as_str(), name).map_err(|_| Reason::CannotWrite) })
+        .inspect_err(|_| {
+            let _ = fs::remove_file(rt, beside.as_str());
+        })
+}
+
+/// Makes a file of bytes; an older file of that name is replaced.
+fn write_bytes<T: Files>(rt: &T, name: &str, bytes: &[u8]) -> Result<(), Reason> {
+    match fs::create(rt, name) {
+        Ok(file) => Output::new(file)
+            .write_all(bytes)
+            .map_err(|_| Reason::CannotWrite),
+        Err(error) if error.kind() == ErrorKind::OutOfMemory => Err(Reason::NoMemory),
+        Err(_) => Err(Reason::CannotWrite),
+    }
+}
+
 /// Writes a text to the output of the program.
 pub fn write_text<W: Write>(text: &str, output: &mut Output<W>) -> Result<(), Complaint<'static>> {
     output

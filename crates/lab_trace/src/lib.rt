@@ -20,4 +20,7 @@ mod tracing;
 mod words;
 
 pub use fault::TraceFault;
-pub use tracing::trace;
+pub use lines::Widths;
+pub use step::{Traced, trace_step};
+pub use tally::{Account, Tally};
+pub use tracing::{ending, missing_after, steps_done, trace};

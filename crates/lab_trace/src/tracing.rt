@@ -22,7 +22,7 @@ use std::alloc::{AllocError, Global};
 use std::io::Write;
 
 /// How many steps come before the first of a process that isn't there, if there is one.
-fn missing_after(world: &World, schedule: &Schedule) -> Option<u64>
+pub fn missing_after(world: &World, schedule: &Schedule) -> Option<u64>
     ensures missing { result ≡ missing_after world.now (steps_of schedule.now) }
     ensures there { IfNone result (AreThere world.now schedule.now) }
 {
@@ -50,7 +50,7 @@ fn write_text<W: Write>(text: &str, output: &mut Output<W>) -> Result<(), TraceF
 }
 
 /// How many of a block's steps a step stands for: one without effect for the rest of them.
-fn steps_done(stepped: Stepped, most: u32) -> u32
+pub fn steps_done(stepped: Stepped, most: u32) -> u32
     requires some { 1 ≤ most }
     ensures other { (stepped ≡ Same → ⊥) → result ≡ 1 }
     ensures some { 1 ≤ result }
@@ -121,7 +121,12 @@ fn trace_blocks<W: Write>(
 }
 
 /// Where the processes stand that haven't ended, and the report.
-fn ending(alloc: Global, world: &World, tally: &Tally, widths: Widths) -> Result<String, AllocError>
+pub fn ending(
+    alloc: Global,
+    world: &World,
+    tally: &Tally,
+    widths: Widths,
+) -> Result<String, AllocError>
     ensures text { IfOk result (λ s. string_bytes s ≡ ending widths world.now tally.now) }
 {
     let mut text = String::new(alloc);

@@ -1,0 +1,75 @@
+-- The moments of a run: after each step with an effect, what the trace and the debugger print.
+use Rattle.std.specs.Prelude.{ℕ, ◌+◌, ◌-◌, min, Bool, true, false, if◌then◌else◌, Option, Some, None, List, [], ◌∷◌, ◌++◌, string_bytes, slice_get}
+use Rattle.std.specs.Option.{option_map}
+use Rattle.lab_sched.specs.Worlds.{Process, WorldState, turn_in, step}
+use Rattle.lab_sched.specs.Held.{told_of}
+use Rattle.lab_debug.specs.Texts.{machine_of, regs_text, dis_text}
+use Rattle.lab_debug.specs.Objects.{fds_text, mqs_text, sems_text}
+use Rattle.lab_trace.specs.Scenes.{Scene, has_effect, line, next}
+use Rattle.lab_trace.specs.declared.lines.Widths.{Widths}
+use Rattle.lab_page.specs.declared.data.Event.{Event as HeldEvent}
+use Rattle.lab_page.specs.declared.data.Moment.{Moment as HeldMoment}
+
+-- a step that has a line: the line, what the process has open after it, the queues and the semaphores
+pub record Event : Type 0 where
+  pub line : List ℕ
+  pub held : List ℕ
+  pub queues : List ℕ
+  pub semaphores : List ℕ
+
+-- the moment after step `number`, of a process: its registers, the words around its program counter, and the event
+pub record Moment : Type 0 where
+  pub number : ℕ
+  pub process : ℕ
+  pub registers : List ℕ
+  pub code : List ℕ
+  pub event : Option Event
+
+-- three words before the program counter, and five from it on, below the device registers
+abbrev pub code_around : ℕ → ℕ → WorldState → List ℕ
+code_around p pc w = dis_text p (pc - 3) (min (pc + 5) 0xFE00 - (pc - 3)) w
+
+abbrev pub code_of : ℕ → Option Process → WorldState → List ℕ
+code_of p None w = []
+code_of p (Some s) w = code_around p (machine_of s).pc w
+
+-- the words around the program counter of process p
+unfoldable pub code_text : ℕ → WorldState → List ℕ
+code_text p w = code_of p (slice_get w.processes p) w
+
+-- a step of process p with this line, by the world after it
+abbrev pub event_of : List ℕ → ℕ → WorldState → Event
+event_of l p w = record { line = l; held = fds_text p w; queues = mqs_text w; semaphores = sems_text w }
+
+abbrev pub moment_with : Option Event → ℕ → ℕ → WorldState → Moment
+moment_with e n p w = record { number = n; process = p; registers = regs_text p w; code = code_text p w; event = e }
+
+-- the moment after step n of process p, by its line; a counted step, which has no line, has one in a whole page alone
+abbrev pub moment_by : Bool → List ℕ → ℕ → ℕ → WorldState → Option Moment
+moment_by whole [] n p w = if whole then Some (moment_with None n p w) else None
+moment_by whole (b ∷ bs) n p w = Some (moment_with (Some (event_of (b ∷ bs) p w)) n p w)
+
+abbrev pub listed : Option Moment → List Moment
+listed None = []
+listed (Some m) = m ∷ []
+
+-- the moment after the next step, of process p, or nothing
+unfoldable pub moment : Widths → Bool → Scene → ℕ → List Moment
+moment v whole s p =
+    if has_effect (told_of (turn_in s.world p))
+    then listed (moment_by whole (line v s p) s.number p (step s.world p))
+    else []
+
+-- the moments of steps
+unfoldable pub moments : Widths → Bool → Scene → List ℕ → List Moment
+moments v whole s [] = []
+moments v whole s (p ∷ ps) = moment v whole s p ++ moments v whole (next s p) ps
+
+-- what is kept as texts
+abbrev pub event_shown : HeldEvent → Event
+event_shown e =
+    record { line = string_bytes e.line; held = string_bytes e.held; queues = string_bytes e.queues; semaphores = string_bytes e.semaphores }
+
+abbrev pub moment_shown : HeldMoment → Moment
+moment_shown m =
+    record { number = m.step; process = m.process; registers = string_bytes m.registers; code = string_bytes m.code; event = option_map event_shown m.event }

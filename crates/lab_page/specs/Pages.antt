@@ -1,0 +1,47 @@
+-- The page of a trace.
+use Rattle.std.specs.Prelude.{ℕ, ◌≡◌, ◌==◌, if◌then◌else◌, List, [], ◌∷◌, ◌++◌, codes, flat_map, All}
+use Rattle.lab_page.specs.declared.template.TheConstants.{HEAD, TOP, DATA, SCRIPT, END}
+use Rattle.lab_page.specs.declared.template.style.TheConstants.{STYLE}
+use Rattle.lab_page.specs.declared.template.body.TheConstants.{BODY}
+use Rattle.lab_page.specs.declared.template.records.TheConstants.{RECORDS}
+use Rattle.lab_page.specs.declared.template.state.TheConstants.{STATE}
+use Rattle.lab_page.specs.declared.template.study.TheConstants.{STUDY}
+use Rattle.lab_page.specs.declared.template.layout.TheConstants.{LAYOUT}
+use Rattle.lab_page.specs.declared.template.boxes.TheConstants.{BOXES}
+use Rattle.lab_page.specs.declared.template.picture.TheConstants.{PICTURE}
+use Rattle.lab_page.specs.declared.template.panel.TheConstants.{PANEL}
+use Rattle.lab_page.specs.declared.template.moving.TheConstants.{MOVING}
+use Rattle.lab_page.specs.declared.template.setup.TheConstants.{SETUP}
+
+-- the page before its data
+unfoldable pub before : List ℕ
+before = HEAD.now ++ STYLE.now ++ TOP.now ++ BODY.now ++ DATA.now
+
+-- the scripts: what reads the data, what draws, what shows a moment
+unfoldable pub reading : List ℕ
+reading = RECORDS.now ++ STATE.now ++ STUDY.now
+
+unfoldable pub drawing : List ℕ
+drawing = LAYOUT.now ++ BOXES.now ++ PICTURE.now
+
+unfoldable pub showing : List ℕ
+showing = PANEL.now ++ MOVING.now ++ SETUP.now
+
+-- the page behind its data
+unfoldable pub after : List ℕ
+after = SCRIPT.now ++ reading ++ drawing ++ showing ++ END.now
+
+-- a byte of JSON that stands in a page: a `<`, which only a string can hold, is escaped (RFC 8259, 7)
+unfoldable pub safe_byte : ℕ → List ℕ
+safe_byte byte = if byte == 0x3C then codes "\\u003C" else byte ∷ []
+
+abbrev pub safe : List ℕ → List ℕ
+safe json = flat_map safe_byte json
+
+-- the page with these data
+abbrev pub page_text : List ℕ → List ℕ
+page_text json = before ++ safe json ++ after
+
+-- a text in which no `<` stands: it ends no element of a page (HTML, 13.2.5.4, script data state)
+abbrev pub HasNoTag : List ℕ → Type 0
+HasNoTag text = All (λ byte. byte ≡ 0x3C → ⊥) text

@@ -1,0 +1,36 @@
+//! Why there is no page.
+ghost use Rattle.std.specs.Prelude.{◌≡◌};
+ghost use Rattle.lab_page.specs.declared.fault.PageFault.TheVariants.{NoMemory};
+
+use std::alloc::{AllocError, AllocFailed};
+use thiserror::Error;
+
+/// Why there is no page of a trace.
+#[derive(Clone, Copy, Debug, PartialEq, Eq, Error)]
+pub enum PageFault {
+    /// After so many steps the schedule names a process that isn't there. No step was taken.
+    #[error("after {done} steps there is no such process")]
+    NoProcess { done: u64 },
+    /// The data are longer than a page may hold.
+    #[error("the page is too large")]
+    TooLarge,
+    /// Memory was refused.
+    #[error("out of memory")]
+    NoMemory,
+}
+
+impl From<AllocError> for PageFault {
+    ghost from_gives = { λ _ e. e ≡ NoMemory };
+
+    fn from(_refused: AllocError) -> PageFault {
+        PageFault::NoMemory
+    }
+}
+
+impl<T: Drop> From<AllocFailed<T>> for PageFault {
+    ghost from_gives = { λ _ e. e ≡ NoMemory };
+
+    fn from(_refused: AllocFailed<T>) -> PageFault {
+        PageFault::NoMemory
+    }
+}

@@ -1,0 +1,120 @@
+//! The page around its data: the same text for every trace.
+
+ghost use Rattle.std.specs.Prelude.{◌≡◌, ◌++◌, OnOk};
+ghost use Rattle.lab_page.specs.Pages.{before, reading, drawing, showing, after};
+
+mod body;
+mod boxes;
+mod layout;
+mod moving;
+mod panel;
+mod picture;
+mod records;
+mod setup;
+mod state;
+mod study;
+mod style;
+
+use crate::template::body::BODY;
+use crate::template::boxes::BOXES;
+use crate::template::layout::LAYOUT;
+use crate::template::moving::MOVING;
+use crate::template::panel::PANEL;
+use crate::template::picture::PICTURE;
+use crate::template::records::RECORDS;
+use crate::template::setup::SETUP;
+use crate::template::state::STATE;
+use crate::template::study::STUDY;
+use crate::template::style::STYLE;
+use std::alloc::AllocError;
+
+const HEAD: &str = r##"<!DOCTYPE html>
+<html lang="en">
+<head>
+<meta charset="utf-8">
+<meta name="viewport" content="width=device-width, initial-scale=1">
+<title>lc3lab trace</title>
+<style>"##;
+
+const TOP: &str = r##"</style>
+</head>
+<body>"##;
+
+const DATA: &str = r##"<script type="application/json" id="data">
+"##;
+
+const SCRIPT: &str = r##"
+</script>
+<script>"##;
+
+const END: &str = r##"</script>
+</body>
+</html>
+"##;
+
+/// Adds a part of the page.
+fn push_part(bytes: &mut Vec<u8>, part: &str) -> Result<(), AllocError>
+    ensures { OnOk result (bytes.new.items ≡ bytes.old.items ++ part.now) }
+{
+    bytes.extend_from_slice(part.as_bytes())?;
+    Ok(())
+}
+
+/// Adds the page before its data.
+#[tactic(auto, unfolding(crate::specs::Pages::before))]
+pub fn push_before(bytes: &mut Vec<u8>) -> Result<(), AllocError>
+    ensures { OnOk result (bytes.new.items ≡ bytes.old.items ++ before) }
+{
+    push_part(bytes, HEAD)?;
+    push_part(bytes, STYLE)?;
+    push_part(bytes, TOP)?;
+    push_part(bytes, BODY)?;
+    push_part(bytes, DATA)?;
+    Ok(())
+}
+
+/// Adds the scripts that read the data.
+#[tactic(auto, unfolding(crate::specs::Pages::reading))]
+fn push_reading(bytes: &mut Vec<u8>) -> Result<(), AllocError>
+    ensures { OnOk result (bytes.new.items ≡ bytes.old.items ++ reading) }
+{
+    push_part(bytes, RECORDS)?;
+    push_part(bytes, STATE)?;
+    push_part(bytes, STUDY)?;
+    Ok(())
+}
+
+/// Adds the scripts that draw.
+#[tactic(auto, unfolding(crate::specs::Pages::drawing))]
+fn push_drawing(bytes: &mut Vec<u8>) -> Result<(), AllocError>
+    ensures { OnOk result (bytes.new.items ≡ bytes.old.items ++ drawing) }
+{
+    push_part(bytes, LAYOUT)?;
+    push_part(bytes, BOXES)?;
+    push_part(bytes, PICTURE)?;
+    Ok(())
+}
+
+/// Adds the scripts of the panel and of the controls.
+#[tactic(auto, unfolding(crate::specs::Pages::showing))]
+fn push_showing(bytes: &mut Vec<u8>) -> Result<(), AllocError>
+    ensures { OnOk result (bytes.new.items ≡ bytes.old.items ++ showing) }
+{
+    push_part(bytes, PANEL)?;
+    push_part(bytes, MOVING)?;
+    push_part(bytes, SETUP)?;
+    Ok(())
+}
+
+/// Adds the page behind its data.
+#[tactic(auto, unfolding(crate::specs::Pages::after))]
+pub fn push_after(bytes: &mut Vec<u8>) -> Result<(), AllocError>
+    ensures { OnOk result (bytes.new.items ≡ bytes.old.items ++ after) }
+{
+    push_part(bytes, SCRIPT)?;
+    push_reading(bytes)?;
+    push_drawing(bytes)?;
+    push_showing(bytes)?;
+    push_part(bytes, END)?;
+    Ok(())
+}
