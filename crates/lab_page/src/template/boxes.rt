@@ -70,16 +70,16 @@ function link(a, kind, tip) {                     // from the box of a record to
 // ---- why a process waits for ever
 
 const named = (processes, none) => processes.map(p => 'P' + p.number).join(' ') || none;
-function lacking(w) {
+function lacking(w) {                             // who has a semaphore that was made above 0, or could serve the call
   const p = D.end.processes[w.p], object = D.end.objects.get(p.on), { call } = R[w.k];
   const others = test => named(D.end.processes.filter(q => q !== p && test(q.held)), 'nobody');
   const opened = (list, test) => others(held => [...held[list].values()].some(x => x.place === p.on && test(x)));
   const queued = letter => opened('queues', x => x.mode.split(' ')[0].includes(letter));
-  if (call === 'mq_receive') return queued('w') + ' could send';
-  if (call === 'mq_send') return queued('r') + ' could receive';
-  if (object.made === 0) return opened('slots', () => true) + ' could post';
+  if (call === 'mq_receive') return [queued('w'), 'could send'];
+  if (call === 'mq_send') return [queued('r'), 'could receive'];
+  if (object.made === 0) return [opened('slots', () => true), 'could post'];
   const who = takers(D.end, object);
-  return (who.join(' ') || 'nobody') + (who.length > 1 ? ' have it' : ' has it');
+  return [who.join(' ') || 'nobody', who.length > 1 ? 'have it' : 'has it'];
 }
 function takersOf(p) {                            // the processes that have taken what a process waits for
   const object = p.state === 'waiting' ? D.end.objects.get(p.on) : undefined;

@@ -144,10 +144,10 @@ function drawStuck(parts) {
   const room = fits(lay.box - 44), y = bottom() + 12;
   if (D.verdict !== 'stuck') return;
   for (const w of waits.filter(w => w.end === null)) {
-    const x = midX(w.p), why = lacking(w), at = room > 5 ? x - lay.box / 2 + 17 : x;
+    const x = midX(w.p), [who, does] = lacking(w), why = who + ' ' + does, at = room > 5 ? x - lay.box / 2 + 17 : x;
     const cross = `<path class="cross" d="M${at - 5},${y - 5} l10,10 m0,-10 l-10,10"/>`;
     const mark = bar('stuckbar', x, bottom(), bottom() + 24, lay.box - 6) + cross;
-    const words = room > 5 ? label('red', at + 13, y + 4, cut(why, room)) : '';
+    const words = room > 5 ? label('red', at + 13, y + 4, why.length <= room ? why : cut(who, room)) : '';
     parts.push(titled(`P${w.p} waits for ever for ${w.name}: ${why}`, mark + words));
   }
 }
