@@ -118,7 +118,8 @@ class Run:
 
     def call(self, words, text=""):
         """What a command prints, each byte as the character of its number."""
-        done = subprocess.run([self.program] + words, cwd=self.folder, input=text.encode(), capture_output=True, timeout=SECONDS)
+        done = subprocess.run([self.program] + words, cwd=self.folder, input=text.encode(), capture_output=True,
+                              timeout=SECONDS)
         if done.returncode or done.stderr:
             raise RuntimeError(f"lc3lab {words[0]}: {done.stderr.decode('latin-1').strip()}")
         return done.stdout.decode("latin-1")
@@ -156,8 +157,8 @@ class Run:
         return " ".join(blocks)
 
     def texts(self, moments):
-        """What the debugger prints after each of these steps: procs, sems, mqs, and regs, fds, out and the words around the PC
-        that the page shows of who acted. Each moment is a step and the registers on the page."""
+        """What the debugger prints after each of these steps: procs, sems, mqs, and of who acted regs, fds, out and dis of
+        the words around the PC. Each moment is a step and the registers that the page shows."""
         script, done = [], 0
         for number, registers in moments:
             if number > done:
@@ -165,7 +166,8 @@ class Run:
             acts, done = self.taken(number) if number else 0, number
             pc = next((int(it.split()[1][1:], 16) for it in registers if it.startswith("PC")), 0x3000)
             first, end = max(pc - 3, 0), min(pc + 5, 0xFE00)
-            asked = ["procs", "sems", "mqs", f"regs {acts}", f"fds {acts}", f"out {acts}", f"dis {acts} x{first:04X} {end - first}"]
+            asked = ["procs", "sems", "mqs", f"regs {acts}", f"fds {acts}", f"out {acts}",
+                     f"dis {acts} x{first:04X} {end - first}"]
             script += [it for command in asked for it in ("mark", command)] + ["mark"]
         parts = self.call(["debug"] + self.names, "\n".join(script) + "\n").split(MARK)
         for at in range(len(moments)):

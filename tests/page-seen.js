@@ -32,7 +32,8 @@ const seen = (() => {
       procs: list(document, 'details.card > summary > .mono').map(shown),
       why: list(document, 'details.card > summary').map(e => e.querySelector('.why') ? shown(e.querySelector('.why')) : ''),
       sems: list(document, '#sems tr').slice(1).map(r => [...r.children].slice(0, 2).map(shown).join(' ')),
-      mqs: list(document, '#mqs .queue').map(q => [q.firstChild.textContent, shown(q).split(',')[0], list(q, 'li').map(shown)]),
+      taken: list(document, '#sems tr').slice(1).map(r => [shown(r.children[0]), shown(r.children[2])]),
+      mqs: list(document, '#mqs .queue').map(q => [shown(q).split(',')[0], list(q, 'li').map(shown)]),
       ...actor(),
     };
   }
@@ -44,15 +45,25 @@ const seen = (() => {
 
   // ---- the picture, all of it
 
+  const titleOf = e => e.parentElement.querySelector('title').textContent;
+  function place(rect) {
+    const [x, y, wide, tall] = ['x', 'y', 'width', 'height'].map(name => Number(rect.getAttribute(name)));
+    return { middle: Math.round(x + wide / 2), top: y, end: y + tall };
+  }
   function picture() {
     window.dispatchEvent(new Event('beforeprint'));
-    const titleOf = e => e.parentElement.querySelector('title').textContent;
-    const boxes = new Map(list(document, '#pic g.ev').map(g => [g.dataset.k, g.querySelector('title').textContent]));
-    const stepOf = k => Number(/^step (\d+),/.exec(boxes.get(k))[1]);
+    const boxes = list(document, '#pic g.ev').map(g => ({ k: g.dataset.k, title: g.querySelector('title').textContent,
+      step: Number(/^step (\d+),/.exec(g.querySelector('title').textContent)[1]), ...place(g.querySelector('rect')) }));
+    const stepOf = test => { const found = boxes.find(test); return found ? found.step : null; };
+    const wait = bar => {                         // its text, and the steps of the boxes at its two ends
+      const { middle, top, end } = place(bar), isThere = b => Math.abs(b.middle - middle) <= 1;
+      return [titleOf(bar), stepOf(b => isThere(b) && b.end === top), stepOf(b => isThere(b) && b.top === end)];
+    };
     const found = {
-      boxes: [...boxes.values()],
-      waits: list(document, '#pic rect.waitbar').map(titleOf),
-      arrows: list(document, '#pic path.arrow[data-from]').map(a => [stepOf(a.dataset.from), stepOf(a.dataset.to)]),
+      boxes: boxes.map(b => b.title),
+      waits: list(document, '#pic rect.waitbar').map(wait),
+      arrows: list(document, '#pic path.arrow[data-from]').map(a =>
+        [stepOf(b => b.k === a.dataset.from), stepOf(b => b.k === a.dataset.to)]),
       unreceived: list(document, '#pic circle.kept').length,
       stuck: list(document, '#pic rect.stuckbar').map(titleOf),
     };
@@ -67,7 +78,8 @@ const seen = (() => {
   function overlaps(what, elements, slack) {
     const bad = [], found = boxesOf(elements);
     found.forEach(([a, p], i) => found.slice(i + 1).forEach(([b, q]) => {
-      if (p.left < q.right - slack && q.left < p.right - slack && p.top < q.bottom - slack && q.top < p.bottom - slack) {
+      const isBeside = p.left >= q.right - slack || q.left >= p.right - slack;
+      if (!isBeside && p.top < q.bottom - slack && q.top < p.bottom - slack) {
         bad.push(what + ': ' + nameOf(a) + ' lies on ' + nameOf(b));
       }
     }));

@@ -32,11 +32,11 @@ function codeLines(p) {                           // the words around the next i
 }
 const BEFORE = 4, AFTER = 5;                      // how many lines of a source stand around that of the next instruction
 function sourceLines(p, next) {                   // the lines of the source around that of the next instruction
-  const lines = SOURCES[p.number], first = Math.max(0, next.at - BEFORE), most = String(next.at + AFTER + 1).length;
+  const { lines } = SOURCES[p.number], first = Math.max(0, next.at - BEFORE), most = String(next.at + AFTER + 1).length;
   return lines.slice(first, next.at + AFTER + 1).map(({ text, address, words }, i) => {
     const call = words && !text.includes(';') ? trapOf(words[0]) : undefined;
     const place = String(first + i + 1).padStart(most) + ' ' + (words ? hex(address) : '     ');
-    return codeLine(first + i === next.at, place, text.trimEnd(), call);
+    return codeLine(first + i === next.at, place, text, call);
   }).join('');
 }
 function around(p) {

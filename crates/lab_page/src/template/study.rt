@@ -3,15 +3,23 @@
 pub const STUDY: &str = r##"
 // ---- the lines of a source, where the data have one
 
-const SOURCES = D.processes.map((_, p) => (D.sources && D.sources[p]) || null);
-const PLACED = SOURCES.map(lines => lines && lines.map((line, at) => ({ ...line, at })).filter(line => line.words));
+function readSource({ text, rows, words }) {      // the lines, and those of them that have words
+  const lines = text.replace(/\n$/, '').split('\n').map((line, at) => ({ at, text: line.trimEnd() }));
+  const placed = rows.map(({ line, address, count }) => {
+    const from = address - rows[0].address;
+    return Object.assign(lines[line - 1], { address, words: words.slice(from, from + count) });
+  });
+  return { lines, placed };
+}
+const SOURCES = D.processes.map((_, p) => D.sources[p] && readSource(D.sources[p]));
 function lineAt(p, address) {                     // the line of process p that made the word at an address
-  let low = 0, high = PLACED[p] ? PLACED[p].length - 1 : -1;
+  const placed = SOURCES[p] ? SOURCES[p].placed : [];
+  let low = 0, high = placed.length - 1;
   while (low < high) {
     const middle = (low + high + 1) >> 1;
-    if (PLACED[p][middle].address <= address) low = middle; else high = middle - 1;
+    if (placed[middle].address <= address) low = middle; else high = middle - 1;
   }
-  const line = high < 0 ? undefined : PLACED[p][low];
+  const line = placed[low];
   return line && line.address <= address && address < line.address + line.words.length ? line : undefined;
 }
 function sourceAt(p, code, address) {             // the same, where the memory still holds the word

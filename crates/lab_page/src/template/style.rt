@@ -43,7 +43,7 @@ button:focus-visible, select:focus-visible, summary:focus-visible, input:focus-v
 #left:focus-visible, #objects:focus-visible { outline-offset: -3px; }
 #count { min-width: 9.5em; text-align: right; }
 #short { margin: 6px 0 0; color: var(--soft); }
-#say { margin: 6px 0 0; min-height: 1.5em; overflow-wrap: anywhere; }
+#say { margin: 6px 0 0; min-height: 1.5em; max-height: 6em; overflow: auto; overflow-wrap: anywhere; }
 
 /* picture and panel */
 main { flex: 1; min-height: 0; display: grid; grid-template-columns: minmax(0, 1fr) 26rem; }
