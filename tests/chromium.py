@@ -27,7 +27,7 @@ class Browser:
         to_browser, self.commands = os.pipe()
         self.answers, from_browser = os.pipe()
         line = f'exec "$0" "$@" 3<&{to_browser} 4>&{from_browser}'
-        flags = ["--headless", "--remote-debugging-pipe", "--no-sandbox", "--disable-gpu", "--hide-scrollbars",
+        flags = ["--headless", "--remote-debugging-pipe", "--no-sandbox", "--disable-gpu",
                  f"--user-data-dir={folder}", "about:blank"]
         self.process = subprocess.Popen(["bash", "-c", line, program] + flags, pass_fds=(to_browser, from_browser),
                                         stdout=subprocess.DEVNULL, stderr=subprocess.DEVNULL)

@@ -31,6 +31,7 @@ pub const BODY: &str = r##"
   <section id="left" tabindex="0" aria-label="picture of the interleaving; time goes down, each process has a lane">
     <svg id="head" role="presentation"></svg>
     <svg id="pic" role="img"></svg>
+    <p id="ending"></p>
     <pre id="atend"></pre>
   </section>
   <aside aria-label="state at this moment">

@@ -13,7 +13,8 @@ function betweenBoxes(lane) {                     // arrows need more room betwe
   return limited(6, lane * .06 + (lane - 200) * .5, 60);
 }
 function layout() {
-  const room = Math.max(320, $('left').clientWidth - 2), num = Math.max(40, String(D.total).length * CHAR + 18);
+  const seen = $('left').clientWidth, room = Math.max(320, seen - 2);
+  const num = Math.max(40, String(D.total).length * CHAR + 18);
   const colW = cols.map(c => Math.max(50, Math.min(c.name.length, 9) * CHAR + 10));
   const colsW = colW.reduce((a, b) => a + b, 0) + 12, isNarrow = N > 4 && (room - num - colsW) / N < 74;
   const text = isNarrow ? 236 : 0, lane = laneWidth(room - num - text - colsW), x0 = num + text, colX = [];
@@ -23,8 +24,7 @@ function layout() {
     colW[i] += more; spare -= more;
     colX.push(x); x += colW[i];
   });
-  const width = Math.max(Math.ceil(x), Math.min(room, 420));
-  lay = { num, text, lane, x0, colX, colW, box: lane - betweenBoxes(lane), width };
+  lay = { seen, num, text, lane, x0, colX, colW, box: lane - betweenBoxes(lane), width: Math.ceil(x) };
   route();
 }
 function route() {                                // each arrow runs down a track of its own between two lanes

@@ -99,7 +99,8 @@ on('pic', 'click', event => {
 });
 on('left', 'scroll', () => { keepGutter(); paintNear(); });
 let resized = null;
-window.addEventListener('resize', () => { clearTimeout(resized); resized = setTimeout(draw, 120); });
+function redraw() { if ($('left').clientWidth === lay.seen) paintNear(); else draw(); }
+new ResizeObserver(() => { clearTimeout(resized); resized = setTimeout(redraw, 120); }).observe($('left'));
 window.addEventListener('hashchange', goToAddress);
 window.addEventListener('beforeprint', () => { $('legendbox').open = true; paint(0, full()); });
 window.addEventListener('afterprint', draw);

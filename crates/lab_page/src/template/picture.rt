@@ -7,11 +7,6 @@ const marker = kind => `<marker id="${kind}" viewBox="0 0 8 8" refX="3" refY="4"
   `markerUnits="userSpaceOnUse" orient="auto"><path class="${kind}" d="M0,0 L8,4 L0,8 z"/></marker>`;
 const DEFS = '<defs><pattern id="hatch" width="6" height="6" patternUnits="userSpaceOnUse" patternTransform="rotate(45)">' +
   '<line class="hatchline" x1="0" y1="0" x2="0" y2="6"/></pattern>' + marker('tipm') + marker('tipw') + '</defs>';
-const VERDICTS = {
-  stuck: 'stuck: no step of any process changes anything',
-  ended: 'ended: all processes have ended',
-  open: 'open: the schedule is over, some process could go on',
-};
 const NEAR = 1500;                                // so far beyond the window the picture is drawn
 let near = { top: 0, end: 0 };
 const touches = (y1, y2) => y1 <= near.end && y2 >= near.top;
@@ -158,7 +153,6 @@ function drawGutter(parts, events) {              // steps and, beside narrow la
     gutter.push(label('soft', num - 8, y, e.step, 'end'));
     if (text) gutter.push(label('', num, y, cut(`P${e.process} ${words}`, fits(text - 12))));
   }
-  gutter.push(label(D.verdict === 'stuck' ? 'red' : 'b', num, height + 74, VERDICTS[D.verdict]));
   parts.push('<g class="gut">' + gutter.join('') + '</g>');
 }
 function nowMark() {                              // what is to come is pale

@@ -55,11 +55,17 @@ function fillLegend() {
 
 // ---- texts
 
+const VERDICTS = {
+  stuck: 'stuck: no step of any process changes anything',
+  ended: 'ended: all processes have ended',
+  open: 'open: the schedule is over, some process could go on',
+};
 function fillTexts() {
   const ends = linesOf(D.ending).filter(text => /^ *end /.test(text));
   const parts = ends.map(text => text.replace(/^ *end (P\d+) +x.... +\+\d+ /, '$1 '));
   $('lines').textContent = D.moments.map(m => m.event ? m.event.line : '').join('') + D.ending;
   $('plan').textContent = D.schedule;
+  $('ending').textContent = VERDICTS[D.verdict]; $('ending').className = D.verdict;
   $('atend').textContent = [...(parts.length ? ['At the end:'] : []), ...parts, circleText()].join('\n').trim();
 }
 D.ended = new Map(R.map((e, k) => [e, k]).filter(([e]) => e.how).map(([e, k]) => [e.process, k]));

@@ -29,7 +29,7 @@ function sourceAt(p, code, address) {             // the same, where the memory 
 
 // ---- the rows of the picture
 
-const EVENT = 27, GAP = 18, FOOT = 88;            // heights: of an event, of a row between events, of the foot
+const EVENT = 27, GAP = 18, FOOT = 62;            // heights: of an event, of a row between events, of the foot
 const rows = [], rowOf = [], posY = [0];          // the rows; of each record its row; of each moment its height
 const waits = [], arrows = [], wakes = [], holds = [], cols = [];
 let height = 8;

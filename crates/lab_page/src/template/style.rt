@@ -47,10 +47,12 @@ button:focus-visible, select:focus-visible, summary:focus-visible, input:focus-v
 
 /* picture and panel */
 main { flex: 1; min-height: 0; display: grid; grid-template-columns: minmax(0, 1fr) 26rem; }
-#left { overflow: auto; position: relative; }
+#left { overflow: auto scroll; position: relative; }
 #head { position: sticky; top: 0; z-index: 1; display: block; background: var(--bg); }
 #pic { display: block; }
-#atend { margin: 0 12px 24px 40px; }
+#ending, #atend { margin: 6px 12px 12px 40px; }
+#ending { font-weight: 600; }
+#ending.stuck { color: var(--bad); }
 aside { display: flex; flex-direction: column; min-height: 0; background: var(--card); }
 aside { border-left: 1px solid var(--line); }
 #objects { max-height: 42%; overflow: auto; padding: 0 16px 8px; border-bottom: 1px solid var(--line); }
