@@ -74,7 +74,17 @@ const seen = (() => {
   // ---- what is cut, or lies on something else
 
   const nameOf = e => e.tagName + (e.id ? '#' + e.id : '') + ' ' + (e.textContent || '').trim().slice(0, 40);
-  const boxesOf = elements => elements.filter(e => e.getClientRects().length).map(e => [e, e.getBoundingClientRect()]);
+  const boxesOf = elements => elements.flatMap(e => e instanceof SVGElement
+    ? [[e, e.getBoundingClientRect()]] : [...e.getClientRects()].map(box => [e, box]));
+  function leaves(part) {                         // the elements of a part of the page that hold a text and no element
+    const isLeaf = e => e instanceof HTMLElement && e.textContent.trim() && !e.children.length;
+    return list(part, '*').filter(e => isLeaf(e) && e.checkVisibility());
+  }
+  function spills(part) {                         // what stands outside of a part that doesn't scroll
+    const { left, right, top, bottom } = part.getBoundingClientRect();
+    const isOutside = b => b.left < left - 1 || b.right > right + 1 || b.top < top - 1 || b.bottom > bottom + 1;
+    return boxesOf(leaves(part)).filter(([, b]) => isOutside(b)).map(([e]) => 'outside of its part: ' + nameOf(e));
+  }
   function overlaps(what, elements, slack) {
     const bad = [], found = boxesOf(elements);
     found.forEach(([a, p], i) => found.slice(i + 1).forEach(([b, q]) => {
@@ -111,6 +121,8 @@ const seen = (() => {
       ...overlaps('registers', list(document, '.regs > span'), 1),
       ...overlaps('boxes', list(document, '#pic g.ev > rect'), 1),
       ...overlaps('texts', isStill ? texts : texts.filter(t => !t.closest('.gut')), 2),
+      ...list(document, 'header, #objects, #procs, .bottom').flatMap(part => overlaps('words', leaves(part), 3)),
+      ...list(document, 'header, details.card').flatMap(spills),
       ...cutElements(),
     ];
   }
