@@ -14,7 +14,7 @@ NAMES = r'''        .ORIG x3000
         LEA R0, NAME
         LD R1, CREATE
         AND R2, R2, #0
-        TRAP x50        ; sem_open("/script><b>x</b>", O_CREAT, 0)
+        TRAP x50        ; sem_open("/script><b>x", O_CREAT, 0)
         LEA R0, NAME
         LD R1, CREATE
         ADD R1, R1, #2
@@ -32,12 +32,12 @@ NAMES = r'''        .ORIG x3000
         TRAP x53        ; waits for ever
 CREATE  .FILL x40
 HIGH    .FILL xE9
-NAME    .STRINGZ "/script><b>x</b>"
+NAME    .STRINGZ "/script><b>x"
 TEXT    .STRINGZ "</script><b>x</b><!-- \\ &amp;"
         .END
 '''
 
-# Calls without an end, four of each six steps.
+# Calls without an end: after ten steps, four in each loop of seven steps.
 MANY = '''        .ORIG x3000
         LEA R0, SEM
         LD R1, CREATE
@@ -92,7 +92,7 @@ def runs():
     yield "examples/deadlock", folder, {}, ["two-semaphores-1.obj", "two-semaphores-2.obj"], deadlock
     yield "examples/producer-consumer", folder, {}, ["producer.obj", "consumer.obj"], "1*99 0*99 1*99\n"
     yield "made/names", None, {'<b>"é.asm': NAMES, "names.asm": NAMES}, ['<b>"é.obj', "names.obj"], "0*99 1*99\n"
-    turns = " ".join(f"{p}*{n}" for n in (10, 10, 100, 7, 107) for p in range(64)) + "\n"
+    turns = " ".join(f"{p}*{n}" for n in (10, 7, 140, 140) for p in range(64)) + "\n"
     yield "made/many", None, {"many.asm": MANY}, ["many.obj"] * 64, turns
     yield "made/long", None, {"many.asm": MANY}, ["many.obj"] * 3, "0*300 1*300 2*300 0*20000 1*20\n"
 
