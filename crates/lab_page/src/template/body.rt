@@ -54,6 +54,6 @@ pub const BODY: &str = r##"
       <code>#step=12</code> behind the page's address opens it after step 12.</p>
   </details>
   <details><summary>The trace as text</summary><pre id="lines" class="text" tabindex="0"></pre></details>
-  <details><summary>The schedule</summary><pre id="plan" class="text" tabindex="0"></pre></details>
+  <details id="planbox"><summary>The schedule</summary><pre id="plan" class="text" tabindex="0"></pre></details>
 </div>
 "##;

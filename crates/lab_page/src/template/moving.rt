@@ -102,6 +102,6 @@ let resized = null;
 function redraw() { if ($('left').clientWidth === lay.seen) paintNear(); else draw(); }
 new ResizeObserver(() => { clearTimeout(resized); resized = setTimeout(redraw, 120); }).observe($('left'));
 window.addEventListener('hashchange', goToAddress);
-window.addEventListener('beforeprint', () => { $('legendbox').open = true; paint(0, full()); });
+window.addEventListener('beforeprint', () => { $('legendbox').open = $('planbox').open = true; paint(0, full()); });
 window.addEventListener('afterprint', draw);
 "##;
