@@ -99,6 +99,10 @@ const seen = (() => {
     const scrolls = e => /auto|scroll/.test(getComputedStyle(e).overflowX), isWhole = e => e.id === 'schedule';
     const html = list(document, 'body *').filter(e => e instanceof HTMLElement && e.clientWidth && !isWhole(e));
     const bad = html.filter(e => e.scrollWidth > e.clientWidth + 1 && !scrolls(e)).map(e => 'cut: ' + nameOf(e));
+    const { left } = document.getElementById('left').getBoundingClientRect();
+    for (const e of list(document, '#ending, #atend')) {
+      if (e.getBoundingClientRect().left < left) bad.push('scrolled away: ' + nameOf(e));
+    }
     for (const g of list(document, '#pic g.ev')) {
       const [r, t] = [g.querySelector('rect'), g.querySelector('text')].map(e => e.getBBox());
       if (t.width > r.width + 1) bad.push('a text is wider than its box: ' + nameOf(g));

@@ -193,8 +193,10 @@ function paintNear() {                            // again, where the window has
   const { scrollTop: top, clientHeight: tall } = $('left');
   if (top < near.top || Math.min(top + tall, full()) > near.end) paintWindow();
 }
-function keepGutter() {                           // it stays where one scrolls sideways
-  for (const g of document.querySelectorAll('.gut')) g.setAttribute('transform', `translate(${$('left').scrollLeft},0)`);
+function keepGutter() {                           // it and the texts below stay where one scrolls sideways
+  const { scrollLeft: left } = $('left');
+  for (const g of document.querySelectorAll('.gut')) g.setAttribute('transform', `translate(${left},0)`);
+  for (const id of ['ending', 'atend']) $(id).style.transform = `translateX(${left}px)`;
 }
 function draw() {
   layout();
