@@ -1,35 +1,106 @@
 //! The parts of the picture: boxes and their texts, notes, arrows, and why a process waits for ever.
 
 pub const BOXES: &str = r##"
-  if (e.call === undefined) { const t = '"' + shown(e.out) + '"'; return [e.text, t.length < 12 ? t : cut(t, Math.max(3, Math.floor((lay.box - 6) / CHAR))), '"']; }
-  const short = e.call.replace(/^(mq|sem)_/, '').replace('receive', 'recv').replace('trywait', 'try'), one = short === 'setattr' ? 'A' : short[0].toUpperCase();
-  if (refused(e)) { const why = e.ans.slice(2); return [e.call + ' ' + e.name + ' ' + why, short + ' ' + e.name + ' ' + why, short + ' ' + why, why, '!']; }
-  const list = [e.call + ' ' + e.name, short + ' ' + e.name, short, one], body = /\[[^\]"]*("[^]*")?\]/.exec(e.call === 'mq_send' ? e.args : e.call === 'mq_receive' ? e.ans : '');
-  if (body && body[0].length > 2) { const words = body[1] || body[0].slice(1, -1); list.unshift(e.call + ' ' + e.name + ' ' + words, short + ' ' + e.name + ' ' + words, short + ' ' + words); }
-  return list;
+// ---- the texts of a box, from long to short
+
+function kindOf(e) {
+  if (e.call === undefined) return e.how ? 'ev end' : 'ev out';
+  const kind = /send|receive/.test(e.call) ? 'mq' : /wait|post/.test(e.call) ? 'sem' : 'obj';
+  return 'ev ' + (isRefused(e) ? 'bad' : kind) + (e.answer === 'waits' ? ' waits' : '');
 }
+function outputLabels(e) {
+  const text = '"' + shown(e.output) + '"', fits = Math.max(3, Math.floor((lay.box - 6) / CHAR));
+  return [e.text, text.length < 12 ? text : cut(text, fits), '"'];
+}
+function refusalLabels(e, short) {
+  const why = e.answer.slice(2);
+  return [`${e.call} ${e.name} ${why}`, `${short} ${e.name} ${why}`, short + ' ' + why, why, '!'];
+}
+function callLabels(e, short) {
+  const letter = short === 'setattr' ? 'A' : short[0].toUpperCase();
+  const list = [e.call + ' ' + e.name, short + ' ' + e.name, short, letter];
+  const text = e.call === 'mq_send' ? e.args : e.call === 'mq_receive' ? e.answer : '';
+  const body = /\[[^\]"]*("[^]*")?\]/.exec(text);
+  if (!body || body[0].length <= 2) return list;
+  const words = body[1] || body[0].slice(1, -1);
+  return [`${e.call} ${e.name} ${words}`, `${short} ${e.name} ${words}`, short + ' ' + words, ...list];
+}
+function labels(e) {
+  if (e.how) return ['ends ' + e.how, e.how, 'X'];
+  if (e.call === undefined) return outputLabels(e);
+  const short = e.call.replace(/^(mq|sem)_/, '').replace('receive', 'recv').replace('trywait', 'try');
+  return isRefused(e) ? refusalLabels(e, short) : callLabels(e, short);
+}
+function labelFor(e, fits) {
+  const list = labels(e), label = list.find(text => text.length <= fits) || list[list.length - 1];
+  const isShort = list.indexOf(label) > list.length - 3;
+  return e.name && fits > 11 && isShort && !isRefused(e) ? cut(list[list.length - 3], fits) : label;
+}
+
+// ---- boxes, notes and arrows
+
+function titled(title, inner, more) { return `<g${more || ''}><title>${esc(title)}</title>${inner}</g>`; }
 function box(e, k, x, y, w) {
-  const list = labels(e), fits = Math.floor((w - (w > 60 ? 10 : 3)) / CHAR), round = /sem_(wait|post|trywait)/.test(e.call) ? 10 : e.call && !/mq_(send|receive)/.test(e.call) ? 3 : 0;
-  let t = list.find(l => l.length <= fits) || list[list.length - 1];
-  if (e.name && fits > 11 && list.indexOf(t) > list.length - 3 && !refused(e)) t = cut(list[list.length - 3], fits);
-  return `<g class="${kindOf(e)}" data-k="${k}"><title>${esc('step ' + e.n + ', P' + e.p + ': ' + e.text)}</title><rect x="${x - w / 2}" y="${y - 10}" width="${w}" height="20" rx="${round}"/>` +
-    `<text x="${x}" y="${y + 4}" text-anchor="middle">${esc(t)}</text></g>`;
+  const label = labelFor(e, Math.floor((w - (w > 60 ? 10 : 3)) / CHAR));
+  const round = /sem_(wait|post|trywait)/.test(e.call) ? 10 : e.call && !/mq_(send|receive)/.test(e.call) ? 3 : 0;
+  return titled(`step ${e.step}, P${e.process}: ${e.text}`,
+    `<rect x="${x - w / 2}" y="${y - 10}" width="${w}" height="20" rx="${round}"/>` +
+    `<text x="${x}" y="${y + 4}" text-anchor="middle">${esc(label)}</text>`, ` class="${kindOf(e)}" data-k="${k}"`);
 }
-function note(x, y, t, cls) {                     // a small text on a plate
-  const w = t.length * CHAR + 6;
-  return `<rect class="label" x="${x - w / 2}" y="${y - 8}" width="${w}" height="15"/><text class="${cls}" x="${x}" y="${y + 4}" text-anchor="middle">${esc(t)}</text>`;
+function note(x, y, text, kind) {                 // a small text on a plate
+  const w = text.length * CHAR + 6;
+  return `<rect class="label" x="${x - w / 2}" y="${y - 8}" width="${w}" height="15"/>` +
+    `<text class="${kind}" x="${x}" y="${y + 4}" text-anchor="middle">${esc(text)}</text>`;
 }
-function link(a, cls, tip) {                      // from the box of a record to the box of a later one
-  const pa = R[a.from].p, pb = R[a.to].p, half = lay.box / 2, ya = midY(a.from), yb = midY(a.to), room = lay.lane - lay.box, step = room > 60 ? 8 : room > 20 ? 5 : 2;
-  const most = Math.max(1, Math.floor((room - 18) / step)), off = room > 20 ? 13 + (a.track % most) * step : room / 2, d = a.left ? -1 : 1, same = pa === pb;
-  const x = same ? midX(pa) + half + Math.min(room - 4, off) : a.left ? midX(a.gap) + half + off : midX(a.gap + 1) - half - off;
-  const xa = midX(pa) + d * half, xb = midX(pb) + (same || a.left ? half + 5 : -half - 5), r = Math.min(5, Math.abs(x - xa)), e = same ? -1 : d;
-  return `<path class="${cls}" marker-end="url(#${tip})" d="M${xa},${ya} H${x - d * r} Q${x},${ya} ${x},${ya + r} V${yb - r} Q${x},${yb} ${x + e * r},${yb} H${xb}"/>`;
+function trackX(a, room) {                        // where an arrow runs down
+  const half = lay.box / 2, step = room > 60 ? 8 : room > 20 ? 5 : 2, most = Math.max(1, Math.floor((room - 18) / step));
+  const off = room > 20 ? 13 + (a.track % most) * step : room / 2, from = R[a.from].process;
+  if (from === R[a.to].process) return midX(from) + half + Math.min(room - 4, off);
+  return a.left ? midX(a.gap) + half + off : midX(a.gap + 1) - half - off;
 }
-function lacking(w) {                             // why a process waits for ever
-  const p = D.end.procs[w.p], o = D.end.obj.get(p.on), receives = R[w.k].call === 'mq_receive';
-  if (o.kind === 'sem') return takers(o).length ? takers(o).join(' ') + (takers(o).length > 1 ? ' have it' : ' has it') : 'nobody has it';
-  const others = D.end.procs.filter(q => q !== p && [...q.mq.values()].some(x => x.place === p.on && x.mode.includes(receives ? 'w' : 'r')));
-  return (others.map(q => 'P' + q.i).join(' ') || 'nobody') + (receives ? ' could send' : ' could receive');
+function link(a, kind, tip) {                     // from the box of a record to the box of a later one
+  const from = R[a.from].process, to = R[a.to].process, half = lay.box / 2, isSame = from === to;
+  const x = trackX(a, lay.lane - lay.box), ya = midY(a.from), yb = midY(a.to);
+  const xa = midX(from) + (a.left ? -half : half), xb = midX(to) + (isSame || a.left ? half + 5 : -half - 5);
+  const r = Math.min(5, Math.abs(x - xa)), out = a.left ? -r : r, into = isSame ? -r : out;
+  return `<path class="${kind}" marker-end="url(#${tip})" data-from="${a.from}" data-to="${a.to}" ` +
+    `d="M${xa},${ya} H${x - out} Q${x},${ya} ${x},${ya + r} V${yb - r} Q${x},${yb} ${x + into},${yb} H${xb}"/>`;
+}
+
+// ---- why a process waits for ever
+
+const named = (processes, none) => processes.map(p => 'P' + p.number).join(' ') || none;
+function lacking(w) {                             // who has a semaphore that was made above 0, or could serve the call
+  const p = D.end.processes[w.p], object = D.end.objects.get(p.on), { call } = R[w.k];
+  const others = test => named(D.end.processes.filter(q => q !== p && test(q.held)), 'nobody');
+  const opened = (list, test) => others(held => [...held[list].values()].some(x => x.place === p.on && test(x)));
+  const queued = letter => opened('queues', x => x.mode.split(' ')[0].includes(letter));
+  if (call === 'mq_receive') return [queued('w'), 'could send'];
+  if (call === 'mq_send') return [queued('r'), 'could receive'];
+  if (object.made === 0) return [opened('slots', () => true), 'could post'];
+  const who = takers(D.end, object);
+  return [who.join(' ') || 'nobody', who.length > 1 ? 'have it' : 'has it'];
+}
+function takersOf(p) {                            // the processes that have taken what a process waits for
+  const object = p.state === 'waiting' ? D.end.objects.get(p.on) : undefined;
+  if (!object || object.kind !== 'sem' || object.made === 0) return [];
+  return [...object.took].filter(([, count]) => count > 0).map(([q]) => D.end.processes[q]);
+}
+function circle() {                               // processes of which each waits for what the next has taken
+  const seen = new Set();
+  const follow = (p, path) => {
+    if (path.includes(p)) return path.slice(path.indexOf(p));
+    if (seen.has(p)) return null;
+    seen.add(p);
+    return takersOf(p).reduce((found, q) => found || follow(q, [...path, p]), null);
+  };
+  return D.end.processes.reduce((found, p) => found || follow(p, []), null);
+}
+function circleText() {
+  const found = D.verdict === 'stuck' ? circle() : null;
+  if (!found) return '';
+  if (found.length === 1) return `P${found[0].number} waits for a semaphore that it has taken itself.`;
+  const list = [...found, found[0]].map(p => 'P' + p.number).join(' -> ');
+  return 'In a circle: ' + list + '. Each waits for a semaphore that the next has taken.';
 }
 "##;

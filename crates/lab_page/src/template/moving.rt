@@ -1,77 +1,107 @@
 //! Going from moment to moment: buttons, slider and keys.
 
 pub const MOVING: &str = r##"
-// ---- moving
+// ---- the present moment in the picture
 
-function markNow() {                              // the line of the present moment, and its box
-  const y = cur === R.length ? height : posY[Math.max(cur, 0)];
-  const now = $('now'), old = document.querySelector('.cur');
-  now.children[0].setAttribute('y', y); now.children[0].setAttribute('height', Math.max(0, full() - y) * (cur === R.length ? 0 : 1));
-  now.children[1].setAttribute('y1', y); now.children[1].setAttribute('y2', y); now.children[2].setAttribute('transform', `translate(0,${y})`);
+function markNow() {                              // its line, and its box
+  const y = cur === R.length ? height : posY[cur], [future, rule, tag] = $('now').children;
+  const old = document.querySelector('.cur'), box = document.querySelector(`g.ev[data-k="${cur - 1}"]`);
+  future.setAttribute('y', y); future.setAttribute('height', cur === R.length ? 0 : Math.max(0, full() - y));
+  rule.setAttribute('y1', y); rule.setAttribute('y2', y);
+  tag.setAttribute('transform', `translate(0,${y})`);
   if (old) old.classList.remove('cur');
-  const el = cur > 0 && isEvent(R[cur - 1]) && document.querySelector(`g.ev[data-k="${cur - 1}"]`);
-  if (el) el.classList.add('cur');
+  if (box) box.classList.add('cur');
   return y;
 }
-function mark() {
-  const y = markNow(), view = $('left'), top = view.scrollTop, inner = view.clientHeight - 60;
-  if (y < top + 30 || y > top + inner - 30) view.scrollTop = cur === R.length ? full() : Math.max(0, y - inner * .6);
-  const x = cur > 0 ? midX(R[cur - 1].p) : 0, half = lay.lane / 2;
-  if (x - half < view.scrollLeft + lay.x0 || x + half > view.scrollLeft + view.clientWidth) view.scrollLeft = Math.max(0, x - (view.clientWidth + lay.x0) / 2);
+function mark() {                                 // it comes into view
+  const y = markNow(), view = $('left'), inner = view.clientHeight - 60;
+  const isSeen = y >= view.scrollTop + 30 && y <= view.scrollTop + inner - 30;
+  if (!isSeen) view.scrollTop = cur === R.length ? full() : Math.max(0, y - inner * .6);
+  const x = cur > 0 ? midX(R[cur - 1].process) : 0, half = lay.lane / 2, left = view.scrollLeft;
+  const isBeside = x - half < left + lay.x0 || x + half > left + view.clientWidth;
+  if (isBeside) view.scrollLeft = Math.max(0, x - (view.clientWidth + lay.x0) / 2);
   paintNear();
 }
-function go(k, keep) {
-  cur = Math.max(0, Math.min(R.length, k));
-  const e = cur ? R[cur - 1] : null, n = cur === R.length && D.whole ? D.total : e ? e.n : 0;
-  const what = !e ? 'nothing has been done yet' : e.n + ' P' + e.p + ' ' + hex(e.from) + ' ' + (isEvent(e) ? e.text : e.did);
-  $('say').textContent = $('say').title = what;
-  $('count').textContent = 'step ' + n + ' of ' + D.total;
-  $('slider').value = cur; $('slider').setAttribute('aria-valuetext', 'step ' + n + ' of ' + D.total + ', ' + what);
+
+// ---- going to a moment
+
+function say(e, step) {
+  const what = e ? `${e.step} P${e.process} ${hex(e.from)} ${isEvent(e) ? e.text : e.did}` : 'nothing has been done yet';
+  $('say').textContent = what;
+  $('count').textContent = `step ${step} of ${D.total}`;
+  $('slider').value = cur;
+  $('slider').setAttribute('aria-valuetext', `step ${step} of ${D.total}, ${what}`);
+}
+function go(k, isAddressed) {
+  cur = limited(0, k, R.length);
+  const e = cur ? R[cur - 1] : null, step = cur === R.length && D.whole ? D.total : e ? e.step : 0;
+  say(e, step);
   panel(stateAt(cur), e);
   mark();
-  if (!keep) try { history.replaceState(null, '', '#step=' + n); } catch (x) { /* no history there */ }
+  if (!isAddressed) try { history.replaceState(null, '', '#step=' + step); } catch { /* no history there */ }
 }
-function call(d, p) {                             // to the next event, of process p where one is named
-  let k = cur + d;
-  while (k > 0 && k < R.length && !(isEvent(R[k - 1]) && (p === undefined || R[k - 1].p === p))) k += d;
+function goToEvent(direction, p) {                // to the next event, of process p where one is named
+  const isWanted = e => isEvent(e) && (p === undefined || e.process === p);
+  let k = cur + direction;
+  while (k > 0 && k < R.length && !isWanted(R[k - 1])) k += direction;
   go(k);
 }
-function play(on) {
-  clearTimeout(timer); timer = null; $('play').textContent = on ? 'Pause' : 'Play';
-  $('say').setAttribute('aria-live', on ? 'off' : 'polite');
-  if (!on) return;
+function play(isOn) {
+  clearTimeout(timer); timer = null;
+  $('play').textContent = isOn ? 'Pause' : 'Play';
+  $('say').setAttribute('aria-live', isOn ? 'off' : 'polite');
+  if (!isOn) return;
   if (cur === R.length) go(0);
-  const tick = () => { go(cur + 1); if (cur === R.length) play(false); else timer = setTimeout(tick, isEvent(R[cur - 1]) ? 700 : 110); };
+  const tick = () => {
+    go(cur + 1);
+    if (cur === R.length) play(false); else timer = setTimeout(tick, isEvent(R[cur - 1]) ? 700 : 110);
+  };
   timer = setTimeout(tick, 300);
 }
-function fromHash() {
-  const m = /^#step=(\d+)$/.exec(location.hash);
-  let k = R.length;
-  if (m) { k = 0; while (k < R.length && R[k].n <= Number(m[1])) k++; }
-  go(k, m !== null);
+function goToAddress() {                          // #step=12
+  const found = /^#step=(\d+)$/.exec(location.hash), after = found ? R.findIndex(e => e.step > Number(found[1])) : -1;
+  go(after < 0 ? R.length : after, found !== null);
 }
 const chosen = () => Number($('who').value);
-function choose(p) { $('who').value = p; for (const g of document.querySelectorAll('#head .who')) g.classList.toggle('chosen', Number(g.dataset.p) === chosen()); }
-const SHIFTED = { ArrowUp: () => call(-1, chosen()), ArrowDown: () => call(1, chosen()) };
-const KEYS = { ArrowLeft: () => go(cur - 1), ArrowRight: () => go(cur + 1), ArrowUp: () => call(-1), ArrowDown: () => call(1), Home: () => go(0), End: () => go(R.length) };
-document.addEventListener('keydown', ev => {
-  if (ev.ctrlKey || ev.altKey || ev.metaKey || ev.target.id === 'lines' || ev.target.tagName === 'SELECT') return;
-  const onControl = /^(BUTTON|SUMMARY)$/.test(ev.target.tagName), keys = ev.shiftKey ? SHIFTED : KEYS;
-  if (keys[ev.key]) { play(false); keys[ev.key](); ev.preventDefault(); }
-  else if (ev.key === ' ' && !onControl) { play(timer === null); ev.preventDefault(); }
+function choose(p) {
+  $('who').value = p;
+  for (const g of document.querySelectorAll('#head .who')) g.classList.toggle('chosen', g.dataset.p === $('who').value);
+}
+
+// ---- keys, buttons, the slider, clicks, windows
+
+const KEYS = {
+  ArrowLeft: () => go(cur - 1), ArrowRight: () => go(cur + 1), ArrowUp: () => goToEvent(-1), ArrowDown: () => goToEvent(1),
+  Home: () => go(0), End: () => go(R.length),
+};
+const SHIFTED = { ArrowUp: () => goToEvent(-1, chosen()), ArrowDown: () => goToEvent(1, chosen()) };
+const BUTTONS = {
+  first: KEYS.Home, prevcall: KEYS.ArrowUp, prev: KEYS.ArrowLeft, next: KEYS.ArrowRight, nextcall: KEYS.ArrowDown,
+  last: KEYS.End, prevof: SHIFTED.ArrowUp, nextof: SHIFTED.ArrowDown,
+};
+function onKey(event) {
+  const { target, key } = event;
+  if (event.ctrlKey || event.altKey || event.metaKey || target.tagName === 'SELECT' || target.closest('.text')) return;
+  const keys = event.shiftKey ? SHIFTED : KEYS;
+  if (keys[key]) { play(false); keys[key](); event.preventDefault(); }
+  else if (key === ' ' && !/^(BUTTON|SUMMARY)$/.test(target.tagName)) { play(timer === null); event.preventDefault(); }
+}
+const on = (id, kind, act) => $(id).addEventListener(kind, act);
+document.addEventListener('keydown', onKey);
+for (const [id, act] of Object.entries(BUTTONS)) on(id, 'click', () => { play(false); act(); });
+on('play', 'click', () => play(timer === null));
+on('who', 'change', () => choose(chosen()));
+on('head', 'click', event => { const g = event.target.closest('[data-p]'); if (g) choose(Number(g.dataset.p)); });
+on('slider', 'input', event => { play(false); go(Number(event.target.value)); });
+on('pic', 'click', event => {
+  const g = event.target.closest('[data-k]');
+  if (g) { play(false); go(Number(g.dataset.k) + 1); }
 });
-const on = (id, f) => $(id).addEventListener('click', () => { play(false); f(); });
-on('first', KEYS.Home); on('prevcall', KEYS.ArrowUp); on('prev', KEYS.ArrowLeft); on('next', KEYS.ArrowRight); on('nextcall', KEYS.ArrowDown); on('last', KEYS.End);
-on('prevof', SHIFTED.ArrowUp); on('nextof', SHIFTED.ArrowDown);
-$('who').addEventListener('change', () => choose(chosen()));
-$('head').addEventListener('click', ev => { const g = ev.target.closest('[data-p]'); if (g) choose(Number(g.dataset.p)); });
-$('play').addEventListener('click', () => play(timer === null));
-$('slider').addEventListener('input', ev => { play(false); go(Number(ev.target.value)); });
-$('pic').addEventListener('click', ev => { const g = ev.target.closest('[data-k]'); if (g) { play(false); go(Number(g.dataset.k) + 1); } });
-$('left').addEventListener('scroll', () => { keepGutter(); paintNear(); });
+on('left', 'scroll', () => { keepGutter(); paintNear(); });
 let resized = null;
-window.addEventListener('resize', () => { clearTimeout(resized); resized = setTimeout(draw, 120); });
-window.addEventListener('hashchange', fromHash);
-window.addEventListener('beforeprint', () => { $('legendbox').open = true; paint(0, full()); });
+function redraw() { if ($('left').clientWidth === lay.seen) paintNear(); else draw(); }
+new ResizeObserver(() => { clearTimeout(resized); resized = setTimeout(redraw, 120); }).observe($('left'));
+window.addEventListener('hashchange', goToAddress);
+window.addEventListener('beforeprint', () => { $('legendbox').open = $('planbox').open = true; paint(0, full()); });
 window.addEventListener('afterprint', draw);
 "##;

@@ -1,53 +1,100 @@
 //! The panel: objects and processes at a moment.
 
 pub const PANEL: &str = r##"
-// ---- the panel
+// ---- a process
 
 let cur = 0, timer = null;
-const pinned = new Map();
-function textAt(p, a) { const found = readCode(p.code).find(c => c[0] === a); return found ? [found[1], found[2]] : null; }
+const pinned = new Map();                         // the cards that a reader opened or closed
+const marked = (isMarked, text, kind) => `<span class="${(kind || '') + (isMarked ? ' changed' : '')}">${text}</span>`;
 function statusLine(p) {
-  const t = textAt(p, p.pc);
-  return 'P' + p.i + ' ' + p.state + ' ' + hex(p.pc) + ' ' + (p.state === 'ended' ? p.how : t ? t[1] : '-');
+  const found = textAt(p.code, p.pc), what = p.state === 'ended' ? p.how : found ? found.text : '-';
+  return `P${p.number} ${p.state} ${hex(p.pc)} ${what}`;
 }
-function whyText(s, p) {
+function whyText(state, p) {
   if (p.state !== 'waiting') return '';
-  const o = s.obj.get(p.on), t = 'waits for ' + nameOf(o) + ' since step ' + p.since;
-  return o.kind === 'sem' ? t + ', taken by ' + (takers(o).join(' ') || 'nobody') : t + (o.msgs.length === 0 ? ' (empty)' : ' (' + o.msgs.length + ' of ' + o.max + ')');
+  const object = state.objects.get(p.on), text = `waits for ${nameOf(object)} since step ${p.since}`;
+  if (object.kind === 'sem') return text + ', taken by ' + (takers(state, object).join(' ') || 'nobody');
+  return text + (object.messages.length === 0 ? ' (empty)' : ` (${object.messages.length} of ${object.most})`);
 }
-function card(s, p, e) {
-  const acts = e && e.p === p.i, now = new Set(acts ? (e.r || []).map(x => x[0]) : []);
-  const cell = (n, v, c) => `<span><i>${n}</i> <span${c ? ' class="changed"' : ''}>${v}</span></span>`;
-  const first = p.r.map((v, i) => cell('R' + i, hex(v), now.has(i)));
-  const regs = first.slice(0, 4).concat(cell('PC', hex(p.pc), acts && e.pc !== e.from), first.slice(4), cell('CC', p.cc, acts && e.cc !== undefined)).join('');
-  const code = [];
-  for (const [a, w, t] of p.state === 'ended' ? [] : readCode(p.code)) {
-    const call = w >> 8 === 0xF0 && TRAPS[w & 255] ? '  ; ' + TRAPS[w & 255] : '';
-    code.push(`<span class="${a === p.pc ? 'here' : 'line'}">${a === p.pc ? '&gt;' : ' '} <i>${hex(a)} ${hex(w)}</i> ${esc(t)}<i>${call}</i></span>`);
-  }
-  const opens = [...p.mq].sort((a, b) => a[0] - b[0]).map(([d, x]) => 'mq ' + d + ' ' + nameOf(s.obj.get(x.place)) + ' ' + x.mode)
-    .concat([...p.slot].sort((a, b) => a[0] - b[0]).map(([d, x]) => 'sem ' + d + ' ' + nameOf(s.obj.get(x.place)) + (x.opens > 1 ? ' *' + x.opens : '')));
-  return `<div class="regs mono">${regs}</div>${code.length ? '<pre>' + code.join('') + '</pre>' : ''}` +
-    `<div class="mono"><i class="none">output</i> <span class="output${acts && e.out !== undefined ? ' changed' : ''}">${p.out ? '"' + esc(shown(p.out)) + '"' : '-'}</span></div>` +
-    `<div class="mono open"><i class="none">open</i> <span>${opens.length ? opens.map(o => '<span class="held">' + esc(o) + '</span>').join('') : '-'}</span></div>`;
+function registersOf(p, e) {
+  const cell = (name, text, isMarked) => `<span><i>${name}</i> ${marked(isMarked, text)}</span>`;
+  const all = p.r.map((w, i) => cell('R' + i, hex(w), e && e.changed.has('R' + i)));
+  const pc = cell('PC', hex(p.pc), e && e.pc !== e.from), cc = cell('CC', p.cc, e && e.changed.has('CC'));
+  return [...all.slice(0, 4), pc, ...all.slice(4), cc].join('');
 }
-function panel(s, e) {
-  const objs = [...s.obj.values()].sort((a, b) => a.place - b.place), touched = new Set(((e && e.k) || []).filter(c => c[0] !== 'mq' && c[0] !== 'slot').map(c => c[1]));
-  const waiters = o => s.procs.filter(p => p.state === 'waiting' && p.on === o.place).map(p => 'P' + p.i).join(' ');
-  const nm = o => `<span${touched.has(o.place) ? ' class="changed"' : ''}>${esc(nameOf(o))}</span>` + (o.name === null ? ' (unlinked)' : '');
-  const sems = objs.filter(o => o.kind === 'sem'), mqs = objs.filter(o => o.kind === 'queue');
-  $('sems').innerHTML = sems.length ? '<table class="mono"><tr><th>name<th>value<th>taken by<th>waited for by</tr>' + sems.map(o =>
-    `<tr><td>${nm(o)}<td class="num">${o.value}<td>${takers(o).join(' ') || '-'}<td>${waiters(o) || '-'}</tr>`).join('') + '</table>' : '<p class="none">none yet</p>';
-  $('mqs').innerHTML = mqs.length ? mqs.map(o => `<div class="queue mono">${nm(o)} ${o.msgs.length} of ${o.max}, length up to ${o.size}${waiters(o) ? ', waited for by ' + waiters(o) : ''}` +
-    (o.msgs.length ? '<ol>' + o.msgs.map(m => `<li>${esc(message(m))} prio ${m.prio}, from P${R[m.k].p} at ${R[m.k].n}</li>`).join('') + '</ol>' : '') + '</div>').join('') : '<p class="none">none yet</p>';
-  s.procs.forEach((p, i) => {
-    const c = $('card' + i), why = whyText(s, p), acts = !!e && e.p === i;
-    c.open = pinned.has(i) ? pinned.get(i) : N <= 3 || acts;
-    c.classList.toggle('acts', acts);
-    c.firstChild.innerHTML = `<span class="mono">${esc(statusLine(p))}</span>${why ? '<span class="why">' + esc(why) + '</span>' : ''}`;
-    c.lastChild.innerHTML = c.open ? card(s, p, e) : '';
-  });
-  const view = $('procs'), c = e && $('card' + e.p);
-  if (c && (c.offsetTop < view.scrollTop || c.offsetTop + c.offsetHeight > view.scrollTop + view.clientHeight)) view.scrollTop = c.offsetTop - 10;
+function codeLine(isNext, place, text, call) {
+  const named = call ? `<i>  ; ${call}</i>` : '';
+  return `<span class="${isNext ? 'here' : 'line'}">${isNext ? '&gt;' : ' '} <i>${place}</i> ${esc(text)}${named}</span>`;
+}
+function codeLines(p) {                           // the words around the next instruction
+  return readCode(p.code).map(({ address, word, text }) =>
+    codeLine(address === p.pc, hex(address) + ' ' + hex(word), text, trapOf(word))).join('');
+}
+const BEFORE = 4, AFTER = 5;                      // how many lines of a source stand around that of the next instruction
+function sourceLines(p, next) {                   // the lines of the source around that of the next instruction
+  const { lines } = SOURCES[p.number], first = Math.max(0, next.at - BEFORE), most = String(next.at + AFTER + 1).length;
+  return lines.slice(first, next.at + AFTER + 1).map(({ text, address, words }, i) => {
+    const call = words && !text.includes(';') ? trapOf(words[0]) : undefined;
+    const place = String(first + i + 1).padStart(most) + ' ' + (words ? hex(address) : '     ');
+    return codeLine(first + i === next.at, place, text, call);
+  }).join('');
+}
+function around(p) {
+  if (p.state === 'ended') return '';
+  const next = sourceAt(p.number, p.code, p.pc);
+  if (next) return `<pre class="code source">${sourceLines(p, next)}</pre>`;
+  const why = SOURCES[p.number] ? '<p class="none">Not a word of the source:</p>' : '';
+  return why + `<pre class="code">${codeLines(p)}</pre>`;
+}
+function openOf(state, p) {
+  const inOrder = list => [...list].sort((a, b) => a[0] - b[0]), name = x => nameOf(state.objects.get(x.place));
+  return [...inOrder(p.held.queues).map(([number, x]) => `mq ${number} ${name(x)} ${x.mode}`),
+    ...inOrder(p.held.slots).map(([number, x]) => `sem ${number} ${name(x)}${x.opens > 1 ? ' *' + x.opens : ''}`)];
+}
+function card(state, p, e) {                      // e is the record of the step, where this process took it
+  const open = openOf(state, p).map(text => `<span class="held">${esc(text)}</span>`).join('') || '-';
+  const output = marked(e && e.output !== undefined, p.output ? '"' + esc(shown(p.output)) + '"' : '-', 'output');
+  return `<div class="regs mono">${registersOf(p, e)}</div>${around(p)}` +
+    `<div class="mono part"><i class="none">output</i> ${output}</div>` +
+    `<div class="mono part"><i class="none">open</i> <span>${open}</span></div>`;
+}
+
+// ---- the objects
+
+function showObjects(state, e) {
+  const objects = [...state.objects.values()].sort((a, b) => a.place - b.place);
+  const touched = new Set(e ? e.changes.map(c => c.place) : []);
+  const waiters = o => named(state.processes.filter(p => p.state === 'waiting' && p.on === o.place), '');
+  const name = o => marked(touched.has(o.place), esc(nameOf(o))) + (o.name === null ? ' (unlinked)' : '');
+  const cells = o => [name(o), o.value, takers(state, o).join(' ') || '-', waiters(o) || '-'];
+  const row = o => '<tr>' + cells(o).map(text => `<td>${text}`).join('') + '</tr>';
+  const item = m => `<li>${esc(message(m))} prio ${m.priority}, from P${R[m.k].process} at ${R[m.k].step}</li>`;
+  const queue = o => `<div class="queue mono">${name(o)} ${o.messages.length} of ${o.most}, length up to ${o.size}` +
+    (waiters(o) ? ', waited for by ' + waiters(o) : '') +
+    (o.messages.length ? '<ol>' + o.messages.map(item).join('') + '</ol>' : '') + '</div>';
+  const head = '<tr><th>name<th>value<th>taken by<th>waited for by</tr>', none = '<p class="none">none</p>';
+  const sems = objects.filter(o => o.kind === 'sem').map(row).join('');
+  $('sems').innerHTML = sems ? `<table class="mono">${head}${sems}</table>` : none;
+  $('mqs').innerHTML = objects.filter(o => o.kind === 'queue').map(queue).join('') || none;
+}
+
+// ---- all of it
+
+function showProcess(state, p, e) {
+  const element = $('card' + p.number), why = whyText(state, p), acts = e && e.process === p.number;
+  element.open = pinned.has(p.number) ? pinned.get(p.number) : N <= 3 || acts;
+  element.classList.toggle('acts', acts);
+  element.firstChild.innerHTML = `<span class="mono">${esc(statusLine(p))}</span>` +
+    (why ? `<span class="why">${esc(why)}</span>` : '');
+  element.lastChild.innerHTML = element.open ? card(state, p, acts ? e : null) : '';
+}
+function reveal(element) {                        // the card of the process that acts comes into view
+  const view = $('procs'), top = element.offsetTop, end = top + element.offsetHeight;
+  if (top < view.scrollTop || end > view.scrollTop + view.clientHeight) view.scrollTop = top - 10;
+}
+function panel(state, e) {
+  showObjects(state, e);
+  for (const p of state.processes) showProcess(state, p, e);
+  if (e) reveal($('card' + e.process));
 }
 "##;

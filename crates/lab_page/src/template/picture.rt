@@ -1,147 +1,209 @@
-//! The picture: lanes, boxes, arrows, bars and marks. Only what lies near the window is drawn, so that a long run stays quick.
+//! The picture: lanes, boxes, arrows, bars and marks. Only what lies near the window is drawn: so a long run stays quick.
 
 pub const PICTURE: &str = r##"
 // ---- the picture
 
-const DEFS = '<defs><pattern id="hatch" width="6" height="6" patternUnits="userSpaceOnUse" patternTransform="rotate(45)"><line class="hatchline" x1="0" y1="0" x2="0" y2="6"/></pattern>' +
-  ['tipm', 'tipw'].map(t => `<marker id="${t}" viewBox="0 0 8 8" refX="3" refY="4" markerWidth="8" markerHeight="8" markerUnits="userSpaceOnUse" orient="auto"><path class="${t}" d="M0,0 L8,4 L0,8 z"/></marker>`).join('') + '</defs>';
+const marker = kind => `<marker id="${kind}" viewBox="0 0 8 8" refX="3" refY="4" markerWidth="8" markerHeight="8" ` +
+  `markerUnits="userSpaceOnUse" orient="auto"><path class="${kind}" d="M0,0 L8,4 L0,8 z"/></marker>`;
+const DEFS = '<defs><pattern id="hatch" width="6" height="6" patternUnits="userSpaceOnUse" patternTransform="rotate(45)">' +
+  '<line class="hatchline" x1="0" y1="0" x2="0" y2="6"/></pattern>' + marker('tipm') + marker('tipw') + '</defs>';
 const NEAR = 1500;                                // so far beyond the window the picture is drawn
-const VERDICTS = { stuck: 'stuck: no step of any process changes anything', ended: 'ended: all processes have ended', open: 'open: the schedule is over, some process could go on' };
-const bottom = () => height + 30;
-const full = () => height + FOOT;
 let near = { top: 0, end: 0 };
 const touches = (y1, y2) => y1 <= near.end && y2 >= near.top;
-const fill = (el, tall, html) => {
-  el.setAttribute('width', lay.width); el.setAttribute('height', tall); el.setAttribute('viewBox', `0 0 ${lay.width} ${tall}`); el.innerHTML = html;
-};
+const fits = width => Math.floor(width / CHAR);   // how many characters
+const line = (kind, x1, x2, y1, y2) => `<line class="${kind}" x1="${x1}" x2="${x2}" y1="${y1}" y2="${y2}"/>`;
+const bar = (kind, x, y1, y2, w) => `<rect class="${kind}" x="${x - w / 2}" y="${y1}" width="${w}" height="${y2 - y1}"/>`;
+const label = (kind, x, y, text, anchor) =>
+  `<text class="${kind}" x="${x}" y="${y}"${anchor ? ` text-anchor="${anchor}"` : ''}>${esc(text)}</text>`;
+function fill(svg, tall, inner) {
+  svg.setAttribute('width', lay.width); svg.setAttribute('height', tall);
+  svg.setAttribute('viewBox', `0 0 ${lay.width} ${tall}`);
+  svg.innerHTML = inner;
+}
 
 function drawHead() {
-  const { num, lane, x0, colX, colW, width } = lay, h = [];
+  const { num, lane, x0, colX, colW, width } = lay, parts = [], room = fits(lane - 4);
   D.processes.forEach(({ name }, p) => {
-    const x = midX(p), fits = Math.floor((lane - 4) / CHAR);
-    h.push(`<g class="who" data-p="${p}"><title>${esc('P' + p + ' ' + name)}</title><text class="b" x="${x}" y="16" text-anchor="middle">${fits > 2 ? 'P' + p : p}</text>` +
-      (fits > 6 ? `<text class="soft" x="${x}" y="31" text-anchor="middle">${esc(cutName(name, fits))}</text>` : '') + '</g>');
+    const number = label('b', midX(p), 16, room > 2 ? 'P' + p : p, 'middle');
+    const named = room > 6 ? label('soft', midX(p), 31, cutName(name, room), 'middle') : '';
+    parts.push(titled('P' + p + ' ' + name, number + named, ` class="who" data-p="${p}"`));
   });
   cols.forEach((c, i) => {
-    const x = colX[i] + colW[i] / 2;
-    h.push(`<g><title>${esc(c.kind + ' ' + c.name)}</title><text class="b" x="${x}" y="16" text-anchor="middle">${esc(cut(c.name, Math.floor((colW[i] - 6) / CHAR)))}</text>` +
-      `<text class="soft" x="${x}" y="31" text-anchor="middle">${c.kind === 'sem' ? 'sem' : 'queue'}</text></g>`);
+    const x = colX[i] + colW[i] / 2, name = label('b', x, 16, cut(c.name, fits(colW[i] - 6)), 'middle');
+    parts.push(titled(c.kind + ' ' + c.name, name + label('soft', x, 31, c.kind === 'sem' ? 'sem' : 'queue', 'middle')));
   });
-  h.push(`<g class="gut"><rect class="plain" x="0" y="0" width="${x0}" height="39"/><text class="soft" x="${num - 8}" y="16" text-anchor="end">step</text></g>`);
-  fill($('head'), 40, h.join('') + `<line class="life" x1="0" x2="${width}" y1="39.5" y2="39.5"/>`);
+  const gutter = `<rect class="plain" x="0" y="0" width="${x0}" height="39"/>` + label('soft', num - 8, 16, 'step', 'end');
+  parts.push('<g class="gut">' + gutter + '</g>');
+  fill($('head'), 40, parts.join('') + line('life', 0, width, 39.5, 39.5));
 }
-function drawLanes(g) {
+function drawLanes(parts) {
   for (let p = 0; p < N; p++) {
-    const x = midX(p), to = D.ended.has(p) ? midY(D.ended.get(p)) : bottom();
-    g.push(`<line class="life" x1="${x}" x2="${x}" y1="0" y2="${to}"/>`);
+    const to = D.ended.has(p) ? midY(D.ended.get(p)) : bottom();
+    parts.push(line('life', midX(p), midX(p), 0, to));
   }
 }
-function drawObjects(g) {
-  const { colX, colW } = lay;
-  cols.forEach((c, i) => {
-    if (c.at.length) g.push(`<line class="life" x1="${colX[i] + 5}" x2="${colX[i] + 5}" y1="${midY(c.at[0].k)}" y2="${bottom()}"/>`);
-    const last = new Map(c.at.filter(a => touches(midY(a.k), midY(a.k))).map(a => [a.k, a]));
-    for (const a of last.values()) {
-      const y = midY(a.k), fits = Math.floor((colW[i] - 12) / CHAR), long = a.value === undefined ? a.text : a.value + (a.text ? ' ' + a.text : '') + (a.who ? ' ' + a.who : '');
-      g.push(`<g><title>${esc(c.name + ' ' + (a.title || a.text))}</title><circle class="${c.kind === 'sem' ? 'holds' : 'tipm'}" cx="${colX[i] + 5}" cy="${y}" r="3"/>` +
-        `<text x="${colX[i] + 12}" y="${y + 4}">${long.length > fits && a.value && a.value.length > fits - 2 ? esc(cut(a.value, fits)) : esc(cut(long, fits))}</text></g>`);
-    }
-  });
+
+// ---- the columns of the objects
+
+function levelText(a, room) {                     // the value, and as much of the rest as there is room for
+  const all = [a.value, a.text, a.who].filter(part => part).join(' ');
+  return cut(all.length > room && a.value && a.value.length > room - 2 ? a.value : all, room);
 }
-function drawGaps(g, list) {
-  for (const r of list) {
-    for (const [p, n] of r.ran) { const x = midX(p); g.push(`<line class="ran" x1="${x}" x2="${x}" y1="${r.y}" y2="${r.y + GAP}"><title>P${p}: ${n} local steps</title></line>`); }
-    for (const [p, n] of r.tried) { const x = midX(p); if (lay.lane <= 90) g.push(`<line class="tried" x1="${x + 4}" x2="${x + 4}" y1="${r.y}" y2="${r.y + GAP}"><title>P${p}: ${n} steps without effect</title></line>`); }
+function drawColumn(parts, c, i) {
+  const x = lay.colX[i] + 5, room = fits(lay.colW[i] - 12);
+  const last = c.at[c.at.length - 1], isGone = last.text === 'gone';
+  parts.push(line('life', x, x, midY(c.at[0].k), isGone ? midY(last.k) : bottom()));
+  const shownAt = new Map(c.at.filter(a => touches(midY(a.k), midY(a.k))).map(a => [a.k, a]));
+  for (const a of shownAt.values()) {
+    const y = midY(a.k), dot = `<circle class="${c.kind === 'sem' ? 'holds' : 'tipm'}" cx="${x}" cy="${y}" r="3"/>`;
+    parts.push(titled(c.name + ' ' + a.title, dot + label('', x + 7, y + 4, levelText(a, room))));
+  }
+  if (isGone) return;
+  parts.push(titled(c.name + ' at the end: ' + last.title, label('b', x + 7, bottom() + 16, levelText(last, room))));
+}
+
+// ---- the rows between events
+
+function drawGaps(parts, gaps) {
+  for (const r of gaps) {
+    const mark = (kind, x) => line(kind, x, x, r.y, r.y + GAP);
+    for (const [p, n] of r.ran) parts.push(titled(`P${p}: ${n} local steps`, mark('ran', midX(p))));
+    if (lay.lane > 90) continue;
+    for (const [p, n] of r.tried) parts.push(titled(`P${p}: ${n} steps without effect`, mark('tried', midX(p) + 4)));
   }
 }
-function drawCounts(g, list) {
-  for (const r of list) {
-    for (const [p, n] of r.ran) if (lay.lane > 40) g.push(`<text class="soft" x="${midX(p) + 7}" y="${r.y + GAP / 2 + 4}">${esc(cut('+' + n, Math.floor((lay.lane / 2 - 8) / CHAR)))}</text>`);
-    for (const [p, n] of r.tried) g.push(lay.lane > 90 ? note(midX(p), r.y + GAP / 2, n + ' idle', 'soft') : '');
+function drawCounts(parts, gaps) {
+  for (const r of gaps) {
+    const y = r.y + GAP / 2, room = fits(lay.lane / 2 - 8);
+    if (lay.lane > 40) for (const [p, n] of r.ran) parts.push(label('soft', midX(p) + 7, y + 4, cut('+' + n, room)));
+    if (lay.lane > 90) for (const [p, n] of r.tried) parts.push(note(midX(p), y, n + ' idle', 'soft'));
   }
 }
+
+// ---- waits, and what is held
+
 const waitEnds = w => [midY(w.k) + 10, w.end === null ? bottom() : midY(w.end) - 10];
-function drawWaits(g, list) {
-  const bw = lay.box;
+function drawWaits(parts, list) {
   for (const w of list) {
-    const x = midX(w.p), [from, to] = waitEnds(w);
-    if (to > from) g.push(`<g data-k="${w.k}"><title>${esc('P' + w.p + ' waits for ' + w.name)}</title><rect class="plain" x="${x - bw / 2 + 3}" y="${from}" width="${bw - 6}" height="${to - from}"/>` +
-      `<rect class="waitbar" x="${x - bw / 2 + 3}" y="${from}" width="${bw - 6}" height="${to - from}"/></g>`);
+    const x = midX(w.p), [from, to] = waitEnds(w), wide = lay.box - 6;
+    if (to <= from) continue;
+    const bars = bar('plain', x, from, to, wide) + bar('waitbar', x, from, to, wide);
+    parts.push(titled(`P${w.p} waits for ${w.name}`, bars, ` data-k="${w.k}"`));
   }
 }
-function drawReasons(g, list) {                   // what a process waits for, again and again along a long bar
-  const fits = Math.floor((lay.box - 12) / CHAR);
-  if (fits <= 3) return;
+function isCounted(p, y) {                        // whether a number of steps without effect stands there
+  const isNear = r => r.tried && r.tried.has(p) && Math.abs(r.y + GAP / 2 - y) < 15;
+  return [y - 13, y, y + 13].some(at => isNear(rowAt(at)));
+}
+function drawReasons(parts, list) {               // what a process waits for, again and again along a long bar
+  const room = fits(lay.box - 12), again = 260;
+  if (room <= 3) return;
   for (const w of list) {
-    const x = midX(w.p), [from, to] = waitEnds(w);
-    const t = ['waits for ' + w.name, w.name].find(l => l.length <= fits) || cut(w.name, fits);
-    const first = from + (to - from < 24 ? 10 : 14), hidden = Math.max(0, Math.floor((near.top - first) / 260));
-    for (let y = first + hidden * 260, i = hidden; y < Math.min(to - 6, near.end); y += 260, i++) {
-      while ([rowAt(y - 13), rowAt(y), rowAt(y + 13)].some(r => r.tried && r.tried.has(w.p) && Math.abs(r.y + GAP / 2 - y) < 15)) y += 6;
-      if (i === 0 || to - y > 60) g.push(note(x, y, t, 'b'));
+    const [from, to] = waitEnds(w), first = from + (to - from < 24 ? 10 : 14);
+    const text = ['waits for ' + w.name, w.name].find(t => t.length <= room) || cut(w.name, room);
+    const hidden = Math.max(0, Math.floor((near.top - first) / again));
+    for (let y = first + hidden * again, i = hidden; y < Math.min(to - 6, near.end); y += again, i++) {
+      while (isCounted(w.p, y)) y += 6;
+      if (i === 0 || to - y > 60) parts.push(note(midX(w.p), y, text, 'b'));
     }
   }
 }
-function drawHeld(g) {
-  for (const o of holds) {
-    const x = midX(o.p) + lay.box / 2 - 3 - 6 * Math.min(o.side, 3), from = midY(o.k), to = o.end === null ? bottom() : midY(o.end), thin = lay.lane < 40;
-    if (touches(from, to)) g.push(`<g><title>${esc('P' + o.p + ' has taken ' + o.name)}</title><rect class="holds" x="${x - (thin ? 1 : 2)}" y="${from}" width="${thin ? 3 : 4}" height="${to - from}"/></g>`);
+function drawHeld(parts) {
+  const wide = lay.lane < 40 ? 3 : 4;
+  for (const h of holds) {
+    const x = midX(h.p) + lay.box / 2 - 3 - 6 * Math.min(h.side, 3);
+    const from = midY(h.k), to = h.end === null ? bottom() : midY(h.end);
+    if (touches(from, to)) parts.push(titled(`P${h.p} has taken ${h.name}`, bar('holds', x, from, to, wide)));
   }
 }
-function drawLinks(g) {
+
+// ---- messages, and who let a waiting process go on
+
+function drawUnreceived(parts, a) {
+  const x = midX(R[a.from].process) + lay.box / 2, y = midY(a.from);
+  const dot = `<circle class="kept" cx="${x + 9}" cy="${y}" r="3.5"/>`;
+  parts.push(titled('never received', `<path class="arrow" d="M${x},${y} h6"/>` + dot));
+}
+function drawLinks(parts) {
   const isNear = a => touches(midY(a.from), midY(a.to === null ? a.from : a.to));
-  for (const a of wakes.filter(isNear)) g.push(link(a, 'wake', 'tipw'));
+  for (const a of wakes.filter(isNear)) parts.push(link(a, 'wake', 'tipw'));
   for (const a of arrows.filter(isNear)) {
-    if (a.to !== null) g.push(link(a, 'arrow', 'tipm'));
-    else { const x = midX(R[a.from].p) + lay.box / 2, y = midY(a.from); g.push(`<g><title>never received</title><path class="arrow" d="M${x},${y} h6"/><circle class="kept" cx="${x + 9}" cy="${y}" r="3.5"/></g>`); }
+    if (a.to === null) drawUnreceived(parts, a);
+    else parts.push(link(a, 'arrow', 'tipm'));
   }
 }
-function drawStuck(g) {
-  const bw = lay.box, fits = Math.floor((bw - 44) / CHAR), top = bottom();
+
+// ---- the end
+
+function drawStuck(parts) {
+  const room = fits(lay.box - 44), y = bottom() + 12;
   if (D.verdict !== 'stuck') return;
-  for (const w of waits) if (w.end === null) {
-    const x = midX(w.p), y = top + 12, who = cut(lacking(w), fits), at = fits > 5 ? x - bw / 2 + 17 : x;
-    const c = `<path class="cross" d="M${at - 5},${y - 5} l10,10 m0,-10 l-10,10"/>` + (fits > 5 ? `<text class="red" x="${at + 13}" y="${y + 4}">${esc(who)}</text>` : '');
-    g.push(`<g><title>${esc('P' + w.p + ' waits for ever for ' + w.name + ': ' + lacking(w))}</title><rect class="stuckbar" x="${x - bw / 2 + 3}" y="${top}" width="${bw - 6}" height="24"/>${c}</g>`);
+  for (const w of waits.filter(w => w.end === null)) {
+    const x = midX(w.p), [who, does] = lacking(w), why = who + ' ' + does, at = room > 5 ? x - lay.box / 2 + 17 : x;
+    const cross = `<path class="cross" d="M${at - 5},${y - 5} l10,10 m0,-10 l-10,10"/>`;
+    const mark = bar('stuckbar', x, bottom(), bottom() + 24, lay.box - 6) + cross;
+    const words = room > 5 ? label('red', at + 13, y + 4, why.length <= room ? why : cut(who, room)) : '';
+    parts.push(titled(`P${w.p} waits for ever for ${w.name}: ${why}`, mark + words));
   }
 }
-function drawGutter(g, list) {                    // steps and, beside narrow lanes, calls in words; it stays where one scrolls sideways
-  const { num, text, x0 } = lay, gut = [];
-  for (const r of list) {
-    const e = R[r.k], y = r.y + EVENT / 2;
-    gut.push(`<text class="soft" x="${num - 8}" y="${y + 4}" text-anchor="end">${e.n}</text>`);
-    if (text) gut.push(`<text x="${num}" y="${y + 4}">${esc(cut('P' + e.p + ' ' + (e.call ? e.call + ' ' + e.name + ' ' + e.ans : e.text), Math.floor((text - 12) / CHAR)))}</text>`);
+function drawGutter(parts, events) {              // steps and, beside narrow lanes, calls in words
+  const { num, text, x0 } = lay, gutter = [`<rect class="plain" x="0" y="0" width="${x0 - 2}" height="${full()}"/>`];
+  for (const r of events) {
+    const e = R[r.k], y = r.y + EVENT / 2 + 4, words = e.call ? `${e.call} ${e.name} ${e.answer}` : e.text;
+    gutter.push(label('soft', num - 8, y, e.step, 'end'));
+    if (text) gutter.push(label('', num, y, cut(`P${e.process} ${words}`, fits(text - 12))));
   }
-  gut.push(`<text class="${D.verdict === 'stuck' ? 'red' : 'b'}" x="${num}" y="${height + 74}">${VERDICTS[D.verdict]}</text>`);
-  g.push(`<g class="gut"><rect class="plain" x="0" y="0" width="${x0 - 2}" height="${full()}"/>${gut.join('')}</g>`);
+  parts.push('<g class="gut">' + gutter.join('') + '</g>');
+}
+function nowMark() {                              // what is to come is pale
+  return `<g id="now"><rect class="future" x="0" y="0" width="${lay.width}" height="${full()}"/>` +
+    line('nowline', 0, lay.width, 0, 0) + '<path class="nowtag" d="M0,-5 l8,5 l-8,5 z"/></g>';
+}
+
+// ---- painting
+
+function rowsBetween(top, end) {
+  const found = [];
+  for (let i = rowIndex(top); i < rows.length && rows[i].y <= end; i++) found.push(rows[i]);
+  return found;
+}
+function drawRule(parts, k) {                     // from a box to the column of its object
+  const e = R[k], x = midX(e.process) + lay.box / 2;
+  if (e.column !== undefined) parts.push(line('rule', x, lay.colX[e.column] + 6, midY(k), midY(k)));
 }
 function paint(top, end) {                        // what lies between these heights
   near = { top, end };
-  const g = [], { box: bw, width, colX } = lay, events = [], gaps = [];
-  for (let i = rowIndex(top); i < rows.length && rows[i].y <= end; i++) (rows[i].k === undefined ? gaps : events).push(rows[i]);
-  const bars = waits.filter(w => touches(...waitEnds(w)));
-  for (const r of events) {
-    const e = R[r.k], y = r.y + EVENT / 2;
-    if (e.col !== undefined) g.push(`<line class="rule" x1="${midX(e.p) + bw / 2}" x2="${colX[e.col] + 6}" y1="${y}" y2="${y}"/>`);
-  }
-  drawLanes(g); drawObjects(g); drawGaps(g, gaps); drawWaits(g, bars); drawHeld(g); drawLinks(g);
-  for (const r of events) g.push(box(R[r.k], r.k, midX(R[r.k].p), r.y + EVENT / 2, bw));
-  drawCounts(g, gaps); drawReasons(g, bars); drawStuck(g); drawGutter(g, events);
-  g.push(`<g id="now"><rect class="future" x="0" y="0" width="${width}" height="${full()}"/><line class="nowline" x1="0" x2="${width}" y1="0" y2="0"/><path class="nowtag" d="M0,-5 l8,5 l-8,5 z"/></g>`);
-  fill($('pic'), full(), DEFS + g.join(''));
+  const parts = [DEFS], found = rowsBetween(top, end), bars = waits.filter(w => touches(...waitEnds(w)));
+  const events = found.filter(r => r.k !== undefined), gaps = found.filter(r => r.k === undefined);
+  for (const r of events) drawRule(parts, r.k);
+  drawLanes(parts);
+  cols.forEach((c, i) => drawColumn(parts, c, i));
+  drawGaps(parts, gaps); drawWaits(parts, bars); drawHeld(parts); drawLinks(parts);
+  for (const r of events) parts.push(box(R[r.k], r.k, midX(R[r.k].process), midY(r.k), lay.box));
+  drawCounts(parts, gaps); drawReasons(parts, bars); drawStuck(parts); drawGutter(parts, events);
+  parts.push(nowMark());
+  fill($('pic'), full(), parts.join(''));
   markNow(); keepGutter();
+}
+function paintWindow() {
+  const { scrollTop: top, clientHeight: tall } = $('left');
+  paint(Math.max(0, top - NEAR), Math.min(full(), top + tall + NEAR));
 }
 function paintNear() {                            // again, where the window has left what was drawn
   const { scrollTop: top, clientHeight: tall } = $('left');
-  if (top < near.top || Math.min(top + tall, full()) > near.end) paint(Math.max(0, top - NEAR), Math.min(full(), top + tall + NEAR));
+  if (top < near.top || Math.min(top + tall, full()) > near.end) paintWindow();
 }
-function keepGutter() { document.querySelectorAll('.gut').forEach(x => x.setAttribute('transform', `translate(${$('left').scrollLeft},0)`)); }
+function keepGutter() {                           // it and the texts below stay where one scrolls sideways
+  const { scrollLeft: left } = $('left');
+  for (const g of document.querySelectorAll('.gut')) g.setAttribute('transform', `translate(${left},0)`);
+  for (const id of ['ending', 'atend']) $(id).style.transform = `translateX(${left}px)`;
+}
 function draw() {
   layout();
   drawHead();
-  const { scrollTop: top, clientHeight: tall } = $('left');
-  paint(Math.max(0, top - NEAR), Math.min(full(), top + tall + NEAR));
-  $('pic').setAttribute('aria-label', 'interleaving of ' + N + ' processes, ' + D.total + ' steps, verdict ' + D.verdict + '; the same as text below');
+  paintWindow();
+  const what = `interleaving of ${N} processes, ${D.total} steps, verdict ${D.verdict}; the same as text below`;
+  $('pic').setAttribute('aria-label', what);
   mark();
 }
 "##;

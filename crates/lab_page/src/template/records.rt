@@ -2,99 +2,123 @@
 
 pub const RECORDS: &str = r##"
 'use strict';
-const D = JSON.parse(document.getElementById('data').textContent), N = D.processes.length;
+const $ = id => document.getElementById(id);
+const D = JSON.parse($('data').textContent), N = D.processes.length;
 
 // ---- the texts of the trace and of the debugger
 
-const word = t => parseInt(t.slice(1), 16);
-const linesOf = t => t.split('\n').filter(l => l);
-function readRegisters(t) {                       // R0 x0000 .. R7 x0000 PC x3000 CC Z
-  const w = t.split(' ');
-  return { r: [0, 1, 2, 3, 4, 5, 6, 7].map(i => word(w[2 * i + 1])), pc: word(w[17]), cc: w[19].trim() };
+const word = text => parseInt(text.slice(1), 16);
+const linesOf = text => text.split('\n').filter(line => line);
+
+function readRegisters(text) {                    // R0 x0000 .. R7 x0000 PC x3000 CC Z
+  const parts = text.trim().split(' ');
+  return { r: [0, 1, 2, 3, 4, 5, 6, 7].map(i => word(parts[2 * i + 1])), pc: word(parts[17]), cc: parts[19] };
 }
-const readCode = t => linesOf(t).map(l => { const [a, w, ...text] = l.split(' '); return [word(a), word(w), text.join(' ')]; });
-function readHeld(t) {                            // mq 0 1 r nonblock, sem 0 1 1
-  const mq = new Map(), slot = new Map();
-  for (const l of linesOf(t)) {
-    const [kind, number, place, a, b] = l.split(' ');
-    if (kind === 'mq') mq.set(Number(number), [Number(place), ['r', 'w', 'rw'].indexOf(a), b === 'nonblock' ? 1 : 0]);
-    else slot.set(Number(number), [Number(place), Number(a)]);
+function readCode(text) {                         // x3000 xF025 HALT
+  return linesOf(text).map(line => {
+    const [address, held, ...rest] = line.split(' ');
+    return { address: word(address), word: word(held), text: rest.join(' ') };
+  });
+}
+function readHeld(text) {                         // mq 0 1 r nonblock, sem 0 1 1
+  const queues = new Map(), slots = new Map();
+  for (const line of linesOf(text)) {
+    const [kind, number, place, ...rest] = line.split(' ');
+    if (kind === 'mq') queues.set(Number(number), { place: Number(place), mode: rest.join(' ') });
+    else slots.set(Number(number), { place: Number(place), opens: Number(rest[0]) });
   }
-  return { mq, slot };
+  return { queues, slots };
 }
-function readObjects(queues, sems) {              // 1 /q 10 16 2 and its messages, 0 /a 1
-  const found = new Map(), name = t => t === '-' ? null : t;
-  for (const l of linesOf(sems)) { const [place, n, value] = l.split(' '); found.set(Number(place), { kind: 'sem', name: name(n), value: Number(value) }); }
-  let last = null;
-  for (const l of linesOf(queues)) {
-    const w = l.trim().split(' ');
-    if (l[0] === ' ') last.msgs.push([Number(w[0]), w.slice(1).map(word)]);
-    else found.set(Number(w[0]), last = { kind: 'queue', name: name(w[1]), max: Number(w[2]), size: Number(w[3]), msgs: [] });
+function readObjects(queues, semaphores) {        // 1 /q 10 16 2 and its messages, 0 /a 1
+  const found = new Map(), named = text => text === '-' ? null : text;
+  let queue = null;
+  for (const line of linesOf(semaphores)) {
+    const [place, name, value] = line.split(' ');
+    found.set(Number(place), { kind: 'sem', name: named(name), value: Number(value) });
   }
-  return new Map([...found].sort((a, b) => a[0] - b[0]));
+  for (const line of linesOf(queues)) {
+    const [first, ...rest] = line.trim().split(' ');
+    if (line[0] === ' ') queue.messages.push({ priority: Number(first), words: rest.map(word) });
+    else {
+      queue = { kind: 'queue', name: named(rest[0]), most: Number(rest[1]), size: Number(rest[2]), messages: [] };
+      found.set(Number(first), queue);
+    }
+  }
+  return found;
 }
-function readLine(t) {                            // STEP PROC ADDR LOCAL WHAT
-  const [, at, what] = /^ *\d+ P\d+ +(x[0-9A-F]{4}) +\+\d+ (.*)\n$/.exec(t), e = { from: word(at), text: what };
-  if (what.startsWith('ends ')) return { ...e, how: what.slice(5) };
+
+// ---- a line of the trace: STEP PROC ADDR LOCAL WHAT
+
+function readLine(text) {
+  const [, at, what] = /^ *\d+ P\d+ +(x[0-9A-F]{4}) +\+\d+ (.*)\n$/.exec(text);
+  const event = { from: word(at), text: what };
+  if (what.startsWith('ends ')) return { ...event, how: what.slice(5) };
   const call = /^((?:mq|sem)_[a-z]+)\(/.exec(what);
-  if (!call) return { ...e, out: what.slice(what.indexOf('"') + 1, -1).replace(/\\x([0-9A-F]{2})/g, (_, d) => String.fromCharCode(parseInt(d, 16))) };
-  const start = call[0].length, handle = /^-?\d+<[^ ]*(?=, |\) )/.exec(what.slice(start));  // a name has no blanks
-  let end = start + (handle ? handle[0].length : 0), quoted = false;
-  while (end < what.length && (quoted || !/^\) (= |waits)/.test(what.slice(end, end + 8)))) { if (what[end] === '"') quoted = !quoted; end++; }
-  let stop = end + 2;
-  for (quoted = false; stop < what.length && (quoted || what.slice(stop, stop + 3) !== ' ; '); stop++) if (what[stop] === '"') quoted = !quoted;
-  return { ...e, call: call[1], args: what.slice(start, end), ans: what.slice(end + 2, stop) };
+  return call ? { ...event, ...readCall(what, call) } : { ...event, output: readOutput(what) };
+}
+function readOutput(what) {                       // OUT "*"
+  const quoted = what.slice(what.indexOf('"') + 1, -1);
+  return quoted.replace(/\\x([0-9A-F]{2})/g, (_, digits) => String.fromCharCode(parseInt(digits, 16)));
+}
+function endOf(text, from, isEnd) {               // the first place from there, outside of quotes, that is an end
+  let at = from, isQuoted = false;
+  while (at < text.length && (isQuoted || !isEnd(text.slice(at, at + 8)))) if (text[at++] === '"') isQuoted = !isQuoted;
+  return at;
+}
+function readCall(what, [opening, call]) {        // NAME(ARGUMENTS) ANSWER ; NOTES
+  const start = opening.length, handle = /^-?\d+<[^ ]*(?=, |\) )/.exec(what.slice(start));  // a name has no blanks
+  const end = endOf(what, start + (handle ? handle[0].length : 0), next => /^\) (= |waits)/.test(next));
+  const stop = endOf(what, end + 2, next => next.startsWith(' ; '));
+  const origin = /(?:^|, )from P\d+ at (\d+)/.exec(what.slice(stop + 3));
+  return { call, args: what.slice(start, end), answer: what.slice(end + 2, stop), origin: origin && Number(origin[1]) };
 }
 
 // ---- what a moment changed
 
-function heldChanges(was, now) {
-  const k = [];
-  for (const [kind, list] of [['mq', 'mq'], ['slot', 'slot']]) {
-    for (const n of [...new Set([...was[list].keys(), ...now[list].keys()])].sort((a, b) => a - b)) {
-      const a = was[list].get(n), b = now[list].get(n);
-      if (String(a) !== String(b)) k.push(b ? [kind, n, ...b] : [kind, n]);
-    }
-  }
-  return k;
+function priorityOf(event) { return Number(event.args.slice(event.args.lastIndexOf(' ') + 1)); }
+function putOf(event, place, messages) {          // behind those of its priority and of greater ones
+  const index = messages.filter(m => m.priority >= priorityOf(event)).length - 1;
+  return { what: 'put', place, index, ...messages[index] };
 }
-function objectChanges(was, now, e) {
-  const made = [], other = [], gone = [];
-  for (const [place, b] of now) {
-    const a = was.get(place);
-    if (!a) { made.push(b.kind === 'sem' ? ['sem', place, b.name, b.value] : ['queue', place, b.name, b.max, b.size]); continue; }
-    if (a.name !== b.name) other.push(['noname', place]);
-    if (b.kind === 'sem') { if (a.value !== b.value) other.push(['value', place, b.value]); continue; }
-    if (b.msgs.length < a.msgs.length) other.push(['take', place]);
-    if (b.msgs.length > a.msgs.length) {          // behind those of its priority and of greater ones
-      const priority = Number(e.args.slice(e.args.lastIndexOf(' ') + 1)), index = b.msgs.filter(m => m[0] >= priority).length - 1;
-      other.push(['put', place, index, priority, b.msgs[index][1]]);
-    }
+function changesOf(was, now, event) {             // made, put, take, value, unlinked, gone
+  const changes = [];
+  for (const [place, after] of now) {
+    const before = was.get(place);
+    if (!before) { changes.push({ what: 'made', place, ...after }); continue; }
+    if (before.name !== after.name) changes.push({ what: 'unlinked', place });
+    if (after.kind === 'sem' && before.value !== after.value) changes.push({ what: 'value', place, value: after.value });
+    const more = after.kind === 'queue' ? after.messages.length - before.messages.length : 0;
+    if (more < 0) changes.push({ what: 'take', place });
+    if (more > 0) changes.push(putOf(event, place, after.messages));
   }
-  for (const place of was.keys()) if (!now.has(place)) gone.push(['gone', place]);
-  return { made, other, gone };
+  for (const place of was.keys()) if (!now.has(place)) changes.push({ what: 'gone', place });
+  return changes;
 }
-function objectOf(e, before, after) {             // the place of the object that a call is on
-  const list = e.call.startsWith('mq_') ? 'mq' : 'slot', handle = /^-?\d+(?=<)/.exec(e.args), answer = /^= (\d+)/.exec(e.ans);
-  if (handle) return before[list].get(Number(handle[0]))[0];
-  return e.call.endsWith('_open') && answer ? after[list].get(Number(answer[1]))[0] : undefined;
+function objectOf(event, before, after) {         // the place of the object that a call is on
+  const list = event.call.startsWith('mq_') ? 'queues' : 'slots';
+  const handle = /^-?\d+(?=<)/.exec(event.args), answer = /^= (\d+)/.exec(event.answer);
+  if (handle) return before[list].get(Number(handle[0])).place;
+  return event.call.endsWith('_open') && answer ? after[list].get(Number(answer[1])).place : undefined;
 }
 const R = (function records() {
-  const regs = D.processes.map(p => readRegisters(p.registers)), held = D.processes.map(() => readHeld(''));
+  const registers = D.processes.map(p => readRegisters(p.registers)), held = D.processes.map(() => readHeld(''));
   let objects = readObjects('', '');
-  return D.moments.map(m => {
-    const was = regs[m.process], now = regs[m.process] = readRegisters(m.registers), { event } = m;
-    const e = { n: m.step, p: m.process, pc: now.pc, cc: now.cc === was.cc ? undefined : now.cc, code: m.code,
-      r: now.r.map((w, i) => [i, w]).filter(([i, w]) => w !== was.r[i]) };
-    if (!event) return e;
-    Object.assign(e, readLine(event.line));
-    const holds = readHeld(event.held), after = readObjects(event.queues, event.semaphores), { made, other, gone } = objectChanges(objects, after, e);
-    e.k = [...made, ...(e.how ? [] : heldChanges(held[m.process], holds)), ...other, ...gone];
-    if (e.call) e.on = objectOf(e, held[m.process], holds);
-    held[m.process] = holds; objects = after;
-    return e;
+  return D.moments.map(({ step, process, registers: text, code, event }) => {
+    const was = registers[process], now = registers[process] = readRegisters(text), wasHeld = held[process];
+    const record = { step, process, code, pc: now.pc, cc: now.cc, changes: [], changed: new Set() };
+    record.r = now.r;
+    now.r.forEach((w, i) => { if (w !== was.r[i]) record.changed.add('R' + i); });
+    if (now.cc !== was.cc) record.changed.add('CC');
+    if (!event) return record;
+    const after = readObjects(event.queues, event.semaphores);
+    Object.assign(record, readLine(event.line), { held: readHeld(event.held) });
+    record.changes = changesOf(objects, after, record);
+    if (record.call) record.on = objectOf(record, wasHeld, record.held);
+    held[process] = record.held; objects = after;
+    return record;
   });
 })();
-D.total = D.schedule.split(' ').filter(b => b).reduce((sum, b) => sum + Number(b.split('*')[1]), 0);
+D.blocks = D.schedule.split(' ').filter(b => b).map(b => b.split('*').map(Number));
+D.total = D.blocks.reduce((sum, [, count]) => sum + count, 0);
 D.verdict = /verdict (\w+)\n$/.exec(D.ending)[1];
 "##;

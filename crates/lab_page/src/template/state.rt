@@ -1,61 +1,97 @@
 //! The state of the processes and of the objects after the first records.
 
 pub const STATE: &str = r##"
-const MEMORY_END = 0xFE00;
-const $ = id => document.getElementById(id);
-const esc = t => String(t).replace(/[&<>"]/g, c => '&#' + c.charCodeAt(0) + ';');
+// ---- texts
+
+const esc = text => String(text).replace(/[&<>"]/g, c => '&#' + c.charCodeAt(0) + ';');
 const hex = w => 'x' + w.toString(16).toUpperCase().padStart(4, '0');
-const cut = (t, n) => t.length <= n ? t : n < 2 ? t.slice(0, Math.max(n, 0)) : t.slice(0, n - 1) + '\u2026';
-const cutName = (t, n) => { const i = t.indexOf('='), tail = i < 0 ? '' : t.slice(i); return tail && t.length > n && tail.length < n - 3 ? cut(t.slice(0, i), n - tail.length) + tail : cut(t, n); };
-const TRAPS = { 0x40: 'mq_open', 0x41: 'mq_close', 0x42: 'mq_unlink', 0x43: 'mq_send', 0x44: 'mq_receive', 0x45: 'mq_getattr', 0x46: 'mq_setattr',
-  0x50: 'sem_open', 0x51: 'sem_close', 0x52: 'sem_unlink', 0x53: 'sem_wait', 0x54: 'sem_trywait', 0x55: 'sem_post', 0x56: 'sem_getvalue' };
+function cut(text, most) {
+  if (text.length <= most) return text;
+  return most < 2 ? text.slice(0, Math.max(most, 0)) : text.slice(0, most - 1) + '\u2026';
+}
+function cutName(text, most) {                    // of a name with an input file the end stays
+  const at = text.indexOf('='), tail = at < 0 ? '' : text.slice(at);
+  if (!tail || text.length <= most || tail.length > most - 4) return cut(text, most);
+  return cut(text.slice(0, at), most - tail.length) + tail;
+}
+function shown(output) {
+  const isPlain = c => c >= ' ' && c <= '~' && c !== '\\';
+  const digits = c => c.charCodeAt(0).toString(16).toUpperCase().padStart(2, '0');
+  return [...output].map(c => isPlain(c) ? c : '\\x' + digits(c)).join('');
+}
+const TRAPS = { 0x40: 'mq_open', 0x41: 'mq_close', 0x42: 'mq_unlink', 0x43: 'mq_send', 0x44: 'mq_receive',
+  0x45: 'mq_getattr', 0x46: 'mq_setattr', 0x50: 'sem_open', 0x51: 'sem_close', 0x52: 'sem_unlink', 0x53: 'sem_wait',
+  0x54: 'sem_trywait', 0x55: 'sem_post', 0x56: 'sem_getvalue' };
+const trapOf = w => w >> 8 === 0xF0 ? TRAPS[w & 255] : undefined;
 const isEvent = e => e.text !== undefined;
-const refused = e => e.call !== undefined && e.ans.startsWith('= E');
-const nameOf = o => o.name === null ? '#' + o.place : o.name;
-const shown = t => [...t].map(c => c >= ' ' && c <= '~' && c !== '\\' ? c : '\\x' + c.charCodeAt(0).toString(16).toUpperCase().padStart(2, '0')).join('');
+const isRefused = e => e.call !== undefined && e.answer.startsWith('= E');
+const nameOf = object => object.name === null ? '#' + object.place : object.name;
+function textAt(code, address) { return readCode(code).find(line => line.address === address); }
+
+// ---- a message in words, in the form of the trace and short
+
+function message({ words }) {
+  const first = words.slice(0, 16), isPrinted = w => w >= 32 && w <= 126;
+  const printed = w => isPrinted(w) && w !== 34 && w !== 92 ? String.fromCharCode(w) : '.';
+  const parts = first.map(hex);
+  if (words.length > 16) parts.push('...');
+  if (first.some(isPrinted)) parts.push('"' + first.map(printed).join('') + '"');
+  return '[' + parts.join(' ') + ']';
+}
+function bodyText({ words }) {
+  if (words.length === 0) return '[]';
+  return words.every(w => w > 32 && w < 127) ? '"' + String.fromCharCode(...words) + '"' : words.map(hex).join('.');
+}
+
+// ---- who has taken a semaphore: waits less posts, since it was made
+
+function takers(state, object) {
+  const taken = [...object.took].filter(([, count]) => count > 0).sort((a, b) => a[0] - b[0]);
+  return taken.map(([p, count]) =>
+    'P' + p + (count > 1 ? '*' + count : '') + (state.processes[p].state === 'ended' ? '(ended)' : ''));
+}
+function countTaken(object, { process, call }) {
+  object.took.set(process, (object.took.get(process) || 0) + (call === 'sem_post' ? -1 : 1));
+}
 
 // ---- the state after the first k records
 
 function start() {
-  return { procs: D.processes.map((p, i) => ({ i, ...readRegisters(p.registers), code: p.code, state: 'running', how: '',
-    out: '', mq: new Map(), slot: new Map(), since: 0, on: null })), obj: new Map(), taken: null };
+  const process = (p, number) => ({ number, ...readRegisters(p.registers), code: p.code, state: 'running', how: '',
+    output: '', held: readHeld(''), since: 0, on: null });
+  return { processes: D.processes.map(process), objects: new Map(), taken: null };
+}
+function copy(state) {
+  const copied = o => ({ ...o, messages: o.messages && o.messages.slice(), took: o.took && new Map(o.took) });
+  return { processes: state.processes.map(p => ({ ...p })), taken: null,
+    objects: new Map([...state.objects].map(([place, object]) => [place, copied(object)])) };
+}
+function make(state, { place, kind, name, value, most, size }) {
+  const object = kind === 'sem' ? { kind, place, name, value, made: value, took: new Map() }
+    : { kind, place, name, most, size, messages: [] };
+  state.objects.set(place, object);
+}
+function change(state, k, { what, place, index, priority, words, value, ...made }) {
+  const object = state.objects.get(place);
+  if (what === 'made') make(state, { place, value, ...made });
+  else if (what === 'value') object.value = value;
+  else if (what === 'put') object.messages.splice(index, 0, { k, priority, words });
+  else if (what === 'take') state.taken = object.messages.shift();
+  else if (what === 'unlinked') object.name = null;
+  else state.objects.delete(place);
+}
+function apply(state, k) {
+  const e = R[k], p = state.processes[e.process];
+  Object.assign(p, { pc: e.pc, r: e.r, cc: e.cc, code: e.code, state: 'running' });
+  if (e.output !== undefined) p.output += e.output;
+  if (e.answer === 'waits') Object.assign(p, { state: 'waiting', since: e.step, on: e.on });
+  if (e.how) Object.assign(p, { state: 'ended', how: e.how });
+  if (e.held) p.held = e.held;
+  for (const c of e.changes) change(state, k, c);
+  if (e.answer === '= 0' && /^sem_(wait|trywait|post)$/.test(e.call)) countTaken(state.objects.get(e.on), e);
 }
 
-function copy(s) {
-  return { procs: s.procs.map(p => ({ ...p, r: p.r.slice(), mq: new Map(p.mq), slot: new Map(p.slot) })), taken: null,
-    obj: new Map([...s.obj].map(([k, o]) => [k, { ...o, msgs: o.msgs && o.msgs.slice(), took: o.took && new Map(o.took) }])) };
-}
-
-function change(s, p, k, c) {
-  const [what, a, b, d, e] = c, o = s.obj.get(a);
-  if (what === 'queue') s.obj.set(a, { kind: 'queue', place: a, name: b, max: d, size: e, msgs: [] });
-  else if (what === 'sem') s.obj.set(a, { kind: 'sem', place: a, name: b, value: d, made: d, took: new Map() });
-  else if (what === 'value') o.value = b;
-  else if (what === 'put') o.msgs.splice(b, 0, { k, prio: d, words: e });
-  else if (what === 'take') s.taken = o.msgs.shift();
-  else if (what === 'noname') o.name = null;
-  else if (what === 'gone') s.obj.delete(a);
-  else if (what === 'mq') b === undefined ? p.mq.delete(a) : p.mq.set(a, { place: b, mode: 'r w rw'.split(' ')[d] + (e ? ' nonblock' : '') });
-  else if (what === 'slot') b === undefined ? p.slot.delete(a) : p.slot.set(a, { place: b, opens: d });
-}
-
-function apply(s, k) {
-  const e = R[k], p = s.procs[e.p];
-  p.pc = e.pc;
-  for (const [i, v] of e.r || []) p.r[i] = v;
-  if (e.cc) p.cc = e.cc;
-  p.code = e.code;
-  if (e.out !== undefined) p.out += e.out;
-  if (e.ans === 'waits') { p.state = 'waiting'; p.since = e.n; p.on = e.on; } else p.state = 'running';
-  if (e.how) { p.state = 'ended'; p.how = e.how; p.mq.clear(); p.slot.clear(); }
-  for (const c of e.k || []) change(s, p, k, c);
-  if (e.ans === '= 0' && /^sem_(wait|trywait|post)$/.test(e.call)) {
-    const took = s.obj.get(e.on).took;
-    took.set(e.p, (took.get(e.p) || 0) + (e.call === 'sem_post' ? -1 : 1));
-  }
-}
-
-const EVERY = 256, kept = [];
+const EVERY = 256, kept = [];                     // the states after each 256 records
 let live = null, liveAt = 0;                      // the state that was asked for last
 function stateAt(k) {
   const from = k - k % EVERY;
@@ -63,13 +99,4 @@ function stateAt(k) {
   while (liveAt < k) apply(live, liveAt++);
   return live;
 }
-
-const takers = o => [...o.took].filter(t => t[1] > 0).sort((a, b) => a[0] - b[0]).map(([p, n]) => 'P' + p + (n > 1 ? '*' + n : ''));
-function message(m) {
-  const first = m.words.slice(0, 16), plain = w => w >= 32 && w <= 126;
-  return '[' + first.map(hex).concat(m.words.length > 16 ? ['...'] : [],
-    first.some(plain) ? ['"' + first.map(w => plain(w) && w !== 34 && w !== 92 ? String.fromCharCode(w) : '.').join('') + '"'] : []).join(' ') + ']';
-}
-
-const bodyText = m => m.words.length === 0 ? '[]' : m.words.every(w => w > 32 && w < 127) ? '"' + String.fromCharCode(...m.words) + '"' : m.words.map(hex).join('.');
 "##;

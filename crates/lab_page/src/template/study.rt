@@ -1,82 +1,159 @@
 //! What is read from the records once: rows, waits, arrows, what is held, what the objects did.
 
 pub const STUDY: &str = r##"
-// ---- once: rows, waits, arrows, what is held, what objects did
+// ---- the lines of a source, where the data have one
 
-const rows = [], posY = [0], rowOf = [], waits = [], arrows = [], wakes = [], holds = [], cols = [];
-const EVENT = 27, GAP = 18, FOOT = 88;
-let height = 8;
-(function study() {
-  const s = start(), blocks = D.schedule.split(' ').filter(b => b).map(b => b.split('*').map(Number));
-  const changed = new Map(), waiting = new Map(), held = new Map(), byName = new Map();
-  let gap = null, done = 0, block = 0, left = blocks.length ? blocks[0][1] : 0;
-  const inGap = () => gap || (gap = { y: height, h: GAP, ran: new Map(), tried: new Map(), ks: [] });
-  const count = (map, p, n) => map.set(p, (map.get(p) || 0) + n);
-  const pass = (n, idle) => {                     // n steps of the schedule; those without effect are counted
-    while (n > 0 && block < blocks.length) {
-      const now = Math.min(n, left);
-      const p = blocks[block][0], { state } = s.procs[p];
-      if (idle && state !== 'ended') count(state === 'waiting' ? inGap().tried : inGap().ran, p, now);
-      n -= now; left -= now; done += now;
-      if (left === 0 && ++block < blocks.length) left = blocks[block][1];
-    }
-  };
-  const flush = () => {
-    if (!gap) return;
-    gap.ks.forEach((k, i) => { posY[k + 1] = gap.y + GAP * (i + 1) / gap.ks.length; rowOf[k] = rows.length; });
-    height += GAP; rows.push(gap); gap = null;
-  };
-  for (let k = 0; k < R.length; k++) {
-    if (k % EVERY === 0) kept.push(copy(s));
-    const e = R[k], n = 1, was = s.procs[e.p].state, gone = e.on !== undefined ? s.obj.get(e.on) : undefined;
-    pass(e.n - n - done, true);
-    pass(n, false);
-    if (e.from === undefined) e.from = s.procs[e.p].pc;
-    e.did = (textAt(s.procs[e.p], e.from) || [0, ''])[1];
-    apply(s, k);
-    if (!isEvent(e)) { count(inGap().ran, e.p, n); gap.ks.push(k); continue; }
-    flush();
-    rowOf[k] = rows.length; rows.push({ y: height, h: EVENT, k }); height += EVENT; posY[k + 1] = height;
-    const o = e.on !== undefined ? s.obj.get(e.on) || gone : undefined;
-    e.name = o ? nameOf(o) : e.args ? cut(e.args.split(/[",]/)[1] || '', 40) : '';
-    if (e.ans === 'waits') { const w = { p: e.p, k, end: null, name: e.name }; waits.push(w); waiting.set(e.p, w); }
-    else if (was === 'waiting') { waiting.get(e.p).end = k; waiting.delete(e.p); }
-    for (const c of e.k || []) {
-      const place = c[1];
-      if (c[0] === 'mq' || c[0] === 'slot') continue;
-      let x = s.obj.get(place);
-      if (c[0] === 'queue' || c[0] === 'sem') {
-        const key = c[0] + c[2];
-        if (!byName.has(key)) { byName.set(key, cols.length); cols.push({ name: c[2], kind: c[0], at: [] }); }
-        x.col = byName.get(key); changed.delete(place);
-      }
-      if (c[0] === 'put') { const a = { from: k, to: null, place }; arrows.push(a); x.msgs[c[2]].arrow = a; }
-      if (c[0] === 'take') { s.taken.arrow.to = k; e.got = s.taken.arrow; }
-      if (c[0] === 'gone') { for (const l of held.values()) (l.get(place) || []).splice(0).forEach(h => { h.end = k; }); }
-      if (!x) { if (gone) { cols[gone.col].at.push({ k, text: 'gone' }); e.col = gone.col; } continue; }
-      e.col = x.col;
-      const who = x.kind === 'queue' ? x.msgs.map(bodyText).join(' ') : x.made > 0 ? takers(x).join(' ') : '';
-      cols[x.col].at.push({ k, value: x.kind === 'sem' ? String(x.value) : x.msgs.length + '/' + x.max, who, text: c[0] === 'noname' ? 'unlinked' : '',
-        title: x.kind === 'sem' ? 'value ' + x.value + (who ? ', taken by ' + who : '') : x.msgs.map(message).join(' ') || 'empty' });
-      if (was === 'waiting' && c[0] !== 'take' && changed.has(place)) wakes.push({ from: changed.get(place), to: k });
-      if (c[0] === 'take' || e.call === 'sem_post') changed.set(place, k);
-    }
-    if (e.ans === '= 0' && o && o.kind === 'sem' && o.made > 0) {
-      if (!held.has(e.p)) held.set(e.p, new Map());
-      const mine = held.get(e.p);
-      if (!mine.has(e.on)) mine.set(e.on, []);
-      if (e.call === 'sem_post') { const h = mine.get(e.on).pop(); if (h) h.end = k; }
-      else if (e.call === 'sem_wait' || e.call === 'sem_trywait') {
-        const h = { p: e.p, k, end: null, name: e.name, side: 0 };
-        const sides = [...mine.values()].flat().map(x => x.side);
-        while (sides.includes(h.side)) h.side++;
-        holds.push(h); mine.get(e.on).push(h);
-      }
-    }
+function readSource({ text, rows, words }) {      // the lines, and those of them that have words
+  const lines = text.replace(/\n$/, '').split('\n').map((line, at) => ({ at, text: line.trimEnd() }));
+  const placed = rows.map(({ line, address, count }) => {
+    const from = address - rows[0].address;
+    return Object.assign(lines[line - 1], { address, words: words.slice(from, from + count) });
+  });
+  return { lines, placed };
+}
+const SOURCES = D.processes.map((_, p) => D.sources[p] && readSource(D.sources[p]));
+function lineAt(p, address) {                     // the line of process p that made the word at an address
+  const placed = SOURCES[p] ? SOURCES[p].placed : [];
+  let low = 0, high = placed.length - 1;
+  while (low < high) {
+    const middle = (low + high + 1) >> 1;
+    if (placed[middle].address <= address) low = middle; else high = middle - 1;
   }
-  if (R.length % EVERY === 0) kept.push(copy(s));
-  pass(D.total - done, true);
-  flush();
-  D.end = s;
+  const line = placed[low];
+  return line && line.address <= address && address < line.address + line.words.length ? line : undefined;
+}
+function sourceAt(p, code, address) {             // the same, where the memory still holds the word
+  const line = lineAt(p, address), held = textAt(code, address);
+  return line && held && held.word === line.words[address - line.address] ? line : undefined;
+}
+
+// ---- the rows of the picture
+
+const EVENT = 27, GAP = 18, FOOT = 62;            // heights: of an event, of a row between events, of the foot
+const rows = [], rowOf = [], posY = [0];          // the rows; of each record its row; of each moment its height
+const waits = [], arrows = [], wakes = [], holds = [], cols = [];
+let height = 8;
+const study = { state: start(), gap: null, done: 0, block: 0, left: D.blocks.length ? D.blocks[0][1] : 0,
+  changed: new Map(), waiting: new Map(), held: new Map(), columnOf: new Map(), sent: new Map() };
+const add = (counts, key, n) => counts.set(key, (counts.get(key) || 0) + n);
+
+function gapRow() {
+  if (!study.gap) study.gap = { y: height, ran: new Map(), tried: new Map(), moments: [] };
+  return study.gap;
+}
+function closeGap() {
+  const { gap } = study;
+  if (!gap) return;
+  gap.moments.forEach((k, i) => { posY[k + 1] = gap.y + GAP * (i + 1) / gap.moments.length; rowOf[k] = rows.length; });
+  height += GAP; rows.push(gap); study.gap = null;
+}
+function addRow(k) {
+  closeGap();
+  rowOf[k] = rows.length; rows.push({ y: height, k });
+  height += EVENT; posY[k + 1] = height;
+}
+function pass(count, isBetween) {                 // steps of the schedule; those that have no record are counted
+  while (count > 0 && study.block < D.blocks.length) {
+    const now = Math.min(count, study.left), p = D.blocks[study.block][0], { state } = study.state.processes[p];
+    if (isBetween && state !== 'ended') add(state === 'waiting' ? gapRow().tried : gapRow().ran, p, now);
+    count -= now; study.left -= now; study.done += now;
+    if (study.left === 0 && ++study.block < D.blocks.length) study.left = D.blocks[study.block][1];
+  }
+}
+
+// ---- what happened to the processes and objects
+
+function followWait(k, was) {
+  const e = R[k], { waiting } = study;
+  if (e.answer === 'waits') {
+    const wait = { p: e.process, k, end: null, name: e.name };
+    waits.push(wait); waiting.set(e.process, wait);
+  } else if (was === 'waiting') { waiting.get(e.process).end = k; waiting.delete(e.process); }
+}
+function columnFor(k, { kind, name, place }) {    // one for a name, however often the object is made
+  const key = kind + name;
+  if (!study.columnOf.has(key)) { study.columnOf.set(key, cols.length); cols.push({ name, kind, at: [] }); }
+  study.changed.delete(place);
+  return study.columnOf.get(key);
+}
+function noteLevel(k, object, text) {             // the value, or how many messages and which
+  const isSem = object.kind === 'sem', messages = object.messages || [];
+  const who = isSem ? (object.made > 0 ? takers(study.state, object).join(' ') : '') : messages.map(bodyText).join(' ');
+  const value = isSem ? String(object.value) : messages.length + '/' + object.most;
+  const title = isSem ? 'value ' + value + (who ? ', taken by ' + who : '') : messages.map(message).join(' ') || 'empty';
+  cols[object.column].at.push({ k, value, who, text, title });
+}
+function noteGone(k, object) {
+  cols[object.column].at.push({ k, text: 'gone', title: 'gone' });
+  R[k].column = object.column;
+  for (const places of study.held.values()) for (const h of (places.get(object.place) || []).splice(0)) h.end = k;
+}
+function followSend(k, { place, index }) {
+  const arrow = { from: k, to: null };
+  arrows.push(arrow); study.sent.set(R[k].step, arrow);
+  study.state.objects.get(place).messages[index].arrow = arrow;
+}
+function followReceive(k) {                       // the trace says from which step the message came
+  const arrow = study.sent.get(R[k].origin) || study.state.taken.arrow;
+  arrow.to = k;
+}
+function followChange(k, was, before, c) {
+  const e = R[k], { changed } = study, object = study.state.objects.get(c.place);
+  if (c.what === 'made') object.column = columnFor(k, c);
+  if (c.what === 'put') followSend(k, c);
+  if (c.what === 'take') followReceive(k);
+  if (c.what === 'gone') { noteGone(k, before.get(c.place)); return; }
+  e.column = object.column;
+  noteLevel(k, object, c.what === 'unlinked' ? 'unlinked' : '');
+  if (was === 'waiting' && c.what !== 'take' && changed.has(c.place)) wakes.push({ from: changed.get(c.place), to: k });
+  if (c.what === 'take' || e.call === 'sem_post') changed.set(c.place, k);
+}
+function heldOf(p, place) {                       // what a process has taken of a place and not posted
+  const { held } = study;
+  if (!held.has(p)) held.set(p, new Map());
+  if (!held.get(p).has(place)) held.get(p).set(place, []);
+  return held.get(p).get(place);
+}
+function followHeld(k, object) {                  // of semaphores that were made above 0 alone
+  const e = R[k], mine = heldOf(e.process, e.on);
+  if (e.call === 'sem_post') { const last = mine.pop(); if (last) last.end = k; return; }
+  const sides = [...study.held.get(e.process).values()].flat().map(h => h.side);
+  const hold = { p: e.process, k, end: null, name: e.name, side: 0 };
+  while (sides.includes(hold.side)) hold.side++;
+  holds.push(hold); mine.push(hold);
+}
+function didText(p, from) {                       // the instruction that a step took
+  const line = sourceAt(p.number, p.code, from), found = textAt(p.code, from);
+  return line ? line.text.replace(/\s+/g, ' ').trim() : found ? found.text : '';
+}
+function studyEvent(k, was, before) {
+  const e = R[k], object = e.on === undefined ? undefined : study.state.objects.get(e.on) || before.get(e.on);
+  addRow(k);
+  e.name = object ? nameOf(object) : e.args ? cut(e.args.split(/[",]/)[1] || '', 40) : '';
+  followWait(k, was);
+  for (const c of e.changes) followChange(k, was, before, c);
+  if (e.answer === '= 0' && object && object.made > 0 && /^sem_(wait|trywait|post)$/.test(e.call)) followHeld(k, object);
+}
+function studyRecord(k) {
+  const e = R[k], { state } = study, p = state.processes[e.process], was = p.state;
+  const before = new Map(e.changes.map(c => [c.place, state.objects.get(c.place)]));
+  pass(e.step - 1 - study.done, true);
+  pass(1, false);
+  if (e.from === undefined) e.from = p.pc;
+  e.did = didText(p, e.from);
+  apply(state, k);
+  if (isEvent(e)) { studyEvent(k, was, before); return; }
+  add(gapRow().ran, e.process, 1);
+  study.gap.moments.push(k);
+}
+(function studyAll() {
+  for (let k = 0; k < R.length; k++) {
+    if (k % EVERY === 0) kept.push(copy(study.state));
+    studyRecord(k);
+  }
+  if (R.length % EVERY === 0) kept.push(copy(study.state));
+  pass(D.total - study.done, true);
+  closeGap();
+  D.end = study.state;
 })();
 "##;

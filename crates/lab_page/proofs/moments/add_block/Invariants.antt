@@ -1,0 +1,19 @@
+use Rattle.std.proofs.Common.{◌≡◌, ◌+◌, ◌-◌, ◌<◌, ◌≤◌, ◌++◌, length, map, replicate}
+use Rattle.lab_trace.specs.Scenes.{scene_after, IsKept}
+use Rattle.lab_page.specs.Moments.{moments, moment_shown}
+use Rattle.lab_page.proofs.moments.add_block.Given as goal
+
+-- the steps so far are taken, and their moments added
+abbrev pub invariant-loop-done : goal.invariant-loop-done
+invariant-loop-done l = record {
+  within : l.done ≤ l.block.count;
+  scene : record { number = l.first + l.done; world = l.world; tally = l.tally }
+      ≡ scene_after (record { number = l.first; world = l.fn.world; tally = l.fn.tally }) (replicate l.done l.block.pid);
+  moments : map moment_shown l.moments.items ≡ map moment_shown l.fn.moments.items
+      ++ moments l.widths l.whole (record { number = l.first; world = l.fn.world; tally = l.fn.tally }) (replicate l.done l.block.pid);
+  kept : IsKept (record { number = l.first + l.done; world = l.world; tally = l.tally });
+  there : l.block.pid < length l.world.processes;
+}
+
+abbrev pub decreases-loop-done : goal.decreases-loop-done
+decreases-loop-done l = l.block.count - l.done

@@ -1,0 +1,189 @@
+"""The runs that tests/browser looks at: those of the course and of examples/, and some made here."""
+import re
+import subprocess
+from dataclasses import dataclass
+from pathlib import Path
+
+ROOT = Path(__file__).resolve().parent.parent
+COURSE = ROOT / "examples" / "course"
+SECONDS = 300
+MARK = "? unknown command\n"
+
+# Names and outputs that could end an element of the page, or a string of its data.
+NAMES = r'''        .ORIG x3000
+        LEA R0, NAME
+        LD R1, CREATE
+        AND R2, R2, #0
+        TRAP x50        ; sem_open("/script><b>x", O_CREAT, 0)
+        LEA R0, NAME
+        LD R1, CREATE
+        ADD R1, R1, #2
+        TRAP x40        ; mq_open of the same name, O_RDWR | O_CREAT
+        LEA R1, NAME
+        AND R2, R2, #0
+        ADD R2, R2, #9
+        AND R3, R3, #0
+        TRAP x43        ; its first nine characters
+        LEA R0, TEXT
+        PUTS
+        LD R0, HIGH
+        OUT             ; a byte over x7F: "é" & </script>
+        AND R0, R0, #0
+        TRAP x53        ; waits for ever
+CREATE  .FILL x40
+HIGH    .FILL xE9
+NAME    .STRINGZ "/script><b>x"
+TEXT    .STRINGZ "</script><b>x</b><!-- \\ &amp;"
+        .END
+'''
+
+# Calls without an end: after ten steps, four in each loop of seven steps.
+MANY = '''        .ORIG x3000
+        LEA R0, SEM
+        LD R1, CREATE
+        AND R2, R2, #0
+        TRAP x50        ; sem_open("/s", O_CREAT, 0) = 0
+        LEA R0, QUEUE
+        LD R1, CREATE
+        ADD R1, R1, #2
+        TRAP x40        ; mq_open("/q", O_RDWR | O_CREAT, NULL) = 0
+        LD R2, SIZE
+        AND R3, R3, #0
+LOOP    LEA R1, ROOM
+        TRAP x55        ; sem_post
+        TRAP x43        ; mq_send
+        TRAP x44        ; mq_receive
+        AND R0, R0, #0
+        TRAP x53        ; sem_wait
+        BR LOOP
+CREATE  .FILL x40
+SIZE    .FILL 16
+SEM     .STRINGZ "/s"
+QUEUE   .STRINGZ "/q"
+ROOM    .BLKW 16
+        .END
+'''
+
+
+@dataclass
+class Line:
+    """A line of a trace."""
+    step: int
+    process: int
+    address: str
+    what: str
+
+    @property
+    def origin(self):
+        """The step of the send whose message it received."""
+        found = re.search(r" ; (?:.*, )?from P\d+ at (\d+)(?:,|$)", self.what)
+        return found and found[1]
+
+
+def runs():
+    """Of each run its name, the folder of its sources, the texts of sources made here, its programs, and its schedule."""
+    for case in sorted((ROOT / "tests" / "cases" / "course").glob("*.case")):
+        text = case.read_text()
+        folder = COURSE / re.search(r"ln -s examples/course/(\S+) here", text)[1]
+        for programs, name in re.findall(r"^\$ lc3lab step (.*?) < here/(\S+)\.schedule", text, re.M):
+            yield f"{folder.name}/{name}", folder, {}, programs.split(), (folder / f"{name}.schedule").read_text()
+    folder = ROOT / "examples"
+    deadlock = (folder / "deadlock.schedule").read_text()
+    yield "examples/deadlock", folder, {}, ["two-semaphores-1.obj", "two-semaphores-2.obj"], deadlock
+    yield "examples/producer-consumer", folder, {}, ["producer.obj", "consumer.obj"], "1*99 0*99 1*99\n"
+    yield "made/names", None, {'<b>"é.asm': NAMES, "names.asm": NAMES}, ['<b>"é.obj', "names.obj"], "0*99 1*99\n"
+    turns = " ".join(f"{p}*{n}" for n in (10, 7, 140, 140) for p in range(64)) + "\n"
+    yield "made/many", None, {"many.asm": MANY}, ["many.obj"] * 64, turns
+    yield "made/long", None, {"many.asm": MANY}, ["many.obj"] * 3, "0*300 1*300 2*300 0*20000 1*20\n"
+
+
+class Run:
+    """A run of a program in a folder of its own."""
+
+    def __init__(self, program, folder, name, sources, texts, programs, schedule):
+        self.program, self.folder, self.name, self.schedule = program, folder, name, schedule
+        self.blocks = [[int(it) for it in (block + "*1").split("*")[:2]] for block in schedule.split()]
+        self.is_long = sum(count for _, count in self.blocks) > 20_000
+        for file, text in texts.items():
+            (folder / file).write_text(text)
+        self.names = [it.replace("here/", f"{sources}/") for it in programs]
+        self.count = len(self.names)
+        self.sources = [str((sources or folder) / it.split("=")[0].replace(".obj", ".asm")) for it in self.names]
+        self.listings = {}
+        for source, name in zip(self.sources, self.names):
+            if source not in self.listings:
+                self.listings[source] = self.call(["asm", source, name.split("=")[0], "--list"])
+        self.started = [set(re.findall(r"(\w+ \w+)", it)) for it in self.call(
+            ["debug"] + self.names, "".join(f"regs {p}\n" for p in range(self.count))).splitlines()]
+
+    def call(self, words, text=""):
+        """What a command prints, each byte as the character of its number."""
+        done = subprocess.run([self.program] + words, cwd=self.folder, input=text.encode(), capture_output=True,
+                              timeout=SECONDS)
+        if done.returncode or done.stderr:
+            raise RuntimeError(f"lc3lab {words[0]}: {done.stderr.decode('latin-1').strip()}")
+        return done.stdout.decode("latin-1")
+
+    def trace(self, page, sources):
+        """Writes the page, and tells what the command prints; its lines are kept."""
+        named = [it for p in range(self.count) for it in ("--source", f"{p}={self.sources[p]}")] if sources else []
+        printed = self.call(["trace", "--page", str(page)] + named + self.names, self.schedule)
+        line = re.compile(r"^ *(\d+|end) P(\d+) +(x[0-9A-F]{4}) +\+\d+ (.*)$", re.M)
+        found = line.findall(printed)
+        self.lines = [Line(int(n), int(p), address, what) for n, p, address, what in found if n != "end"]
+        self.ends = [Line(0, int(p), address, what) for n, p, address, what in found if n == "end"]
+        self.verdict = printed.split()[-1]
+        return printed
+
+    def plan(self):
+        return " ".join(f"{p}*{count}" for p, count in self.blocks)
+
+    def taken(self, number):
+        """The process of a step of the schedule."""
+        for process, count in self.blocks:
+            if number <= count:
+                return process
+            number -= count
+        raise RuntimeError("the page shows a step that the schedule doesn't have")
+
+    def between(self, done, number):
+        """The blocks of the steps behind the first `done` up to `number`."""
+        blocks = []
+        for process, count in self.blocks:
+            here = min(count, number) - min(count, done)
+            if here:
+                blocks.append(f"{process}*{here}")
+            done, number = max(done - count, 0), max(number - count, 0)
+        return " ".join(blocks)
+
+    def texts(self, moments):
+        """What the debugger prints after each of these steps: procs, sems, mqs, and of who acted regs, fds, out and dis of
+        the words around the PC. Each moment is a step and the registers that the page shows."""
+        script, done = [], 0
+        for number, registers in moments:
+            if number > done:
+                script.append(f"run {self.between(done, number)}")
+            acts, done = self.taken(number) if number else 0, number
+            pc = next((int(it.split()[1][1:], 16) for it in registers if it.startswith("PC")), 0x3000)
+            first, end = max(pc - 3, 0), min(pc + 5, 0xFE00)
+            asked = ["procs", "sems", "mqs", f"regs {acts}", f"fds {acts}", f"out {acts}",
+                     f"dis {acts} x{first:04X} {end - first}"]
+            script += [it for command in asked for it in ("mark", command)] + ["mark"]
+        parts = self.call(["debug"] + self.names, "\n".join(script) + "\n").split(MARK)
+        for at in range(len(moments)):
+            yield parts[8 * at + 1:8 * at + 8]
+
+    def listed(self, process, address):
+        """The number, address and text of the line of the source that made the word at an address, or nothing."""
+        rows = [it.split(" ", 3) for it in self.listings[self.sources[process]].splitlines() if it.startswith("x")]
+        number = next((int(row[2]) for row in rows if row[0] == address), None)
+        if number is None:
+            return None
+        first = next(row[0] for row in rows if int(row[2]) == number)
+        text = Path(self.folder, self.sources[process]).read_text().splitlines()[number - 1]
+        return " ".join(f"{number} {first} {text}".split())
+
+    def has_changed(self, process, address, here):
+        """Whether the word there isn't that of the listing any more, by the line that the page shows."""
+        rows = [it.split() for it in self.listings[self.sources[process]].splitlines() if it.startswith("x")]
+        return not any(len(it.split()) > 2 and [address, it.split()[2]] in [row[:2] for row in rows] for it in here)

@@ -1,0 +1,145 @@
+// What tests/browser reads from a page of `trace --page`: the elements as they stand, and not the page's data.
+const seen = (() => {
+  const shown = e => e.innerText.replace(/\s+/g, ' ').trim();
+  const list = (root, selector) => [...root.querySelectorAll(selector)];
+  const slider = document.getElementById('slider');
+  function go(k) {
+    slider.value = k;
+    slider.dispatchEvent(new Event('input'));
+  }
+
+  // ---- the panel
+
+  function actor() {
+    const acts = document.querySelector('details.card.acts');
+    if (!acts) return { acts: null };
+    if (!acts.open) throw new Error('the card of the process that acts is closed');
+    return {
+      acts: Number(acts.id.slice(4)),
+      regs: list(acts, '.regs > span').map(shown),
+      marked: list(acts, '.regs .changed').map(e => shown(e.parentElement)),
+      code: list(acts, '.code > span').map(shown),
+      isSource: acts.querySelector('.source') !== null,
+      output: shown(acts.querySelector('.output')),
+      held: list(acts, '.held').map(shown),
+    };
+  }
+  function moment() {
+    return {
+      count: shown(document.getElementById('count')),
+      said: shown(document.getElementById('say')),
+      whole: document.getElementById('short').hidden,
+      procs: list(document, 'details.card > summary > .mono').map(shown),
+      why: list(document, 'details.card > summary').map(e => e.querySelector('.why') ? shown(e.querySelector('.why')) : ''),
+      sems: list(document, '#sems tr').slice(1).map(r => [...r.children].slice(0, 2).map(shown).join(' ')),
+      taken: list(document, '#sems tr').slice(1).map(r => [shown(r.children[0]), shown(r.children[2])]),
+      mqs: list(document, '#mqs .queue').map(q => [shown(q).split(',')[0], list(q, 'li').map(shown)]),
+      ...actor(),
+    };
+  }
+  function moments(every) {
+    const found = [], last = Number(slider.max);
+    for (let k = 0; k <= last; k += k < last ? Math.min(every, last - k) : 1) { go(k); found.push(moment()); }
+    return found;
+  }
+
+  // ---- the picture, all of it
+
+  const titleOf = e => e.parentElement.querySelector('title').textContent;
+  function place(rect) {
+    const [x, y, wide, tall] = ['x', 'y', 'width', 'height'].map(name => Number(rect.getAttribute(name)));
+    return { middle: Math.round(x + wide / 2), top: y, end: y + tall };
+  }
+  function picture() {
+    window.dispatchEvent(new Event('beforeprint'));
+    const boxes = list(document, '#pic g.ev').map(g => ({ k: g.dataset.k, title: g.querySelector('title').textContent,
+      step: Number(/^step (\d+),/.exec(g.querySelector('title').textContent)[1]), ...place(g.querySelector('rect')) }));
+    const stepOf = test => { const found = boxes.find(test); return found ? found.step : null; };
+    const wait = bar => {                         // its text, and the steps of the boxes at its two ends
+      const { middle, top, end } = place(bar), isThere = b => Math.abs(b.middle - middle) <= 1;
+      return [titleOf(bar), stepOf(b => isThere(b) && b.end === top), stepOf(b => isThere(b) && b.top === end)];
+    };
+    const found = {
+      boxes: boxes.map(b => b.title),
+      waits: list(document, '#pic rect.waitbar').map(wait),
+      arrows: list(document, '#pic path.arrow[data-from]').map(a =>
+        [stepOf(b => b.k === a.dataset.from), stepOf(b => b.k === a.dataset.to)]),
+      unreceived: list(document, '#pic circle.kept').length,
+      stuck: list(document, '#pic rect.stuckbar').map(titleOf),
+    };
+    window.dispatchEvent(new Event('afterprint'));
+    return found;
+  }
+
+  // ---- what is cut, or lies on something else
+
+  const nameOf = e => e.tagName + (e.id ? '#' + e.id : '') + ' ' + (e.textContent || '').trim().slice(0, 40);
+  const boxesOf = elements => elements.flatMap(e => e instanceof SVGElement
+    ? [[e, e.getBoundingClientRect()]] : [...e.getClientRects()].map(box => [e, box]));
+  function leaves(part) {                         // the elements of a part of the page that hold a text and no element
+    const isLeaf = e => e instanceof HTMLElement && e.textContent.trim() && !e.children.length;
+    return list(part, '*').filter(e => isLeaf(e) && e.checkVisibility());
+  }
+  function spills(part) {                         // what stands outside of a part that doesn't scroll
+    const { left, right, top, bottom } = part.getBoundingClientRect();
+    const isOutside = b => b.left < left - 1 || b.right > right + 1 || b.top < top - 1 || b.bottom > bottom + 1;
+    return boxesOf(leaves(part)).filter(([, b]) => isOutside(b)).map(([e]) => 'outside of its part: ' + nameOf(e));
+  }
+  function overlaps(what, elements, slack) {
+    const bad = [], found = boxesOf(elements);
+    found.forEach(([a, p], i) => found.slice(i + 1).forEach(([b, q]) => {
+      const isBeside = p.left >= q.right - slack || q.left >= p.right - slack;
+      if (!isBeside && p.top < q.bottom - slack && q.top < p.bottom - slack) {
+        bad.push(what + ': ' + nameOf(a) + ' lies on ' + nameOf(b));
+      }
+    }));
+    return bad;
+  }
+  function cutElements() {
+    const scrolls = e => /auto|scroll/.test(getComputedStyle(e).overflowX), isWhole = e => e.id === 'schedule';
+    const html = list(document, 'body *').filter(e => e instanceof HTMLElement && e.clientWidth && !isWhole(e));
+    const bad = html.filter(e => e.scrollWidth > e.clientWidth + 1 && !scrolls(e)).map(e => 'cut: ' + nameOf(e));
+    const { left } = document.getElementById('left').getBoundingClientRect();
+    for (const e of list(document, '#ending, #atend')) {
+      if (e.getBoundingClientRect().left < left) bad.push('scrolled away: ' + nameOf(e));
+    }
+    for (const g of list(document, '#pic g.ev')) {
+      const [r, t] = [g.querySelector('rect'), g.querySelector('text')].map(e => e.getBBox());
+      if (t.width > r.width + 1) bad.push('a text is wider than its box: ' + nameOf(g));
+    }
+    for (const svg of list(document, '#head, #pic')) {
+      for (const t of list(svg, 'text')) {
+        const b = t.getBBox();
+        if (b.x < -1 || b.x + b.width > Number(svg.getAttribute('width')) + 1) bad.push('beyond the picture: ' + nameOf(t));
+      }
+    }
+    return bad;
+  }
+  function spoilt() {
+    const isStill = document.getElementById('left').scrollLeft === 0, texts = list(document, '#pic text');
+    return [
+      ...(document.documentElement.scrollWidth > innerWidth ? ['the page is wider than the window'] : []),
+      ...overlaps('controls', list(document, '.controls > :not(.of), .of > *'), 1),
+      ...overlaps('parts', scrollY === 0 ? list(document, 'header, main, .bottom') : [], 1),
+      ...overlaps('panel', list(document, '#objects, details.card'), document.getElementById('procs').scrollTop ? 1e9 : 1),
+      ...overlaps('registers', list(document, '.regs > span'), 1),
+      ...overlaps('boxes', list(document, '#pic g.ev > rect'), 1),
+      ...overlaps('texts', isStill ? texts : texts.filter(t => !t.closest('.gut')), 2),
+      ...list(document, 'header, #objects, #procs, .bottom').flatMap(part => overlaps('words', leaves(part), 3)),
+      ...list(document, 'header, details.card').flatMap(spills),
+      ...cutElements(),
+    ];
+  }
+  function open(isOpen) {
+    for (const e of list(document, '.bottom > details')) e.open = isOpen;
+  }
+
+  // ---- how long a step takes, in milliseconds
+
+  function pace(steps) {
+    const last = Number(slider.max), from = performance.now();
+    for (let i = 0; i < steps; i++) { go(Math.floor(last * i / steps / 2) * 2 + i % 2); document.body.getBoundingClientRect(); }
+    return (performance.now() - from) / steps;
+  }
+  return { go, moment, moments, picture, spoilt, open, pace };
+})();
