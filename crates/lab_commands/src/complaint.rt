@@ -2,7 +2,6 @@
 use crate::fault::CliFault;
 use lab_debug::SessionFault;
 use lab_explore::ExploreFault;
-use lab_page::PageFault;
 use lab_sched::{RunStop, SchedFault, StepFault, Verdict};
 use lab_threads::RunFault;
 use lab_trace::TraceFault;
@@ -153,16 +152,6 @@ impl From<TraceFault> for Reason {
             TraceFault::NoProcess { done } => Reason::NoProcess { done },
             TraceFault::Write => Reason::CannotWrite,
             TraceFault::NoMemory => Reason::NoMemory,
-        }
-    }
-}
-
-impl From<PageFault> for Reason {
-    fn from(fault: PageFault) -> Reason {
-        match fault {
-            PageFault::NoProcess { done } => Reason::NoProcess { done },
-            PageFault::TooLarge => Reason::TooLarge,
-            PageFault::NoMemory => Reason::NoMemory,
         }
     }
 }

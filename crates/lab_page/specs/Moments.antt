@@ -1,6 +1,7 @@
 -- The moments of a run: after each step with an effect, what the trace and the debugger print.
 use Rattle.std.specs.Prelude.{ℕ, ◌+◌, ◌-◌, min, Bool, true, false, if◌then◌else◌, Option, Some, None, List, [], ◌∷◌, ◌++◌, length, string_bytes, slice_get}
 use Rattle.std.specs.Option.{option_map}
+use Rattle.lc3_word.specs.Segment.{first_device}
 use Rattle.lab_sched.specs.Worlds.{Process, WorldState, turn_in, step}
 use Rattle.lab_sched.specs.Held.{told_of}
 use Rattle.lab_sched.specs.declared.stepped.Stepped.{Stepped}
@@ -29,7 +30,7 @@ pub record Moment : Type 0 where
 
 -- three words before the program counter, and five from it on, below the device registers
 abbrev pub code_around : ℕ → ℕ → WorldState → List ℕ
-code_around p pc w = dis_text p (pc - 3) (min (pc + 5) 0xFE00 - (pc - 3)) w
+code_around p pc w = dis_text p (pc - 3) (min (pc + 5) first_device - (pc - 3)) w
 
 abbrev pub code_of : ℕ → Option Process → WorldState → List ℕ
 code_of p None w = []

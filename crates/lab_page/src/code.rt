@@ -4,10 +4,9 @@ ghost use Rattle.lab_page.specs.Moments.{code_around, code_text};
 
 use lab_debug::{dis_text, machine};
 use lab_sched::World;
+use lc3_word::FIRST_DEVICE;
 use std::alloc::{AllocError, Global};
 
-/// The device registers begin here; what they hold isn't shown.
-const DEVICES: u32 = 0xFE00;
 /// How many words are shown before the next instruction.
 const BEFORE: u16 = 3;
 /// How many words are shown from the next instruction on.
@@ -18,7 +17,7 @@ fn code_around(alloc: Global, world: &World, pid: usize, pc: u16) -> Result<Stri
     ensures text { IfOk result (λ s. string_bytes s ≡ code_around pid pc world.now) }
 {
     let first = pc.saturating_sub(BEFORE);
-    let end = (u32::from(pc) + FROM).min(DEVICES);
+    let end = (u32::from(pc) + FROM).min(u32::from(FIRST_DEVICE));
     let count = end.saturating_sub(u32::from(first));
     dis_text(alloc, world, pid, first, count)
 }
