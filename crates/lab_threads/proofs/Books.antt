@@ -91,16 +91,6 @@ book_still {k} {k'} {h} {h'} {ws} p c a book waits is h-is =
     let same : k' ≡ k = ap (λ (o : Outcome). o.1) is ∙ answer_wait k p c (sym (ap (λ (o : Outcome). o.0) is) ∙ waits) in
     rw (same, h-is) book
 
--- the kernel of a book in which a process must still wait
-pub kernel_still : (k : KernelState) (h : List Entry) (ws : List (Option Call)) (p : ℕ) (c : Call) (a : Answer) (b : BookState) → BookInvariant k h ws
-    → record { count = length ws; history = h } ≡ b → a ≡ (answer k p c).0 → a ≡ Wait
-    → replay (empty_kernel b.count) b.history ≡ (answer (replay (empty_kernel b.count) b.history) p c).1
-kernel_still k h ws p c a b book b-is answered waits =
-    let same : (answer k p c).1 ≡ k = answer_wait k p c (sym answered ∙ waits) in
-    let at : replay (empty_kernel (length ws)) h ≡ (answer (replay (empty_kernel (length ws)) h) p c).1 =
-    sym book.kernel ∙ sym same ∙ ap (λ j. (answer j p c).1) book.kernel in
-    subst (λ (x : BookState). replay (empty_kernel x.count) x.history ≡ (answer (replay (empty_kernel x.count) x.history) p c).1) b-is at
-
 -- the kernel of a book after a call that has an entry
 pub kernel_after : (k k' : KernelState) (h h' : List Entry) (ws ws' : List (Option Call)) (p : ℕ) (c : Call) (b : BookState) → BookInvariant k h ws → BookInvariant k' h' ws'
     → record { count = length ws; history = h } ≡ b → k' ≡ (answer k p c).1
