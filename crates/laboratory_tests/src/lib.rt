@@ -1,5 +1,5 @@
-//! Tests of worlds, sessions and runs on threads, of what no clause says and no command of the program shows: devices that
-//! fail, gates that hold threads back, and values that only calls of the libraries give.
+//! Tests of worlds, sessions, traces and runs on threads, of what no clause says and no command of the program shows:
+//! devices that fail, gates that hold threads back, and values that only calls of the libraries give.
 #![tactic(auto)]
 
 #[cfg(test)]
@@ -14,5 +14,7 @@ mod gates;
 mod programs;
 #[cfg(test)]
 mod schedules;
+#[cfg(test)]
+mod traces;
 #[cfg(test)]
 mod worlds;
