@@ -1,8 +1,7 @@
 //! The moments of a run.
 ghost use Rattle.std.specs.Prelude.{ℕ, ◌≡◌, ◌<◌, ◌≤◌, ◌+◌, ◌++◌, ◌∷◌, [], OnOk, IfOk, length, map, replicate, string_bytes};
 ghost use Rattle.std.specs.Option.{option_map};
-ghost use Rattle.lab_sched.specs.Schedules.{steps_of, total_of};
-ghost use Rattle.lab_sched.specs.declared.schedule.block.TheConstants.{MOST_STEPS};
+ghost use Rattle.lab_sched.specs.Schedules.{most_steps, steps_of, total_of};
 ghost use Rattle.lab_sched.specs.Worlds.{step, turn_in};
 ghost use Rattle.lab_sched.specs.Held.{told_of};
 ghost use Rattle.lab_trace.specs.Scenes.{scene_after, tallied, IsKept};
@@ -163,7 +162,7 @@ impl Moments {
         blocks: &[Block],
     ) -> Result<(), PageFault>
         requires kept { IsKept (record { number = 1; world = world.old; tally = tally.old }) }
-        requires room { total_of blocks.now ≤ MOST_STEPS }
+        requires room { total_of blocks.now ≤ most_steps }
         requires there { AreThere world.old blocks.now }
         ensures moments { OnOk result (self.new ≡ self.old
             ++ moments widths whole (record { number = 1; world = world.old; tally = tally.old }) (steps_of blocks.now)) }
