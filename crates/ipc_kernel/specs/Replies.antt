@@ -8,7 +8,7 @@ use Rattle.ipc_kernel.specs.declared.call.Answer.TheVariants.{Done, Wait}
 use Rattle.ipc_kernel.specs.declared.call.Reply.{Reply}
 use Rattle.ipc_kernel.specs.declared.call.Reply.TheVariants.{Plain, Message, Attr, Value}
 
--- a reply is a plain word or has the form of its call; a message has at most the words asked for, and at most 256
+-- a reply is a plain word or has the form of its call; a message has at most the words asked for, and at most mq_msgsize_max
 abbrev pub IsReplyTo : Call → Reply → Type 0
 IsReplyTo call (Plain word) = Unit {0}
 IsReplyTo (MqReceive d len) (Message words prio) = (length words ≤ len) × (length words ≤ mq_msgsize_max)

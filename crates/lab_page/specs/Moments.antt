@@ -57,7 +57,7 @@ abbrev pub listed : Option Moment → List Moment
 listed None = []
 listed (Some m) = m ∷ []
 
--- the moment after a step that was told as t; one without an effect has none
+-- the moment after a step of this kind; one without an effect has none
 abbrev pub moment_told : Bool → Stepped → List ℕ → ℕ → ℕ → WorldState → Option Moment
 moment_told whole t l n p w = if has_effect t then moment_by whole l n p w else None
 

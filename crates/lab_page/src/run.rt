@@ -48,7 +48,7 @@ fn take_steps(
 }
 
 /// What a page holds of the run of a world by a schedule. The processes are called by these names, and have these sources,
-/// each where there is one. The world takes the steps of the schedule, but for one that names a process that isn't there.
+/// each where there is one. The world takes the schedule's steps; where it names a process that isn't there, none.
 ///
 /// # Errors
 ///

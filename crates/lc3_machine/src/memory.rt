@@ -10,7 +10,7 @@ use std::alloc::{AllocError, Global};
 use std::hash::FoldHasher;
 use std::marker::Model;
 
-/// The memory of a process: a table of pages, each made at the first write to it.
+/// The memory of a process: a table of pages, each made by the first write to it or by `reserve`.
 #[derive(Drop)]
 pub(crate) struct Memory {
     pages: Pages,

@@ -14,12 +14,12 @@ pub(crate) const PAGE: usize = 256;
 /// How many pages a memory has.
 pub(crate) const PAGES: usize = 256;
 
-/// The pages of a memory. One that was never written takes no memory and reads as zeros.
+/// The pages of a memory. One that isn't made takes no memory of its own and reads as zeros.
 #[derive(Drop)]
 pub(crate) struct Pages {
-    /// A page of zeros, and behind it the pages that were written, in the order of their first writes.
+    /// A page of zeros, and behind it the pages that are made, in the order in which they were.
     words: Vec<u16>,
-    /// Where each page begins among the words: at 0, with the zeros, if it was never written.
+    /// Where each page begins among the words: at 0, with the zeros, if it isn't made.
     starts: [usize; PAGES],
 }
 
@@ -38,7 +38,7 @@ fn are_zero(words: &[u16]) -> bool {
     words.iter().all(|word| *word == 0)
 }
 
-/// Where pages begin that were never written.
+/// Where pages begin that aren't made.
 fn unwritten() -> [usize; PAGES]
     ensures { result ≡ replicate 256 0 }
 {
