@@ -109,20 +109,19 @@ pub fn begin_call(alloc: Global, process: &mut Process, vector: u8) -> Asking
     replace_with(process, TrapAt { alloc, vector }, ask_by)
 }
 
-/// The process that the reply to its call makes of one that waits; with the call and the reply.
+/// The process that the reply to its call makes of one that waits; with the call.
 #[inline(always)]
-fn replied_with_call(process: Process, reply: Reply) -> (Process, (Call, Reply))
+fn replied_with_call(process: Process, reply: &Reply) -> (Process, Call)
     requires held { IsHeld process }
-    requires reply { CanTakeReply process reply }
-    ensures told { seen result.0 ≡ after_reply (seen process) reply }
-    ensures call { AsksFor (seen process) result.1.0 }
-    ensures reply { result.1.1 ≡ reply }
+    requires reply { CanTakeReply process reply.now }
+    ensures told { seen result.0 ≡ after_reply (seen process) reply.now }
+    ensures call { AsksFor (seen process) result.1 }
     ensures held { IsHeld result.0 }
 {
     match process {
         Process::Waiting(waiting, call) => {
-            let effect = effect_of(waiting.at_call(), &reply);
-            (Process::Running(waiting.finish(effect)), (call, reply))
+            let effect = effect_of(waiting.at_call(), reply);
+            (Process::Running(waiting.finish(effect)), call)
         }
         Process::Running(_) | Process::Ended(_) => unreachable!(),
     }
@@ -130,24 +129,22 @@ fn replied_with_call(process: Process, reply: Reply) -> (Process, (Call, Reply))
 
 /// The process that the reply to its call makes of one that waits.
 #[inline(always)]
-fn replied(process: Process, reply: Reply) -> (Process, ())
+fn replied(process: Process, reply: &Reply) -> (Process, ())
     requires held { IsHeld process }
-    requires reply { CanTakeReply process reply }
-    ensures told { seen result.0 ≡ after_reply (seen process) reply }
+    requires reply { CanTakeReply process reply.now }
+    ensures told { seen result.0 ≡ after_reply (seen process) reply.now }
     ensures held { IsHeld result.0 }
 {
     let (process, _) = replied_with_call(process, reply);
     (process, ())
 }
 
-/// Gives a process that waits the reply to its call, of which it keeps nothing; with the call and
-/// the reply.
-pub fn take_reply(process: &mut Process, reply: Reply) -> (Call, Reply)
+/// Gives a process that waits the reply to its call, of which it keeps nothing; with the call.
+pub fn take_reply(process: &mut Process, reply: &Reply) -> Call
     requires held { IsHeld process.old }
-    requires reply { CanTakeReply process.old reply }
-    ensures told { seen process.new ≡ after_reply (seen process.old) reply }
-    ensures call { AsksFor (seen process.old) result.0 }
-    ensures reply { result.1 ≡ reply }
+    requires reply { CanTakeReply process.old reply.now }
+    ensures told { seen process.new ≡ after_reply (seen process.old) reply.now }
+    ensures call { AsksFor (seen process.old) result }
     ensures held { IsHeld process.new }
 {
     replace_with(process, reply, replied_with_call)
@@ -213,7 +210,7 @@ fn retry(process: &mut Process, kernel: &mut Kernel, pid: usize) -> Result<Stepp
         Process::Waiting(_, call) => match kernel.call(pid, call)? {
             Answer::Wait => Ok(Stepped::Same),
             Answer::Done(reply) => {
-                replace_with(process, reply, replied);
+                replace_with(process, &reply, replied);
                 Ok(Stepped::Called)
             }
         },

@@ -62,21 +62,21 @@ told_wait (kept.Waiting h d) c held waits asks =
 told_wait (kept.Ended e) c held waits asks = absurd waits
 
 -- the first try of a call that is answered
-pub told_first : (x : Kept) (u : Process) (c : Call) (r t : Reply) → IsHeld x → IsWaiting (seen x) → AsksFor (seen x) c → u ≡ after_reply (seen x) r → t ≡ r
-    → IsTold (before_wait (seen x)) c (Done t) u
-told_first (kept.Running m) u c r t held waits asks is same = absurd waits
-told_first (kept.Waiting h d) u c r t held waits asks is same =
+pub told_first : (x : Kept) (u : Process) (c : Call) (r : Reply) → IsHeld x → IsWaiting (seen x) → AsksFor (seen x) c → u ≡ after_reply (seen x) r
+    → IsTold (before_wait (seen x)) c (Done r) u
+told_first (kept.Running m) u c r held waits asks is = absurd waits
+told_first (kept.Waiting h d) u c r held waits asks is =
     let P : Call → Type 0 = λ e. IsTold (Running h.process) e (Done r) (told h.process d (Done r)) in
-    rw (same, is) (subst P asks (answered h.process d r held.0))
-told_first (kept.Ended e) u c r t held waits asks is same = absurd waits
+    rw is (subst P asks (answered h.process d r held.0))
+told_first (kept.Ended e) u c r held waits asks is = absurd waits
 
 -- the reply to a call that waited
-pub told_later : (x : Kept) (u : Process) (c : Call) (r t : Reply) → IsWaiting (seen x) → AsksFor (seen x) c → u ≡ after_reply (seen x) r → t ≡ r
-    → IsTold (seen x) c (Done t) u
-told_later (kept.Running m) u c r t waits asks is same = absurd waits
-told_later (kept.Waiting h d) u c r t waits asks is same =
-    rw (same, is) (asks, ap (λ e. told h.process e (Done r)) (sym asks))
-told_later (kept.Ended e) u c r t waits asks is same = absurd waits
+pub told_later : (x : Kept) (u : Process) (c : Call) (r : Reply) → IsWaiting (seen x) → AsksFor (seen x) c → u ≡ after_reply (seen x) r
+    → IsTold (seen x) c (Done r) u
+told_later (kept.Running m) u c r waits asks is = absurd waits
+told_later (kept.Waiting h d) u c r waits asks is =
+    rw is (asks, ap (λ e. told h.process e (Done r)) (sym asks))
+told_later (kept.Ended e) u c r waits asks is = absurd waits
 
 -- the end
 pub told_end : (s u : Process) (how : How) (r : Reply) → StandsBefore s (End how) → u ≡ after_end s how → IsTold s Exit (Done r) u

@@ -225,13 +225,13 @@ fn write_down(
             after_wait(fits)
         }
         CallOutcome::Answered(reply) => {
-            let (_, reply) = take_reply(process, reply);
+            let _ = take_reply(process, &reply);
             log.add_call(call, Answer::Done(reply));
             Continuation::GoesOn
         }
         CallOutcome::AnsweredAfterWait(reply) => {
             log.add_call(call, Answer::Wait);
-            let (again, reply) = take_reply(process, reply);
+            let again = take_reply(process, &reply);
             log.add_call(again, Answer::Done(reply));
             Continuation::GoesOn
         }

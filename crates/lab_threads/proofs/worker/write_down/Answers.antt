@@ -11,9 +11,9 @@ returns-in-Blocked-clause-alone c s before =
 pub returns-in-Answered-clause-alone : goal.returns-in-Answered-clause-alone
 returns-in-Answered-clause-alone c s before =
     let p = c.args.process.now in
-    let u = seen c.take_reply-reply.new.process in
+    let u = seen c.take_reply.new.process in
     c.add_call-in-Answered.ensures.alone (before_wait (seen p)) u
-    (told_first p u c.args.call c.in-Answered.reply c.take_reply-reply.result.1 c.requires.held c.requires.waits c.requires.call c.take_reply-reply.ensures.told c.take_reply-reply.ensures.reply) s before
+    (told_first p u c.args.call c.in-Answered.reply c.requires.held c.requires.waits c.requires.call c.take_reply.ensures.told) s before
 
 pub returns-in-AnsweredAfterWait-clause-alone : goal.returns-in-AnsweredAfterWait-clause-alone
 returns-in-AnsweredAfterWait-clause-alone c s before =
@@ -21,4 +21,4 @@ returns-in-AnsweredAfterWait-clause-alone c s before =
     let u = seen c.take_reply-again.new.process in
     let waited = c.add_call-in-AnsweredAfterWait.ensures.alone (before_wait (seen p)) (seen p) (told_wait p c.args.call c.requires.held c.requires.waits c.requires.call) s before in
     c.add_call-in-AnsweredAfterWait-2.ensures.alone (seen p) u
-    (told_later p u c.take_reply-again.result.0 c.in-AnsweredAfterWait.reply c.take_reply-again.result.1 c.requires.waits c.take_reply-again.ensures.call c.take_reply-again.ensures.told c.take_reply-again.ensures.reply) s waited
+    (told_later p u c.take_reply-again.result c.in-AnsweredAfterWait.reply c.requires.waits c.take_reply-again.ensures.call c.take_reply-again.ensures.told) s waited
