@@ -30,7 +30,7 @@ pub(crate) fn name(rt: &impl Abort, alloc: Global, text: &[u16]) -> Name {
     read.expect(rt, "a name")
 }
 
-fn vector(rt: &impl Abort, alloc: Global, items: &[u16]) -> Vec<u16> {
+pub(crate) fn vector(rt: &impl Abort, alloc: Global, items: &[u16]) -> Vec<u16> {
     match Vec::from_slice(alloc, items) {
         Ok(items) => items,
         Err(_) => Vec::from_slice(alloc, items).expect(rt, "memory"),
