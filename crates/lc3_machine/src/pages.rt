@@ -212,6 +212,9 @@ impl Pages {
     pub(crate) fn feed(&self, page: usize, hasher: &mut FoldHasher)
         requires page { page < 256 }
     {
+        if !self.is_made(page) {
+            return;
+        }
         let words = self.words_of(page);
         if !are_zero(words) {
             hasher.write_usize(page);
