@@ -14,7 +14,7 @@ use Rattle.std.proofs.lemmas.Map.Keys.{sorted_head, sorted_tail}
 use Rattle.std.proofs.lemmas.Map.Steps.{set_value_same}
 use Rattle.ipc_objects.specs.declared.queue.Message.{Message}
 use Rattle.ipc_objects.specs.Queue.{sent}
-use Rattle.ipc_objects.specs.Buckets.{joined, bucket_at, with_message, after_greatest, AreBelow, IsBucket, AreBuckets}
+use Rattle.ipc_objects.specs.Private.Buckets.{joined, bucket_at, with_message, after_greatest, AreBelow, IsBucket, AreBuckets}
 use Rattle.ipc_objects.proofs.SentLemmas.{All-sent, sent-all, sent-append-less, sent-append-greater, slice_get-append_here, slice_get-append_later}
 
 abbrev Entries : Type 0

@@ -4,7 +4,7 @@ ghost use Rattle.std.specs.Option.{option_copied};
 ghost use Rattle.std.specs.Ordering.{nat_cmp};
 ghost use Rattle.std.specs.BTreeMap.{get, IsOrdered};
 ghost use Rattle.ipc_objects.specs.Queue.{sent};
-ghost use Rattle.ipc_objects.specs.Buckets.{joined, with_message, after_greatest, AreBelow, IsBucket};
+ghost use Rattle.ipc_objects.specs.Private.Buckets.{joined, with_message, after_greatest, AreBelow, IsBucket};
 
 use crate::Message;
 use crate::bucket::Bucket;
@@ -24,7 +24,7 @@ pub(crate) struct Buckets {
 impl Model for Buckets {
     ghost use Rattle.std.specs.Prelude.{List};
     ghost use Rattle.ipc_objects.specs.declared.queue.Message.{Message};
-    ghost use Rattle.ipc_objects.specs.Buckets.{joined, AreBuckets};
+    ghost use Rattle.ipc_objects.specs.Private.Buckets.{joined, AreBuckets};
 
     ghost Value = { List Message };
 

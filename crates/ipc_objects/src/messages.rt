@@ -2,7 +2,7 @@
 ghost use Rattle.std.specs.Prelude.{◌≡◌, ◌<◌, [], ◌∷◌, length, slice_get, Some, IfSome, IfOk, IfErr, OnOk, OnErr, All};
 ghost use Rattle.std.specs.Option.{option_copied};
 ghost use Rattle.ipc_objects.specs.Queue.{sent};
-ghost use Rattle.ipc_objects.specs.Buckets.{after_greatest, AreBelow};
+ghost use Rattle.ipc_objects.specs.Private.Buckets.{after_greatest, AreBelow};
 
 use crate::Message;
 use crate::bucket::Bucket;
@@ -26,7 +26,7 @@ pub(crate) struct Messages {
 impl Model for Messages {
     ghost use Rattle.std.specs.Prelude.{List};
     ghost use Rattle.ipc_objects.specs.declared.queue.Message.{Message};
-    ghost use Rattle.ipc_objects.specs.Buckets.{after_greatest, AreBelow};
+    ghost use Rattle.ipc_objects.specs.Private.Buckets.{after_greatest, AreBelow};
 
     ghost Value = { List Message };
 

@@ -1,5 +1,5 @@
 use Rattle.std.proofs.Common.{arith, ap, subst, Some, length}
-use Rattle.ipc_objects.specs.Buckets.{AreBelow}
+use Rattle.ipc_objects.specs.Private.Buckets.{AreBelow}
 use Rattle.ipc_objects.proofs.BucketLemmas.{bucket_rest}
 use Rattle.ipc_objects.proofs.messages.take_first.Goals as goal
 

@@ -1,7 +1,7 @@
 use Rattle.std.proofs.Common.{ap, ◌∙◌}
 use Rattle.std.proofs.lemmas.Result.{on_ok_weaker}
 use Rattle.ipc_objects.specs.Queue.{sent}
-use Rattle.ipc_objects.specs.Buckets.{joined}
+use Rattle.ipc_objects.specs.Private.Buckets.{joined}
 use Rattle.ipc_objects.proofs.BucketLemmas.{buckets_pushed, joined_put}
 use Rattle.ipc_objects.proofs.buckets.Buckets.push.Goals as goal
 

@@ -1,7 +1,7 @@
 use Rattle.std.proofs.Common.{ap, sym, subst, arith, ◌≡◌, ◌<◌, ◌∙◌, ◌++◌, Some, IfSome}
 use Rattle.std.proofs.lemmas.Result.{on_ok_weaker}
 use Rattle.ipc_objects.specs.Queue.{sent}
-use Rattle.ipc_objects.specs.Buckets.{AreBelow, after_greatest}
+use Rattle.ipc_objects.specs.Private.Buckets.{AreBelow, after_greatest}
 use Rattle.ipc_objects.proofs.BucketLemmas.{below_sent, sent_beside, sent_below, sent_put}
 use Rattle.ipc_objects.proofs.messages.Messages.push.Goals as goal
 use Rattle.ipc_objects.proofs.messages.Messages.push.Goals.{in_default-via-in-Some-2+else-message-priority-2, in_default-via-in_default}
