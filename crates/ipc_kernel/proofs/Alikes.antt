@@ -7,11 +7,11 @@ use Rattle.std.proofs.lemmas.Bool.Decides.{eqb_tells}
 use Rattle.std.proofs.lemmas.Option.{unwrap_or-slice_get}
 use Rattle.ipc_kernel.specs.declared.place.Place.{Place}
 use Rattle.ipc_kernel.specs.declared.place.Place.TheVariants.{Empty}
-use Rattle.ipc_kernel.specs.declared.process.Process.{Process}
+use Rattle.ipc_kernel.specs.declared.process.OpenTables.{OpenTables}
 use Rattle.ipc_kernel.specs.declared.process.Slot.{Slot}
 use Rattle.ipc_kernel.specs.declared.process.Descriptor.{Descriptor}
 use Rattle.ipc_kernel.specs.Processes.{slot_refers, descriptor_refers, process_refers, is_referred, with_descriptor, with_slot, closed_process}
-use Rattle.ipc_kernel.specs.Places.{place_at, has_name, kept, emptied}
+use Rattle.ipc_kernel.specs.Places.{place_at, has_name, place_or_empty, places_or_empty}
 use Rattle.ipc_kernel.specs.Kernel.{KernelState}
 use Rattle.ipc_kernel.specs.Alike.{renamed_descriptor, renamed_slot, renamed_process, IsPermutation, IsRenaming, IsAlike, IsConsistent}
 use Rattle.ipc_kernel.proofs.PlaceLemmas.{get_or-emptied, length-emptied}
@@ -20,15 +20,15 @@ use Rattle.ipc_kernel.proofs.IndexLemmas.{place_at-set_same, place_at-set_other,
 use Rattle.ipc_kernel.proofs.Renamings.{renamed_twice, with_descriptor-renamed, with_slot-renamed, closed-renamed, is_referred-renamed}
 
 -- what a place holds once each without a name and a reference is emptied
-pub place_at-emptied : (processes : List Process) (ps : List Place) (i : ℕ) → place_at (emptied processes ps) i ≡ kept processes i (place_at ps i)
+pub place_at-emptied : (processes : List OpenTables) (ps : List Place) (i : ℕ) → place_at (places_or_empty processes ps) i ≡ place_or_empty processes i (place_at ps i)
 place_at-emptied processes ps i = elim (cases_lt i (length ps)) [
-  | inl less ↦ unwrap_or-slice_get (emptied processes ps) i Empty ∙ get_or-emptied processes ps i Empty less ∙ ap (kept processes i) (sym (unwrap_or-slice_get ps i Empty))
-  | inr past ↦ place_at-past (emptied processes ps) i (omega (arith, length-emptied processes ps)) ∙ sym (ap (kept processes i) (place_at-past ps i past) ∙ kept-Empty processes i)
+  | inl less ↦ unwrap_or-slice_get (places_or_empty processes ps) i Empty ∙ get_or-emptied processes ps i Empty less ∙ ap (place_or_empty processes i) (sym (unwrap_or-slice_get ps i Empty))
+  | inr past ↦ place_at-past (places_or_empty processes ps) i (omega (arith, length-emptied processes ps)) ∙ sym (ap (place_or_empty processes i) (place_at-past ps i past) ∙ kept-Empty processes i)
 ]
 
 -- the kernel whose places without a name and a reference are emptied
 abbrev pub done : KernelState → KernelState
-done k = record k { places = emptied k.processes k.places }
+done k = record k { places = places_or_empty k.processes k.places }
 
 pub apart_renamed : (f g : ℕ → ℕ) → IsPermutation f g → (i a : ℕ) → i ≢ a → f i ≢ f a
 apart_renamed f g h i a apart e = apart (sym (h.undone i) ∙ ap g e ∙ h.undone a)
@@ -75,7 +75,7 @@ renaming_place f g k j r count a x = record {
     ]
 
 -- the tables of the processes are written
-pub renaming_processes : (f g : ℕ → ℕ) (k j : KernelState) → IsRenaming f g k j → (ps qs : List Process) → qs ≡ map (renamed_process f) ps → IsRenaming f g (record k { processes = ps }) (record j { processes = qs })
+pub renaming_processes : (f g : ℕ → ℕ) (k j : KernelState) → IsRenaming f g k j → (ps qs : List OpenTables) → qs ≡ map (renamed_process f) ps → IsRenaming f g (record k { processes = ps }) (record j { processes = qs })
 renaming_processes f g k j r ps qs same = record { permutation = r.permutation; count = r.count; places = r.places; processes = same }
 
 pub renaming_descriptor : (f g : ℕ → ℕ) (k j : KernelState) → IsRenaming f g k j → (p d : ℕ) (v : Option Descriptor)
@@ -117,7 +117,7 @@ option_id : {A : Type 0} (h : A → A) → ((x : A) → h x ≡ x) → (o : Opti
 option_id h same None = refl
 option_id h same (Some x) = ap (λ y. Some y) (same x)
 
-abbrev tables : List (Option Descriptor) → List (Option Slot) → Process
+abbrev tables : List (Option Descriptor) → List (Option Slot) → OpenTables
 tables descriptors slots = record { descriptors = descriptors; slots = slots }
 
 -- a kernel is alike itself
@@ -164,7 +164,7 @@ alike_back k j a = (
     h : IsPermutation f g
     h = r.permutation
 
-    process_back : (p : Process) → renamed_process (λ i. g (f i)) p ≡ p
+    process_back : (p : OpenTables) → renamed_process (λ i. g (f i)) p ≡ p
     process_back p =
         ap (λ ds. tables ds (map (option_map (renamed_slot (λ i. g (f i)))) p.slots))
         (map_id (option_map (renamed_descriptor (λ i. g (f i)))) (option_id (renamed_descriptor (λ i. g (f i))) (λ d. ap (λ n. record d { place = n }) (h.undone d.place))) p.descriptors)
@@ -233,7 +233,7 @@ slot_stays : (x y : ℕ) (o : Option Slot) → slot_refers x o ≡ false → slo
 slot_stays x y None e d = refl
 slot_stays x y (Some held) e d = ap (λ n. Some (record held { place = n })) (swap_other x y held.place e d)
 
-process_stays : (x y : ℕ) (p : Process) → process_refers x p ≡ false → process_refers y p ≡ false → renamed_process (swap x y) p ≡ p
+process_stays : (x y : ℕ) (p : OpenTables) → process_refers x p ≡ false → process_refers y p ≡ false → renamed_process (swap x y) p ≡ p
 process_stays x y p e d =
     let first = or_false (list_any (descriptor_refers x) p.descriptors) (list_any (slot_refers x) p.slots) e in
     let second = or_false (list_any (descriptor_refers y) p.descriptors) (list_any (slot_refers y) p.slots) d in

@@ -1,19 +1,19 @@
 -- The message that mq_receive takes.
 use Rattle.std.proofs.Common.{◌≡◌, ℕ, ◌≤◌, List, [], ◌∷◌, length, Some, sym, arith, slice_set, drop, All, IsSomeAnd}
 use Rattle.ipc_objects.specs.declared.queue.Message.{Message}
-use Rattle.ipc_objects.specs.Queue.{QueueState, IsQueue}
+use Rattle.ipc_objects.specs.Queue.{QueueState, IsQueue, without_first}
 use Rattle.std.proofs.lemmas.List.Elements.{All-head}
 use Rattle.ipc_kernel.specs.declared.place.Place.{Place}
 use Rattle.ipc_kernel.specs.declared.call.Reply.TheVariants.{Message as received}
 use Rattle.ipc_kernel.specs.declared.call.Answer.TheVariants.{Done}
-use Rattle.ipc_kernel.specs.Places.{place_at, queue_in, with_queue, without_first, HasMessage}
-use Rattle.ipc_kernel.specs.Decisions.{queue_at, reply_with_first, outcome_of}
+use Rattle.ipc_kernel.specs.Places.{place_at, queue_in, with_queue, HasMessage}
+use Rattle.ipc_kernel.specs.Private.Decisions.{reply_with_first, outcome_of}
+use Rattle.ipc_kernel.specs.Outcomes.{queue_at, completion, with_queue_at}
 use Rattle.ipc_kernel.specs.declared.kernel.decision.Decision.TheVariants.{Receives}
 use Rattle.ipc_kernel.specs.Replies.{message_length}
 use Rattle.ipc_kernel.proofs.IndexLemmas.{some_of}
 use Rattle.ipc_kernel.proofs.KernelLemmas.{done_settled, settled_with_queue}
 use Rattle.ipc_kernel.specs.Kernel.{KernelState, IsSettled}
-use Rattle.ipc_kernel.specs.Outcomes.{completion, with_queue_at}
 
 -- the message that is taken, and what is left, where the first message is known
 pub received_first : (k : KernelState) (place : ℕ) (first : Message) (new : List Place) → IsSettled k → IsSomeAnd (queue_in (place_at k.places place)) HasMessage → ((q : QueueState) → queue_in (place_at k.places place) ≡ Some q → q.messages ≡ first ∷ drop 1 q.messages)

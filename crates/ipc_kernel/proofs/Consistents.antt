@@ -7,11 +7,11 @@ use Rattle.std.proofs.lemmas.Option.{unwrap_or-slice_get}
 use Rattle.std.proofs.lemmas.List.{get_or-replicate, get_or_past, length-replicate}
 use Rattle.ipc_kernel.specs.declared.place.Place.{Place}
 use Rattle.ipc_kernel.specs.declared.place.Place.TheVariants.{Empty}
-use Rattle.ipc_kernel.specs.declared.process.Process.{Process}
+use Rattle.ipc_kernel.specs.declared.process.OpenTables.{OpenTables}
 use Rattle.ipc_kernel.specs.declared.process.Slot.{Slot}
 use Rattle.ipc_kernel.specs.declared.process.Descriptor.{Descriptor}
 use Rattle.ipc_kernel.specs.Processes.{process_at, descriptor_of, slot_of, slot_refers, descriptor_refers, process_refers, is_referred, with_descriptor, with_slot, closed_process}
-use Rattle.ipc_kernel.specs.Places.{place_at, has_name, kept, queue_name, semaphore_name}
+use Rattle.ipc_kernel.specs.Places.{place_at, has_name, place_or_empty, queue_name, semaphore_name}
 use Rattle.ipc_kernel.specs.Kernel.{KernelState, empty_kernel}
 use Rattle.ipc_kernel.specs.Alike.{AreDistinct, IsConsistent}
 use Rattle.ipc_kernel.proofs.PlaceLemmas.{length-emptied}
@@ -32,39 +32,39 @@ none_set q [] i y e d = refl
 none_set q (x ∷ xs) zero y e d = rw d (or_false (q x) (list_any q xs) e).1
 none_set q (x ∷ xs) (suc i) y e d = let first = or_false (q x) (list_any q xs) e in rw first.0 (none_set q xs i y first.1 d)
 
-abbrev nobody : Process
+abbrev nobody : OpenTables
 nobody = record { descriptors = []; slots = [] }
 
 -- the tables of one process, where none refers to a place
-tables_unreferred : (ps : List Process) (p i : ℕ) → is_referred ps i ≡ false
+tables_unreferred : (ps : List OpenTables) (p i : ℕ) → is_referred ps i ≡ false
     → (list_any (descriptor_refers i) (process_at ps p).descriptors ≡ false) × (list_any (slot_refers i) (process_at ps p).slots ≡ false)
 tables_unreferred ps p i e = or_false _ _ (none_at (process_refers i) nobody refl ps p e)
 
-pub descriptor_unreferred : (ps : List Process) (p d i : ℕ) → is_referred ps i ≡ false → descriptor_refers i (descriptor_of ps p d) ≡ false
+pub descriptor_unreferred : (ps : List OpenTables) (p d i : ℕ) → is_referred ps i ≡ false → descriptor_refers i (descriptor_of ps p d) ≡ false
 descriptor_unreferred ps p d i e = none_at (descriptor_refers i) None refl (process_at ps p).descriptors d (tables_unreferred ps p i e).0
 
-pub slot_unreferred : (ps : List Process) (p s i : ℕ) → is_referred ps i ≡ false → slot_refers i (slot_of ps p s) ≡ false
+pub slot_unreferred : (ps : List OpenTables) (p s i : ℕ) → is_referred ps i ≡ false → slot_refers i (slot_of ps p s) ≡ false
 slot_unreferred ps p s i e = none_at (slot_refers i) None refl (process_at ps p).slots s (tables_unreferred ps p i e).1
 
-with_descriptor_unreferred : (ps : List Process) (p d i : ℕ) (v : Option Descriptor) → is_referred ps i ≡ false → descriptor_refers i v ≡ false → is_referred (with_descriptor ps p d v) i ≡ false
+with_descriptor_unreferred : (ps : List OpenTables) (p d i : ℕ) (v : Option Descriptor) → is_referred ps i ≡ false → descriptor_refers i v ≡ false → is_referred (with_descriptor ps p d v) i ≡ false
 with_descriptor_unreferred ps p d i v e n =
     let tables = tables_unreferred ps p i e in
     none_set (process_refers i) ps p _ e (rw (none_set (descriptor_refers i) (process_at ps p).descriptors d v tables.0 n, tables.1) refl)
 
-with_slot_unreferred : (ps : List Process) (p s i : ℕ) (v : Option Slot) → is_referred ps i ≡ false → slot_refers i v ≡ false → is_referred (with_slot ps p s v) i ≡ false
+with_slot_unreferred : (ps : List OpenTables) (p s i : ℕ) (v : Option Slot) → is_referred ps i ≡ false → slot_refers i v ≡ false → is_referred (with_slot ps p s v) i ≡ false
 with_slot_unreferred ps p s i v e n =
     let tables = tables_unreferred ps p i e in
     none_set (process_refers i) ps p _ e (rw (tables.0, none_set (slot_refers i) (process_at ps p).slots s v tables.1 n) refl)
 
 -- a place that the rule leaves is the place, or it is empty
-kept_name : (name_of : Place → Option (List ℕ)) → name_of Empty ≡ None → (processes : List Process) (i : ℕ) (p : Place) (n : List ℕ) → name_of (kept processes i p) ≡ Some n → name_of p ≡ Some n
+kept_name : (name_of : Place → Option (List ℕ)) → name_of Empty ≡ None → (processes : List OpenTables) (i : ℕ) (p : Place) (n : List ℕ) → name_of (place_or_empty processes i p) ≡ Some n → name_of p ≡ Some n
 kept_name name_of nameless processes i p n e = by_case (has_name p || is_referred processes i) e
   where
     by_case : (b : Bool) → name_of (cond b p Empty) ≡ Some n → name_of p ≡ Some n
     by_case true h = h
     by_case false h = cc
 
-kept_referred : (processes : List Process) (i : ℕ) (p : Place) → kept processes i p ≡ Empty → (p ≡ Empty → is_referred processes i ≡ false) → is_referred processes i ≡ false
+kept_referred : (processes : List OpenTables) (i : ℕ) (p : Place) → place_or_empty processes i p ≡ Empty → (p ≡ Empty → is_referred processes i ≡ false) → is_referred processes i ≡ false
 kept_referred processes i p e h = by_case (is_referred processes i) refl
   where
     or_true : (b : Bool) → (b || true) ≡ true
@@ -128,7 +128,7 @@ consistent_place k s a x filled queues semaphores = record {
 }
 
 -- the tables of the processes are written, and refer to no empty place
-consistent_processes : (k : KernelState) → IsConsistent k → (ps : List Process) → ((i : ℕ) → place_at k.places i ≡ Empty → is_referred ps i ≡ false) → IsConsistent (record k { processes = ps })
+consistent_processes : (k : KernelState) → IsConsistent k → (ps : List OpenTables) → ((i : ℕ) → place_at k.places i ≡ Empty → is_referred ps i ≡ false) → IsConsistent (record k { processes = ps })
 consistent_processes k s ps referred = record { count = s.count; referred = referred; queues = s.queues; semaphores = s.semaphores }
 
 pub consistent_descriptor : (k : KernelState) → IsConsistent k → (p d : ℕ) (v : Option Descriptor) → ((i : ℕ) → place_at k.places i ≡ Empty → descriptor_refers i v ≡ false)

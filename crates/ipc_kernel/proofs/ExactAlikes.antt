@@ -3,7 +3,7 @@ use Rattle.std.proofs.Common.{◌≡◌, ℕ, ◌<◌, Bool, true, false, cond, 
 use Rattle.std.specs.Option.{option_map}
 use Rattle.std.specs.List.{list_any}
 use Rattle.ipc_kernel.specs.declared.place.Place.TheVariants.{Empty}
-use Rattle.ipc_kernel.specs.declared.process.Process.{Process}
+use Rattle.ipc_kernel.specs.declared.process.OpenTables.{OpenTables}
 use Rattle.ipc_kernel.specs.declared.process.Slot.{Slot}
 use Rattle.ipc_kernel.specs.declared.process.Descriptor.{Descriptor}
 use Rattle.ipc_kernel.specs.declared.renaming.Renaming.{Renaming}
@@ -39,10 +39,10 @@ slot_where : (f h : ℕ → ℕ) (o : Option Slot) → ((n : ℕ) → slot_refer
 slot_where f h None each = refl
 slot_where f h (Some s) each = ap (λ n. Some (record s { place = n })) (sym (each s.place (eq-eqb s.place s.place refl)))
 
-abbrev tables : List (Option Descriptor) → List (Option Slot) → Process
+abbrev tables : List (Option Descriptor) → List (Option Slot) → OpenTables
 tables descriptors slots = record { descriptors = descriptors; slots = slots }
 
-process_where : (f h : ℕ → ℕ) (p : Process) → ((n : ℕ) → process_refers n p ≡ true → h n ≡ f n) → renamed_process f p ≡ renamed_process h p
+process_where : (f h : ℕ → ℕ) (p : OpenTables) → ((n : ℕ) → process_refers n p ≡ true → h n ≡ f n) → renamed_process f p ≡ renamed_process h p
 process_where f h p each =
     ap (λ ds. tables ds (map (option_map (renamed_slot f)) p.slots))
     (map_where descriptor_refers (λ n. h n ≡ f n) _ _ (descriptor_where f h) p.descriptors (λ n e. each n (or_left _ _ e)))

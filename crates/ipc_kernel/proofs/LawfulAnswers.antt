@@ -1,33 +1,33 @@
 -- What holds of every answer, whatever the kernel and the call.
-use Rattle.std.proofs.Common.{◌≡◌, ℕ, ◌&&◌, Bool, true, false, cond, not, nat_lt, nat_le, ◌==◌, List, [], ◌∷◌, length, Option, Some, None, Result, Ok, Err, IfOk, IsTrue, ◌≤◌, ◌<◌, refl, sym, subst, arith, IsSomeAnd, unwrap_or, length-set, position}
+use Rattle.std.proofs.Common.{◌≡◌, ℕ, ◌&&◌, ◌||◌, Bool, true, false, cond, not, nat_lt, nat_le, ◌==◌, List, [], ◌∷◌, length, Option, Some, None, Result, Ok, Err, IfOk, IsTrue, ◌≤◌, ◌<◌, refl, sym, subst, arith, IsSomeAnd, unwrap_or, length-set, position}
 use Rattle.ipc_names.specs.declared.errno.Errno.{Errno}
 use Rattle.ipc_names.specs.declared.flags.Flags.{Flags}
 use Rattle.ipc_names.specs.Flags.{flags_read, o_creat}
 use Rattle.ipc_objects.specs.Limits.{mq_prio_max, mq_msgsize_max, sem_value_max}
 use Rattle.ipc_objects.specs.declared.queue.Message.{Message}
-use Rattle.ipc_objects.specs.Queue.{QueueState}
+use Rattle.ipc_objects.specs.Queue.{QueueState, empty_queue}
 use Rattle.ipc_kernel.specs.declared.place.Place.{Place}
-use Rattle.ipc_kernel.specs.declared.process.Process.{Process}
+use Rattle.ipc_kernel.specs.declared.process.OpenTables.{OpenTables}
 use Rattle.ipc_kernel.specs.declared.process.Slot.{Slot}
 use Rattle.ipc_kernel.specs.declared.process.Descriptor.{Descriptor}
 use Rattle.ipc_kernel.specs.declared.call.Call.{Call}
 use Rattle.ipc_kernel.specs.declared.call.Call.TheVariants.{MqOpen, MqClose, MqUnlink, MqSend, MqReceive, MqGetattr, MqSetattr, SemOpen, SemClose, SemUnlink, SemWait, SemTrywait, SemPost, SemGetvalue, Exit}
 use Rattle.ipc_kernel.specs.declared.call.Reply.{Reply}
-use Rattle.ipc_kernel.specs.declared.call.Reply.TheVariants.{Plain, Message as received}
+use Rattle.ipc_kernel.specs.declared.call.Reply.TheVariants.{Plain, Message as received, Attr, Value}
 use Rattle.ipc_kernel.specs.declared.call.Answer.{Answer}
 use Rattle.ipc_kernel.specs.declared.call.Answer.TheVariants.{Done, Wait}
 use Rattle.ipc_kernel.specs.Kernel.{KernelState}
 use Rattle.ipc_kernel.specs.Processes.{descriptor_of, slot_of, slot_for, free_descriptor_of, free_slot_of}
-use Rattle.ipc_kernel.specs.Places.{is_empty, are_sizes, queue_named, semaphore_named, queue_in, place_at, empty_queue, HasMessage}
-use Rattle.ipc_kernel.specs.Decisions.{outcome_of, reply_with_first, decision_receives, IsPossible}
+use Rattle.ipc_kernel.specs.Places.{is_empty, are_sizes, queue_named, semaphore_named, queue_in, place_at, HasMessage}
+use Rattle.ipc_kernel.specs.Private.Decisions.{outcome_of, reply_with_first, decision_receives, decision_may_grow, decision_may_share, IsPossible}
 use Rattle.ipc_kernel.specs.declared.kernel.decision.Decision.{Decision}
 use Rattle.ipc_kernel.specs.declared.kernel.decision.Decision.TheVariants.{Refused, Waits, Receives, Answered}
-use Rattle.ipc_kernel.specs.Outcomes.{Outcome, waiting, blocked, open_queue, open_semaphore, unlink}
+use Rattle.ipc_kernel.specs.Outcomes.{Outcome, waiting, wait_or_again, open_queue, open_semaphore, unlink}
 use Rattle.ipc_kernel.specs.Queues.{mq_send, take_first, mq_receive, mq_getattr, mq_setattr, mq_close, sizes_asked, new_descriptor, mq_create_at, mq_create, mq_look_up, mq_open}
 use Rattle.ipc_kernel.specs.Semaphores.{sem_getvalue, sem_post, sem_wait, sem_trywait, sem_close, new_slot, one_more_open, sem_open_place, sem_create_at, sem_create, sem_look_up, sem_open}
 use Rattle.ipc_names.specs.Flags.{has_flag}
 use Rattle.ipc_kernel.specs.Replies.{IsReplyTo, IsAnswerTo, message_length}
-use Rattle.ipc_kernel.specs.Answer.{answer, may_wait, is_receive}
+use Rattle.ipc_kernel.specs.Answer.{answer, may_grow, may_wait, is_receive}
 
 -- a message that a receive answers is no longer than what was asked for, and than a message can be
 abbrev pub IsShort : Call → Answer → Type 0
@@ -52,14 +52,14 @@ lawful_refused c k w = record { form = λ s. tt; waits = λ e. absurd (reply_is_
 lawful_waits : (c : Call) (k : KernelState) → IsTrue (may_wait c) → IsLawful c k (waiting k)
 lawful_waits c k can = record { form = λ s. tt; waits = λ e. can; unchanged = λ e. refl; count = refl }
 
-lawful_done : (c : Call) (k : KernelState) (r : Reply) (places : List Place) (processes : List Process) → (IsShort c (Done r) → IsReplyTo c r) → length processes ≡ length k.processes → IsLawful c k (Done r, record { places = places; processes = processes })
+lawful_done : (c : Call) (k : KernelState) (r : Reply) (places : List Place) (processes : List OpenTables) → (IsShort c (Done r) → IsReplyTo c r) → length processes ≡ length k.processes → IsLawful c k (Done r, record { places = places; processes = processes })
 lawful_done c k r places processes form count = record { form = form; waits = λ e. absurd (reply_is_no_wait r e); unchanged = λ e. absurd (reply_is_no_wait r e); count = count }
 
 lawful_if : (c : Call) (k : KernelState) (b : Bool) (x y : Outcome) → IsLawful c k x → IsLawful c k y → IsLawful c k (cond b x y)
 lawful_if c k true x y h i = h
 lawful_if c k false x y h i = i
 
-lawful_blocked : (c : Call) (k : KernelState) (d : Descriptor) → IsTrue (may_wait c) → IsLawful c k (blocked k d)
+lawful_blocked : (c : Call) (k : KernelState) (d : Descriptor) → IsTrue (may_wait c) → IsLawful c k (wait_or_again k d)
 lawful_blocked c k d can = lawful_if c k d.nonblock _ _ (lawful_refused c k _) (lawful_waits c k can)
 
 lawful_sent : (c : Call) (k : KernelState) (priority : ℕ) (words : List ℕ) (o : Option (Descriptor × QueueState)) → IsTrue (may_wait c) → IsLawful c k (mq_send k priority words o)
@@ -250,3 +250,20 @@ received_alone k p c (Receives place) possible form is = known (queue_in (place_
     known : (o : Option QueueState) → IsSomeAnd o HasMessage → IsReplyTo c (reply_with_first (unwrap_or o (empty_queue (0, 0))).messages) → IsTrue (is_receive c)
     known None some h = absurd some
     known (Some q) some h = first_received c q.messages some h
+
+-- one of two tests that holds is enough
+or_first : (a b : Bool) → IsTrue a → IsTrue (a || b)
+or_first true b is = refl
+or_first false b is = absurd (not_true is)
+
+or_second : (a b : Bool) → IsTrue b → IsTrue (a || b)
+or_second true b is = refl
+or_second false b is = is
+
+-- beside what takes memory, words are shared for mq_receive alone
+pub grown_or_received : (k : KernelState) (p : ℕ) (c : Call) (d : Decision) → IsPossible k d → IsAnswerTo c (outcome_of k p d).0
+    → (IsTrue (decision_may_grow d) → IsTrue (may_grow c)) → IsTrue (decision_may_share d) → IsTrue (may_grow c || is_receive c)
+grown_or_received k p c (Refused e) possible form grows is = absurd (not_true is)
+grown_or_received k p c Waits possible form grows is = absurd (not_true is)
+grown_or_received k p c (Receives place) possible form grows is = or_second (may_grow c) (is_receive c) (received_alone k p c (Receives place) possible form refl)
+grown_or_received k p c (Answered reply change) possible form grows is = or_first (may_grow c) (is_receive c) (grows is)

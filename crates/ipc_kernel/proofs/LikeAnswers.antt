@@ -7,7 +7,7 @@ use Rattle.ipc_names.specs.declared.flags.Flags.{Flags}
 use Rattle.ipc_names.specs.Flags.{has_flag, flags_read, o_creat, o_excl, o_nonblock}
 use Rattle.ipc_objects.specs.Limits.{mq_prio_max, sem_value_max}
 use Rattle.ipc_objects.specs.declared.queue.Message.{Message}
-use Rattle.ipc_objects.specs.Queue.{QueueState}
+use Rattle.ipc_objects.specs.Queue.{QueueState, empty_queue, with_message}
 use Rattle.ipc_kernel.specs.declared.place.Place.{Place}
 use Rattle.ipc_kernel.specs.declared.place.Place.TheVariants.{Empty, Mq, Sem}
 use Rattle.ipc_kernel.specs.declared.process.Slot.{Slot}
@@ -17,7 +17,7 @@ use Rattle.ipc_kernel.specs.declared.call.Call.TheVariants.{MqOpen, MqClose, MqU
 use Rattle.ipc_kernel.specs.declared.call.Reply.TheVariants.{Plain, Message as received, Attr, Value}
 use Rattle.ipc_kernel.specs.Limits.{opens_max}
 use Rattle.ipc_kernel.specs.Processes.{descriptor_refers, slot_refers, with_slot, descriptor_of, slot_of, slot_for, free_descriptor_of, free_slot_of}
-use Rattle.ipc_kernel.specs.Places.{place_at, are_sizes, queue_named, semaphore_named, queue_name, semaphore_name, queue_in, empty_queue, with_message}
+use Rattle.ipc_kernel.specs.Places.{place_at, are_sizes, queue_named, semaphore_named, queue_name, semaphore_name, queue_in}
 use Rattle.ipc_kernel.specs.Kernel.{KernelState}
 use Rattle.ipc_kernel.specs.Outcomes.{unlink, open_queue, open_semaphore}
 use Rattle.ipc_kernel.specs.Queues.{mq_send, take_first, mq_receive, attributes, mq_getattr, mq_setattr, mq_close, sizes_asked, descriptor_for, new_descriptor, mq_create_at, mq_create, mq_look_up, mq_open}
@@ -26,7 +26,7 @@ use Rattle.ipc_kernel.specs.Answer.{answer}
 use Rattle.ipc_kernel.specs.Alike.{renamed_descriptor, renamed_slot, AnswersAlike, StaysConsistent}
 use Rattle.ipc_kernel.proofs.Alikes.{alike_itself}
 use Rattle.ipc_kernel.proofs.Consistents.{descriptor_unreferred, slot_unreferred}
-use Rattle.ipc_kernel.proofs.Twins.{IsTwin, AreLike, HaveRoom, like_refused, like_waiting, like_done, like_if, like_blocked, like_unlinked, twin_queue, twin_value, twin_descriptor, twin_slot, twin_closed, twin_made, made_filled, other_place, by_room, found_descriptor, found_slot, found_free_descriptor, found_free_slot, found_slot_for, found_queue, found_semaphore, found_named, name_found, not_named, renamed_held, renamed_open}
+use Rattle.ipc_kernel.proofs.AlikeOutcomes.{IsTwin, AreLike, HaveRoom, like_refused, like_waiting, like_done, like_if, like_blocked, like_unlinked, twin_queue, twin_value, twin_descriptor, twin_slot, twin_closed, twin_made, made_filled, other_place, by_room, found_descriptor, found_slot, found_free_descriptor, found_free_slot, found_slot_for, found_queue, found_semaphore, found_named, name_found, not_named, renamed_held, renamed_open}
 
 like_sent : (f g : ℕ → ℕ) (k j : KernelState) → IsTwin f g k j → (prio : ℕ) (words : List ℕ) (o : Option (Descriptor × QueueState)) → AreLike (mq_send k prio words o) (mq_send j prio words (option_map (renamed_held f) o))
 like_sent f g k j t prio words None = like_refused f g k j t BadDescriptor

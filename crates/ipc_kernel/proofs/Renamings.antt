@@ -6,13 +6,13 @@ use Rattle.std.proofs.lemmas.Bool.{eq-eqb}
 use Rattle.std.proofs.lemmas.Bool.Decides.{eqb_tells}
 use Rattle.std.proofs.lemmas.Option.{slice_get-map}
 use Rattle.std.proofs.lemmas.List.{map-set, length-map}
-use Rattle.ipc_kernel.specs.declared.process.Process.{Process}
+use Rattle.ipc_kernel.specs.declared.process.OpenTables.{OpenTables}
 use Rattle.ipc_kernel.specs.declared.process.Slot.{Slot}
 use Rattle.ipc_kernel.specs.declared.process.Descriptor.{Descriptor}
 use Rattle.ipc_kernel.specs.Processes.{process_at, descriptor_of, slot_of, free_descriptor_of, free_slot_of, slot_for, slot_refers, descriptor_refers, process_refers, is_referred, with_descriptor, with_slot, closed_process}
 use Rattle.ipc_kernel.specs.Alike.{renamed_descriptor, renamed_slot, renamed_process, IsPermutation}
 
-abbrev tables : List (Option Descriptor) → List (Option Slot) → Process
+abbrev tables : List (Option Descriptor) → List (Option Slot) → OpenTables
 tables descriptors slots = record { descriptors = descriptors; slots = slots }
 
 -- a map after a map
@@ -24,7 +24,7 @@ option_twice : {A B C : Type 0} (h : B → C) (i : A → B) (j : A → C) → ((
 option_twice h i j same None = refl
 option_twice h i j same (Some x) = ap (λ y. Some y) (same x)
 
-pub renamed_twice : (f h : ℕ → ℕ) (ps : List Process) → map (renamed_process h) (map (renamed_process f) ps) ≡ map (renamed_process (λ i. h (f i))) ps
+pub renamed_twice : (f h : ℕ → ℕ) (ps : List OpenTables) → map (renamed_process h) (map (renamed_process f) ps) ≡ map (renamed_process (λ i. h (f i))) ps
 renamed_twice f h ps = map_twice (renamed_process h) (renamed_process f) (renamed_process (λ i. h (f i))) (λ p.
     ap (λ ds. tables ds (map (option_map (renamed_slot h)) (map (option_map (renamed_slot f)) p.slots)))
     (map_twice (option_map (renamed_descriptor h)) (option_map (renamed_descriptor f)) (option_map (renamed_descriptor (λ i. h (f i))))
@@ -38,40 +38,40 @@ unwrap_map h d None = refl
 unwrap_map h d (Some x) = refl
 
 -- the tables of a process, renamed
-process_at-renamed : (f : ℕ → ℕ) (ps : List Process) (p : ℕ) → process_at (map (renamed_process f) ps) p ≡ renamed_process f (process_at ps p)
+process_at-renamed : (f : ℕ → ℕ) (ps : List OpenTables) (p : ℕ) → process_at (map (renamed_process f) ps) p ≡ renamed_process f (process_at ps p)
 process_at-renamed f ps p = ap (λ o. unwrap_or o (tables [] [])) (slice_get-map (renamed_process f) ps p) ∙ unwrap_map (renamed_process f) (tables [] []) (slice_get ps p)
 
-pub descriptor_of-renamed : (f : ℕ → ℕ) (ps : List Process) (p d : ℕ) → descriptor_of (map (renamed_process f) ps) p d ≡ option_map (renamed_descriptor f) (descriptor_of ps p d)
+pub descriptor_of-renamed : (f : ℕ → ℕ) (ps : List OpenTables) (p d : ℕ) → descriptor_of (map (renamed_process f) ps) p d ≡ option_map (renamed_descriptor f) (descriptor_of ps p d)
 descriptor_of-renamed f ps p d =
-    ap (λ (x : Process). unwrap_or (slice_get x.descriptors d) None) (process_at-renamed f ps p)
+    ap (λ (x : OpenTables). unwrap_or (slice_get x.descriptors d) None) (process_at-renamed f ps p)
     ∙ ap (λ o. unwrap_or o None) (slice_get-map (option_map (renamed_descriptor f)) (process_at ps p).descriptors d)
     ∙ unwrap_map (option_map (renamed_descriptor f)) None (slice_get (process_at ps p).descriptors d)
 
-pub slot_of-renamed : (f : ℕ → ℕ) (ps : List Process) (p s : ℕ) → slot_of (map (renamed_process f) ps) p s ≡ option_map (renamed_slot f) (slot_of ps p s)
+pub slot_of-renamed : (f : ℕ → ℕ) (ps : List OpenTables) (p s : ℕ) → slot_of (map (renamed_process f) ps) p s ≡ option_map (renamed_slot f) (slot_of ps p s)
 slot_of-renamed f ps p s =
-    ap (λ (x : Process). unwrap_or (slice_get x.slots s) None) (process_at-renamed f ps p)
+    ap (λ (x : OpenTables). unwrap_or (slice_get x.slots s) None) (process_at-renamed f ps p)
     ∙ ap (λ o. unwrap_or o None) (slice_get-map (option_map (renamed_slot f)) (process_at ps p).slots s)
     ∙ unwrap_map (option_map (renamed_slot f)) None (slice_get (process_at ps p).slots s)
 
-pub with_descriptor-renamed : (f : ℕ → ℕ) (ps : List Process) (p d : ℕ) (v : Option Descriptor)
+pub with_descriptor-renamed : (f : ℕ → ℕ) (ps : List OpenTables) (p d : ℕ) (v : Option Descriptor)
     → with_descriptor (map (renamed_process f) ps) p d (option_map (renamed_descriptor f) v) ≡ map (renamed_process f) (with_descriptor ps p d v)
 with_descriptor-renamed f ps p d v =
     let old = process_at ps p in
     let to = option_map (renamed_descriptor f) in
-    ap (λ (x : Process). set (map (renamed_process f) ps) p (tables (set x.descriptors d (to v)) x.slots)) (process_at-renamed f ps p)
+    ap (λ (x : OpenTables). set (map (renamed_process f) ps) p (tables (set x.descriptors d (to v)) x.slots)) (process_at-renamed f ps p)
     ∙ ap (λ ds. set (map (renamed_process f) ps) p (tables ds (map (option_map (renamed_slot f)) old.slots))) (sym (map-set to old.descriptors d v))
     ∙ sym (map-set (renamed_process f) ps p (tables (set old.descriptors d v) old.slots))
 
-pub with_slot-renamed : (f : ℕ → ℕ) (ps : List Process) (p s : ℕ) (v : Option Slot)
+pub with_slot-renamed : (f : ℕ → ℕ) (ps : List OpenTables) (p s : ℕ) (v : Option Slot)
     → with_slot (map (renamed_process f) ps) p s (option_map (renamed_slot f) v) ≡ map (renamed_process f) (with_slot ps p s v)
 with_slot-renamed f ps p s v =
     let old = process_at ps p in
     let to = option_map (renamed_slot f) in
-    ap (λ (x : Process). set (map (renamed_process f) ps) p (tables x.descriptors (set x.slots s (to v)))) (process_at-renamed f ps p)
+    ap (λ (x : OpenTables). set (map (renamed_process f) ps) p (tables x.descriptors (set x.slots s (to v)))) (process_at-renamed f ps p)
     ∙ ap (λ ss. set (map (renamed_process f) ps) p (tables (map (option_map (renamed_descriptor f)) old.descriptors) ss)) (sym (map-set to old.slots s v))
     ∙ sym (map-set (renamed_process f) ps p (tables old.descriptors (set old.slots s v)))
 
-pub closed-renamed : (f : ℕ → ℕ) (ps : List Process) (p : ℕ) → set (map (renamed_process f) ps) p closed_process ≡ map (renamed_process f) (set ps p closed_process)
+pub closed-renamed : (f : ℕ → ℕ) (ps : List OpenTables) (p : ℕ) → set (map (renamed_process f) ps) p closed_process ≡ map (renamed_process f) (set ps p closed_process)
 closed-renamed f ps p = sym (map-set (renamed_process f) ps p closed_process)
 
 -- a test that an element passes as what it is mapped to does
@@ -90,14 +90,14 @@ none_is_none : {A B : Type 0} (h : A → B) (o : Option A) → is_none (option_m
 none_is_none h None = refl
 none_is_none h (Some x) = refl
 
-pub free_descriptor-renamed : (f : ℕ → ℕ) (ps : List Process) (p : ℕ) → free_descriptor_of (map (renamed_process f) ps) p ≡ free_descriptor_of ps p
+pub free_descriptor-renamed : (f : ℕ → ℕ) (ps : List OpenTables) (p : ℕ) → free_descriptor_of (map (renamed_process f) ps) p ≡ free_descriptor_of ps p
 free_descriptor-renamed f ps p =
-    ap (λ (x : Process). position is_none x.descriptors) (process_at-renamed f ps p)
+    ap (λ (x : OpenTables). position is_none x.descriptors) (process_at-renamed f ps p)
     ∙ position-map is_none is_none (option_map (renamed_descriptor f)) (none_is_none (renamed_descriptor f)) (process_at ps p).descriptors
 
-pub free_slot-renamed : (f : ℕ → ℕ) (ps : List Process) (p : ℕ) → free_slot_of (map (renamed_process f) ps) p ≡ free_slot_of ps p
+pub free_slot-renamed : (f : ℕ → ℕ) (ps : List OpenTables) (p : ℕ) → free_slot_of (map (renamed_process f) ps) p ≡ free_slot_of ps p
 free_slot-renamed f ps p =
-    ap (λ (x : Process). position is_none x.slots) (process_at-renamed f ps p)
+    ap (λ (x : OpenTables). position is_none x.slots) (process_at-renamed f ps p)
     ∙ position-map is_none is_none (option_map (renamed_slot f)) (none_is_none (renamed_slot f)) (process_at ps p).slots
 
 -- a renaming keeps places apart
@@ -118,12 +118,12 @@ descriptor_refers-renamed : (f g : ℕ → ℕ) → IsPermutation f g → (i : �
 descriptor_refers-renamed f g h i None = refl
 descriptor_refers-renamed f g h i (Some d) = same_test f g h d.place i
 
-pub slot_for-renamed : (f g : ℕ → ℕ) → IsPermutation f g → (ps : List Process) (p i : ℕ) → slot_for (map (renamed_process f) ps) p (f i) ≡ slot_for ps p i
+pub slot_for-renamed : (f g : ℕ → ℕ) → IsPermutation f g → (ps : List OpenTables) (p i : ℕ) → slot_for (map (renamed_process f) ps) p (f i) ≡ slot_for ps p i
 slot_for-renamed f g h ps p i =
-    ap (λ (x : Process). position (slot_refers (f i)) x.slots) (process_at-renamed f ps p)
+    ap (λ (x : OpenTables). position (slot_refers (f i)) x.slots) (process_at-renamed f ps p)
     ∙ position-map (slot_refers (f i)) (slot_refers i) (option_map (renamed_slot f)) (slot_refers-renamed f g h i) (process_at ps p).slots
 
-pub is_referred-renamed : (f g : ℕ → ℕ) → IsPermutation f g → (ps : List Process) (i : ℕ) → is_referred (map (renamed_process f) ps) (f i) ≡ is_referred ps i
+pub is_referred-renamed : (f g : ℕ → ℕ) → IsPermutation f g → (ps : List OpenTables) (i : ℕ) → is_referred (map (renamed_process f) ps) (f i) ≡ is_referred ps i
 is_referred-renamed f g h ps i = list_any-map (process_refers (f i)) (process_refers i) (renamed_process f) (λ p.
     rw (
       list_any-map (descriptor_refers (f i)) (descriptor_refers i) (option_map (renamed_descriptor f)) (descriptor_refers-renamed f g h i) p.descriptors,

@@ -6,12 +6,12 @@ use Rattle.std.specs.Cmp.Lexicographic.{pointwise}
 use Rattle.std.specs.Option.{option_eq}
 use Rattle.std.proofs.lemmas.Bool.Decides.{Decides-eqb, Decides-and, Decides-like}
 use Rattle.std.proofs.lemmas.Slice.Eq.{slice_eq-Decides}
-use Rattle.ipc_kernel.specs.declared.process.Process.{Process}
+use Rattle.ipc_kernel.specs.declared.process.OpenTables.{OpenTables}
 use Rattle.ipc_kernel.specs.declared.process.Slot.{Slot}
 use Rattle.ipc_kernel.specs.declared.process.Descriptor.{Descriptor}
 use Rattle.ipc_kernel.specs.contracts.process.DescriptorPartialEq.TheImpl as descriptor_eq
 use Rattle.ipc_kernel.specs.contracts.process.SlotPartialEq.TheImpl as slot_eq
-use Rattle.ipc_kernel.specs.contracts.process.ProcessPartialEq.TheImpl as process_eq
+use Rattle.ipc_kernel.specs.contracts.process.OpenTablesPartialEq.TheImpl as process_eq
 
 option_decides : {X : Type 0} (eq : X → X → Bool) → ((a b : X) → Decides (eq a b) (a ≡ b)) → (o p : Option X) → Decides (option_eq eq o p) (o ≡ p)
 option_decides eq each None None = (λ _. refl, λ _. refl)
@@ -25,7 +25,7 @@ descriptor place access nonblock = record { place = place; access = access; nonb
 abbrev slot : ℕ → ℕ → Slot
 slot place opens = record { place = place; opens = opens }
 
-abbrev process : List (Option Descriptor) → List (Option Slot) → Process
+abbrev process : List (Option Descriptor) → List (Option Slot) → OpenTables
 process descriptors slots = record { descriptors = descriptors; slots = slots }
 
 descriptor_decides : (a b : Descriptor) → Decides (descriptor_eq.eq-value.it a b) (a ≡ b)
@@ -42,7 +42,7 @@ slot_decides a b =
     (λ e. (ap (λ s. s.place) e, ap (λ s. s.opens) e))
     (Decides-and (a.place == b.place) (a.opens == b.opens) (Decides-eqb a.place b.place) (Decides-eqb a.opens b.opens))
 
-process_decides : (a b : Process) → Decides (process_eq.eq-value.it a b) (a ≡ b)
+process_decides : (a b : OpenTables) → Decides (process_eq.eq-value.it a b) (a ≡ b)
 process_decides a b =
     Decides-like (process_eq.eq-value.it a b)
     (λ h. ap (λ x. process x a.slots) h.0 ∙ ap (process b.descriptors) h.1)
@@ -50,5 +50,5 @@ process_decides a b =
     (Decides-and _ _ (slice_eq-Decides (option_decides _ descriptor_decides) a.descriptors b.descriptors _ refl) (slice_eq-Decides (option_decides _ slot_decides) a.slots b.slots _ refl))
 
 -- two lists of tables are compared
-pub tables_decides : (ps qs : List Process) (r : Bool) → r ≡ pointwise process_eq.eq-value.it ps qs → Decides r (ps ≡ qs)
+pub tables_decides : (ps qs : List OpenTables) (r : Bool) → r ≡ pointwise process_eq.eq-value.it ps qs → Decides r (ps ≡ qs)
 tables_decides ps qs r is = slice_eq-Decides process_decides ps qs r is

@@ -4,7 +4,7 @@ use Rattle.std.specs.Option.{option_map}
 use Rattle.ipc_kernel.specs.Limits.{object_places}
 use Rattle.ipc_kernel.specs.declared.place.Place.{Place}
 use Rattle.ipc_kernel.specs.declared.place.Place.TheVariants.{Empty}
-use Rattle.ipc_kernel.specs.declared.process.Process.{Process}
+use Rattle.ipc_kernel.specs.declared.process.OpenTables.{OpenTables}
 use Rattle.ipc_kernel.specs.declared.process.Slot.{Slot}
 use Rattle.ipc_kernel.specs.declared.process.Descriptor.{Descriptor}
 use Rattle.ipc_kernel.specs.declared.call.Call.{Call}
@@ -23,7 +23,7 @@ abbrev pub renamed_slot : (ℕ → ℕ) → Slot → Slot
 renamed_slot f s = record s { place = f s.place }
 
 -- the tables of a process, with each place renamed
-abbrev pub renamed_process : (ℕ → ℕ) → Process → Process
+abbrev pub renamed_process : (ℕ → ℕ) → OpenTables → OpenTables
 renamed_process f p =
     record { descriptors = map (option_map (renamed_descriptor f)) p.descriptors; slots = map (option_map (renamed_slot f)) p.slots }
 

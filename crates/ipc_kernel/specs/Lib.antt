@@ -6,8 +6,6 @@ pub mod Outcomes
 pub mod Queues
 pub mod Semaphores
 pub mod Answer
-pub mod Decisions
 pub mod Replies
-pub mod Counts
-pub mod Index
 pub mod Alike
+pub mod Private

@@ -1,13 +1,13 @@
 -- The object places: queues and semaphores, each with a name or, once it is unlinked, without. A name in brackets is the page
 -- of POSIX.1-2017.
-use Rattle.std.specs.Prelude.{ℕ, ◌<◌, ◌≤◌, nat_le, length, drop, Bool, true, false, ◌||◌, ◌&&◌, List, [], Option, Some, None, is_some, unwrap_or, slice_get, map, position, if◌then◌else◌}
+use Rattle.std.specs.Prelude.{ℕ, ◌<◌, ◌≤◌, nat_le, length, Bool, true, false, ◌||◌, ◌&&◌, List, Option, Some, None, is_some, unwrap_or, slice_get, slice_set, map, position, if◌then◌else◌}
 use Rattle.std.specs.List.{enumerate_from}
 use Rattle.std.specs.Str.{bytes_eq}
-use Rattle.ipc_objects.specs.Queue.{QueueState, sent}
+use Rattle.ipc_objects.specs.Queue.{QueueState}
 use Rattle.ipc_objects.specs.Limits.{mq_maxmsg_max, mq_msgsize_max}
 use Rattle.ipc_kernel.specs.declared.place.Place.{Place}
 use Rattle.ipc_kernel.specs.declared.place.Place.TheVariants.{Empty, Mq, Sem}
-use Rattle.ipc_kernel.specs.declared.process.Process.{Process}
+use Rattle.ipc_kernel.specs.declared.process.OpenTables.{OpenTables}
 use Rattle.ipc_kernel.specs.Processes.{is_referred}
 
 -- what place i holds
@@ -27,12 +27,12 @@ has_name (Mq name _) = is_some name
 has_name (Sem name _) = is_some name
 
 -- a place without a name and without a descriptor or slot that refers to it is emptied [mq_unlink, mq_close, sem_unlink, sem_close]
-abbrev pub kept : List Process → ℕ → Place → Place
-kept processes i p = if has_name p || is_referred processes i then p else Empty
+abbrev pub place_or_empty : List OpenTables → ℕ → Place → Place
+place_or_empty processes i p = if has_name p || is_referred processes i then p else Empty
 
 -- each such place is emptied
-abbrev pub emptied : List Process → List Place → List Place
-emptied processes ps = map (λ e. kept processes e.0 e.1) (enumerate_from 0 ps)
+abbrev pub places_or_empty : List OpenTables → List Place → List Place
+places_or_empty processes ps = map (λ e. place_or_empty processes e.0 e.1) (enumerate_from 0 ps)
 
 -- the queue in a place, with its name or none
 abbrev pub queue_and_name : Place → Option (Option (List ℕ) × QueueState)
@@ -58,14 +58,6 @@ semaphore_value Empty = None
 semaphore_value (Mq _ _) = None
 semaphore_value (Sem _ value) = Some value
 
--- the queue with one message more, behind those of its priority or a greater one [mq_send]
-abbrev pub with_message : ℕ → List ℕ → QueueState → QueueState
-with_message prio words q = record q { messages = sent (record { priority = prio; words = words }) q.messages }
-
--- the queue without the message that is first to be received [mq_receive]
-abbrev pub without_first : QueueState → QueueState
-without_first q = record q { messages = drop 1 q.messages }
-
 -- whether a queue takes one message more, of these words
 abbrev pub HasRoomFor : List ℕ → QueueState → Type 0
 HasRoomFor words q = (length q.messages < q.max_messages) × (length words ≤ q.message_size)
@@ -87,10 +79,22 @@ with_value v (Mq name queue) = Mq name queue
 with_value v (Sem name _) = Sem name v
 
 -- the place whose object has lost its name
-abbrev pub unnamed : Place → Place
-unnamed Empty = Empty
-unnamed (Mq _ queue) = Mq None queue
-unnamed (Sem _ value) = Sem None value
+abbrev pub without_name : Place → Place
+without_name Empty = Empty
+without_name (Mq _ queue) = Mq None queue
+without_name (Sem _ value) = Sem None value
+
+-- the places with another state of the queue in one of them
+abbrev pub with_queue_in : List Place → ℕ → QueueState → List Place
+with_queue_in ps i q = slice_set ps i (with_queue q (place_at ps i))
+
+-- the places with another value of the semaphore in one of them
+abbrev pub with_value_in : List Place → ℕ → ℕ → List Place
+with_value_in ps i v = slice_set ps i (with_value v (place_at ps i))
+
+-- the places where the object in one of them has lost its name
+abbrev pub without_name_in : List Place → ℕ → List Place
+without_name_in ps i = slice_set ps i (without_name (place_at ps i))
 
 -- the name of the queue in a place
 abbrev pub queue_name : Place → Option (List ℕ)
@@ -124,7 +128,3 @@ semaphore_named ps n = place_named semaphore_name ps n
 -- whether mq_maxmsg and mq_msgsize are in their ranges
 abbrev pub are_sizes : ℕ × ℕ → Bool
 are_sizes sizes = nat_le 1 sizes.0 && nat_le sizes.0 mq_maxmsg_max && nat_le 1 sizes.1 && nat_le sizes.1 mq_msgsize_max
-
--- a queue without messages
-abbrev pub empty_queue : ℕ × ℕ → QueueState
-empty_queue sizes = record { max_messages = sizes.0; message_size = sizes.1; messages = [] }

@@ -5,15 +5,15 @@ use Rattle.ipc_names.specs.declared.flags.Flags.{Flags}
 use Rattle.ipc_names.specs.declared.errno.Errno.{Errno}
 use Rattle.ipc_names.specs.declared.errno.Errno.TheVariants.{NoEntry, BadDescriptor, MessageSize, Exists, Invalid, TooManyOpen, NoSpace}
 use Rattle.ipc_objects.specs.declared.queue.Message.{Message}
-use Rattle.ipc_objects.specs.Queue.{QueueState}
+use Rattle.ipc_objects.specs.Queue.{QueueState, empty_queue, with_message}
 use Rattle.ipc_objects.specs.Limits.{mq_prio_max, mq_maxmsg_default, mq_msgsize_default}
 use Rattle.ipc_kernel.specs.declared.place.Place.TheVariants.{Mq}
 use Rattle.ipc_kernel.specs.declared.process.Descriptor.{Descriptor}
 use Rattle.ipc_kernel.specs.declared.call.Reply.TheVariants.{Plain, Message as received, Attr}
 use Rattle.ipc_kernel.specs.Processes.{free_descriptor_of, with_descriptor}
-use Rattle.ipc_kernel.specs.Places.{is_empty, are_sizes, empty_queue, queue_named, with_message}
+use Rattle.ipc_kernel.specs.Places.{is_empty, are_sizes, queue_named}
 use Rattle.ipc_kernel.specs.Kernel.{KernelState}
-use Rattle.ipc_kernel.specs.Outcomes.{Outcome, refusal, completion, blocked, with_queue_at}
+use Rattle.ipc_kernel.specs.Outcomes.{Outcome, refusal, completion, wait_or_again, with_queue_at}
 
 -- mq_maxmsg and mq_msgsize as they are asked for; the other two attributes are ignored [mq_open]
 abbrev pub sizes_asked : Option (List ℕ) → ℕ × ℕ
@@ -67,12 +67,12 @@ mq_send k prio words (Some held) =
     if held.0.access == 0 then refusal k BadDescriptor
     else if nat_le mq_prio_max prio then refusal k Invalid
     else if nat_lt held.1.message_size (length words) then refusal k MessageSize
-    else if nat_le held.1.max_messages (length held.1.messages) then blocked k held.0
+    else if nat_le held.1.max_messages (length held.1.messages) then wait_or_again k held.0
     else completion (with_queue_at k held.0.place (with_message prio words held.1)) (Plain 0)
 
 -- the oldest message of the greatest priority stands first, and is taken out [mq_receive]
 abbrev pub take_first : KernelState → Descriptor → QueueState → List Message → Outcome
-take_first k d q [] = blocked k d
+take_first k d q [] = wait_or_again k d
 take_first k d q (m ∷ rest) = completion (with_queue_at k d.place (record q { messages = rest })) (received m.words m.priority)
 
 -- the buffer must hold the longest message that the queue allows; a descriptor to write alone is a bad one [mq_receive]

@@ -1,6 +1,6 @@
 //! Calls, replies and answers.
-ghost use Rattle.std.specs.Prelude.{◌≡◌, IfOk};
-ghost use Rattle.std.specs.Prelude.{◌↔◌, IsTrue};
+ghost use Rattle.std.specs.Prelude.{◌≡◌, ◌↔◌, IfOk, IsErr, IsTrue};
+ghost use Rattle.ipc_kernel.specs.Replies.{is_message};
 
 use ipc_names::Name;
 use ipc_objects::Words;
@@ -225,6 +225,7 @@ impl Reply {
     /// 2^63 times.
     pub fn copy(&self) -> Result<Reply, AllocError>
         ensures copy { IfOk result (λ copy. copy ≡ self.now) }
+        ensures memory { IsErr result → IsTrue (is_message self.now) }
     {
         Ok(match self {
             Reply::Plain(word) => Reply::Plain(*word),

@@ -1,11 +1,11 @@
 //! The kernel, and how it answers calls.
-ghost use Rattle.std.specs.Prelude.{◌≡◌, ℕ, ◌<◌, ◌≤◌, ◌-◌, length, Some, IfSome, IfOk, OnErr, IsErr, IsTrue};
+ghost use Rattle.std.specs.Prelude.{◌≡◌, ℕ, ◌<◌, ◌≤◌, ◌-◌, ◌||◌, length, Some, IfSome, IfOk, OnErr, IsErr, IsTrue};
 ghost use Rattle.std.specs.Option.{option_map, option_copied};
 ghost use Rattle.ipc_names.specs.Errno.{number_of};
 ghost use Rattle.ipc_objects.specs.Limits.{sem_value_max, mq_msgsize_max};
 ghost use Rattle.ipc_kernel.specs.Limits.{object_places, open_max, process_max};
 ghost use Rattle.ipc_kernel.specs.Kernel.{KernelState};
-ghost use Rattle.ipc_kernel.specs.Decisions.{outcome_of, IsPossible, decision_may_grow};
+ghost use Rattle.ipc_kernel.specs.Private.Decisions.{outcome_of, IsPossible, decision_may_grow};
 ghost use Rattle.ipc_kernel.specs.Places.{place_at, queue_in, queue_and_name, semaphore_value, value_and_name};
 ghost use Rattle.ipc_kernel.specs.Replies.{message_length};
 ghost use Rattle.ipc_kernel.specs.declared.call.Answer.TheVariants.{Done};
@@ -15,7 +15,7 @@ ghost use Rattle.ipc_kernel.specs.declared.call.Call.TheVariants.{MqReceive};
 use crate::places::Places;
 use crate::processes::Processes;
 use crate::{Answer, Call, Descriptor, Reply, Slot};
-use decision::{Change, Decision};
+use decision::{Change, Decision, ShortReply};
 use ipc_names::{Errno, Name};
 use ipc_objects::Queue;
 use std::alloc::{AllocError, Global};
@@ -48,7 +48,7 @@ impl Model for Kernel {
 /// The reply of a refused call.
 #[inline(always)]
 fn refusal(errno: Errno) -> Answer
-    ensures { result ≡ Done (Plain (65536 - number_of errno)) }
+    ensures reply { result ≡ Done (Plain (65536 - number_of errno)) }
 {
     Answer::Done(Reply::Plain(errno.reply()))
 }
@@ -118,6 +118,7 @@ impl Kernel {
     /// Answers a call of a process: the reply, or that the call must wait. A refusal is a plain
     /// reply, the negative of the error's number. Where memory is refused nothing has changed, and
     /// the same call can be made again; only mq_open, mq_send and sem_open take memory.
+    #[tactic(auto, unfolding(crate::specs::Answer::answer))]
     #[inline(always)]
     pub fn call(&mut self, pid: usize, call: &Call) -> Result<Answer, AllocError>
         requires process { pid < length self.old.processes }
@@ -128,7 +129,61 @@ impl Kernel {
         ensures count { length self.new.processes ≡ length self.old.processes }
         ensures settled { IsSettled self.new }
     {
+        match call {
+            Call::SemWait { slot } => {
+                let decision = self.decide_sem_wait(pid, *slot);
+                self.conclude(pid, call, decision)
+            }
+            Call::SemPost { slot } => {
+                let decision = self.decide_sem_post(pid, *slot);
+                self.conclude(pid, call, decision)
+            }
+            Call::MqReceive { mqd, len } => {
+                let decision = self.decide_mq_receive(pid, *mqd, *len);
+                self.conclude(pid, call, decision)
+            }
+            _ => self.call_any(pid, call),
+        }
+    }
+
+    /// Answers any call, as `call` does.
+    #[inline(never)]
+    fn call_any(&mut self, pid: usize, call: &Call) -> Result<Answer, AllocError>
+        requires process { pid < length self.old.processes }
+        ensures answered { IfOk result (λ a. (a, self.new) ≡ answer self.old pid call.now) }
+        ensures form { IfOk result (λ a. IsAnswerTo call.now a) }
+        ensures err { OnErr result (self.new ≡ self.old) }
+        ensures memory { IsErr result → IsTrue (may_grow call.now) }
+        ensures count { length self.new.processes ≡ length self.old.processes }
+        ensures settled { IsSettled self.new }
+    {
         let decision = self.decide(pid, call);
+        self.conclude(pid, call, decision)
+    }
+
+    /// Answers a call by what was decided of it.
+    #[inline(always)]
+    fn conclude(
+        &mut self,
+        pid: usize,
+        call: &Call,
+        decision: Decision<'_>,
+    ) -> Result<Answer, AllocError>
+        requires process { pid < length self.old.processes }
+        requires outcome { outcome_of self.old pid decision ≡ answer self.old pid call.now }
+        requires possible { IsPossible self.old decision }
+        requires memory { IsTrue (decision_may_grow decision) → IsTrue (may_grow call.now) }
+        requires size { (d len : ℕ) → call.now ≡ MqReceive d len →
+            message_length (answer self.old pid call.now).0 ≤ len }
+        requires limit { (d len : ℕ) → call.now ≡ MqReceive d len →
+            message_length (answer self.old pid call.now).0 ≤ mq_msgsize_max }
+        ensures answered { IfOk result (λ a. (a, self.new) ≡ answer self.old pid call.now) }
+        ensures form { IfOk result (λ a. IsAnswerTo call.now a) }
+        ensures err { OnErr result (self.new ≡ self.old) }
+        ensures memory { IsErr result → IsTrue (may_grow call.now) }
+        ensures count { length self.new.processes ≡ length self.old.processes }
+        ensures settled { IsSettled self.new }
+    {
         let answer = self.carry_out(pid, decision);
         // The invariant, which `settled` tells, is known where a field is named.
         let _ = &self.places;
@@ -144,7 +199,8 @@ impl Kernel {
     }
 
     /// Answers a call as `call` does, with an equal answer beside it, whose words are shared. Where
-    /// memory is refused nothing has changed.
+    /// memory is refused nothing has changed; beside what takes memory in `call`, an error is that
+    /// the words of a received message are shared 2^63 times.
     pub fn call_with_copy(
         &mut self,
         pid: usize,
@@ -155,6 +211,7 @@ impl Kernel {
         ensures copy { IfOk result (λ r. r.1 ≡ r.0) }
         ensures form { IfOk result (λ r. IsAnswerTo call.now r.0) }
         ensures err { OnErr result (self.new ≡ self.old) }
+        ensures memory { IsErr result → IsTrue (may_grow call.now || is_receive call.now) }
         ensures count { length self.new.processes ≡ length self.old.processes }
         ensures settled { IsSettled self.new }
     {
@@ -181,7 +238,7 @@ impl Kernel {
     #[tactic(auto, unfolding(crate::specs::Answer::answer))]
     #[inline(always)]
     fn decide<'a>(&self, pid: usize, call: &'a Call) -> Decision<'a>
-        requires { pid < length self.now.processes }
+        requires process { pid < length self.now.processes }
         ensures outcome { outcome_of self.now pid result ≡ answer self.now pid call.now }
         ensures possible { IsPossible self.now result }
         ensures memory { IsTrue (decision_may_grow result) → IsTrue (may_grow call.now) }
@@ -207,18 +264,19 @@ impl Kernel {
             Call::SemTrywait { slot } => self.decide_sem_trywait(pid, *slot),
             Call::SemPost { slot } => self.decide_sem_post(pid, *slot),
             Call::SemGetvalue { slot } => self.decide_sem_getvalue(pid, *slot),
-            Call::Exit => Decision::Answered(Reply::Plain(0), Change::CloseAll),
+            Call::Exit => Decision::Answered(ShortReply::Plain(0), Change::CloseAll),
         }
     }
 
     /// An open descriptor, with its queue.
     #[inline(always)]
     fn open_queue(&self, pid: usize, mqd: u16) -> Option<(Descriptor, &Queue)>
-        requires { pid < length self.now.processes }
+        requires process { pid < length self.now.processes }
         ensures found { option_map (λ r. (r.0, r.1.now)) result ≡ open_queue self.now pid mqd }
         ensures range { IfSome result (λ _. mqd < open_max) }
         ensures place { IfSome result (λ held. held.0.place < object_places) }
-        ensures there { IfSome result (λ held. queue_in (place_at self.now.places held.0.place) ≡ Some held.1.now) }
+        ensures there { IfSome result (λ held.
+            queue_in (place_at self.now.places held.0.place) ≡ Some held.1.now) }
     {
         match self.processes.descriptor(pid, mqd) {
             None => None,
@@ -232,10 +290,11 @@ impl Kernel {
     /// An open slot, with the value of its semaphore.
     #[inline(always)]
     fn open_semaphore(&self, pid: usize, slot: u16) -> Option<(Slot, u16)>
-        requires { pid < length self.now.processes }
+        requires process { pid < length self.now.processes }
         ensures found { result ≡ open_semaphore self.now pid slot }
         ensures bound { IfSome result (λ held. held.1 ≤ sem_value_max) }
-        ensures there { IfSome result (λ held. semaphore_value (place_at self.now.places held.0.place) ≡ Some held.1) }
+        ensures there { IfSome result (λ held.
+            semaphore_value (place_at self.now.places held.0.place) ≡ Some held.1) }
     {
         match self.processes.slot(pid, slot) {
             None => None,

@@ -15,4 +15,4 @@ pub use call::{Answer, Call, Reply};
 pub use kernel::Kernel;
 pub use limits::{OBJECT_PLACES, OPEN_MAX, OPENS_MAX, PROCESS_MAX, limits_are_defined};
 pub use place::Place;
-pub use process::{Descriptor, Process, Slot};
+pub use process::{Descriptor, OpenTables, Slot};

@@ -2,7 +2,7 @@
 ghost use Rattle.std.specs.Prelude.{◌≡◌, ◌+◌, ◌-◌, ◌<◌, ◌≤◌, ◌||◌, if◌then◌else◌, length, IfSome, OnOk, OnErr};
 ghost use Rattle.std.specs.Prelude.{◌∷◌, IsSomeAnd, drop};
 ghost use Rattle.std.specs.Option.{option_map, option_copied};
-ghost use Rattle.ipc_objects.specs.Queue.{QueueState};
+ghost use Rattle.ipc_objects.specs.Queue.{QueueState, with_message, without_first};
 ghost use Rattle.ipc_objects.specs.declared.queue.Message.{Message};
 ghost use Rattle.ipc_objects.specs.Limits.{sem_value_max, mq_prio_max};
 ghost use Rattle.ipc_kernel.specs.declared.place.Place.TheVariants.{Empty};
@@ -28,16 +28,16 @@ pub enum Place {
 }
 
 impl Place {
-    ghost use Rattle.ipc_kernel.specs.Places.{is_empty, has_name, semaphore_value, with_value, unnamed, queue_in, with_queue, with_message, without_first, HasRoomFor, HasMessage, queue_and_name, value_and_name};
+    ghost use Rattle.ipc_kernel.specs.Places.{is_empty, has_name, semaphore_value, with_value, without_name, queue_in, with_queue, HasRoomFor, HasMessage, queue_and_name, value_and_name};
 
     pub(crate) fn is_empty(&self) -> bool
-        ensures { result ≡ is_empty self.now }
+        ensures empty { result ≡ is_empty self.now }
     {
         matches!(self, Place::Empty)
     }
 
     fn has_name(&self) -> bool
-        ensures { result ≡ has_name self.now }
+        ensures named { result ≡ has_name self.now }
     {
         match self {
             Place::Empty => false,
@@ -61,7 +61,7 @@ impl Place {
     /// The queue.
     #[inline(always)]
     pub(crate) fn queue(&self) -> Option<&Queue>
-        ensures { option_copied result ≡ queue_in self.now }
+        ensures queue { option_copied result ≡ queue_in self.now }
     {
         match self {
             Place::Mq { queue, .. } => Some(queue),
@@ -71,7 +71,8 @@ impl Place {
 
     /// The queue, with its name or none.
     pub(crate) fn queue_and_name(&self) -> Option<(Option<&Name>, &Queue)>
-        ensures { option_map (λ r. (option_copied r.0, r.1.now)) result ≡ queue_and_name self.now }
+        ensures held { option_map (λ r. (option_copied r.0, r.1.now)) result ≡
+            queue_and_name self.now }
     {
         match self {
             Place::Mq { name, queue } => Some((name.as_ref(), queue)),
@@ -81,7 +82,7 @@ impl Place {
 
     /// The value of the semaphore, with its name or none.
     pub(crate) fn value_and_name(&self) -> Option<(Option<&Name>, u16)>
-        ensures { option_map (λ r. (option_copied r.0, r.1)) result ≡ value_and_name self.now }
+        ensures held { option_map (λ r. (option_copied r.0, r.1)) result ≡ value_and_name self.now }
     {
         match self {
             Place::Sem { name, semaphore } => Some((name.as_ref(), semaphore.value())),
@@ -109,7 +110,7 @@ impl Place {
     /// Takes the first message from the queue.
     #[inline(always)]
     pub(crate) fn receive(&mut self) -> (u16, Words)
-        requires { IsSomeAnd (queue_in self.old) HasMessage }
+        requires message { IsSomeAnd (queue_in self.old) HasMessage }
         ensures first { (q : QueueState) → queue_in self.old ≡ Some q →
             q.messages ≡ record { priority = result.0; words = result.1 } ∷ drop 1 q.messages }
         ensures rest { (q : QueueState) → queue_in self.old ≡ Some q →
@@ -126,7 +127,7 @@ impl Place {
     pub(crate) fn post(&mut self, value: u16)
         requires value { semaphore_value self.old ≡ Some value }
         requires room { value < sem_value_max }
-        ensures { self.new ≡ with_value (value + 1) self.old }
+        ensures more { self.new ≡ with_value (value + 1) self.old }
     {
         if let Place::Sem { semaphore, .. } = self {
             semaphore.post();
@@ -137,7 +138,7 @@ impl Place {
     #[inline(always)]
     pub(crate) fn take(&mut self, value: u16)
         requires value { semaphore_value self.old ≡ Some value }
-        ensures { self.new ≡ with_value (value - 1) self.old }
+        ensures less { self.new ≡ with_value (value - 1) self.old }
     {
         if let Place::Sem { semaphore, .. } = self {
             let _ = semaphore.try_wait();
@@ -146,7 +147,7 @@ impl Place {
 
     /// Takes the name from the object.
     pub(crate) fn unname(&mut self)
-        ensures { self.new ≡ unnamed self.old }
+        ensures unnamed { self.new ≡ without_name self.old }
     {
         match self {
             Place::Empty => {}
@@ -157,7 +158,7 @@ impl Place {
 
     /// Empties a place without a name to which nothing refers.
     pub(crate) fn keep_or_empty(&mut self, referred: bool)
-        ensures { self.new ≡ (if has_name self.old || referred then self.old else Empty) }
+        ensures emptied { self.new ≡ (if has_name self.old || referred then self.old else Empty) }
     {
         if !self.has_name() && !referred {
             *self = Place::Empty;

@@ -3,12 +3,12 @@ ghost use Rattle.std.specs.Prelude.{◌≡◌, ℕ, ◌+◌, ◌-◌, ◌<◌, �
 ghost use Rattle.std.specs.FinMap as fin;
 ghost use Rattle.std.specs.Prelude.{◌∷◌, IsSomeAnd, IsTrue, drop};
 ghost use Rattle.std.specs.Option.{option_map, option_copied};
-ghost use Rattle.ipc_objects.specs.Queue.{QueueState};
+ghost use Rattle.ipc_objects.specs.Queue.{QueueState, empty_queue, with_message, without_first};
 ghost use Rattle.ipc_objects.specs.declared.queue.Message.{Message};
 ghost use Rattle.ipc_objects.specs.Limits.{sem_value_max, mq_prio_max};
 ghost use Rattle.ipc_kernel.specs.Limits.{object_places};
-ghost use Rattle.ipc_kernel.specs.Places.{queue_in, with_queue, with_message, without_first, HasRoomFor, HasMessage, are_sizes, empty_queue};
-ghost use Rattle.ipc_kernel.specs.Places.{is_empty, semaphore_value, with_value, unnamed, queue_name, semaphore_name, queue_named, semaphore_named, queue_and_name, value_and_name, place_at, emptied};
+ghost use Rattle.ipc_kernel.specs.Places.{queue_in, HasRoomFor, HasMessage, are_sizes};
+ghost use Rattle.ipc_kernel.specs.Places.{is_empty, semaphore_value, with_queue_in, with_value_in, without_name_in, queue_name, semaphore_name, queue_named, semaphore_named, queue_and_name, value_and_name, place_at, places_or_empty};
 ghost use Rattle.ipc_kernel.specs.declared.place.Place.TheVariants.{Empty, Mq, Sem};
 
 mod alike;
@@ -30,8 +30,8 @@ fn index_of_empty(places: &[Place]) -> Option<usize>
 }
 
 fn empty_unused_in(places: &mut [Place], processes: &Processes)
-    requires { length places.old ≤ 256 }
-    ensures { places.new ≡ emptied processes.now places.old }
+    requires few { length places.old ≤ 256 }
+    ensures emptied { places.new ≡ places_or_empty processes.now places.old }
 {
     for i in 0..places.len() {
         let referred = processes.is_referred(i as u8);
@@ -50,8 +50,9 @@ fn send_at(
 ) -> Result<(), AllocError>
     requires queue { IsSomeAnd (queue_in (place_at places.old.items place)) (HasRoomFor words.now) }
     requires priority { priority < mq_prio_max }
-    ensures ok { OnOk result ((q : QueueState) → queue_in (place_at places.old.items place) ≡ Some q →
-        places.new.items ≡ slice_set places.old.items place (with_queue (with_message priority words.now q) (place_at places.old.items place))) }
+    ensures ok { OnOk result ((q : QueueState) →
+        queue_in (place_at places.old.items place) ≡ Some q → places.new.items ≡
+        with_queue_in places.old.items place (with_message priority words.now q)) }
     ensures err { OnErr result (places.new.items ≡ places.old.items) }
 {
     let words = words.copy()?;
@@ -62,11 +63,11 @@ fn send_at(
 #[tactic(auto, using(crate::proofs::PlaceLemmas::queue_in_range, crate::proofs::PlaceLemmas::place_at_read))]
 #[inline(always)]
 fn receive_at(places: &mut Vec<Place>, place: u8) -> (u16, Words)
-    requires { IsSomeAnd (queue_in (place_at places.old.items place)) HasMessage }
+    requires message { IsSomeAnd (queue_in (place_at places.old.items place)) HasMessage }
     ensures first { (q : QueueState) → queue_in (place_at places.old.items place) ≡ Some q →
         q.messages ≡ record { priority = result.0; words = result.1 } ∷ drop 1 q.messages }
     ensures rest { (q : QueueState) → queue_in (place_at places.old.items place) ≡ Some q →
-        places.new.items ≡ slice_set places.old.items place (with_queue (without_first q) (place_at places.old.items place)) }
+        places.new.items ≡ with_queue_in places.old.items place (without_first q) }
 {
     let place = &mut places[place as usize];
     place.receive()
@@ -77,7 +78,7 @@ fn receive_at(places: &mut Vec<Place>, place: u8) -> (u16, Words)
 fn post_at(places: &mut Vec<Place>, place: u8, value: u16)
     requires value { semaphore_value (place_at places.old.items place) ≡ Some value }
     requires room { value < sem_value_max }
-    ensures { places.new.items ≡ slice_set places.old.items place (with_value (value + 1) (place_at places.old.items place)) }
+    ensures more { places.new.items ≡ with_value_in places.old.items place (value + 1) }
 {
     let place = &mut places[place as usize];
     place.post(value);
@@ -87,7 +88,7 @@ fn post_at(places: &mut Vec<Place>, place: u8, value: u16)
 #[inline(always)]
 fn take_at(places: &mut Vec<Place>, place: u8, value: u16)
     requires value { semaphore_value (place_at places.old.items place) ≡ Some value }
-    ensures { places.new.items ≡ slice_set places.old.items place (with_value (value - 1) (place_at places.old.items place)) }
+    ensures less { places.new.items ≡ with_value_in places.old.items place (value - 1) }
 {
     let place = &mut places[place as usize];
     place.take(value);
@@ -95,16 +96,16 @@ fn take_at(places: &mut Vec<Place>, place: u8, value: u16)
 
 #[tactic(auto, using(crate::proofs::PlaceLemmas::place_at_read))]
 fn unname_at(places: &mut Vec<Place>, place: u8)
-    requires { place < length places.old.items }
-    ensures { places.new.items ≡ slice_set places.old.items place (unnamed (place_at places.old.items place)) }
+    requires range { place < length places.old.items }
+    ensures unnamed { places.new.items ≡ without_name_in places.old.items place }
 {
     let place = &mut places[place as usize];
     place.unname();
 }
 
 fn put_queue_at(places: &mut Vec<Place>, place: u8, name: Name, queue: Queue)
-    requires { place < length places.old.items }
-    ensures { places.new.items ≡ slice_set places.old.items place (Mq (Some name) queue) }
+    requires range { place < length places.old.items }
+    ensures put { places.new.items ≡ slice_set places.old.items place (Mq (Some name) queue) }
 {
     places[place as usize] = Place::Mq {
         name: Some(name),
@@ -115,7 +116,7 @@ fn put_queue_at(places: &mut Vec<Place>, place: u8, name: Name, queue: Queue)
 fn put_semaphore_at(places: &mut Vec<Place>, place: u8, name: Name, value: u16)
     requires place { place < length places.old.items }
     requires value { value ≤ sem_value_max }
-    ensures { places.new.items ≡ slice_set places.old.items place (Sem (Some name) value) }
+    ensures put { places.new.items ≡ slice_set places.old.items place (Sem (Some name) value) }
 {
     places[place as usize] = Place::Sem {
         name: Some(name),
@@ -125,15 +126,15 @@ fn put_semaphore_at(places: &mut Vec<Place>, place: u8, name: Name, value: u16)
 
 /// An empty queue of sizes in their ranges.
 fn new_queue(alloc: Global, max_messages: u16, message_size: u16) -> Result<Queue, AllocError>
-    requires { IsTrue (are_sizes (max_messages, message_size)) }
-    ensures { IfOk result (λ q. q ≡ empty_queue (max_messages, message_size)) }
+    requires sizes { IsTrue (are_sizes (max_messages, message_size)) }
+    ensures empty { IfOk result (λ q. q ≡ empty_queue (max_messages, message_size)) }
 {
     Queue::new(alloc, max_messages, message_size)
 }
 
 fn empty_unused_at(places: &mut Vec<Place>, processes: &Processes)
-    requires { length places.old.items ≤ 256 }
-    ensures { places.new.items ≡ emptied processes.now places.old.items }
+    requires few { length places.old.items ≤ 256 }
+    ensures emptied { places.new.items ≡ places_or_empty processes.now places.old.items }
 {
     empty_unused_in(places.as_mut_slice(), processes);
 }
@@ -150,7 +151,7 @@ pub(crate) struct Places {
 impl Model for Places {
     ghost use Rattle.std.specs.Prelude.{List};
     ghost use Rattle.ipc_kernel.specs.declared.place.Place.{Place};
-    ghost use Rattle.ipc_kernel.specs.Index.{IsIndexed};
+    ghost use Rattle.ipc_kernel.specs.Private.Index.{IsIndexed};
 
     ghost Value = { List Place };
 
@@ -162,7 +163,7 @@ impl Model for Places {
 impl Places {
     /// Empty places.
     pub(crate) fn new(alloc: Global) -> Result<Places, AllocError>
-        ensures { IfOk result (λ ps. ps ≡ replicate object_places Empty) }
+        ensures empty { IfOk result (λ ps. ps ≡ replicate object_places Empty) }
     {
         let mut places = Vec::with_capacity(alloc, OBJECT_PLACES)?;
         for _ in 0..OBJECT_PLACES {
@@ -221,7 +222,7 @@ impl Places {
     /// The queue in a place.
     #[inline(always)]
     pub(crate) fn queue(&self, place: u8) -> Option<&Queue>
-        ensures { option_copied result ≡ queue_in (place_at self.now place) }
+        ensures queue { option_copied result ≡ queue_in (place_at self.now place) }
     {
         match self.places.get(place as usize) {
             Some(place) => place.queue(),
@@ -231,7 +232,8 @@ impl Places {
 
     /// The queue in a place, with its name or none.
     pub(crate) fn queue_and_name(&self, place: u8) -> Option<(Option<&Name>, &Queue)>
-        ensures { option_map (λ r. (option_copied r.0, r.1.now)) result ≡ queue_and_name (place_at self.now place) }
+        ensures held { option_map (λ r. (option_copied r.0, r.1.now)) result ≡
+            queue_and_name (place_at self.now place) }
     {
         match self.places.get(place as usize) {
             Some(place) => place.queue_and_name(),
@@ -241,7 +243,8 @@ impl Places {
 
     /// The value of the semaphore in a place, with its name or none.
     pub(crate) fn value_and_name(&self, place: u8) -> Option<(Option<&Name>, u16)>
-        ensures { option_map (λ r. (option_copied r.0, r.1)) result ≡ value_and_name (place_at self.now place) }
+        ensures held { option_map (λ r. (option_copied r.0, r.1)) result ≡
+            value_and_name (place_at self.now place) }
     {
         match self.places.get(place as usize) {
             Some(place) => place.value_and_name(),
@@ -255,7 +258,7 @@ impl Places {
         requires queue { IsSomeAnd (queue_in (place_at self.old place)) (HasRoomFor words.now) }
         requires priority { priority < mq_prio_max }
         ensures ok { OnOk result ((q : QueueState) → queue_in (place_at self.old place) ≡ Some q →
-            self.new ≡ slice_set self.old place (with_queue (with_message priority words.now q) (place_at self.old place))) }
+            self.new ≡ with_queue_in self.old place (with_message priority words.now q)) }
         ensures err { OnErr result (self.new ≡ self.old) }
     {
         send_at(&mut self.places, place, priority, words)
@@ -264,11 +267,11 @@ impl Places {
     /// Takes the first message from the queue in a place.
     #[inline(always)]
     pub(crate) fn receive(&mut self, place: u8) -> (u16, Words)
-        requires { IsSomeAnd (queue_in (place_at self.old place)) HasMessage }
+        requires message { IsSomeAnd (queue_in (place_at self.old place)) HasMessage }
         ensures first { (q : QueueState) → queue_in (place_at self.old place) ≡ Some q →
             q.messages ≡ record { priority = result.0; words = result.1 } ∷ drop 1 q.messages }
         ensures rest { (q : QueueState) → queue_in (place_at self.old place) ≡ Some q →
-            self.new ≡ slice_set self.old place (with_queue (without_first q) (place_at self.old place)) }
+            self.new ≡ with_queue_in self.old place (without_first q) }
     {
         receive_at(&mut self.places, place)
     }
@@ -278,7 +281,7 @@ impl Places {
     pub(crate) fn post(&mut self, place: u8, value: u16)
         requires value { semaphore_value (place_at self.old place) ≡ Some value }
         requires room { value < sem_value_max }
-        ensures { self.new ≡ slice_set self.old place (with_value (value + 1) (place_at self.old place)) }
+        ensures more { self.new ≡ with_value_in self.old place (value + 1) }
     {
         post_at(&mut self.places, place, value);
     }
@@ -287,7 +290,7 @@ impl Places {
     #[inline(always)]
     pub(crate) fn take(&mut self, place: u8, value: u16)
         requires value { semaphore_value (place_at self.old place) ≡ Some value }
-        ensures { self.new ≡ slice_set self.old place (with_value (value - 1) (place_at self.old place)) }
+        ensures less { self.new ≡ with_value_in self.old place (value - 1) }
     {
         take_at(&mut self.places, place, value);
     }
@@ -295,7 +298,7 @@ impl Places {
     /// Removes a name from its queue, and answers the place.
     pub(crate) fn unname_queue(&mut self, name: &Name) -> Option<u8>
         ensures found { result ≡ queue_named self.old name.now }
-        ensures unnamed { IfSome result (λ place. self.new ≡ slice_set self.old place (unnamed (place_at self.old place))) }
+        ensures unnamed { IfSome result (λ place. self.new ≡ without_name_in self.old place) }
         ensures none { IfNone result (self.new ≡ self.old) }
     {
         let taken = self.queue_names.take(name);
@@ -308,7 +311,7 @@ impl Places {
     /// Removes a name from its semaphore, and answers the place.
     pub(crate) fn unname_semaphore(&mut self, name: &Name) -> Option<u8>
         ensures found { result ≡ semaphore_named self.old name.now }
-        ensures unnamed { IfSome result (λ place. self.new ≡ slice_set self.old place (unnamed (place_at self.old place))) }
+        ensures unnamed { IfSome result (λ place. self.new ≡ without_name_in self.old place) }
         ensures none { IfNone result (self.new ≡ self.old) }
     {
         let taken = self.semaphore_names.take(name);
@@ -330,7 +333,8 @@ impl Places {
         requires sizes { IsTrue (are_sizes (max_messages, message_size)) }
         requires empty { place_at self.old place ≡ Empty }
         requires absent { queue_named self.old name.now ≡ None }
-        ensures ok { OnOk result (self.new ≡ slice_set self.old place (Mq (Some name.now) (empty_queue (max_messages, message_size)))) }
+        ensures ok { OnOk result (self.new ≡ slice_set self.old place
+            (Mq (Some name.now) (empty_queue (max_messages, message_size)))) }
         ensures err { OnErr result (self.new ≡ self.old) }
     {
         let queue = new_queue(self.alloc, max_messages, message_size)?;
@@ -362,7 +366,7 @@ impl Places {
 
     /// Empties each place without a name and without a descriptor or slot that refers to it.
     pub(crate) fn empty_unused(&mut self, processes: &Processes)
-        ensures { self.new ≡ emptied processes.now self.old }
+        ensures emptied { self.new ≡ places_or_empty processes.now self.old }
     {
         empty_unused_at(&mut self.places, processes);
     }

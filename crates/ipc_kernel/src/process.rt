@@ -27,13 +27,13 @@ pub struct Slot {
 
 /// The descriptors and slots of one process, each open or free.
 #[derive(Clone, Copy, PartialEq, Eq)]
-pub struct Process {
+pub struct OpenTables {
     pub descriptors: [Option<Descriptor>; OPEN_MAX],
     pub slots: [Option<Slot>; OPEN_MAX],
 }
 
 pub(crate) fn slot_refers_to(slot: &Option<Slot>, place: u8) -> bool
-    ensures { result ≡ slot_refers place slot.now }
+    ensures refers { result ≡ slot_refers place slot.now }
 {
     match slot {
         Some(slot) => slot.place == place,
@@ -86,24 +86,24 @@ pub(crate) fn first_that_refers(slots: &[Option<Slot>], place: u8) -> Option<usi
     slots.iter().position(|slot| slot_refers_to(slot, place))
 }
 
-pub(crate) fn write_slot(tables: &mut Vec<Process>, pid: usize, slot: usize, value: Option<Slot>)
+pub(crate) fn write_slot(tables: &mut Vec<OpenTables>, pid: usize, slot: usize, value: Option<Slot>)
     requires process { pid < length tables.old.items }
     requires slot { slot < open_max }
-    ensures { tables.new.items ≡ with_slot tables.old.items pid slot value }
+    ensures held { tables.new.items ≡ with_slot tables.old.items pid slot value }
 {
     let process = &mut tables[pid];
     process.slots[slot] = value;
 }
 
 pub(crate) fn write_descriptor(
-    tables: &mut Vec<Process>,
+    tables: &mut Vec<OpenTables>,
     pid: usize,
     mqd: usize,
     value: Option<Descriptor>,
 )
     requires process { pid < length tables.old.items }
     requires mqd { mqd < open_max }
-    ensures { tables.new.items ≡ with_descriptor tables.old.items pid mqd value }
+    ensures held { tables.new.items ≡ with_descriptor tables.old.items pid mqd value }
 {
     let process = &mut tables[pid];
     process.descriptors[mqd] = value;

@@ -1,6 +1,6 @@
 //! The descriptors and slots of all processes, with the number of references to each place.
 ghost use Rattle.std.specs.Prelude.{◌≡◌, ℕ, ◌+◌, ◌<◌, ◌≤◌, IfOk, IfSome, length, replicate, slice_set, slice_index, count_by};
-ghost use Rattle.ipc_kernel.specs.Counts.{indicator};
+ghost use Rattle.ipc_kernel.specs.Private.Counts.{indicator};
 ghost use Rattle.ipc_kernel.specs.Limits.{object_places, open_max, process_max};
 ghost use Rattle.ipc_kernel.specs.Processes.{slot_refers, descriptor_refers, is_referred, with_descriptor, with_slot};
 
@@ -9,7 +9,7 @@ mod copies;
 
 use crate::limits::{OBJECT_PLACES, OPEN_MAX};
 use crate::process::{
-    Descriptor, Process, Slot, descriptor_at, first_free_descriptor, first_free_slot,
+    Descriptor, OpenTables, Slot, descriptor_at, first_free_descriptor, first_free_slot,
     first_that_refers, slot_at, write_descriptor, write_slot,
 };
 use std::alloc::{AllocError, Global};
@@ -19,7 +19,8 @@ use std::marker::Model;
 fn note_slot(counts: &mut [u16], slot: Option<Slot>)
     requires place { IfSome slot (λ s. s.place < length counts.old) }
     requires room { IfSome slot (λ s. slice_index counts.old s.place < 65535) }
-    ensures { (k : ℕ) → slice_index counts.new k ≡ slice_index counts.old k + indicator (slot_refers k slot) }
+    ensures counted { (k : ℕ) →
+        slice_index counts.new k ≡ slice_index counts.old k + indicator (slot_refers k slot) }
 {
     if let Some(slot) = slot {
         counts[slot.place as usize] += 1;
@@ -28,8 +29,9 @@ fn note_slot(counts: &mut [u16], slot: Option<Slot>)
 
 /// Counts one reference less, of a slot that was open.
 fn forget_slot(counts: &mut [u16], slot: Option<Slot>)
-    requires { IfSome slot (λ s. 0 < slice_index counts.old s.place) }
-    ensures { (k : ℕ) → slice_index counts.new k + indicator (slot_refers k slot) ≡ slice_index counts.old k }
+    requires noted { IfSome slot (λ s. 0 < slice_index counts.old s.place) }
+    ensures counted { (k : ℕ) →
+        slice_index counts.new k + indicator (slot_refers k slot) ≡ slice_index counts.old k }
 {
     if let Some(slot) = slot {
         counts[slot.place as usize] -= 1;
@@ -40,7 +42,8 @@ fn forget_slot(counts: &mut [u16], slot: Option<Slot>)
 fn note_descriptor(counts: &mut [u16], descriptor: Option<Descriptor>)
     requires place { IfSome descriptor (λ d. d.place < length counts.old) }
     requires room { IfSome descriptor (λ d. slice_index counts.old d.place < 65535) }
-    ensures { (k : ℕ) → slice_index counts.new k ≡ slice_index counts.old k + indicator (descriptor_refers k descriptor) }
+    ensures counted { (k : ℕ) → slice_index counts.new k ≡
+        slice_index counts.old k + indicator (descriptor_refers k descriptor) }
 {
     if let Some(descriptor) = descriptor {
         counts[descriptor.place as usize] += 1;
@@ -49,8 +52,10 @@ fn note_descriptor(counts: &mut [u16], descriptor: Option<Descriptor>)
 
 /// Counts one reference less, of a descriptor that was open.
 fn forget_descriptor(counts: &mut [u16], descriptor: Option<Descriptor>)
-    requires { IfSome descriptor (λ d. 0 < slice_index counts.old d.place) }
-    ensures { (k : ℕ) → slice_index counts.new k + indicator (descriptor_refers k descriptor) ≡ slice_index counts.old k }
+    requires noted { IfSome descriptor (λ d. 0 < slice_index counts.old d.place) }
+    ensures counted { (k : ℕ) →
+        slice_index counts.new k + indicator (descriptor_refers k descriptor) ≡
+        slice_index counts.old k }
 {
     if let Some(descriptor) = descriptor {
         counts[descriptor.place as usize] -= 1;
@@ -58,8 +63,9 @@ fn forget_descriptor(counts: &mut [u16], descriptor: Option<Descriptor>)
 }
 
 fn forget_slots(counts: &mut [u16], slots: &[Option<Slot>])
-    requires { (k : ℕ) → count_by (slot_refers k) slots.now ≤ slice_index counts.old k }
-    ensures { (k : ℕ) → slice_index counts.new k + count_by (slot_refers k) slots.now ≡ slice_index counts.old k }
+    requires noted { (k : ℕ) → count_by (slot_refers k) slots.now ≤ slice_index counts.old k }
+    ensures counted { (k : ℕ) →
+        slice_index counts.new k + count_by (slot_refers k) slots.now ≡ slice_index counts.old k }
 {
     for slot in slots {
         forget_slot(counts, *slot);
@@ -67,8 +73,11 @@ fn forget_slots(counts: &mut [u16], slots: &[Option<Slot>])
 }
 
 fn forget_descriptors(counts: &mut [u16], descriptors: &[Option<Descriptor>])
-    requires { (k : ℕ) → count_by (descriptor_refers k) descriptors.now ≤ slice_index counts.old k }
-    ensures { (k : ℕ) → slice_index counts.new k + count_by (descriptor_refers k) descriptors.now ≡ slice_index counts.old k }
+    requires noted { (k : ℕ) →
+        count_by (descriptor_refers k) descriptors.now ≤ slice_index counts.old k }
+    ensures counted { (k : ℕ) →
+        slice_index counts.new k + count_by (descriptor_refers k) descriptors.now ≡
+        slice_index counts.old k }
 {
     for descriptor in descriptors {
         forget_descriptor(counts, *descriptor);
@@ -78,19 +87,19 @@ fn forget_descriptors(counts: &mut [u16], descriptors: &[Option<Descriptor>])
 /// The tables of all processes, with the number of references to each place.
 #[derive(Drop)]
 pub(crate) struct Processes {
-    tables: Vec<Process>,
+    tables: Vec<OpenTables>,
     counts: [u16; OBJECT_PLACES],
 }
 
 impl Model for Processes {
     ghost use Rattle.std.specs.Prelude.{List};
-    ghost use Rattle.ipc_kernel.specs.declared.process.Process.{Process};
+    ghost use Rattle.ipc_kernel.specs.declared.process.OpenTables.{OpenTables};
 
-    ghost Value = { List Process };
+    ghost Value = { List OpenTables };
 
     ghost view = { λ a. a.tables.items };
 
-    ghost use Rattle.ipc_kernel.specs.Counts.{CountsReferences};
+    ghost use Rattle.ipc_kernel.specs.Private.Counts.{CountsReferences};
 
     ghost invariant = { λ a. CountsReferences a.tables.items a.counts };
 }
@@ -101,10 +110,10 @@ impl Processes {
     /// Processes with nothing open.
     #[tactic(auto, using(crate::proofs::CountLemmas::counts_of_none))]
     pub(crate) fn new(alloc: Global, count: usize) -> Result<Processes, AllocError>
-        requires { count ≤ process_max }
-        ensures { IfOk result (λ ps. ps ≡ replicate count closed_process) }
+        requires few { count ≤ process_max }
+        ensures closed { IfOk result (λ ps. ps ≡ replicate count closed_process) }
     {
-        let closed = Process {
+        let closed = OpenTables {
             descriptors: [None; OPEN_MAX],
             slots: [None; OPEN_MAX],
         };
@@ -116,7 +125,7 @@ impl Processes {
     }
 
     pub(crate) fn count(&self) -> usize
-        ensures { result ≡ length self.now }
+        ensures count { result ≡ length self.now }
     {
         self.tables.len()
     }
@@ -124,7 +133,7 @@ impl Processes {
     #[tactic(auto, using(crate::proofs::ProcessLemmas::process_at_read))]
     #[inline(always)]
     pub(crate) fn descriptor(&self, pid: usize, mqd: u16) -> Option<Descriptor>
-        requires { pid < length self.now }
+        requires process { pid < length self.now }
         ensures held { result ≡ descriptor_of self.now pid mqd }
         ensures range { IfSome result (λ _. mqd < open_max) }
         ensures place { IfSome result (λ held. held.place < object_places) }
@@ -136,7 +145,7 @@ impl Processes {
     #[tactic(auto, using(crate::proofs::ProcessLemmas::process_at_read))]
     #[inline(always)]
     pub(crate) fn slot(&self, pid: usize, slot: u16) -> Option<Slot>
-        requires { pid < length self.now }
+        requires process { pid < length self.now }
         ensures held { result ≡ slot_of self.now pid slot }
         ensures range { IfSome result (λ _. slot < open_max) }
         ensures place { IfSome result (λ held. held.place < object_places) }
@@ -147,7 +156,7 @@ impl Processes {
 
     #[tactic(auto, using(crate::proofs::ProcessLemmas::process_at_read))]
     pub(crate) fn free_descriptor(&self, pid: usize) -> Option<usize>
-        requires { pid < length self.now }
+        requires process { pid < length self.now }
         ensures first { result ≡ free_descriptor_of self.now pid }
         ensures range { IfSome result (λ d. d < open_max) }
     {
@@ -157,7 +166,7 @@ impl Processes {
 
     #[tactic(auto, using(crate::proofs::ProcessLemmas::process_at_read))]
     pub(crate) fn free_slot(&self, pid: usize) -> Option<usize>
-        requires { pid < length self.now }
+        requires process { pid < length self.now }
         ensures first { result ≡ free_slot_of self.now pid }
         ensures range { IfSome result (λ s. s < open_max) }
     {
@@ -167,7 +176,7 @@ impl Processes {
 
     #[tactic(auto, using(crate::proofs::ProcessLemmas::process_at_read))]
     pub(crate) fn slot_for(&self, pid: usize, place: u8) -> Option<usize>
-        requires { pid < length self.now }
+        requires process { pid < length self.now }
         ensures first { result ≡ slot_for self.now pid place }
         ensures range { IfSome result (λ s. s < open_max) }
     {
@@ -179,7 +188,7 @@ impl Processes {
         requires process { pid < length self.old }
         requires mqd { mqd < open_max }
         requires place { IfSome value (λ d. d.place < object_places) }
-        ensures { self.new ≡ with_descriptor self.old pid mqd value }
+        ensures held { self.new ≡ with_descriptor self.old pid mqd value }
     {
         let held = self.descriptor(pid, mqd as u16);
         write_descriptor(&mut self.tables, pid, mqd, value);
@@ -191,7 +200,7 @@ impl Processes {
         requires process { pid < length self.old }
         requires slot { slot < open_max }
         requires place { IfSome value (λ s. s.place < object_places) }
-        ensures { self.new ≡ with_slot self.old pid slot value }
+        ensures held { self.new ≡ with_slot self.old pid slot value }
     {
         let held = self.slot(pid, slot as u16);
         write_slot(&mut self.tables, pid, slot, value);
@@ -201,11 +210,11 @@ impl Processes {
 
     /// Closes all descriptors and slots of a process.
     pub(crate) fn close_all(&mut self, pid: usize)
-        requires { pid < length self.old }
-        ensures { self.new ≡ slice_set self.old pid closed_process }
+        requires process { pid < length self.old }
+        ensures closed { self.new ≡ slice_set self.old pid closed_process }
     {
         let closing = self.tables[pid];
-        self.tables[pid] = Process {
+        self.tables[pid] = OpenTables {
             descriptors: [None; OPEN_MAX],
             slots: [None; OPEN_MAX],
         };
@@ -215,7 +224,7 @@ impl Processes {
 
     /// Whether a descriptor or slot refers to a place.
     pub(crate) fn is_referred(&self, place: u8) -> bool
-        ensures { result ≡ is_referred self.now place }
+        ensures referred { result ≡ is_referred self.now place }
     {
         (place as usize) < OBJECT_PLACES && self.counts[place as usize] > 0
     }

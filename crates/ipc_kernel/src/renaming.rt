@@ -7,7 +7,7 @@ use crate::limits::OBJECT_PLACES;
 /// Where a list of numbers takes a place; one behind its end stays.
 #[inline(always)]
 pub(crate) fn renamed(to: &[u8], place: u8) -> u8
-    ensures { result ≡ renamed_by to.now place }
+    ensures renamed { result ≡ renamed_by to.now place }
 {
     match to.get(place as usize) {
         Some(other) => *other,
@@ -25,7 +25,7 @@ pub(crate) struct Renaming {
 impl Renaming {
     /// Each place stays.
     pub(crate) fn new() -> Renaming
-        ensures { Permutes result }
+        ensures permutation { Permutes result }
     {
         let mut to = [0; OBJECT_PLACES];
         for place in 0..OBJECT_PLACES as u8 {

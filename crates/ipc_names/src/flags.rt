@@ -1,4 +1,5 @@
-//! The flags of mq_open and sem_open (POSIX.1-2017, fcntl.h), with the numbers that they have on Linux.
+//! The flags of mq_open and sem_open (POSIX.1-2017, fcntl.h), with the numbers that they have on
+//! Linux.
 ghost use Rattle.std.specs.Prelude.{◌≡◌};
 
 use crate::Errno;

@@ -35,19 +35,19 @@ impl Model for Name {
 }
 
 fn is_name_character(word: u16) -> bool
-    ensures { result ≡ is_name_character word }
+    ensures character { result ≡ is_name_character word }
 {
     (0x21..=0x7e).contains(&word) && word != SLASH
 }
 
 fn all_name_characters(words: &[u16]) -> bool
-    ensures { result ≡ list_all is_name_character words.now }
+    ensures characters { result ≡ list_all is_name_character words.now }
 {
     words.iter().all(|word| is_name_character(*word))
 }
 
 fn has_name_form(words: &[u16]) -> bool
-    ensures { result ≡ has_name_form words.now }
+    ensures form { result ≡ has_name_form words.now }
 {
     match words {
         [] => false,
@@ -57,8 +57,8 @@ fn has_name_form(words: &[u16]) -> bool
 
 /// The text of words that are characters of ASCII.
 fn ascii_text(alloc: Global, words: &[u16]) -> Result<String, AllocError>
-    requires { All (λ word. word < 128) words.now }
-    ensures { IfOk result (λ text. string_bytes text ≡ words.now) }
+    requires ascii { All (λ word. word < 128) words.now }
+    ensures text { IfOk result (λ text. string_bytes text ≡ words.now) }
 {
     let mut text = String::new(alloc);
     for word in words {

@@ -13,8 +13,8 @@ use Rattle.std.proofs.lemmas.Map.Entries.{none_below_head}
 use Rattle.std.proofs.lemmas.Map.Keys.{sorted_head, sorted_tail}
 use Rattle.std.proofs.lemmas.Map.Steps.{set_value_same}
 use Rattle.ipc_objects.specs.declared.queue.Message.{Message}
-use Rattle.ipc_objects.specs.Queue.{sent}
-use Rattle.ipc_objects.specs.Buckets.{joined, bucket_at, with_message, after_greatest, AreBelow, IsBucket, AreBuckets}
+use Rattle.ipc_objects.specs.Queue.{after_send}
+use Rattle.ipc_objects.specs.Private.Buckets.{messages_of_buckets, bucket_at, buckets_with_message, after_greatest, AreBelow, IsBucket, AreBuckets}
 use Rattle.ipc_objects.proofs.SentLemmas.{All-sent, sent-all, sent-append-less, sent-append-greater, slice_get-append_here, slice_get-append_later}
 
 abbrev Entries : Type 0
@@ -31,16 +31,16 @@ greater_is : (a b : ℕ) → nat_cmp a b ≡ Greater → b < a
 greater_is a b e = grind (arith, nat_tests)
 
 -- the messages of buckets above a priority are above it
-above : (p : ℕ) (es : Entries) → AllByRecursion (λ q. nat_cmp p q ≡ Less) (keys_of es) → All IsBucket es → All (λ m. p < m.priority) (joined es)
+above : (p : ℕ) (es : Entries) → AllByRecursion (λ q. nat_cmp p q ≡ Less) (keys_of es) → All IsBucket es → All (λ m. p < m.priority) (messages_of_buckets es)
 above p [] less each = All-nil (λ m. p < m.priority)
 above p (e ∷ es) less each =
     let here : p < e.0 = less_is p e.0 less.0 in
-    All-append (λ m. p < m.priority) (joined es) e.1 (above p es less.1 (All-tail IsBucket e es each))
+    All-append (λ m. p < m.priority) (messages_of_buckets es) e.1 (above p es less.1 (All-tail IsBucket e es each))
     (All-weaker (λ m. m.priority ≡ e.0) (λ m. p < m.priority) (λ m is. omega arith) e.1 (All-head IsBucket e es each).1)
 
 -- a message goes to the end of the bucket of its priority
 pub joined_put : (m : Message) (es : Entries) → IsStrictlySortedBy nat_cmp (keys_of es) → All IsBucket es
-    → joined (with_message es m) ≡ sent m (joined es)
+    → messages_of_buckets (buckets_with_message es m) ≡ after_send m (messages_of_buckets es)
 joined_put m [] sorted each = refl
 joined_put m (e ∷ es) sorted each = by (nat_cmp m.priority e.0) refl (joined_put m es (sorted_tail nat_cmp e.0 (keys_of es) sorted) rest)
   where
@@ -53,26 +53,26 @@ joined_put m (e ∷ es) sorted each = by (nat_cmp m.priority e.0) refl (joined_p
     here : All (λ x. x.priority ≡ e.0) e.1
     here = (All-head IsBucket e es each).1
 
-    higher : All (λ x. e.0 < x.priority) (joined es)
+    higher : All (λ x. e.0 < x.priority) (messages_of_buckets es)
     higher = above e.0 es (sorted_head nat_cmp e.0 (keys_of es) sorted) rest
 
-    most : p ≤ e.0 → All (λ x. p ≤ x.priority) (joined es ++ e.1)
+    most : p ≤ e.0 → All (λ x. p ≤ x.priority) (messages_of_buckets es ++ e.1)
     most le =
-        All-append (λ x. p ≤ x.priority) (joined es) e.1 (All-weaker (λ x. e.0 < x.priority) (λ x. p ≤ x.priority) (λ x lt. omega arith) (joined es) higher)
+        All-append (λ x. p ≤ x.priority) (messages_of_buckets es) e.1 (All-weaker (λ x. e.0 < x.priority) (λ x. p ≤ x.priority) (λ x lt. omega arith) (messages_of_buckets es) higher)
         (All-weaker (λ x. x.priority ≡ e.0) (λ x. p ≤ x.priority) (λ x is. omega arith) e.1 here)
 
-    by : (r : Ordering) → nat_cmp p e.0 ≡ r → joined (insert_entry nat_cmp es p (bucket_at es p ++ m ∷ [])) ≡ sent m (joined es)
-        → joined (match_ordering r ((p, unwrap_or (cond (is_eq r) (Some e.1) (lookup (is_at (nat_cmp p)) es)) [] ++ m ∷ []) ∷ e ∷ es)
+    by : (r : Ordering) → nat_cmp p e.0 ≡ r → messages_of_buckets (insert_entry nat_cmp es p (bucket_at es p ++ m ∷ [])) ≡ after_send m (messages_of_buckets es)
+        → messages_of_buckets (match_ordering r ((p, unwrap_or (cond (is_eq r) (Some e.1) (lookup (is_at (nat_cmp p)) es)) [] ++ m ∷ []) ∷ e ∷ es)
         ((e.0, unwrap_or (cond (is_eq r) (Some e.1) (lookup (is_at (nat_cmp p)) es)) [] ++ m ∷ []) ∷ es)
-        (e ∷ insert_entry nat_cmp es p (unwrap_or (cond (is_eq r) (Some e.1) (lookup (is_at (nat_cmp p)) es)) [] ++ m ∷ []))) ≡ sent m (joined es ++ e.1)
+        (e ∷ insert_entry nat_cmp es p (unwrap_or (cond (is_eq r) (Some e.1) (lookup (is_at (nat_cmp p)) es)) [] ++ m ∷ []))) ≡ after_send m (messages_of_buckets es ++ e.1)
     by Less is later =
         let none = lookup-none (is_at (nat_cmp p)) es (none_below_head nat_cmp_total p e es sorted is).1 in
-        rw none (sym (sent-all m (joined es ++ e.1) (most (let lt = less_is p e.0 is in omega arith))))
+        rw none (sym (sent-all m (messages_of_buckets es ++ e.1) (most (let lt = less_is p e.0 is in omega arith))))
     by Equal is later =
-        sym (sent-all m (joined es ++ e.1) (most (let same = equal_is p e.0 is in omega arith)) ∙ append_assoc (joined es) e.1 (m ∷ []))
+        sym (sent-all m (messages_of_buckets es ++ e.1) (most (let same = equal_is p e.0 is in omega arith)) ∙ append_assoc (messages_of_buckets es) e.1 (m ∷ []))
     by Greater is later =
         ap (λ ms. ms ++ e.1) later
-        ∙ sym (sent-append-less m (joined es) e.1 (All-weaker (λ x. x.priority ≡ e.0) (λ x. x.priority < p) (λ x same. let lt = greater_is p e.0 is in omega arith) e.1 here))
+        ∙ sym (sent-append-less m (messages_of_buckets es) e.1 (All-weaker (λ x. x.priority ≡ e.0) (λ x. x.priority < p) (λ x same. let lt = greater_is p e.0 is in omega arith) e.1 here))
 
 -- what is put into a bucket is of its priority
 bucket_is : (p : ℕ) (es : Entries) → All IsBucket es → All (λ m. m.priority ≡ p) (bucket_at es p)
@@ -94,7 +94,7 @@ each_put p b (e ∷ es) each new = by (nat_cmp p e.0) refl (each_put p b es (All
     by Greater is later = All-cons IsBucket e (insert_entry nat_cmp es p b) (All-head IsBucket e es each) later
 
 -- buckets stay buckets when a message is put in
-pub buckets_put : (m : Message) (es new : Entries) → AreBuckets es → new ≡ with_message es m → IsStrictlySortedBy nat_cmp (keys_of new) → AreBuckets new
+pub buckets_put : (m : Message) (es new : Entries) → AreBuckets es → new ≡ buckets_with_message es m → IsStrictlySortedBy nat_cmp (keys_of new) → AreBuckets new
 buckets_put m es new inv is sorted = record {
   ordered = sorted;
   each = rw is (each_put m.priority (bucket_at es m.priority ++ m ∷ []) es inv.each (
@@ -104,9 +104,9 @@ buckets_put m es new inv is sorted = record {
 }
 
 -- the last bucket has the first messages
-pub joined_last : (es : Entries) (e : ℕ × List Message) → joined (es ++ e ∷ []) ≡ e.1 ++ joined es
+pub joined_last : (es : Entries) (e : ℕ × List Message) → messages_of_buckets (es ++ e ∷ []) ≡ e.1 ++ messages_of_buckets es
 joined_last [] e = sym (append-nil e.1)
-joined_last (f ∷ es) e = ap (λ ms. ms ++ f.1) (joined_last es e) ∙ append_assoc e.1 (joined es) f.1
+joined_last (f ∷ es) e = ap (λ ms. ms ++ f.1) (joined_last es e) ∙ append_assoc e.1 (messages_of_buckets es) f.1
 
 -- an entry whose key is above all others goes to the end
 pub put_last : (xs ys : Entries) (e : ℕ × List Message) → IsStrictlySortedBy nat_cmp (keys_of (xs ++ e ∷ ys)) → insert_entry nat_cmp xs e.0 e.1 ≡ xs ++ e ∷ []
@@ -141,7 +141,7 @@ set_is_put p b w (e ∷ es) sorted here = by (nat_cmp p e.0) refl here (set_is_p
     by Greater is some later = ap (λ fs. e ∷ fs) (later some)
 
 pub put_in : (m : Message) (b w : List Message) (es new : Entries) → IsStrictlySortedBy nat_cmp (keys_of es) → Some b ≡ lookup (is_at (nat_cmp m.priority)) es → new ≡ set_value (is_at (nat_cmp m.priority)) es w → w ≡ b ++ m ∷ []
-    → new ≡ with_message es m
+    → new ≡ buckets_with_message es m
 put_in m b w es new sorted here is w_is =
     is ∙ set_is_put m.priority b w es sorted (sym here) ∙ ap (insert_entry nat_cmp es m.priority) (w_is ∙ ap (λ o. unwrap_or o [] ++ m ∷ []) here)
 
@@ -150,18 +150,18 @@ put_back p b w es new here is w_is = is ∙ set_value_same (is_at (nat_cmp p)) e
 
 -- buckets stay buckets whether a message is put in or not
 pub buckets_pushed : {T E : Type 0} (r : Result T E) (m : Message) (es new : Entries) → AreBuckets es
-    → OnOk r (new ≡ with_message es m) → OnErr r (new ≡ es) → OnOk r (IsStrictlySortedBy nat_cmp (keys_of new)) → AreBuckets new
+    → OnOk r (new ≡ buckets_with_message es m) → OnErr r (new ≡ es) → OnOk r (IsStrictlySortedBy nat_cmp (keys_of new)) → AreBuckets new
 buckets_pushed (Ok x) m es new inv is same sorted = buckets_put m es new inv is sorted
 buckets_pushed (Err x) m es new inv is same sorted = rw same inv
 
 -- the message after `left` others of the buckets s is in the last of them, e, or among the others, t
-pub entry_here : (s t : Entries) (e : ℕ × List Message) (left : ℕ) → s ≡ t ++ e ∷ [] → left < length e.1 → slice_get (joined s) left ≡ slice_get e.1 left
-entry_here s t e left is h = ap (λ ms. slice_get ms left) (ap joined is ∙ joined_last t e) ∙ slice_get-append_here e.1 (joined t) left h
+pub entry_here : (s t : Entries) (e : ℕ × List Message) (left : ℕ) → s ≡ t ++ e ∷ [] → left < length e.1 → slice_get (messages_of_buckets s) left ≡ slice_get e.1 left
+entry_here s t e left is h = ap (λ ms. slice_get ms left) (ap messages_of_buckets is ∙ joined_last t e) ∙ slice_get-append_here e.1 (messages_of_buckets t) left h
 
-pub entry_past : (s t : Entries) (e : ℕ × List Message) (left n : ℕ) → s ≡ t ++ e ∷ [] → n ≡ length e.1 → n ≤ left → slice_get (joined s) left ≡ slice_get (joined t) (left - n)
+pub entry_past : (s t : Entries) (e : ℕ × List Message) (left n : ℕ) → s ≡ t ++ e ∷ [] → n ≡ length e.1 → n ≤ left → slice_get (messages_of_buckets s) left ≡ slice_get (messages_of_buckets t) (left - n)
 entry_past s t e left n is counted h =
     let parts : left ≡ length e.1 + (left - n) = omega (arith, counted) in
-    ap (λ ms. slice_get ms left) (ap joined is ∙ joined_last t e) ∙ ap (slice_get (e.1 ++ joined t)) parts ∙ slice_get-append_later e.1 (joined t) (left - n)
+    ap (λ ms. slice_get ms left) (ap messages_of_buckets is ∙ joined_last t e) ∙ ap (slice_get (e.1 ++ messages_of_buckets t)) parts ∙ slice_get-append_later e.1 (messages_of_buckets t) (left - n)
 
 -- one more entry is copied
 pub copied_more : (es xs s t new : Entries) (e : ℕ × List Message) (b : List Message) → IsStrictlySortedBy nat_cmp (keys_of es) → xs ++ s ≡ es → s ≡ e ∷ t → b ≡ e.1 → new ≡ insert_entry nat_cmp xs e.0 b → new ++ t ≡ es
@@ -171,12 +171,12 @@ copied_more es xs s t new e b sorted so_far s_is b_is is =
     ap (λ zs. zs ++ t) (is ∙ ap (insert_entry nat_cmp xs e.0) b_is ∙ last) ∙ append_assoc xs (e ∷ []) t ∙ whole
 
 -- where all messages are of lesser priorities, a message is the first
-sent_first : (m : Message) (ms : List Message) → All (λ x. x.priority < m.priority) ms → sent m ms ≡ m ∷ ms
+sent_first : (m : Message) (ms : List Message) → All (λ x. x.priority < m.priority) ms → after_send m ms ≡ m ∷ ms
 sent_first m ms less = sent-append-less m [] ms less
 
 -- a message of a priority above all others goes before them
 pub sent_above : (m : Message) (o : Option (ℕ × List Message)) (ms : List Message) → AreBelow o ms → IfSome o (λ e. e.0 < m.priority)
-    → m ∷ after_greatest o ms ≡ sent m (after_greatest o ms)
+    → m ∷ after_greatest o ms ≡ after_send m (after_greatest o ms)
 sent_above m None ms below less = rw below refl
 sent_above m (Some e) ms below less =
     sym (sent_first m (e.1 ++ ms) (All-append (λ x. x.priority < m.priority) e.1 ms
@@ -185,18 +185,18 @@ sent_above m (Some e) ms below less =
 
 -- so it does where it is put there
 pub sent_put : {T E : Type 0} (r : Result T E) (m : Message) (o new : Option (ℕ × List Message)) (ms others whole : List Message) → AreBelow o ms → IfSome o (λ e. e.0 < m.priority)
-    → OnOk r (new ≡ Some (m.priority, m ∷ [])) → OnOk r (others ≡ after_greatest o ms) → after_greatest o ms ≡ whole → OnOk r (after_greatest new others ≡ sent m whole)
+    → OnOk r (new ≡ Some (m.priority, m ∷ [])) → OnOk r (others ≡ after_greatest o ms) → after_greatest o ms ≡ whole → OnOk r (after_greatest new others ≡ after_send m whole)
 sent_put (Ok x) m o new ms others whole below less is others_is whole_is = rw (is, others_is, ← whole_is) (sent_above m o ms below less)
 sent_put (Err x) m o new ms others whole below less is others_is whole_is = tt
 
 -- a message of the greatest priority goes to the end of its bucket
-pub sent_beside : (m : Message) (p : ℕ) (b ms : List Message) → AreBelow (Some (p, b)) ms → m.priority ≡ p → (b ++ m ∷ []) ++ ms ≡ sent m (b ++ ms)
+pub sent_beside : (m : Message) (p : ℕ) (b ms : List Message) → AreBelow (Some (p, b)) ms → m.priority ≡ p → (b ++ m ∷ []) ++ ms ≡ after_send m (b ++ ms)
 sent_beside m p b ms below same =
     ap (λ xs. xs ++ ms) (sym (sent-all m b (All-weaker (λ x. x.priority ≡ p) (λ x. m.priority ≤ x.priority) (λ x is. omega (arith, same)) b below.0.1)))
     ∙ sym (sent-append-less m b ms (All-weaker (λ x. x.priority < p) (λ x. x.priority < m.priority) (λ x lt. omega (arith, same)) ms below.1))
 
 -- a message of a lesser priority goes among those after the bucket
-pub sent_below : (m : Message) (p : ℕ) (b ms : List Message) → AreBelow (Some (p, b)) ms → m.priority < p → b ++ sent m ms ≡ sent m (b ++ ms)
+pub sent_below : (m : Message) (p : ℕ) (b ms : List Message) → AreBelow (Some (p, b)) ms → m.priority < p → b ++ after_send m ms ≡ after_send m (b ++ ms)
 sent_below m p b ms below less = sym (sent-append-greater m b ms (All-weaker (λ x. x.priority ≡ p) (λ x. m.priority < x.priority) (λ x is. omega (arith, less)) b below.0.1))
 
 all_left : (P : Message → Type 0) (xs ys : List Message) → All P (xs ++ ys) → All P xs
@@ -216,13 +216,13 @@ key_below p e is less = of e.1 is.0 is.1 less
     of (m ∷ ms) some each less = let same = All-head (λ m. m.priority ≡ e.0) m ms each in let lt = All-head (λ m. m.priority < p) m ms less in omega (arith, same, lt)
 
 -- a key above those of all buckets goes to the end
-put_above : (p : ℕ) (b : List Message) (es : Entries) → All IsBucket es → All (λ m. m.priority < p) (joined es) → insert_entry nat_cmp es p b ≡ es ++ (p, b) ∷ []
+put_above : (p : ℕ) (b : List Message) (es : Entries) → All IsBucket es → All (λ m. m.priority < p) (messages_of_buckets es) → insert_entry nat_cmp es p b ≡ es ++ (p, b) ∷ []
 put_above p b [] each less = refl
 put_above p b (e ∷ es) each less =
-    by (nat_cmp p e.0) refl (put_above p b es (All-tail IsBucket e es each) (all_left (λ m. m.priority < p) (joined es) e.1 less))
+    by (nat_cmp p e.0) refl (put_above p b es (All-tail IsBucket e es each) (all_left (λ m. m.priority < p) (messages_of_buckets es) e.1 less))
   where
     below : e.0 < p
-    below = key_below p e (All-head IsBucket e es each) (all_right (λ m. m.priority < p) (joined es) e.1 less)
+    below = key_below p e (All-head IsBucket e es each) (all_right (λ m. m.priority < p) (messages_of_buckets es) e.1 less)
 
     by : (r : Ordering) → nat_cmp p e.0 ≡ r → insert_entry nat_cmp es p b ≡ es ++ (p, b) ∷ [] → match_ordering r ((p, b) ∷ e ∷ es) ((e.0, b) ∷ es) (e ∷ insert_entry nat_cmp es p b) ≡ e ∷ es ++ (p, b) ∷ []
     by Less is later = let lt = less_is p e.0 is in absurd (omega (arith, below))
@@ -236,8 +236,8 @@ buckets_with (Ok x) p b es new inv bucket is same sorted = record { ordered = so
 buckets_with (Err x) p b es new inv bucket is same sorted = rw same inv
 
 -- a bucket of a priority above all others has the first messages
-pub joined_with : (p : ℕ) (b : List Message) (es new : Entries) → AreBuckets es → All (λ m. m.priority < p) (joined es) → new ≡ insert_entry nat_cmp es p b → joined new ≡ b ++ joined es
-joined_with p b es new inv less is = ap joined (is ∙ put_above p b es inv.each less) ∙ joined_last es (p, b)
+pub joined_with : (p : ℕ) (b : List Message) (es new : Entries) → AreBuckets es → All (λ m. m.priority < p) (messages_of_buckets es) → new ≡ insert_entry nat_cmp es p b → messages_of_buckets new ≡ b ++ messages_of_buckets es
+joined_with p b es new inv less is = ap messages_of_buckets (is ∙ put_above p b es inv.each less) ∙ joined_last es (p, b)
 
 -- the last bucket, and those before it
 each_before : (es : Entries) (e : ℕ × List Message) → All IsBucket (es ++ e ∷ []) → All IsBucket es × IsBucket e
@@ -247,18 +247,18 @@ each_before (f ∷ es) e all =
     (All-cons IsBucket f es (All-head IsBucket f (es ++ e ∷ []) all) later.0, later.1)
 
 -- the messages of buckets below a priority are below it
-below : (p : ℕ) (es : Entries) → All (λ q. nat_cmp q p ≡ Less) (keys_of es) → All IsBucket es → All (λ m. m.priority < p) (joined es)
+below : (p : ℕ) (es : Entries) → All (λ q. nat_cmp q p ≡ Less) (keys_of es) → All IsBucket es → All (λ m. m.priority < p) (messages_of_buckets es)
 below p [] less each = All-nil (λ m. m.priority < p)
 below p (e ∷ es) less each =
     let here : e.0 < p = less_is e.0 p (All-head (λ q. nat_cmp q p ≡ Less) e.0 (keys_of es) less) in
-    All-append (λ m. m.priority < p) (joined es) e.1 (below p es (All-tail (λ q. nat_cmp q p ≡ Less) e.0 (keys_of es) less) (All-tail IsBucket e es each))
+    All-append (λ m. m.priority < p) (messages_of_buckets es) e.1 (below p es (All-tail (λ q. nat_cmp q p ≡ Less) e.0 (keys_of es) less) (All-tail IsBucket e es each))
     (All-weaker (λ m. m.priority ≡ e.0) (λ m. m.priority < p) (λ m is. omega (arith, here)) e.1 (All-head IsBucket e es each).1)
 
 -- what is left when the last bucket is taken out, if there is one
 pub record IsWithoutLast (r : Option (ℕ × List Message)) (es new : Entries) : Type 0 where
   pub buckets : AreBuckets new
-  pub rest : joined es ≡ after_greatest r (joined new)
-  pub below : AreBelow r (joined new)
+  pub rest : messages_of_buckets es ≡ after_greatest r (messages_of_buckets new)
+  pub below : AreBelow r (messages_of_buckets new)
 
 pub without_last : (r : Option (ℕ × List Message)) (es new : Entries) → AreBuckets es → (0 < length es → IsSome r) → IfSome r (λ e. es ≡ new ++ e ∷ [])
     → IfSome r (λ e. All (λ q. nat_cmp q e.0 ≡ Less) (keys_of new)) → IfNone r (new ≡ es) → IsStrictlySortedBy nat_cmp (keys_of new) → IsWithoutLast r es new
@@ -268,7 +268,7 @@ without_last (Some e) es new inv some is less same sorted =
     let each = each_before new e (subst (All IsBucket) is inv.each) in
     record {
       buckets = record { ordered = sorted; each = each.0 };
-      rest = ap joined is ∙ joined_last new e;
+      rest = ap messages_of_buckets is ∙ joined_last new e;
       below = (each.1, below e.0 new less each.0);
     }
 
@@ -282,6 +282,6 @@ bucket_pushed (Ok x) m p b new is same ok err = rw ok (rw length-append (omega a
 bucket_pushed (Err x) m p b new is same ok err = rw err is
 
 -- messages below a priority stay so when one below it is added or refused
-pub below_sent : {T E : Type 0} (r : Result T E) (m : Message) (p : ℕ) (ms new : List Message) → All (λ x. x.priority < p) ms → m.priority < p → OnOk r (new ≡ sent m ms) → OnErr r (new ≡ ms) → All (λ x. x.priority < p) new
+pub below_sent : {T E : Type 0} (r : Result T E) (m : Message) (p : ℕ) (ms new : List Message) → All (λ x. x.priority < p) ms → m.priority < p → OnOk r (new ≡ after_send m ms) → OnErr r (new ≡ ms) → All (λ x. x.priority < p) new
 below_sent (Ok x) m p ms new each less ok err = rw ok (All-sent (λ x. x.priority < p) m ms less each)
 below_sent (Err x) m p ms new each less ok err = rw err each

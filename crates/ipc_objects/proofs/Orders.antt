@@ -3,7 +3,7 @@ use Rattle.std.proofs.Common.{◌≡◌, ℕ, ◌≤◌, ◌<◌, Bool, true, fa
 use Rattle.std.proofs.lemmas.List.Elements.{All-nil, All-head, All-tail, All-cons, All-append, All-filter, All-weaker}
 use Rattle.std.proofs.lemmas.Bool.Decides.{nat_tests}
 use Rattle.ipc_objects.specs.declared.queue.Message.{Message}
-use Rattle.ipc_objects.specs.Queue.{sent, NeverRises}
+use Rattle.ipc_objects.specs.Queue.{after_send, NeverRises}
 
 -- messages of two lists in a row, where those of the second are of no greater priority
 rises-append : (xs ys : List Message) → NeverRises xs → NeverRises ys → All (λ x. All (λ y. y.priority ≤ x.priority) ys) xs → NeverRises (xs ++ ys)
@@ -38,7 +38,7 @@ lt-from : (a b : ℕ) → nat_lt a b ≡ true → a < b
 lt-from a b h = grind (arith, nat_tests)
 
 -- the order still holds after a send
-pub rises-sent : (m : Message) (ms : List Message) → NeverRises ms → NeverRises (sent m ms)
+pub rises-sent : (m : Message) (ms : List Message) → NeverRises ms → NeverRises (after_send m ms)
 rises-sent m ms h =
     let above : All (λ x. m.priority ≤ x.priority) (filter (λ x. nat_le m.priority x.priority) ms) =
     All-weaker (λ x. nat_le m.priority x.priority ≡ true) (λ x. m.priority ≤ x.priority) (λ x t. le-from m.priority x.priority t) _ (passes (λ x. nat_le m.priority x.priority) ms) in

@@ -3,7 +3,7 @@ use Rattle.std.proofs.Common.{◌≡◌, ℕ, ◌+◌, ◌-◌, ◌≤◌, ◌<�
 use Rattle.std.proofs.lemmas.List.Elements.{All-tail}
 use Rattle.ipc_objects.specs.Limits.{mq_prio_max}
 use Rattle.ipc_objects.specs.declared.queue.Message.{Message}
-use Rattle.ipc_objects.specs.Queue.{sent, IsShape, IsCounted}
+use Rattle.ipc_objects.specs.Queue.{after_send, IsShape, IsCounted}
 use Rattle.ipc_objects.proofs.SentLemmas.{length-sent, shape-sent}
 
 shape-tail : (max size : ℕ) (x : Message) (ms : List Message) → IsShape max size (x ∷ ms) → IsShape max size ms
@@ -19,7 +19,7 @@ shape-tail max size x ms h = record {
 }
 
 -- one message more
-pub counted_sent : (max size count : ℕ) (m : Message) (ms new : List Message) → IsCounted max size count ms → length ms < max → m.priority < mq_prio_max → length m.words ≤ size → new ≡ sent m ms → IsCounted max size (count + 1) new
+pub counted_sent : (max size count : ℕ) (m : Message) (ms new : List Message) → IsCounted max size count ms → length ms < max → m.priority < mq_prio_max → length m.words ≤ size → new ≡ after_send m ms → IsCounted max size (count + 1) new
 counted_sent max size count m ms new h room priority small is = record {
   shape = rw is (shape-sent max size ms m h.shape room priority small);
   counted = rw is (omega (arith, length-sent m ms, h.counted));

@@ -6,13 +6,13 @@ use Rattle.std.proofs.lemmas.Bool.Decides.{nat_tests}
 use Rattle.std.specs.List.{slice_get}
 use Rattle.ipc_objects.specs.declared.queue.Message.{Message}
 use Rattle.ipc_objects.specs.Limits.{mq_prio_max}
-use Rattle.ipc_objects.specs.Queue.{sent, IsShape}
+use Rattle.ipc_objects.specs.Queue.{after_send, IsShape}
 use Rattle.ipc_objects.proofs.Orders.{rises-sent}
 
 nat_lt_not : (a b : ℕ) → nat_lt b a ≡ not (nat_le a b)
 nat_lt_not a b = grind (arith, nat_tests)
 
-pub length-sent : (m : Message) (ms : List Message) → length (sent m ms) ≡ length ms + 1
+pub length-sent : (m : Message) (ms : List Message) → length (after_send m ms) ≡ length ms + 1
 length-sent m ms =
     let both = length-filter_both (λ (x : Message). nat_le m.priority x.priority) (λ x. nat_lt x.priority m.priority) (λ x. nat_lt_not m.priority x.priority) ms in
     rw length-append (omega arith)
@@ -38,13 +38,13 @@ pub filter-all : {X : Type 0} (p : X → Bool) (xs : List X) → All (λ x. p x 
 filter-all p [] all = refl
 filter-all p (x ∷ xs) all = rw (All-head (λ x. p x ≡ true) x xs all) (ap (λ ys. x ∷ ys) (filter-all p xs (All-tail (λ x. p x ≡ true) x xs all)))
 
-pub All-sent : (P : Message → Type 0) (m : Message) (ms : List Message) → P m → All P ms → All P (sent m ms)
+pub All-sent : (P : Message → Type 0) (m : Message) (ms : List Message) → P m → All P ms → All P (after_send m ms)
 All-sent P m ms p all =
     All-append P (filter (λ x. nat_le m.priority x.priority) ms) _ (All-filter (λ x. nat_le m.priority x.priority) P ms all)
     (All-cons P m (filter (λ x. nat_lt x.priority m.priority) ms) p (All-filter (λ x. nat_lt x.priority m.priority) P ms all))
 
 -- the ranges still hold after a send that has room
-pub shape-sent : (max size : ℕ) (ms : List Message) (m : Message) → IsShape max size ms → length ms < max → m.priority < mq_prio_max → length m.words ≤ size → IsShape max size (sent m ms)
+pub shape-sent : (max size : ℕ) (ms : List Message) (m : Message) → IsShape max size ms → length ms < max → m.priority < mq_prio_max → length m.words ≤ size → IsShape max size (after_send m ms)
 shape-sent max size ms m h room priority small = record {
   max_at_least = h.max_at_least;
   max_at_most = h.max_at_most;
@@ -66,7 +66,7 @@ slice_get-append_later [] ys i = ap (slice_get ys) (zero-add i)
 slice_get-append_later (x ∷ xs) ys i = let e : suc (length xs) + i ≡ suc (length xs + i) = omega arith in rw e (slice_get-append_later xs ys i)
 
 -- a message goes behind all where each has its priority or a greater one
-pub sent-all : (m : Message) (xs : List Message) → All (λ x. m.priority ≤ x.priority) xs → sent m xs ≡ xs ++ m ∷ []
+pub sent-all : (m : Message) (xs : List Message) → All (λ x. m.priority ≤ x.priority) xs → after_send m xs ≡ xs ++ m ∷ []
 sent-all m xs most =
     rw (
       filter-all (λ x. nat_le m.priority x.priority) xs (All-weaker (λ x. m.priority ≤ x.priority) (λ x. nat_le m.priority x.priority ≡ true) (λ x h. nat_le-true m.priority x.priority h) xs most),
@@ -74,7 +74,7 @@ sent-all m xs most =
     ) refl
 
 -- a message goes before all of lesser priorities at the end
-pub sent-append-less : (m : Message) (xs ys : List Message) → All (λ x. x.priority < m.priority) ys → sent m (xs ++ ys) ≡ sent m xs ++ ys
+pub sent-append-less : (m : Message) (xs ys : List Message) → All (λ x. x.priority < m.priority) ys → after_send m (xs ++ ys) ≡ after_send m xs ++ ys
 sent-append-less m xs ys less =
     rw (
       filter-append (λ x. nat_le m.priority x.priority) xs ys,
@@ -86,7 +86,7 @@ sent-append-less m xs ys less =
     (sym (append_assoc (filter (λ x. nat_le m.priority x.priority) xs) (m ∷ filter (λ x. nat_lt x.priority m.priority) xs) ys))
 
 -- a message goes behind all of greater priorities at the front
-pub sent-append-greater : (m : Message) (xs ys : List Message) → All (λ x. m.priority < x.priority) xs → sent m (xs ++ ys) ≡ xs ++ sent m ys
+pub sent-append-greater : (m : Message) (xs ys : List Message) → All (λ x. m.priority < x.priority) xs → after_send m (xs ++ ys) ≡ xs ++ after_send m ys
 sent-append-greater m xs ys greater =
     rw (
       filter-append (λ x. nat_le m.priority x.priority) xs ys,

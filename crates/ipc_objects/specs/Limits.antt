@@ -1,4 +1,4 @@
--- The limits of message queues and semaphores that POSIX.1-2017 leaves to the system.
+-- The limits of message queues and semaphores that POSIX.1-2017 leaves to the system, and that of short lists of words.
 use Rattle.std.specs.Prelude.{ℕ}
 
 -- priorities are below this (MQ_PRIO_MAX, limits.h)
@@ -24,3 +24,7 @@ mq_msgsize_default = 16
 -- the greatest value of a semaphore (SEM_VALUE_MAX, limits.h)
 abbrev pub sem_value_max : ℕ
 sem_value_max = 32767
+
+-- the greatest number of words that take no memory of their own
+abbrev pub few_words : ℕ
+few_words = 8

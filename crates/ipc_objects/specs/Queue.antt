@@ -1,5 +1,5 @@
--- Message queues (POSIX.1-2017, mq_send and mq_receive).
-use Rattle.std.specs.Prelude.{◌≡◌, ℕ, ◌<◌, ◌≤◌, nat_le, nat_lt, List, [], ◌∷◌, ◌++◌, length, filter, All}
+-- Message queues (POSIX.1-2017, mq_send and mq_receive). A name in brackets is the page of POSIX.1-2017.
+use Rattle.std.specs.Prelude.{◌≡◌, ℕ, ◌<◌, ◌≤◌, nat_le, nat_lt, List, [], ◌∷◌, ◌++◌, length, drop, filter, All}
 use Rattle.ipc_objects.specs.Limits.{mq_prio_max, mq_maxmsg_max, mq_msgsize_max}
 use Rattle.ipc_objects.specs.declared.queue.Message.{Message}
 
@@ -10,8 +10,20 @@ pub record QueueState : Type 0 where
   pub messages : List Message
 
 -- a message goes behind those of its priority or a greater one, and before those of a lesser one
-abbrev pub sent : Message → List Message → List Message
-sent m ms = filter (λ x. nat_le m.priority x.priority) ms ++ m ∷ filter (λ x. nat_lt x.priority m.priority) ms
+abbrev pub after_send : Message → List Message → List Message
+after_send m ms = filter (λ x. nat_le m.priority x.priority) ms ++ m ∷ filter (λ x. nat_lt x.priority m.priority) ms
+
+-- a queue without messages, for at most so many, each of at most so many words
+abbrev pub empty_queue : ℕ × ℕ → QueueState
+empty_queue sizes = record { max_messages = sizes.0; message_size = sizes.1; messages = [] }
+
+-- the queue with one message more, behind those of its priority or a greater one [mq_send]
+abbrev pub with_message : ℕ → List ℕ → QueueState → QueueState
+with_message prio words q = record q { messages = after_send (record { priority = prio; words = words }) q.messages }
+
+-- the queue without the message that is first to be received [mq_receive]
+abbrev pub without_first : QueueState → QueueState
+without_first q = record q { messages = drop 1 q.messages }
 
 -- from the front on the priority never rises
 abbrev pub NeverRises : List Message → Type 0

@@ -4,7 +4,7 @@ use Rattle.std.specs.Arc.{arc_slice_items}
 use Rattle.ipc_objects.specs.declared.words.Store.{Store}
 use Rattle.ipc_objects.specs.declared.words.Store.TheVariants.{Few, Shared}
 
--- the words that are kept
-abbrev pub kept : Store → List ℕ
-kept (Few words) = words
-kept (Shared words) = arc_slice_items words
+-- the words of a store
+abbrev pub words_of_store : Store → List ℕ
+words_of_store (Few words) = words
+words_of_store (Shared words) = arc_slice_items words

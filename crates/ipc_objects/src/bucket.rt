@@ -29,7 +29,7 @@ impl Model for Bucket {
 impl Bucket {
     /// A bucket of one message.
     pub(crate) fn of(alloc: Global, message: Message) -> Bucket
-        ensures { result ≡ message ∷ [] }
+        ensures only { result ≡ message ∷ [] }
     {
         Bucket {
             oldest: message,
@@ -38,13 +38,13 @@ impl Bucket {
     }
 
     pub(crate) fn len(&self) -> usize
-        ensures { result ≡ length self.now }
+        ensures length { result ≡ length self.now }
     {
         1 + self.later.len()
     }
 
     pub(crate) fn get(&self, i: usize) -> Option<&Message>
-        ensures { option_copied result ≡ slice_get self.now i }
+        ensures message { option_copied result ≡ slice_get self.now i }
     {
         if i == 0 {
             return Some(&self.oldest);
@@ -66,8 +66,8 @@ impl Bucket {
 
     /// Takes out the oldest of several messages.
     pub(crate) fn pop_front(&mut self) -> Message
-        requires { 1 < length self.old }
-        ensures { self.old ≡ result ∷ self.new }
+        requires several { 1 < length self.old }
+        ensures first { self.old ≡ result ∷ self.new }
     {
         let next = self.later.pop_front().unwrap();
         replace(&mut self.oldest, next)
@@ -75,8 +75,8 @@ impl Bucket {
 
     /// The only message.
     pub(crate) fn into_message(self) -> Message
-        requires { length self ≡ 1 }
-        ensures { self ≡ result ∷ [] }
+        requires only { length self ≡ 1 }
+        ensures only { self ≡ result ∷ [] }
     {
         let Bucket { oldest, later: _ } = self;
         oldest

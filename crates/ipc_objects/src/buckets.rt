@@ -3,8 +3,8 @@ ghost use Rattle.std.specs.Prelude.{◌≡◌, ◌<◌, [], ◌++◌, slice_get,
 ghost use Rattle.std.specs.Option.{option_copied};
 ghost use Rattle.std.specs.Ordering.{nat_cmp};
 ghost use Rattle.std.specs.BTreeMap.{get, IsOrdered};
-ghost use Rattle.ipc_objects.specs.Queue.{sent};
-ghost use Rattle.ipc_objects.specs.Buckets.{joined, with_message, after_greatest, AreBelow, IsBucket};
+ghost use Rattle.ipc_objects.specs.Queue.{after_send};
+ghost use Rattle.ipc_objects.specs.Private.Buckets.{messages_of_buckets, buckets_with_message, after_greatest, AreBelow, IsBucket};
 
 use crate::Message;
 use crate::bucket::Bucket;
@@ -24,19 +24,20 @@ pub(crate) struct Buckets {
 impl Model for Buckets {
     ghost use Rattle.std.specs.Prelude.{List};
     ghost use Rattle.ipc_objects.specs.declared.queue.Message.{Message};
-    ghost use Rattle.ipc_objects.specs.Buckets.{joined, AreBuckets};
+    ghost use Rattle.ipc_objects.specs.Private.Buckets.{messages_of_buckets, AreBuckets};
 
     ghost Value = { List Message };
 
-    ghost view = { λ a. joined a.by_priority.entries };
+    ghost view = { λ a. messages_of_buckets a.by_priority.entries };
 
     ghost invariant = { λ a. AreBuckets a.by_priority.entries };
 }
 
 /// Makes the bucket of a priority that has none. A message that is refused memory is handed back.
 fn make(buckets: &mut BTreeMap<u16, Bucket>, alloc: Global, message: Message) -> Result<(), Message>
-    requires { get nat_cmp buckets.old message.priority ≡ None }
-    ensures ok { OnOk result (buckets.new.entries ≡ with_message buckets.old.entries message) }
+    requires absent { get nat_cmp buckets.old message.priority ≡ None }
+    ensures ok { OnOk result
+        (buckets.new.entries ≡ buckets_with_message buckets.old.entries message) }
     ensures err { OnErr result (buckets.new.entries ≡ buckets.old.entries) }
     ensures handed_back { IfErr result (λ back. back ≡ message) }
     ensures ordered { OnOk result (IsOrdered nat_cmp buckets.new) }
@@ -52,7 +53,8 @@ fn make(buckets: &mut BTreeMap<u16, Bucket>, alloc: Global, message: Message) ->
 
 /// Adds a message to the bucket of its priority. Where memory is refused it is handed back.
 fn put(buckets: &mut BTreeMap<u16, Bucket>, alloc: Global, message: Message) -> Result<(), Message>
-    ensures ok { OnOk result (buckets.new.entries ≡ with_message buckets.old.entries message) }
+    ensures ok { OnOk result
+        (buckets.new.entries ≡ buckets_with_message buckets.old.entries message) }
     ensures err { OnErr result (buckets.new.entries ≡ buckets.old.entries) }
     ensures handed_back { IfErr result (λ back. back ≡ message) }
     ensures ordered { OnOk result (IsOrdered nat_cmp buckets.new) }
@@ -65,7 +67,7 @@ fn put(buckets: &mut BTreeMap<u16, Bucket>, alloc: Global, message: Message) -> 
 
 /// The message with `n` others before it, bucket by bucket.
 fn nth_of(buckets: &BTreeMap<u16, Bucket>, n: usize) -> Option<&Message>
-    ensures { option_copied result ≡ slice_get (joined buckets.now.entries) n }
+    ensures message { option_copied result ≡ slice_get (messages_of_buckets buckets.now.entries) n }
 {
     let mut left = n;
     for (_, bucket) in buckets.iter().rev() {
@@ -94,7 +96,7 @@ fn copy_of(
 
 impl Buckets {
     pub(crate) fn new(alloc: Global) -> Buckets
-        ensures { result ≡ [] }
+        ensures empty { result ≡ [] }
     {
         Buckets {
             alloc,
@@ -105,7 +107,7 @@ impl Buckets {
     /// Adds a message behind all of its priority or a greater one and before all of a lesser one.
     /// Where memory is refused it is handed back and nothing changes.
     pub(crate) fn push(&mut self, message: Message) -> Result<(), Message>
-        ensures ok { OnOk result (self.new ≡ sent message self.old) }
+        ensures ok { OnOk result (self.new ≡ after_send message self.old) }
         ensures err { OnErr result (self.new ≡ self.old) }
         ensures handed_back { IfErr result (λ back. back ≡ message) }
     {
@@ -139,7 +141,7 @@ impl Buckets {
 
     /// The message with `n` others before it.
     pub(crate) fn get(&self, n: usize) -> Option<&Message>
-        ensures { option_copied result ≡ slice_get self.now n }
+        ensures message { option_copied result ≡ slice_get self.now n }
     {
         nth_of(&self.by_priority, n)
     }

@@ -1,5 +1,6 @@
 //! Short lists of words.
 ghost use Rattle.std.specs.Prelude.{◌≡◌, ◌<◌, [], ◌∷◌, ◌++◌, length};
+ghost use Rattle.ipc_objects.specs.Limits.{few_words};
 
 use std::marker::Model;
 
@@ -15,12 +16,13 @@ pub struct FewWords {
 
 impl Model for FewWords {
     ghost use Rattle.std.specs.Prelude.{List, ℕ, ◌≤◌, take};
+    ghost use Rattle.ipc_objects.specs.Limits.{few_words};
 
     ghost Value = { List ℕ };
 
     ghost view = { λ a. take a.count a.words };
 
-    ghost invariant = { λ a. a.count ≤ 8 };
+    ghost invariant = { λ a. a.count ≤ few_words };
 }
 
 impl FewWords {
@@ -36,7 +38,7 @@ impl FewWords {
 
     /// Adds a word behind the others.
     pub fn push(&mut self, word: u16)
-        requires room { length self.old < FEW_WORDS }
+        requires room { length self.old < few_words }
         ensures words { self.new ≡ self.old ++ word ∷ [] }
     {
         self.words[self.count as usize] = word;

@@ -1,7 +1,9 @@
 //! The limits of message queues and semaphores that POSIX.1-2017 leaves to the system.
 
 ghost use Rattle.std.specs.Prelude.{◌≡◌};
-ghost use Rattle.ipc_objects.specs.Limits.{mq_prio_max, mq_maxmsg_max, mq_maxmsg_default, mq_msgsize_max, mq_msgsize_default, sem_value_max};
+ghost use Rattle.ipc_objects.specs.Limits.{mq_prio_max, mq_maxmsg_max, mq_maxmsg_default, mq_msgsize_max, mq_msgsize_default, sem_value_max, few_words};
+
+use crate::few_words::FEW_WORDS;
 
 /// Priorities are below this (MQ_PRIO_MAX, limits.h).
 pub const MQ_PRIO_MAX: u16 = 32768;
@@ -29,4 +31,5 @@ pub fn limits_are_defined()
     ensures longest_message { MQ_MSGSIZE_MAX ≡ mq_msgsize_max }
     ensures message { MQ_MSGSIZE_DEFAULT ≡ mq_msgsize_default }
     ensures greatest_value { SEM_VALUE_MAX ≡ sem_value_max }
+    ensures few_words { FEW_WORDS ≡ few_words }
 {}

@@ -1,8 +1,8 @@
 //! Messages in the order of receive, those of the greatest priority at hand.
 ghost use Rattle.std.specs.Prelude.{◌≡◌, ◌<◌, [], ◌∷◌, length, slice_get, Some, IfSome, IfOk, IfErr, OnOk, OnErr, All};
 ghost use Rattle.std.specs.Option.{option_copied};
-ghost use Rattle.ipc_objects.specs.Queue.{sent};
-ghost use Rattle.ipc_objects.specs.Buckets.{after_greatest, AreBelow};
+ghost use Rattle.ipc_objects.specs.Queue.{after_send};
+ghost use Rattle.ipc_objects.specs.Private.Buckets.{after_greatest, AreBelow};
 
 use crate::Message;
 use crate::bucket::Bucket;
@@ -26,7 +26,7 @@ pub(crate) struct Messages {
 impl Model for Messages {
     ghost use Rattle.std.specs.Prelude.{List};
     ghost use Rattle.ipc_objects.specs.declared.queue.Message.{Message};
-    ghost use Rattle.ipc_objects.specs.Buckets.{after_greatest, AreBelow};
+    ghost use Rattle.ipc_objects.specs.Private.Buckets.{after_greatest, AreBelow};
 
     ghost Value = { List Message };
 
@@ -43,7 +43,7 @@ fn put_first(
     alloc: Global,
     message: Message,
 ) -> Result<(), Message>
-    requires { AreBelow greatest.old lesser.old }
+    requires below { AreBelow greatest.old lesser.old }
     ensures first { OnOk result (greatest.new ≡ Some (message.priority, message ∷ [])) }
     ensures others { OnOk result (lesser.new ≡ after_greatest greatest.old lesser.old) }
     ensures greatest_kept { OnErr result (greatest.new ≡ greatest.old) }
@@ -65,7 +65,8 @@ fn take_last(greatest: &mut Option<(u16, Bucket)>, lesser: &mut Buckets) -> Mess
     requires below { AreBelow greatest.old lesser.old }
     requires only { IfSome greatest.old (λ e. length e.1 ≡ 1) }
     requires some { 0 < length (after_greatest greatest.old lesser.old) }
-    ensures first { after_greatest greatest.old lesser.old ≡ result ∷ after_greatest greatest.new lesser.new }
+    ensures first { after_greatest greatest.old lesser.old ≡
+        result ∷ after_greatest greatest.new lesser.new }
     ensures below { AreBelow greatest.new lesser.new }
 {
     match replace(greatest, lesser.pop_greatest()) {
@@ -78,7 +79,8 @@ fn take_last(greatest: &mut Option<(u16, Bucket)>, lesser: &mut Buckets) -> Mess
 fn take_first(greatest: &mut Option<(u16, Bucket)>, lesser: &mut Buckets) -> Message
     requires below { AreBelow greatest.old lesser.old }
     requires some { 0 < length (after_greatest greatest.old lesser.old) }
-    ensures first { after_greatest greatest.old lesser.old ≡ result ∷ after_greatest greatest.new lesser.new }
+    ensures first { after_greatest greatest.old lesser.old ≡
+        result ∷ after_greatest greatest.new lesser.new }
     ensures below { AreBelow greatest.new lesser.new }
 {
     if let Some((_, bucket)) = greatest {
@@ -91,7 +93,7 @@ fn take_first(greatest: &mut Option<(u16, Bucket)>, lesser: &mut Buckets) -> Mes
 
 impl Messages {
     pub(crate) fn new(alloc: Global) -> Messages
-        ensures { result ≡ [] }
+        ensures empty { result ≡ [] }
     {
         Messages {
             alloc,
@@ -103,7 +105,7 @@ impl Messages {
     /// Adds a message behind all of its priority or a greater one and before all of a lesser one.
     /// Where memory is refused it is handed back and nothing changes.
     pub(crate) fn push(&mut self, message: Message) -> Result<(), Message>
-        ensures ok { OnOk result (self.new ≡ sent message self.old) }
+        ensures ok { OnOk result (self.new ≡ after_send message self.old) }
         ensures err { OnErr result (self.new ≡ self.old) }
         ensures handed_back { IfErr result (λ back. back ≡ message) }
     {
@@ -116,15 +118,15 @@ impl Messages {
 
     /// Takes out the first message.
     pub(crate) fn pop_front(&mut self) -> Message
-        requires { 0 < length self.old }
-        ensures { self.old ≡ result ∷ self.new }
+        requires some { 0 < length self.old }
+        ensures first { self.old ≡ result ∷ self.new }
     {
         take_first(&mut self.greatest, &mut self.lesser)
     }
 
     /// The message with `n` others before it.
     pub(crate) fn get(&self, n: usize) -> Option<&Message>
-        ensures { option_copied result ≡ slice_get self.now n }
+        ensures message { option_copied result ≡ slice_get self.now n }
     {
         match &self.greatest {
             Some((_, bucket)) if n < bucket.len() => bucket.get(n),

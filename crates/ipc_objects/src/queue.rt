@@ -1,5 +1,5 @@
 //! Message queues.
-ghost use Rattle.std.specs.Prelude.{◌≡◌, ◌<◌, ◌≤◌, [], ◌∷◌, length, drop, slice_get, IfOk, IfErr, OnOk, OnErr};
+ghost use Rattle.std.specs.Prelude.{◌≡◌, ◌<◌, ◌≤◌, ◌∷◌, length, drop, slice_get, IfOk, IfErr, OnOk, OnErr};
 ghost use Rattle.std.specs.Option.{option_copied, option_map};
 ghost use Rattle.ipc_objects.specs.Limits.{mq_prio_max, mq_maxmsg_max, mq_msgsize_max};
 
@@ -34,13 +34,17 @@ impl Model for Queue {
 
     ghost Value = { QueueState };
 
-    ghost view = { λ a. record { max_messages = a.max_messages; message_size = a.message_size; messages = a.messages } };
+    ghost view = { λ a. record {
+      max_messages = a.max_messages;
+      message_size = a.message_size;
+      messages = a.messages;
+    } };
 
     ghost invariant = { λ a. IsCounted a.max_messages a.message_size a.count a.messages };
 }
 
 impl Queue {
-    ghost use Rattle.ipc_objects.specs.Queue.{sent, IsQueue};
+    ghost use Rattle.ipc_objects.specs.Queue.{IsQueue, empty_queue, with_message, without_first};
 
     /// An empty queue for at most `max_messages` messages (1 to `MQ_MAXMSG_MAX`) of at most
     /// `message_size` words each (1 to `MQ_MSGSIZE_MAX`).
@@ -49,7 +53,7 @@ impl Queue {
         requires max_at_most { max_messages ≤ mq_maxmsg_max }
         requires size_at_least { 1 ≤ message_size }
         requires size_at_most { message_size ≤ mq_msgsize_max }
-        ensures empty { IfOk result (λ q. q ≡ record { max_messages = max_messages; message_size = message_size; messages = [] }) }
+        ensures empty { IfOk result (λ q. q ≡ empty_queue (max_messages, message_size)) }
     {
         Ok(Queue {
             max_messages,
@@ -76,7 +80,7 @@ impl Queue {
         requires room { length self.old.messages < self.old.max_messages }
         requires priority { priority < mq_prio_max }
         requires size { length words ≤ self.old.message_size }
-        ensures ok { OnOk result (self.new ≡ record self.old { messages = sent (record { priority = priority; words = words }) self.old.messages }) }
+        ensures ok { OnOk result (self.new ≡ with_message priority words self.old) }
         ensures err { OnErr result (self.new ≡ self.old) }
         ensures handed_back { IfErr result (λ back. back ≡ words) }
     {
@@ -92,8 +96,9 @@ impl Queue {
     /// Takes out the oldest message of the greatest priority. Takes no memory.
     pub fn receive(&mut self) -> (u16, Words)
         requires some { 0 < length self.old.messages }
-        ensures first { self.old.messages ≡ record { priority = result.0; words = result.1 } ∷ drop 1 self.old.messages }
-        ensures rest { self.new ≡ record self.old { messages = drop 1 self.old.messages } }
+        ensures first { self.old.messages ≡
+            record { priority = result.0; words = result.1 } ∷ drop 1 self.old.messages }
+        ensures rest { self.new ≡ without_first self.old }
     {
         let message = self.messages.pop_front();
         self.count -= 1;
@@ -109,7 +114,8 @@ impl Queue {
 
     /// The priority and words of the message that would be received after `i` others.
     pub fn entry(&self, i: usize) -> Option<(u16, &[u16])>
-        ensures message { option_map (λ e. record { priority = e.0; words = e.1.now }) result ≡ slice_get self.now.messages i }
+        ensures message { option_map (λ e. record { priority = e.0; words = e.1.now }) result ≡
+            slice_get self.now.messages i }
     {
         match self.messages.get(i) {
             Some(message) => Some((message.priority, message.words.as_slice())),

@@ -46,7 +46,8 @@ impl Semaphore {
         self.value += 1;
     }
 
-    /// Takes one from a value above 0. At 0 the answer is false and nothing changes (`sem_trywait`).
+    /// Takes one from a value above 0. At 0 the answer is false and nothing changes
+    /// (`sem_trywait`).
     pub fn try_wait(&mut self) -> bool
         ensures answer { result ≡ not (self.old == 0) }
         ensures after { self.new ≡ self.old - 1 }

@@ -1,7 +1,7 @@
 //! Lists of words.
 ghost use Rattle.std.specs.Prelude.{◌≡◌, length, IfOk};
 ghost use Rattle.std.specs.Arc.{arc_slice_items};
-ghost use Rattle.ipc_objects.specs.Words.{kept};
+ghost use Rattle.ipc_objects.specs.Words.{words_of_store};
 
 use crate::FewWords;
 use std::alloc::AllocError;
@@ -23,11 +23,11 @@ pub struct Words {
 
 impl Model for Words {
     ghost use Rattle.std.specs.Prelude.{List, ℕ};
-    ghost use Rattle.ipc_objects.specs.Words.{kept};
+    ghost use Rattle.ipc_objects.specs.Words.{words_of_store};
 
     ghost Value = { List ℕ };
 
-    ghost view = { λ a. kept a.store };
+    ghost view = { λ a. words_of_store a.store };
 }
 
 impl Words {

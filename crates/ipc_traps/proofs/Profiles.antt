@@ -9,8 +9,8 @@ use Rattle.ipc_kernel.specs.declared.call.Call.{Call}
 use Rattle.ipc_kernel.specs.declared.call.Call.TheVariants.{MqUnlink, SemOpen, SemUnlink}
 use Rattle.ipc_kernel.specs.declared.call.Reply.{Reply}
 use Rattle.ipc_kernel.specs.declared.call.Reply.TheVariants.{Plain, Message, Attr, Value}
-use Rattle.ipc_traps.specs.Asked.{Request, Local, Refuses, Calls, Ends, asked, outcome_asks, trap_asks, within, named, name_at}
-use Rattle.ipc_traps.specs.Reply.{replied, replied_to, vector_in}
+use Rattle.ipc_traps.specs.Asked.{Request, Local, Refuses, Calls, Ends, next_request, outcome_asks, trap_asks, within, request_for_name, name_at}
+use Rattle.ipc_traps.specs.Reply.{process_after_reply, replied_to, vector_in}
 
 -- the process after a local step has the profile of the one before
 unfoldable pub Keeps : Process → Request → Type 0
@@ -23,7 +23,7 @@ keeps-if : (p : Process) (b : Bool) (x y : Request) → Keeps p x → Keeps p y 
 keeps-if p true x y h h' = h
 keeps-if p false x y h h' = h'
 
-keeps-named : (p : Process) (call : List ℕ → Call) (read : Result (List ℕ) Errno) → Keeps p (named call read)
+keeps-named : (p : Process) (call : List ℕ → Call) (read : Result (List ℕ) Errno) → Keeps p (request_for_name call read)
 unfolding Keeps
 keeps-named p call (Err e) = tt
 keeps-named p call (Ok name) = tt
@@ -63,8 +63,8 @@ keeps-outcome p (Stops (Trap v)) is = keeps-trap v p
 keeps-outcome p (Stops (End how)) is = tt
 
 -- a process that asks for nothing goes on with its profile
-pub asked_keeps : (p : Process) → Keeps p (asked p)
-unfolding asked
+pub asked_keeps : (p : Process) → Keeps p (next_request p)
+unfolding next_request
 asked_keeps p = keeps-outcome p (next_step p) refl
 
 replied-to : (v : ℕ) (p : Process) (reply : Reply) → (replied_to v p reply).profile ≡ p.profile
@@ -74,6 +74,6 @@ replied-to v p (Attr words) = refl
 replied-to v p (Value value) = refl
 
 -- a reply keeps the profile
-pub replied_profile : (p : Process) (reply : Reply) → (replied p reply).profile ≡ p.profile
-unfolding replied
+pub replied_profile : (p : Process) (reply : Reply) → (process_after_reply p reply).profile ≡ p.profile
+unfolding process_after_reply
 replied_profile p reply = replied-to (vector_in (next_step p)) p reply

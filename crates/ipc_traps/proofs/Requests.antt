@@ -10,7 +10,7 @@ use Rattle.ipc_kernel.specs.declared.call.Call.{Call}
 use Rattle.ipc_kernel.specs.declared.call.Call.TheVariants.{MqUnlink, MqReceive, MqGetattr, MqSetattr, SemOpen, SemUnlink, SemGetvalue}
 use Rattle.ipc_kernel.specs.declared.call.Reply.{Reply}
 use Rattle.ipc_kernel.specs.declared.call.Reply.TheVariants.{Plain, Message, Attr, Value}
-use Rattle.ipc_traps.specs.Asked.{Request, Refuses, Calls, asked, trap_asks, within, named, name_at}
+use Rattle.ipc_traps.specs.Asked.{Request, Refuses, Calls, next_request, trap_asks, within, request_for_name, name_at}
 use Rattle.ipc_traps.specs.Reply.{CanReply, HasRoomFor, IsPrepared}
 
 -- a plain word
@@ -42,7 +42,7 @@ plain-refusal : (e : Errno) → OnlyPlain (Refuses e)
 unfolding OnlyPlain
 plain-refusal e reply can = search rules
 
-plain-named : (call : List ℕ → Call) (read : Result (List ℕ) Errno) → ((name : List ℕ) → OnlyPlain (Calls (call name))) → OnlyPlain (named call read)
+plain-named : (call : List ℕ → Call) (read : Result (List ℕ) Errno) → ((name : List ℕ) → OnlyPlain (Calls (call name))) → OnlyPlain (request_for_name call read)
 plain-named call (Err e) only = plain-refusal e
 plain-named call (Ok name) only = only name
 
@@ -83,7 +83,7 @@ only-reply request only = only
 
 -- nothing has to be made ready for these traps
 pub prepared-plain : (h : Held) (v : ℕ) → next_step h.process ≡ Stops (Trap v) → (v ≡ 68 → ⊥) → (v ≡ 69 → ⊥) → (v ≡ 70 → ⊥) → (v ≡ 86 → ⊥) → IsPrepared h
-unfolding IsPrepared asked
+unfolding IsPrepared next_request
 prepared-plain h v stands not68 not69 not70 not86 =
     let only = only-reply (trap_asks v h.process) (plain-trap v h.process not68 not69 not70 not86) in
     λ reply can. plain-room _ h reply (only reply (rw stands at can))

@@ -26,10 +26,10 @@ pub data Request : Type 0 where
 abbrev pub within : Bool → Request → Request
 within inside request = if inside then request else Refuses Fault
 
--- a call by a name that was read
-abbrev pub named : (List ℕ → Call) → Result (List ℕ) Errno → Request
-named call (Err e) = Refuses e
-named call (Ok name) = Calls (call name)
+-- the request for a call by a name that was read
+abbrev pub request_for_name : (List ℕ → Call) → Result (List ℕ) Errno → Request
+request_for_name call (Err e) = Refuses e
+request_for_name call (Ok name) = Calls (call name)
 
 -- the name at the address in R0: EFAULT if it reaches the device registers, then ENAMETOOLONG, then EINVAL for its form
 unfoldable pub name_at : Process → Result (List ℕ) Errno
@@ -37,7 +37,7 @@ name_at p = if reaches_devices p.memory (reg p 0) then Err Fault else name_read 
 
 -- a call by that name; its other memory ranges are looked at before the name's length and form
 abbrev pub by_name : Process → Bool → (List ℕ → Call) → Request
-by_name p inside call = within inside (named call (name_at p))
+by_name p inside call = within inside (request_for_name call (name_at p))
 
 -- whether mq_open is given attributes: O_CREAT is set, and their address in R2 is not 0
 abbrev pub has_attributes : Process → Bool
@@ -52,6 +52,10 @@ abbrev pub queue_opened : Process → Request
 queue_opened p =
     by_name p (not (has_attributes p) || is_in_memory (reg p 2) 4)
     (λ name. MqOpen name (reg p 1) (attributes p))
+
+-- sem_open: name at R0, flags R1, first value R2
+abbrev pub semaphore_opened : Process → Request
+semaphore_opened p = by_name p true (λ name. SemOpen name (reg p 1) (reg p 2))
 
 -- mq_send: descriptor R0, buffer at R1, length R2, priority R3
 abbrev pub message_sent : Process → Request
@@ -88,7 +92,7 @@ trap_asks v p =
     if v == 0x44 then message_received p else
     if v == 0x45 then attributes_read p else
     if v == 0x46 then attributes_set p else
-    if v == 0x50 then by_name p true (λ name. SemOpen name (reg p 1) (reg p 2)) else
+    if v == 0x50 then semaphore_opened p else
     if v == 0x51 then Calls (SemClose (reg p 0)) else
     if v == 0x52 then by_name p true SemUnlink else
     if v == 0x53 then Calls (SemWait (reg p 0)) else
@@ -104,8 +108,8 @@ outcome_asks p (Stops (Trap v)) = trap_asks v p
 outcome_asks p (Stops (End how)) = Ends how
 
 -- what the next step of a process asks for
-unfoldable pub asked : Process → Request
-asked p = outcome_asks p (next_step p)
+unfoldable pub next_request : Process → Request
+next_request p = outcome_asks p (next_step p)
 
 -- what a process asks by a trap, as it was read
 abbrev pub request_of : Asked → Request

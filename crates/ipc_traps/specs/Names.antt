@@ -3,6 +3,7 @@ use Rattle.std.specs.Prelude.{ℕ, ◌+◌, ◌==◌, ◌&&◌, ◌||◌, Bool, 
 use Rattle.std.specs.List.{position_or_len}
 use Rattle.lc3_machine.specs.Console.{words_from}
 use Rattle.lc3_word.specs.Segment.{first_device}
+use Rattle.ipc_names.specs.Name.{name_max}
 
 -- whether a range lies below the device registers; one of no words always does
 abbrev pub is_in_memory : ℕ → ℕ → Bool
@@ -12,17 +13,21 @@ is_in_memory at len = (len == 0) || nat_le (at + len) first_device
 abbrev pub words_at : List ℕ → ℕ → ℕ → List ℕ
 words_at memory at len = take len (words_from memory at)
 
--- the words that are looked at for a name: up to 256, below the device registers
+-- how many words are looked at for a name, at most: one more than a name has
+abbrev pub window_max : ℕ
+window_max = name_max + 1
+
+-- the words that are looked at for a name, below the device registers
 unfoldable pub window : List ℕ → ℕ → List ℕ
-window memory at = take 256 (words_from memory at)
+window memory at = take window_max (words_from memory at)
 
 -- how many of them stand before the first zero word
 unfoldable pub name_length : List ℕ → ℕ → ℕ
 name_length memory at = position_or_len (λ w. w == 0) (window memory at)
 
--- whether a name reaches the device registers before a zero word, and before 256 others
+-- whether a name reaches the device registers before a zero word, and before so many others
 unfoldable pub reaches_devices : List ℕ → ℕ → Bool
-reaches_devices memory at = (name_length memory at == length (window memory at)) && nat_lt (name_length memory at) 256
+reaches_devices memory at = (name_length memory at == length (window memory at)) && nat_lt (name_length memory at) window_max
 
 -- the words of a name
 abbrev pub name_words : List ℕ → ℕ → List ℕ

@@ -2,15 +2,15 @@
 use Rattle.std.specs.Prelude.{ℕ, ◌==◌, List, [], ◌∷◌, length, Option, Some, None, if◌then◌else◌}
 use Rattle.lc3_machine.specs.declared.want.Want.TheVariants.{Trap, End}
 use Rattle.lc3_machine.specs.Process.{Process, Held, Outcome, GoesOn, Stops, reg, with_reg}
-use Rattle.lc3_machine.specs.Console.{returned}
-use Rattle.lc3_machine.specs.Memory.{IsWritable, written}
+use Rattle.lc3_machine.specs.Console.{after_trap}
+use Rattle.lc3_machine.specs.Memory.{IsWritable, with_words}
 use Rattle.lc3_machine.specs.Reply.{written_if, IsWritableIf}
 use Rattle.lc3_machine.specs.Effects.{next_step}
 use Rattle.ipc_kernel.specs.declared.call.Call.TheVariants.{Exit}
 use Rattle.ipc_kernel.specs.declared.call.Reply.{Reply}
 use Rattle.ipc_kernel.specs.declared.call.Reply.TheVariants.{Plain, Message, Attr, Value}
 use Rattle.ipc_kernel.specs.Replies.{IsReplyTo}
-use Rattle.ipc_traps.specs.Asked.{Request, Local, Refuses, Calls, Ends, asked}
+use Rattle.ipc_traps.specs.Asked.{Request, Local, Refuses, Calls, Ends, next_request}
 
 -- the vector of the trap that a process stands before
 abbrev pub vector_in : Outcome → ℕ
@@ -27,20 +27,20 @@ abbrev pub four_words_go : ℕ → Process → Option ℕ
 four_words_go v p = if v == 0x46 then unless_zero (reg p 2) else Some (reg p 1)
 
 -- the process after its trap, with a result in R0 and this memory
-abbrev pub finished : Process → ℕ → List ℕ → Process
-finished p result memory = returned (record (with_reg p 0 result) { memory = memory })
+abbrev pub after_call : Process → ℕ → List ℕ → Process
+after_call p result memory = after_trap (record (with_reg p 0 result) { memory = memory })
 
 -- the process after the reply to a trap
 abbrev pub replied_to : ℕ → Process → Reply → Process
-replied_to v p (Plain r) = finished p r p.memory
+replied_to v p (Plain r) = after_call p r p.memory
 replied_to v p (Message words prio) =
-    finished p (length words) (written_if (written p.memory (reg p 1) words) (unless_zero (reg p 3)) (prio ∷ []))
-replied_to v p (Attr words) = finished p 0 (written_if p.memory (four_words_go v p) words)
-replied_to v p (Value value) = finished p 0 (written p.memory (reg p 1) (value ∷ []))
+    after_call p (length words) (written_if (with_words p.memory (reg p 1) words) (unless_zero (reg p 3)) (prio ∷ []))
+replied_to v p (Attr words) = after_call p 0 (written_if p.memory (four_words_go v p) words)
+replied_to v p (Value value) = after_call p 0 (with_words p.memory (reg p 1) (value ∷ []))
 
 -- the process after the reply to its call
-unfoldable pub replied : Process → Reply → Process
-replied p reply = replied_to (vector_in (next_step p)) p reply
+unfoldable pub process_after_reply : Process → Reply → Process
+process_after_reply p reply = replied_to (vector_in (next_step p)) p reply
 
 -- all that the reply to a trap writes can be written without taking memory
 abbrev pub HasRoomFor : ℕ → Held → Reply → Type 0
@@ -68,4 +68,4 @@ IsPreparedFor v request h = (reply : Reply) → CanReply request reply → HasRo
 
 -- the same for what a process asks
 unfoldable pub IsPrepared : Held → Type 0
-IsPrepared h = IsPreparedFor (vector_in (next_step h.process)) (asked h.process) h
+IsPrepared h = IsPreparedFor (vector_in (next_step h.process)) (next_request h.process) h

@@ -3,205 +3,207 @@
 ghost use Rattle.std.specs.Prelude.{◌≡◌, IfOk, ◌<◌, true, ℕ, Result, Ok, Err};
 ghost use Rattle.lc3_machine.specs.Process.{reg};
 ghost use Rattle.lc3_machine.specs.Steps.{AsksTrap};
-ghost use Rattle.ipc_kernel.specs.declared.call.Call.TheVariants.{MqUnlink, SemOpen, SemUnlink};
+ghost use Rattle.ipc_kernel.specs.declared.call.Call.TheVariants.{MqUnlink, SemUnlink};
 ghost use Rattle.ipc_traps.specs.Names.{is_in_memory, words_at};
-ghost use Rattle.ipc_traps.specs.Asked.{IsAsked, request_of, asked, trap_asks, name_at, by_name, has_attributes, attributes, queue_opened, message_sent, message_received, attributes_read, attributes_set, value_read};
+ghost use Rattle.ipc_traps.specs.Asked.{IsAsked, request_of, next_request, trap_asks, name_at, by_name, has_attributes, attributes, queue_opened, semaphore_opened, message_sent, message_received, attributes_read, attributes_set, value_read};
 
 use crate::Asked;
 use crate::memory::{is_in_memory, name_length, read_few, read_four, read_words, register};
 use ipc_kernel::Call;
 use ipc_names::{Errno, Name, O_CREAT};
 use ipc_objects::{FEW_WORDS, Words};
-use lc3_machine::{AtCall, Want};
+use lc3_machine::{AtCall, Machine, Want};
 use std::alloc::{AllocError, Global};
 
 /// What a process asks of the kernel by the trap that it stands before, or the refusal; a process at its end asks for
 /// `Exit`. The arguments are as they stand in the registers and in memory, not yet tested. An error is want of memory.
-#[tactic(auto, unfolding(crate::specs::Asked::asked))]
+#[tactic(auto, unfolding(crate::specs::Asked::next_request))]
 #[inline(always)]
 pub fn read_call(alloc: Global, call: &AtCall) -> Result<Asked, AllocError>
-    ensures asked { IfOk result (λ a. IsAsked (asked call.now.process) a) }
-    ensures trap { AsksTrap call.now.process → IfOk result (λ a. asked call.now.process ≡ request_of a) }
+    ensures asked { IfOk result (λ a. IsAsked (next_request call.now.process) a) }
+    ensures trap { AsksTrap call.now.process
+        → IfOk result (λ a. next_request call.now.process ≡ request_of a) }
 {
     match call.want() {
         Want::End(_) => Ok(Asked::Kernel(Call::Exit)),
-        Want::Trap(vector) => read_trap(alloc, call, vector),
+        Want::Trap(vector) => read_trap(alloc, call.machine(), vector),
     }
 }
 
 /// What the trap with this vector asks for.
 #[tactic(auto, unfolding(crate::specs::Asked::trap_asks))]
 #[inline(always)]
-fn read_trap(alloc: Global, call: &AtCall, vector: u8) -> Result<Asked, AllocError>
-    ensures { IfOk result (λ a. request_of a ≡ trap_asks vector call.now.process) }
+fn read_trap(alloc: Global, machine: &Machine, vector: u8) -> Result<Asked, AllocError>
+    ensures { IfOk result (λ a. request_of a ≡ trap_asks vector machine.now.process) }
 {
-    let first = register(call, 0);
+    let first = register(machine, 0);
     match vector {
-        0x40 => read_open(alloc, call),
+        0x40 => read_open(alloc, machine),
         0x41 => Ok(Asked::Kernel(Call::MqClose { mqd: first })),
-        0x42 => read_unlink(alloc, call),
-        0x43 => read_send(alloc, call),
-        0x44 => Ok(read_receive(call)),
-        0x45 => Ok(read_getattr(call)),
-        0x46 => Ok(read_setattr(call)),
-        0x50 => read_sem_open(alloc, call),
+        0x42 => read_unlink(alloc, machine),
+        0x43 => read_send(alloc, machine),
+        0x44 => Ok(read_receive(machine)),
+        0x45 => Ok(read_getattr(machine)),
+        0x46 => Ok(read_setattr(machine)),
+        0x50 => read_sem_open(alloc, machine),
         0x51 => Ok(Asked::Kernel(Call::SemClose { slot: first })),
-        0x52 => read_sem_unlink(alloc, call),
+        0x52 => read_sem_unlink(alloc, machine),
         0x53 => Ok(Asked::Kernel(Call::SemWait { slot: first })),
         0x54 => Ok(Asked::Kernel(Call::SemTrywait { slot: first })),
         0x55 => Ok(Asked::Kernel(Call::SemPost { slot: first })),
-        0x56 => Ok(read_getvalue(call)),
+        0x56 => Ok(read_getvalue(machine)),
         _ => Ok(Asked::Kernel(Call::Exit)),
     }
 }
 
 /// The name at the address in R0, or why it is refused.
 #[tactic(auto, unfolding(crate::specs::Asked::name_at))]
-fn read_name(alloc: Global, call: &AtCall) -> Result<Result<Name, Errno>, AllocError>
-    ensures { IfOk result (λ read. read ≡ name_at call.now.process) }
+fn read_name(alloc: Global, machine: &Machine) -> Result<Result<Name, Errno>, AllocError>
+    ensures { IfOk result (λ read. read ≡ name_at machine.now.process) }
 {
-    let at = register(call, 0);
-    let Some(len) = name_length(call, at) else {
+    let at = register(machine, 0);
+    let Some(len) = name_length(machine, at) else {
         return Ok(Err(Errno::Fault));
     };
-    let words = read_words(alloc, call, at, len)?;
+    let words = read_words(alloc, machine, at, len)?;
     Name::read(alloc, &words)
 }
 
 /// Whether mq_open is given attributes: O_CREAT is set, and R2 isn't 0.
-fn has_attributes(call: &AtCall) -> bool
-    ensures { result ≡ has_attributes call.now.process }
+fn has_attributes(machine: &Machine) -> bool
+    ensures { result ≡ has_attributes machine.now.process }
 {
-    register(call, 1) & O_CREAT != 0 && register(call, 2) != 0
+    register(machine, 1) & O_CREAT != 0 && register(machine, 2) != 0
 }
 
 /// The attributes for mq_open.
-fn attributes(call: &AtCall) -> Option<[u16; 4]>
-    requires { has_attributes call.now.process ≡ true → is_in_memory (reg call.now.process 2) 4 ≡ true }
-    ensures { result ≡ attributes call.now.process }
+fn attributes(machine: &Machine) -> Option<[u16; 4]>
+    requires { has_attributes machine.now.process ≡ true
+        → is_in_memory (reg machine.now.process 2) 4 ≡ true }
+    ensures { result ≡ attributes machine.now.process }
 {
-    if has_attributes(call) {
-        Some(read_four(call, register(call, 2)))
+    if has_attributes(machine) {
+        Some(read_four(machine, register(machine, 2)))
     } else {
         None
     }
 }
 
 /// mq_open
-fn read_open(alloc: Global, call: &AtCall) -> Result<Asked, AllocError>
-    ensures { IfOk result (λ a. request_of a ≡ queue_opened call.now.process) }
+fn read_open(alloc: Global, machine: &Machine) -> Result<Asked, AllocError>
+    ensures { IfOk result (λ a. request_of a ≡ queue_opened machine.now.process) }
 {
-    if has_attributes(call) && !is_in_memory(register(call, 2), 4) {
+    if has_attributes(machine) && !is_in_memory(register(machine, 2), 4) {
         return Ok(Asked::Refused(Errno::Fault));
     }
-    match read_name(alloc, call)? {
+    match read_name(alloc, machine)? {
         Err(e) => Ok(Asked::Refused(e)),
         Ok(name) => Ok(Asked::Kernel(Call::MqOpen {
             name,
-            flags: register(call, 1),
-            attr: attributes(call),
+            flags: register(machine, 1),
+            attr: attributes(machine),
         })),
     }
 }
 
 /// mq_unlink
-fn read_unlink(alloc: Global, call: &AtCall) -> Result<Asked, AllocError>
-    ensures { IfOk result (λ a. request_of a ≡ by_name call.now.process true MqUnlink) }
+fn read_unlink(alloc: Global, machine: &Machine) -> Result<Asked, AllocError>
+    ensures { IfOk result (λ a. request_of a ≡ by_name machine.now.process true MqUnlink) }
 {
-    match read_name(alloc, call)? {
+    match read_name(alloc, machine)? {
         Err(e) => Ok(Asked::Refused(e)),
         Ok(name) => Ok(Asked::Kernel(Call::MqUnlink { name })),
     }
 }
 
 /// sem_open
-fn read_sem_open(alloc: Global, call: &AtCall) -> Result<Asked, AllocError>
-    ensures { IfOk result (λ a. request_of a ≡ by_name call.now.process true (λ name. SemOpen name (reg call.now.process 1) (reg call.now.process 2))) }
+fn read_sem_open(alloc: Global, machine: &Machine) -> Result<Asked, AllocError>
+    ensures { IfOk result (λ a. request_of a ≡ semaphore_opened machine.now.process) }
 {
-    match read_name(alloc, call)? {
+    match read_name(alloc, machine)? {
         Err(e) => Ok(Asked::Refused(e)),
         Ok(name) => Ok(Asked::Kernel(Call::SemOpen {
             name,
-            flags: register(call, 1),
-            value: register(call, 2),
+            flags: register(machine, 1),
+            value: register(machine, 2),
         })),
     }
 }
 
 /// sem_unlink
-fn read_sem_unlink(alloc: Global, call: &AtCall) -> Result<Asked, AllocError>
-    ensures { IfOk result (λ a. request_of a ≡ by_name call.now.process true SemUnlink) }
+fn read_sem_unlink(alloc: Global, machine: &Machine) -> Result<Asked, AllocError>
+    ensures { IfOk result (λ a. request_of a ≡ by_name machine.now.process true SemUnlink) }
 {
-    match read_name(alloc, call)? {
+    match read_name(alloc, machine)? {
         Err(e) => Ok(Asked::Refused(e)),
         Ok(name) => Ok(Asked::Kernel(Call::SemUnlink { name })),
     }
 }
 
 /// The words of a message.
-fn read_message(alloc: Global, call: &AtCall, at: u16, len: u16) -> Result<Words, AllocError>
+fn read_message(alloc: Global, machine: &Machine, at: u16, len: u16) -> Result<Words, AllocError>
     requires { is_in_memory at len ≡ true }
-    ensures { IfOk result (λ words. words ≡ words_at call.now.process.memory at len) }
+    ensures { IfOk result (λ words. words ≡ words_at machine.now.process.memory at len) }
 {
     if len as usize <= FEW_WORDS {
-        return Ok(Words::from_few(read_few(call, at, len)));
+        return Ok(Words::from_few(read_few(machine, at, len)));
     }
-    Words::from_vec(read_words(alloc, call, at, len)?)
+    Words::from_vec(read_words(alloc, machine, at, len)?)
 }
 
 /// mq_send
-fn read_send(alloc: Global, call: &AtCall) -> Result<Asked, AllocError>
-    ensures { IfOk result (λ a. request_of a ≡ message_sent call.now.process) }
+fn read_send(alloc: Global, machine: &Machine) -> Result<Asked, AllocError>
+    ensures { IfOk result (λ a. request_of a ≡ message_sent machine.now.process) }
 {
-    let at = register(call, 1);
-    let len = register(call, 2);
+    let at = register(machine, 1);
+    let len = register(machine, 2);
     if !is_in_memory(at, len) {
         return Ok(Asked::Refused(Errno::Fault));
     }
-    let words = read_message(alloc, call, at, len)?;
+    let words = read_message(alloc, machine, at, len)?;
     Ok(Asked::Kernel(Call::MqSend {
-        mqd: register(call, 0),
+        mqd: register(machine, 0),
         words,
-        prio: register(call, 3),
+        prio: register(machine, 3),
     }))
 }
 
 /// mq_receive
-fn read_receive(call: &AtCall) -> Asked
-    ensures { request_of result ≡ message_received call.now.process }
+fn read_receive(machine: &Machine) -> Asked
+    ensures { request_of result ≡ message_received machine.now.process }
 {
-    let len = register(call, 2);
-    let prio_at = register(call, 3);
-    if !is_in_memory(register(call, 1), len) {
+    let len = register(machine, 2);
+    let prio_at = register(machine, 3);
+    if !is_in_memory(register(machine, 1), len) {
         return Asked::Refused(Errno::Fault);
     }
     if prio_at != 0 && !is_in_memory(prio_at, 1) {
         return Asked::Refused(Errno::Fault);
     }
     Asked::Kernel(Call::MqReceive {
-        mqd: register(call, 0),
+        mqd: register(machine, 0),
         len,
     })
 }
 
 /// mq_getattr
-fn read_getattr(call: &AtCall) -> Asked
-    ensures { request_of result ≡ attributes_read call.now.process }
+fn read_getattr(machine: &Machine) -> Asked
+    ensures { request_of result ≡ attributes_read machine.now.process }
 {
-    if !is_in_memory(register(call, 1), 4) {
+    if !is_in_memory(register(machine, 1), 4) {
         return Asked::Refused(Errno::Fault);
     }
     Asked::Kernel(Call::MqGetattr {
-        mqd: register(call, 0),
+        mqd: register(machine, 0),
     })
 }
 
 /// mq_setattr
-fn read_setattr(call: &AtCall) -> Asked
-    ensures { request_of result ≡ attributes_set call.now.process }
+fn read_setattr(machine: &Machine) -> Asked
+    ensures { request_of result ≡ attributes_set machine.now.process }
 {
-    let new_at = register(call, 1);
-    let old_at = register(call, 2);
+    let new_at = register(machine, 1);
+    let old_at = register(machine, 2);
     if !is_in_memory(new_at, 4) {
         return Asked::Refused(Errno::Fault);
     }
@@ -209,19 +211,19 @@ fn read_setattr(call: &AtCall) -> Asked
         return Asked::Refused(Errno::Fault);
     }
     Asked::Kernel(Call::MqSetattr {
-        mqd: register(call, 0),
-        flags: call.word(new_at),
+        mqd: register(machine, 0),
+        flags: machine.word(new_at),
     })
 }
 
 /// sem_getvalue
-fn read_getvalue(call: &AtCall) -> Asked
-    ensures { request_of result ≡ value_read call.now.process }
+fn read_getvalue(machine: &Machine) -> Asked
+    ensures { request_of result ≡ value_read machine.now.process }
 {
-    if !is_in_memory(register(call, 1), 1) {
+    if !is_in_memory(register(machine, 1), 1) {
         return Asked::Refused(Errno::Fault);
     }
     Asked::Kernel(Call::SemGetvalue {
-        slot: register(call, 0),
+        slot: register(machine, 0),
     })
 }

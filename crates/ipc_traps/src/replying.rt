@@ -3,9 +3,9 @@
 ghost use Rattle.std.specs.Prelude.{◌≡◌, ℕ, ◌<◌, OnOk, Option};
 ghost use Rattle.lc3_machine.specs.Effects.{next_step};
 ghost use Rattle.lc3_machine.specs.Memory.{StaysReady};
-ghost use Rattle.lc3_machine.specs.Reply.{CanTake, answered};
+ghost use Rattle.lc3_machine.specs.Reply.{CanTake, process_after_effect};
 ghost use Rattle.ipc_traps.specs.Asked.{message_received, attributes_read, attributes_set, value_read};
-ghost use Rattle.ipc_traps.specs.Reply.{vector_in, unless_zero, four_words_go, replied, replied_to, HasRoom, IsPrepared, IsPreparedFor};
+ghost use Rattle.ipc_traps.specs.Reply.{vector_in, unless_zero, four_words_go, process_after_reply, replied_to, HasRoom, IsPrepared, IsPreparedFor};
 
 use crate::memory::{is_in_memory, register};
 use ipc_kernel::Reply;
@@ -25,24 +25,25 @@ fn four_words_go(call: &AtCall) -> Option<u16>
     ensures { result ≡ four_words_go (vector_in (next_step call.now.process)) call.now.process }
 {
     match call.want() {
-        Want::Trap(0x46) => unless_zero(register(call, 2)),
-        _ => Some(register(call, 1)),
+        Want::Trap(0x46) => unless_zero(register(call.machine(), 2)),
+        _ => Some(register(call.machine(), 1)),
     }
 }
 
 /// What a reply does to the process that made the call: `finish` with this effect is the reply.
-#[tactic(auto, unfolding(crate::specs::Reply::replied, crate::specs::Reply::HasRoom))]
+#[tactic(auto, unfolding(crate::specs::Reply::process_after_reply, crate::specs::Reply::HasRoom))]
 #[inline(always)]
 pub fn effect_of<'a>(call: &AtCall, reply: &'a Reply) -> Effect<'a>
-    ensures effect { answered call.now.process result ≡ replied call.now.process reply.now }
+    ensures effect { process_after_effect call.now.process result
+        ≡ process_after_reply call.now.process reply.now }
     ensures room { HasRoom call.now reply.now → CanTake call.now.ready result }
 {
     match reply {
         Reply::Plain(word) => Effect::Plain(*word),
         Reply::Message { words, prio } => Effect::Message {
-            at: register(call, 1),
+            at: register(call.machine(), 1),
             words: words.as_slice(),
-            prio_at: unless_zero(register(call, 3)),
+            prio_at: unless_zero(register(call.machine(), 3)),
             prio: *prio,
         },
         Reply::Attr(words) => Effect::Four {
@@ -50,7 +51,7 @@ pub fn effect_of<'a>(call: &AtCall, reply: &'a Reply) -> Effect<'a>
             words: *words,
         },
         Reply::Value(word) => Effect::One {
-            at: register(call, 1),
+            at: register(call.machine(), 1),
             word: *word,
         },
     }
@@ -59,7 +60,7 @@ pub fn effect_of<'a>(call: &AtCall, reply: &'a Reply) -> Effect<'a>
 /// Makes writable each word that a reply to the call may write, of a buffer for a message the first
 /// `MQ_MSGSIZE_MAX` words at most.
 /// An error is want of memory: some of the words may be writable then.
-#[tactic(auto, unfolding(crate::specs::Reply::IsPrepared, crate::specs::Reply::HasRoom, crate::specs::Asked::asked, crate::specs::Asked::trap_asks))]
+#[tactic(auto, unfolding(crate::specs::Reply::IsPrepared, crate::specs::Reply::HasRoom, crate::specs::Asked::next_request, crate::specs::Asked::trap_asks))]
 #[inline(always)]
 pub fn prepare(call: &mut AtCall) -> Result<(), AllocError>
     ensures process { call.new.process ≡ call.old.process }
@@ -84,9 +85,9 @@ fn prepare_receive(call: &mut AtCall) -> Result<(), AllocError>
     ensures ready { StaysReady call.old.ready call.new.ready }
     ensures ok { OnOk result (IsPreparedFor 0x44 (message_received call.new.process) call.new) }
 {
-    let at = register(call, 1);
-    let len = register(call, 2);
-    let prio_at = register(call, 3);
+    let at = register(call.machine(), 1);
+    let len = register(call.machine(), 2);
+    let prio_at = register(call.machine(), 3);
     if !is_in_memory(at, len) {
         return Ok(());
     }
@@ -106,7 +107,7 @@ fn prepare_getattr(call: &mut AtCall) -> Result<(), AllocError>
     ensures ready { StaysReady call.old.ready call.new.ready }
     ensures ok { OnOk result (IsPreparedFor 0x45 (attributes_read call.new.process) call.new) }
 {
-    let at = register(call, 1);
+    let at = register(call.machine(), 1);
     if !is_in_memory(at, 4) {
         return Ok(());
     }
@@ -119,7 +120,7 @@ fn prepare_setattr(call: &mut AtCall) -> Result<(), AllocError>
     ensures ready { StaysReady call.old.ready call.new.ready }
     ensures ok { OnOk result (IsPreparedFor 0x46 (attributes_set call.new.process) call.new) }
 {
-    let at = register(call, 2);
+    let at = register(call.machine(), 2);
     if at == 0 {
         return Ok(());
     }
@@ -135,7 +136,7 @@ fn prepare_getvalue(call: &mut AtCall) -> Result<(), AllocError>
     ensures ready { StaysReady call.old.ready call.new.ready }
     ensures ok { OnOk result ((v : ℕ) → IsPreparedFor v (value_read call.new.process) call.new) }
 {
-    let at = register(call, 1);
+    let at = register(call.machine(), 1);
     if !is_in_memory(at, 1) {
         return Ok(());
     }

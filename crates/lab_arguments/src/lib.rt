@@ -9,7 +9,7 @@ pub use parser::read_words;
 pub use request::{Page, Question, Refusal, Request, Rest, Setup};
 
 /// The most steps of each process that can be asked for.
-pub const MOST_STEPS: u32 = 10_000_000;
+pub const MOST_STEPS_EACH: u32 = 10_000_000;
 
 /// The most worlds that can be asked for.
 pub const MOST_WORLDS: u32 = 10_000_000;

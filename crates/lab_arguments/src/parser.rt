@@ -1,6 +1,6 @@
 //! The words of the command line, read by a parser of commands.
 use crate::request::{Page, Question, Refusal, Request, Rest, Setup};
-use crate::{MOST_LOCAL_STEPS, MOST_STEPS, MOST_WORLDS, examples};
+use crate::{MOST_LOCAL_STEPS, MOST_STEPS_EACH, MOST_WORLDS, examples};
 use clap::builder::ValueParser;
 use clap::error::ErrorKind;
 use clap::{Arg, ArgAction, ArgMatches, Command, Error};
@@ -132,7 +132,7 @@ fn run<'a>(alloc: Global) -> Result<Command<'a>, AllocError> {
         alloc,
         "limit",
         "N",
-        MOST_STEPS,
+        MOST_STEPS_EACH,
         "The most steps of each process",
     ))?
     .arg(
@@ -247,7 +247,7 @@ fn request_of<'a>(alloc: Global, matches: &ArgMatches<'a>) -> Result<Request<'a>
         },
         Some(("run", words)) => Request::Run {
             setup: setup_of(alloc, words)?,
-            limit: words.get_one::<u32>("limit").unwrap_or(MOST_STEPS),
+            limit: words.get_one::<u32>("limit").unwrap_or(MOST_STEPS_EACH),
             mix: words.get_one::<u32>("mix"),
         },
         Some(("explore", words)) => Request::Explore {

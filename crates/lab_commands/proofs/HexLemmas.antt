@@ -6,7 +6,7 @@ use Rattle.std.specs.Str.Parse.{digits_value, AllDigits}
 use Rattle.std.proofs.lemmas.Bool.{and_parts}
 use Rattle.std.proofs.lemmas.Int.Digits.{digits_value-lt}
 use Rattle.std.proofs.Math.Nat.{pow-le-pow_right}
-use Rattle.lc3_word.specs.Numbers.{unsigned}
+use Rattle.lc3_word.specs.Numbers.{unsigned_number}
 use Rattle.std.proofs.lemmas.Bool.Decides.{nat_tests}
 use Rattle.std.proofs.lemmas.List.{take_more}
 use Rattle.std.proofs.lemmas.List.Elements.{filter_map-append}
@@ -46,8 +46,8 @@ short_value ds short all =
     let room : 16 ^ length ds ≤ 16 ^ 4 = pow-le-pow_right {n = 16} (lit< tt) short in
     omega (arith, below, room)
 
-pub short_number : (ds : List ℕ) (n : ℕ) → length ds ≤ 4 → unsigned 16 ds ≡ Some n → n < 65536
-unfolding unsigned
+pub short_number : (ds : List ℕ) (n : ℕ) → length ds ≤ 4 → unsigned_number 16 ds ≡ Some n → n < 65536
+unfolding unsigned_number
 short_number [] n short e = cc
 short_number (d ∷ ds) n short e = by (list_all (λ c. nat_lt (digit_value c) 16) (d ∷ ds)) refl e
   where

@@ -1,15 +1,15 @@
 -- Hexadecimal words as text, and the image that a text of them says.
-use Rattle.std.specs.Prelude.{ℕ, ◌+◌, nat_lt, if◌then◌else◌, Bool, List, [], ◌∷◌, codes, length, position, is_none, Option, Some, None, Result, Ok, Err}
+use Rattle.std.specs.Prelude.{ℕ, ◌+◌, nat_lt, if◌then◌else◌, Bool, List, [], ◌∷◌, length, position, is_none, Option, Some, None, Result, Ok, Err}
 use Rattle.std.specs.List.{filter_map}
-use Rattle.lc3_word.specs.Blanks.{words_between}
-use Rattle.lc3_word.specs.Numbers.{unsigned, is_x}
+use Rattle.lc3_word.specs.Blanks.{words_between, white_space}
+use Rattle.lc3_word.specs.Numbers.{unsigned_number, is_x}
 use Rattle.lc3_word.specs.Segment.{Segment, first_device}
 use Rattle.lab_commands.specs.declared.fault.CliFault.{CliFault}
 use Rattle.lab_commands.specs.declared.fault.CliFault.TheVariants.{BadWord, Empty, TooLong}
 
 -- the words of a text, between blanks, tabs, carriage returns and line feeds
 abbrev pub words_of : List ℕ → List (List ℕ)
-words_of text = words_between (codes " \t\r\n") text
+words_of text = words_between white_space text
 
 -- what stands after an optional `x`
 abbrev pub digits_of : List ℕ → List ℕ
@@ -18,8 +18,9 @@ digits_of (b ∷ bs) = if is_x b then bs else (b ∷ bs)
 
 -- the number of a word of one to four hexadecimal digits after an optional `x`
 abbrev pub number_of : List ℕ → Option ℕ
-number_of word = let digits = digits_of word in if nat_lt 4 (length digits) then None else unsigned 16 digits
+number_of word = let digits = digits_of word in if nat_lt 4 (length digits) then None else unsigned_number 16 digits
 
+-- whether a word is no number
 abbrev pub is_bad : List ℕ → Bool
 is_bad word = is_none (number_of word)
 

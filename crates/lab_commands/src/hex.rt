@@ -1,14 +1,11 @@
 //! Hexadecimal words as text.
 ghost use Rattle.std.specs.Prelude.{◌≡◌, ◌≢◌, ◌≤◌, Ok, Err, length, map, IfOk, IfErr};
-ghost use Rattle.lc3_word.specs.Numbers.{unsigned};
+ghost use Rattle.lc3_word.specs.Numbers.{unsigned_number};
 ghost use Rattle.lab_commands.specs.Hex.{digits_of, number_of, numbers_of, segment_of, image_of};
 
 use crate::fault::CliFault;
-use lc3_word::{Image, unsigned, words_between};
+use lc3_word::{Image, WHITE_SPACE, unsigned, words_between};
 use std::alloc::{AllocError, Global};
-
-/// Blank, tab, carriage return, line feed.
-const BLANKS: &[u8] = b" \t\r\n";
 
 /// The image that a text of hexadecimal words says.
 #[tactic(auto, unfolding(crate::specs::Hex::image_of))]
@@ -16,15 +13,17 @@ pub fn read_text(alloc: Global, text: &[u8]) -> Result<Image, CliFault>
     ensures ok { IfOk result (λ image. image_of text.now ≡ Ok image) }
     ensures err { IfErr result (λ e. e ≢ CliFault.NoMemory → image_of text.now ≡ Err e) }
 {
-    let words = words_between(alloc, BLANKS, text)?;
+    let words = words_between(alloc, WHITE_SPACE, text)?;
     let numbers = read_numbers(alloc, words.as_slice())?;
     to_image(alloc, numbers.as_slice())
 }
 
 /// The numbers of the words, or the first that is none.
 fn read_numbers(alloc: Global, words: &[&[u8]]) -> Result<Vec<u16>, CliFault>
-    ensures ok { IfOk result (λ numbers. numbers_of (map (λ word. word.now) words.now) ≡ Ok numbers.items) }
-    ensures err { IfErr result (λ e. e ≢ CliFault.NoMemory → numbers_of (map (λ word. word.now) words.now) ≡ Err e) }
+    ensures ok { IfOk result
+        (λ numbers. numbers_of (map (λ word. word.now) words.now) ≡ Ok numbers.items) }
+    ensures err { IfErr result
+        (λ e. e ≢ CliFault.NoMemory → numbers_of (map (λ word. word.now) words.now) ≡ Err e) }
 {
     let mut numbers = Vec::new(alloc);
     for (i, word) in words.iter().enumerate() {
@@ -40,7 +39,7 @@ fn read_numbers(alloc: Global, words: &[&[u8]]) -> Result<Vec<u16>, CliFault>
 #[tactic(auto, using(crate::proofs::HexLemmas::short_number))]
 fn short_number(digits: &[u8]) -> Option<u16>
     requires { length digits.now ≤ 4 }
-    ensures { result ≡ unsigned 16 digits.now }
+    ensures { result ≡ unsigned_number 16 digits.now }
 {
     let number = unsigned(16, digits)?;
     Some(number as u16)

@@ -43,7 +43,8 @@ pub fn run_alone(alloc: Global, image: Image) -> Result<World, CliFault>
 /// The report on the run of the image that a text of hexadecimal words says.
 #[tactic(auto, using(crate::proofs::RunLemmas::fault_of_text))]
 fn report_on(alloc: Global, text: &[u8]) -> Result<String, CliFault>
-    ensures report { IfOk result (λ report. IsOkAnd (image_of text.now) (λ image. string_bytes report ≡ report_of image)) }
+    ensures report { IfOk result
+        (λ report. IsOkAnd (image_of text.now) (λ image. string_bytes report ≡ report_of image)) }
     ensures err { IfErr result (λ e. Explains e (Some text.now) false false) }
 {
     let image = read_text(alloc, text)?;
@@ -67,7 +68,8 @@ pub fn hex_run<R: Read, W: Write>(
         (IfSome (R.remaining input.old.device) (λ text.
         IsOkAnd (image_of text) (λ image.
         Appends (W.contents output.old.device) (W.contents output.new.device) (report_of image)))) }
-    ensures limit { OnOk result (IfSome (R.remaining input.old.device) (λ text. length text ≤ 4000000)) }
+    ensures limit { OnOk result
+        (IfSome (R.remaining input.old.device) (λ text. length text ≤ 4000000)) }
     ensures healthy { OnOk result ((input.new.failed ≡ false) × (output.new.failed ≡ false)) }
     ensures unwritten { IfErr result (λ e. e ≢ CliFault.Write → output.new ≡ output.old) }
     ensures err { IfErr result

@@ -15,7 +15,8 @@ const CHUNK: usize = 8192;
 /// All the bytes that an input has left.
 pub fn read_whole<R: Read>(alloc: Global, input: &mut Input<R>) -> Result<Vec<u8>, CliFault>
     requires healthy_before { input.old.failed ≡ false }
-    ensures bytes { IfOk result (λ bytes. IfSome (R.remaining input.old.device) (λ all. bytes.items ≡ all)) }
+    ensures bytes { IfOk result
+        (λ bytes. IfSome (R.remaining input.old.device) (λ all. bytes.items ≡ all)) }
     ensures limit { IfOk result (λ bytes. length bytes.items ≤ INPUT_LIMIT) }
     ensures healthy { OnOk result (input.new.failed ≡ false) }
     ensures err { IfErr result (λ e. Stops e (R.remaining input.old.device) input.new.failed) }

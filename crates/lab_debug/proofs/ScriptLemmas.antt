@@ -22,14 +22,6 @@ lines-some b bs = some_line b (b == 10) (lines bs)
     some_line b false [] = (b ∷ [], [], refl)
     some_line b false (l ∷ ls) = (b ∷ l, ls, refl)
 
--- nothing left and nothing to come is no line
-pub TakesLine-none : (now known : Option (List ℕ)) (left : List ℕ) → Keeps now (prepend_known left known) → left ≡ [] → IsAtEnd known → TakesLine now (prepend_known left known) None
-TakesLine-none None known left k none end = tt
-TakesLine-none (Some rest) None left k none end = absurd k
-TakesLine-none (Some rest) (Some more) left k none end =
-    let empty : rest ≡ [] = sym k ∙ ap (λ l. l ++ more) none ∙ end in
-    ap lines empty
-
 module _ {W : Type 0} where
   -- what the session of a line's effect goes on with
   abbrev pub rest_of : (W → List ℕ → Effect W) → ℕ → Effect W → List (List ℕ) → Script W

@@ -27,9 +27,11 @@ within low high (negsuc n) = None
 unfoldable pub number_within : ℕ → ℕ → List ℕ → Option ℕ
 number_within low high word = option_and_then (within low high) (number word)
 
+-- a process, as a word writes it
 abbrev pub process_of : List ℕ → Option ℕ
 process_of word = number_within 0 (process_max - 1) word
 
+-- an address, as a word writes it
 abbrev pub address_of : List ℕ → Option ℕ
 address_of word = number_within 0 65535 word
 
@@ -37,30 +39,36 @@ address_of word = number_within 0 65535 word
 abbrev pub step_count_max : ℕ
 step_count_max = 1_000_000
 
+-- a number of steps, as a word writes it
 abbrev pub count_of : List ℕ → Option ℕ
 count_of word = number_within 1 step_count_max word
 
--- the operands where there are just one, two or three
+-- the operand where there is just one
 abbrev pub one_of : List (List ℕ) → Option (List ℕ)
 one_of (a ∷ []) = Some a
 one_of ws = None
 
+-- the operands where there are just two
 abbrev pub two_of : List (List ℕ) → Option (List ℕ × List ℕ)
 two_of (a ∷ b ∷ []) = Some (a, b)
 two_of ws = None
 
+-- the operands where there are just three
 abbrev pub three_of : List (List ℕ) → Option (List ℕ × List ℕ × List ℕ)
 three_of (a ∷ b ∷ c ∷ []) = Some (a, b, c)
 three_of ws = None
 
 -- P N: a process and a number of steps
 abbrev pub step_of : List (List ℕ) → Option Command
-step_of ws = option_and_then (λ w. option_and_then (λ p. option_map (λ n. Step p n) (count_of w.1)) (process_of w.0)) (two_of ws)
+step_of ws =
+    option_and_then (λ w. option_and_then (λ p. option_map (λ n. Step p n) (count_of w.1))
+    (process_of w.0)) (two_of ws)
 
 -- P ADDR N: a process, an address and a number of steps
 abbrev pub until_of : List (List ℕ) → Option Command
 until_of ws =
-    option_and_then (λ w. option_and_then (λ p. option_and_then (λ a. option_map (λ n. Until p a n) (count_of w.2)) (address_of w.1)) (process_of w.0)) (three_of ws)
+    option_and_then (λ w. option_and_then (λ p. option_and_then (λ a.
+    option_map (λ n. Until p a n) (count_of w.2)) (address_of w.1)) (process_of w.0)) (three_of ws)
 
 -- P: a process
 abbrev pub of_process : (ℕ → Command) → List (List ℕ) → Option Command
@@ -73,6 +81,7 @@ range_of ws =
     if nat_le (a + n) 65536 then Some (record { pid = p; address = a; count = n }) else None)
     (number_within 1 256 w.2)) (address_of w.1)) (process_of w.0)) (three_of ws)
 
+-- a command on a range of memory
 abbrev pub of_range : (Range → Command) → List (List ℕ) → Option Command
 of_range make ws = option_map make (range_of ws)
 
@@ -86,6 +95,7 @@ abbrev pub run_of : Result (List Block) SchedFault → Result Command Refusal
 run_of (Ok schedule) = Ok (Run schedule)
 run_of (Err fault) = Err BadOperands
 
+-- a command, or the refusal of its operands
 abbrev pub or_bad : Option Command → Result Command Refusal
 or_bad (Some command) = Ok command
 or_bad None = Err BadOperands
@@ -94,11 +104,9 @@ or_bad None = Err BadOperands
 unfoldable pub is_named : List ℕ → List ℕ → Bool
 is_named name word = bytes_eq name word
 
--- a command other than `run` by its name and its operands
-unfoldable pub plain_command : List ℕ → List (List ℕ) → Result Command Refusal
-plain_command name ws =
-    if is_named (codes "step") name then or_bad (step_of ws) else
-    if is_named (codes "until") name then or_bad (until_of ws) else
+-- a command that only shows something, by its name and its operands
+unfoldable pub showing_command : List ℕ → List (List ℕ) → Result Command Refusal
+showing_command name ws =
     if is_named (codes "regs") name then or_bad (of_process Regs ws) else
     if is_named (codes "mem") name then or_bad (of_range Mem ws) else
     if is_named (codes "dis") name then or_bad (of_range Dis ws) else
@@ -108,9 +116,17 @@ plain_command name ws =
     if is_named (codes "fds") name then or_bad (of_process Fds ws) else
     if is_named (codes "out") name then or_bad (of_process Out ws) else
     if is_named (codes "profile") name then or_bad (bare_of Profile ws) else
-    if is_named (codes "quit") name then or_bad (bare_of Quit ws) else
     Err UnknownCommand
+
+-- a command other than `run` by its name and its operands
+unfoldable pub plain_command : List ℕ → List (List ℕ) → Result Command Refusal
+plain_command name ws =
+    if is_named (codes "step") name then or_bad (step_of ws) else
+    if is_named (codes "until") name then or_bad (until_of ws) else
+    if is_named (codes "quit") name then or_bad (bare_of Quit ws) else
+    showing_command name ws
 
 -- a command by its name and its operands
 unfoldable pub command_of : List ℕ → List (List ℕ) → Result Command Refusal
-command_of name ws = if is_named (codes "run") name then run_of (reading_of_words ws) else plain_command name ws
+command_of name ws =
+    if is_named (codes "run") name then run_of (reading_of_words ws) else plain_command name ws

@@ -2,19 +2,20 @@
 use Rattle.std.specs.Prelude.{ℕ, ◌+◌, ◌==◌, ◌||◌, ◌≤◌, ◌<◌, ⊤, zero, suc, Bool, true, false, if◌then◌else◌, nat_lt, Option, Some, None, Result, Ok, Err, List, [], ◌∷◌, codes, length, replicate, slice_get}
 use Rattle.ipc_kernel.specs.Limits.{process_max}
 use Rattle.std.specs.List.{list_all}
-use Rattle.lab_sched.specs.Worlds.{Process, WorldState, turn_in, step, run}
+use Rattle.lab_sched.specs.Worlds.{Process, WorldState, step_effect_in, step, run, machine_of}
 use Rattle.lab_sched.specs.Schedules.{steps_of}
 use Rattle.lab_debug.specs.declared.command.Command.{Command}
 use Rattle.lab_debug.specs.declared.command.Command.TheVariants.{Step, Run, Until, Regs, Mem, Dis, Procs, Mqs, Sems, Fds, Out, Profile, Quit}
 use Rattle.lab_debug.specs.declared.command.Refusal.{Refusal}
 use Rattle.lab_debug.specs.declared.command.Refusal.TheVariants.{UnknownCommand, BadOperands, NoProcess}
 use Rattle.lab_debug.specs.Commands.{words_of, command_of, step_count_max}
-use Rattle.lab_debug.specs.Script.{Effect}
-use Rattle.lab_debug.specs.Texts.{machine_of, status_text, procs_text, profile_text, regs_text, mem_text, dis_text, out_text}
+use Rattle.lab_debug.specs.Script.{Effect, Script, script}
+use Rattle.lab_debug.specs.Texts.{status_text, procs_text, profile_text, regs_text, mem_text, dis_text, out_text}
 use Rattle.lab_debug.specs.Objects.{mqs_text, sems_text, fds_text}
 use Rattle.lab_sched.specs.Verdicts.{is_nothing}
 use Rattle.lab_debug.specs.Verdicts.{verdict_text}
 
+-- the line that tells why a line is refused
 abbrev pub refusal_text : Refusal → List ℕ
 refusal_text UnknownCommand = codes "? unknown command\n"
 refusal_text BadOperands = codes "? bad operands\n"
@@ -27,9 +28,10 @@ is_at address (Some s) = (machine_of s).pc == address
 
 -- whether process pid is at an address, or its step has no effect
 abbrev pub halts : ℕ → ℕ → WorldState → Bool
-halts pid address w = is_at address (slice_get w.processes pid) || is_nothing (turn_in w pid)
+halts pid address w = is_at address (slice_get w.processes pid) || is_nothing (step_effect_in w pid)
 
--- the world after at most n steps of process pid: up to an address, and only steps that have an effect
+-- the world after at most n steps of process pid: up to an address, and only steps that have an
+-- effect
 unfoldable pub until : ℕ → ℕ → WorldState → ℕ → WorldState
 until pid address w zero = w
 until pid address w (suc n) = if halts pid address w then w else until pid address (step w pid) n
@@ -38,8 +40,9 @@ until pid address w (suc n) = if halts pid address w then w else until pid addre
 abbrev pub shows : (WorldState → List ℕ) → WorldState → Effect WorldState
 shows text w = record { text = text w; world = w; ends = false }
 
-abbrev pub refused : Refusal → WorldState → Effect WorldState
-refused refusal w = record { text = refusal_text refusal; world = w; ends = false }
+-- a refused line changes nothing
+abbrev pub refusal_effect : Refusal → WorldState → Effect WorldState
+refusal_effect refusal w = record { text = refusal_text refusal; world = w; ends = false }
 
 -- what a command does, where its processes are there
 abbrev pub carried_out : WorldState → Command → Effect WorldState
@@ -57,6 +60,7 @@ carried_out w (Out pid) = shows (out_text pid) w
 carried_out w Profile = shows profile_text w
 carried_out w Quit = record { text = []; world = w; ends = true }
 
+-- whether process pid is there
 abbrev pub is_there : WorldState → ℕ → Bool
 is_there w pid = nat_lt pid (length w.processes)
 
@@ -76,20 +80,27 @@ are_there w (Out pid) = is_there w pid
 are_there w Profile = true
 are_there w Quit = true
 
-abbrev pub obeyed : WorldState → Command → Effect WorldState
-obeyed w command = if are_there w command then carried_out w command else refused NoProcess w
+-- what a command does; it is refused where a process that it names isn't there
+abbrev pub command_effect : WorldState → Command → Effect WorldState
+command_effect w command = if are_there w command then carried_out w command else refusal_effect NoProcess w
 
-abbrev pub answered : WorldState → Result Command Refusal → Effect WorldState
-answered w (Ok command) = obeyed w command
-answered w (Err refusal) = refused refusal w
+-- what a line does that was read as a command, or refused
+abbrev pub reading_effect : WorldState → Result Command Refusal → Effect WorldState
+reading_effect w (Ok command) = command_effect w command
+reading_effect w (Err refusal) = refusal_effect refusal w
 
 -- a line without words does nothing
 abbrev pub words_effect : WorldState → List (List ℕ) → Effect WorldState
 words_effect w [] = shows (λ v. []) w
-words_effect w (name ∷ operands) = answered w (command_of name operands)
+words_effect w (name ∷ operands) = reading_effect w (command_of name operands)
 
+-- what a line does
 unfoldable pub line_effect : WorldState → List ℕ → Effect WorldState
 line_effect w line = words_effect w (words_of line)
+
+-- the session of a script of these bytes on a world
+abbrev pub session : WorldState → List ℕ → Script WorldState
+session w bytes = script line_effect w bytes
 
 -- a number of steps is 1 to 1,000,000, and a range is in memory
 abbrev pub IsCommand : Command → Type 0

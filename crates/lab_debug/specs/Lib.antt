@@ -7,3 +7,4 @@ pub mod Verdicts
 pub mod Reports
 pub mod Commands
 pub mod Effects
+pub mod Private

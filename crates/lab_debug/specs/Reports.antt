@@ -9,6 +9,10 @@ use Rattle.lab_debug.specs.Verdicts.{verdict_text}
 abbrev pub process_report : ℕ → WorldState → List ℕ
 process_report pid w = status_text pid w ++ out_text pid w
 
--- these of each process, and then the verdict
+-- these of each process, in order
+abbrev pub process_reports : WorldState → List ℕ
+process_reports w = each (length w.processes) (λ pid. process_report pid w)
+
+-- the lines of all processes, and then the verdict
 unfoldable pub report_text : WorldState → List ℕ
-report_text w = each (length w.processes) (λ pid. process_report pid w) ++ verdict_text w
+report_text w = process_reports w ++ verdict_text w

@@ -10,14 +10,8 @@ use Rattle.lc3_table.specs.Text.{word_text, line_text}
 use Rattle.lc3_machine.specs.declared.want.How.{How}
 use Rattle.lc3_machine.specs.declared.want.How.TheVariants.{Halt, Illegal, Device, BadTrap, NoInput}
 use Rattle.lc3_machine.specs.Process.{Process as Machine, reg}
-use Rattle.lab_sched.specs.Worlds.{first_profile, Process, Running, Waiting, Ended, WorldState}
+use Rattle.lab_sched.specs.Worlds.{machine_of, first_profile, Process, Running, Waiting, Ended, WorldState}
 use Rattle.lab_debug.specs.Rows.{each}
-
--- the machine of a process, whatever its status
-abbrev pub machine_of : Process → Machine
-machine_of (Running m) = m
-machine_of (Waiting m c) = m
-machine_of (Ended e) = e.process
 
 -- the text of a process, where it is there
 abbrev pub text_of : (Process → List ℕ) → Option Process → List ℕ
@@ -32,6 +26,7 @@ how_text Device = codes "device"
 how_text BadTrap = codes "badtrap"
 how_text NoInput = codes "noinput"
 
+-- a word or an address as four hexadecimal digits after x
 abbrev pub address_text : ℕ → List ℕ
 address_text a = codes "x" ++ hex_text a
 
@@ -45,6 +40,7 @@ state_text (Running m) = codes "running " ++ address_text m.pc ++ codes " " ++ p
 state_text (Waiting m c) = codes "waiting " ++ address_text m.pc ++ codes " " ++ place_text m
 state_text (Ended e) = codes "ended " ++ address_text e.process.pc ++ codes " " ++ how_text e.how
 
+-- the number of a process and where it stands
 unfoldable pub status_line : ℕ → Process → List ℕ
 status_line pid s = decimal pid ++ codes " " ++ state_text s ++ codes "\n"
 
@@ -60,6 +56,7 @@ procs_text w = each (length w.processes) (λ pid. status_text pid w)
 abbrev pub profile_text : WorldState → List ℕ
 profile_text w = codes "profile " ++ letter (first_profile w.processes) ++ codes "\n"
 
+-- the letter of a condition code
 abbrev pub code_text : Cc → List ℕ
 code_text N = codes "N"
 code_text Z = codes "Z"
@@ -69,6 +66,7 @@ code_text P = codes "P"
 unfoldable pub register_part : Machine → ℕ → List ℕ
 register_part m r = register_text r ++ codes " " ++ address_text (reg m r) ++ codes " "
 
+-- the program counter and the condition code
 unfoldable pub counter_part : Machine → List ℕ
 counter_part m = codes "PC " ++ address_text m.pc ++ codes " CC " ++ code_text m.cc ++ codes "\n"
 
@@ -76,6 +74,7 @@ counter_part m = codes "PC " ++ address_text m.pc ++ codes " CC " ++ code_text m
 abbrev pub regs_line : Machine → List ℕ
 regs_line m = each 8 (register_part m) ++ counter_part m
 
+-- the registers of process pid
 abbrev pub regs_text : ℕ → WorldState → List ℕ
 regs_text pid w = text_of (λ s. regs_line (machine_of s)) (slice_get w.processes pid)
 
@@ -87,32 +86,37 @@ word_line a w = address_text a ++ codes " " ++ address_text w ++ codes "\n"
 abbrev pub memory_lines : (ℕ → ℕ → List ℕ) → ℕ → ℕ → Machine → List ℕ
 memory_lines line a n m = each n (λ i. line (a + i) (slice_index m.memory (a + i)))
 
+-- n words of process pid from address a on
 abbrev pub mem_text : ℕ → ℕ → ℕ → WorldState → List ℕ
-mem_text pid a n w = text_of (λ s. memory_lines word_line a n (machine_of s)) (slice_get w.processes pid)
+mem_text pid a n w =
+    text_of (λ s. memory_lines word_line a n (machine_of s)) (slice_get w.processes pid)
 
 -- the same with the text of each word
 abbrev pub dis_text : ℕ → ℕ → ℕ → WorldState → List ℕ
-dis_text pid a n w = text_of (λ s. memory_lines line_text a n (machine_of s)) (slice_get w.processes pid)
+dis_text pid a n w =
+    text_of (λ s. memory_lines line_text a n (machine_of s)) (slice_get w.processes pid)
 
 -- a byte that can be printed and is no backslash
 unfoldable pub is_plain : ℕ → Bool
 is_plain b = nat_le 32 b && (nat_le b 126 && not (b == 92))
 
+-- a byte as two hexadecimal digits after a backslash and x
 abbrev pub escape_text : ℕ → List ℕ
 escape_text b = codes "\\x" ++ digit_glyph true (b / 16) ∷ digit_glyph true (b % 16) ∷ []
 
 -- a byte as it is where it is plain, else as two hexadecimal digits
-unfoldable pub escaped : ℕ → List ℕ
-escaped b = if is_plain b then b ∷ [] else escape_text b
+unfoldable pub escape_of : ℕ → List ℕ
+escape_of b = if is_plain b then b ∷ [] else escape_text b
 
 -- nothing, or a blank and the bytes
 abbrev pub output_part : List ℕ → List ℕ
 output_part [] = []
-output_part (b ∷ bs) = codes " " ++ flat_map escaped (b ∷ bs)
+output_part (b ∷ bs) = codes " " ++ flat_map escape_of (b ∷ bs)
 
 -- the bytes that a process has written
 unfoldable pub out_line : ℕ → List ℕ → List ℕ
 out_line pid output = codes "out " ++ decimal pid ++ output_part output ++ codes "\n"
 
+-- the bytes that process pid has written
 abbrev pub out_text : ℕ → WorldState → List ℕ
 out_text pid w = text_of (λ s. out_line pid (machine_of s).output) (slice_get w.processes pid)

@@ -5,10 +5,12 @@ use Rattle.lab_sched.specs.Verdicts.{verdict_of}
 use Rattle.lab_sched.specs.declared.verdict.Verdict.{Verdict}
 use Rattle.lab_sched.specs.declared.verdict.Verdict.TheVariants as verdict
 
+-- the line of a verdict
 abbrev pub verdict_line : Verdict → List ℕ
 verdict_line verdict.Ended = codes "verdict ended\n"
 verdict_line verdict.Stuck = codes "verdict stuck\n"
 verdict_line verdict.Open = codes "verdict open\n"
 
+-- the line of the verdict on a world
 abbrev pub verdict_text : WorldState → List ℕ
 verdict_text w = verdict_line (verdict_of w)

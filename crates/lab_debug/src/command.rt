@@ -2,7 +2,7 @@
 ghost use Rattle.std.specs.Prelude.{◌≡◌, ◌≤◌, ◌+◌, IfOk, IfSome, map, codes};
 ghost use Rattle.lab_sched.specs.ScheduleTexts.{reading_of_words};
 ghost use Rattle.lab_debug.specs.Effects.{IsCommand};
-ghost use Rattle.lab_debug.specs.Commands.{step_of, until_of, bare_of, of_process, range_of, of_range, run_of, is_named, plain_command, command_of};
+ghost use Rattle.lab_debug.specs.Commands.{step_of, until_of, bare_of, of_process, range_of, of_range, run_of, is_named, showing_command, plain_command, command_of};
 
 use crate::operands::{address_in, count_in, number_in, one, process_in, three, two};
 use lab_sched::{SchedFault, Schedule};
@@ -167,7 +167,7 @@ fn read_dis(operands: &[&[u8]]) -> Option<Command>
 
 /// A command without operands
 fn read_bare(command: Command, operands: &[&[u8]]) -> Option<Command>
-    requires { IsCommand command }
+    requires ranges { IsCommand command }
     ensures value { result ≡ bare_of command (map (λ word. word.now) operands.now) }
     ensures ranges { IfSome result (λ c. IsCommand c) }
 {
@@ -181,23 +181,17 @@ fn read_bare(command: Command, operands: &[&[u8]]) -> Option<Command>
 /// Whether a word is this name.
 #[tactic(auto, unfolding(crate::specs::Commands::is_named))]
 fn is_name(name: &str, word: &[u8]) -> bool
-    ensures { result ≡ is_named name.now word.now }
+    ensures value { result ≡ is_named name.now word.now }
 {
     name.as_bytes() == word
 }
 
-/// A command other than `run` by its name and its operands.
-#[tactic(auto, unfolding(crate::specs::Commands::plain_command))]
-fn read_plain(name: &[u8], operands: &[&[u8]]) -> Result<Command, Refusal>
-    ensures value { result ≡ plain_command name.now (map (λ word. word.now) operands.now) }
+/// A command that only shows something, by its name and its operands.
+#[tactic(auto, unfolding(crate::specs::Commands::showing_command))]
+fn read_showing(name: &[u8], operands: &[&[u8]]) -> Result<Command, Refusal>
+    ensures value { result ≡ showing_command name.now (map (λ word. word.now) operands.now) }
     ensures ranges { IfOk result (λ command. IsCommand command) }
 {
-    if is_name("step", name) {
-        return read_step(operands).ok_or(Refusal::BadOperands);
-    }
-    if is_name("until", name) {
-        return read_until(operands).ok_or(Refusal::BadOperands);
-    }
     if is_name("regs", name) {
         return read_regs(operands).ok_or(Refusal::BadOperands);
     }
@@ -225,15 +219,31 @@ fn read_plain(name: &[u8], operands: &[&[u8]]) -> Result<Command, Refusal>
     if is_name("profile", name) {
         return read_bare(Command::Profile, operands).ok_or(Refusal::BadOperands);
     }
+    Err(Refusal::UnknownCommand)
+}
+
+/// A command other than `run` by its name and its operands.
+#[tactic(auto, unfolding(crate::specs::Commands::plain_command))]
+fn read_plain(name: &[u8], operands: &[&[u8]]) -> Result<Command, Refusal>
+    ensures value { result ≡ plain_command name.now (map (λ word. word.now) operands.now) }
+    ensures ranges { IfOk result (λ command. IsCommand command) }
+{
+    if is_name("step", name) {
+        return read_step(operands).ok_or(Refusal::BadOperands);
+    }
+    if is_name("until", name) {
+        return read_until(operands).ok_or(Refusal::BadOperands);
+    }
     if is_name("quit", name) {
         return read_bare(Command::Quit, operands).ok_or(Refusal::BadOperands);
     }
-    Err(Refusal::UnknownCommand)
+    read_showing(name, operands)
 }
 
 /// `BLOCKS`, a schedule
 fn read_run(alloc: Global, operands: &[&[u8]]) -> Result<Result<Command, Refusal>, AllocError>
-    ensures value { IfOk result (λ read. read ≡ run_of (reading_of_words (map (λ word. word.now) operands.now))) }
+    ensures value { IfOk result (λ read.
+        read ≡ run_of (reading_of_words (map (λ word. word.now) operands.now))) }
     ensures ranges { IfOk result (λ read. IfOk read (λ command. IsCommand command)) }
 {
     match Schedule::read_words(alloc, operands) {
@@ -252,7 +262,8 @@ pub fn read_command(
     name: &[u8],
     operands: &[&[u8]],
 ) -> Result<Result<Command, Refusal>, AllocError>
-    ensures value { IfOk result (λ read. read ≡ command_of name.now (map (λ word. word.now) operands.now)) }
+    ensures value { IfOk result (λ read.
+        read ≡ command_of name.now (map (λ word. word.now) operands.now)) }
     ensures ranges { IfOk result (λ read. IfOk read (λ command. IsCommand command)) }
 {
     if is_name("run", name) {

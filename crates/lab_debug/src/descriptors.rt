@@ -1,5 +1,6 @@
 //! Descriptors and slots.
-ghost use Rattle.std.specs.Prelude.{◌≡◌, ◌<◌, ◌++◌, OnOk, length, string_bytes};
+ghost use Rattle.std.specs.Prelude.{◌≡◌, ◌<◌, OnOk, length};
+ghost use Rattle.lab_debug.specs.Rows.{Adds};
 ghost use Rattle.lab_debug.specs.Objects.{access_text, mode_text, descriptor_line, slot_line, descriptor_lines, slot_lines, fds_text};
 
 use ipc_kernel::{Descriptor, OPEN_MAX, Slot};
@@ -27,7 +28,7 @@ fn mode_name(nonblock: bool) -> &'static str
 /// Adds the line of a descriptor, where it is open.
 #[tactic(auto, unfolding(crate::specs::Objects::descriptor_line))]
 fn push_descriptor(text: &mut String, mqd: u16, held: Option<Descriptor>) -> Result<(), AllocError>
-    ensures { OnOk result (string_bytes text.new ≡ string_bytes text.old ++ descriptor_line mqd held) }
+    ensures text { OnOk result (Adds text.old text.new (descriptor_line mqd held)) }
 {
     let Some(held) = held else {
         return Ok(());
@@ -44,7 +45,7 @@ fn push_descriptor(text: &mut String, mqd: u16, held: Option<Descriptor>) -> Res
 /// Adds the line of a slot, where it is open.
 #[tactic(auto, unfolding(crate::specs::Objects::slot_line))]
 fn push_slot(text: &mut String, slot: u16, held: Option<Slot>) -> Result<(), AllocError>
-    ensures { OnOk result (string_bytes text.new ≡ string_bytes text.old ++ slot_line slot held) }
+    ensures text { OnOk result (Adds text.old text.new (slot_line slot held)) }
 {
     let Some(held) = held else {
         return Ok(());
@@ -61,7 +62,7 @@ fn push_slot(text: &mut String, slot: u16, held: Option<Slot>) -> Result<(), All
 #[tactic(auto, using(crate::proofs::RowLemmas::each_none))]
 fn push_descriptors(text: &mut String, world: &World, pid: usize) -> Result<(), AllocError>
     requires process { pid < length world.now.processes }
-    ensures { OnOk result (string_bytes text.new ≡ string_bytes text.old ++ descriptor_lines pid world.now) }
+    ensures text { OnOk result (Adds text.old text.new (descriptor_lines pid world.now)) }
 {
     let kernel = world.kernel();
     for mqd in 0..OPEN_MAX as u16 {
@@ -74,7 +75,7 @@ fn push_descriptors(text: &mut String, world: &World, pid: usize) -> Result<(), 
 #[tactic(auto, using(crate::proofs::RowLemmas::each_none))]
 fn push_slots(text: &mut String, world: &World, pid: usize) -> Result<(), AllocError>
     requires process { pid < length world.now.processes }
-    ensures { OnOk result (string_bytes text.new ≡ string_bytes text.old ++ slot_lines pid world.now) }
+    ensures text { OnOk result (Adds text.old text.new (slot_lines pid world.now)) }
 {
     let kernel = world.kernel();
     for slot in 0..OPEN_MAX as u16 {
@@ -85,7 +86,7 @@ fn push_slots(text: &mut String, world: &World, pid: usize) -> Result<(), AllocE
 
 /// Adds the open descriptors and then the open slots of process `pid`, where it is there.
 pub fn push_fds(text: &mut String, world: &World, pid: usize) -> Result<(), AllocError>
-    ensures { OnOk result (string_bytes text.new ≡ string_bytes text.old ++ fds_text pid world.now) }
+    ensures text { OnOk result (Adds text.old text.new (fds_text pid world.now)) }
 {
     if pid < world.count() {
         push_descriptors(text, world, pid)?;

@@ -8,7 +8,8 @@ ghost use Rattle.lab_sched.specs.declared.stepped.Stepped.TheVariants.{Same};
 ghost use Rattle.lab_debug.specs.Commands.{step_count_max};
 ghost use Rattle.lab_debug.specs.Texts.{status_text};
 ghost use Rattle.lab_debug.specs.Verdicts.{verdict_text};
-ghost use Rattle.lab_debug.specs.Effects.{IsCommand, is_at, until, is_there, are_there, carried_out, obeyed, line_effect, refusal_text};
+ghost use Rattle.lab_debug.specs.Private.Replies.{effect_of};
+ghost use Rattle.lab_debug.specs.Effects.{IsCommand, is_at, until, is_there, are_there, carried_out, command_effect, line_effect, refusal_text};
 
 use crate::command::{Command, Refusal, read_command};
 use crate::machine;
@@ -42,7 +43,7 @@ fn refuse(alloc: Global, refusal: Refusal) -> Result<Reply, AllocError>
 
 /// Takes the steps of a schedule.
 fn run_schedule(world: &mut World, schedule: &Schedule) -> Result<(), AllocError>
-    ensures { OnOk result (world.new ≡ run world.old (steps_of schedule.now)) }
+    ensures world { OnOk result (world.new ≡ run world.old (steps_of schedule.now)) }
 {
     match world.run(schedule) {
         Ok(()) => Ok(()),
@@ -56,7 +57,7 @@ fn step_times(alloc: Global, world: &mut World, pid: usize, count: u32) -> Resul
     requires process { pid < process_max }
     requires some { 1 ≤ count }
     requires few { count ≤ step_count_max }
-    ensures { OnOk result (world.new ≡ run world.old (replicate count pid)) }
+    ensures world { OnOk result (world.new ≡ run world.old (replicate count pid)) }
 {
     let mut schedule = Schedule::new(alloc);
     schedule.push(pid, count)?;
@@ -65,7 +66,7 @@ fn step_times(alloc: Global, world: &mut World, pid: usize, count: u32) -> Resul
 
 /// Whether the program counter of process `pid` is at an address.
 fn is_at(world: &World, pid: usize, address: u16) -> bool
-    ensures { result ≡ is_at address (slice_get world.now.processes pid) }
+    ensures value { result ≡ is_at address (slice_get world.now.processes pid) }
 {
     match world.process(pid) {
         Some(process) => machine::pc(process) == address,
@@ -83,7 +84,7 @@ fn is_same(stepped: Stepped) -> bool
 
 /// Takes at most so many steps of a process: up to an address, and only steps that have an effect.
 fn step_until(world: &mut World, pid: usize, address: u16, count: u32) -> Result<(), AllocError>
-    ensures { OnOk result (world.new ≡ until pid address world.old count) }
+    ensures world { OnOk result (world.new ≡ until pid address world.old count) }
 {
     for i in 0..count {
         if is_at(world, pid, address) {
@@ -101,21 +102,21 @@ fn step_until(world: &mut World, pid: usize, address: u16, count: u32) -> Result
 
 /// Whether process `pid` is there.
 fn is_there(world: &World, pid: usize) -> bool
-    ensures { result ≡ is_there world.now pid }
+    ensures value { result ≡ is_there world.now pid }
 {
     pid < world.count()
 }
 
 /// Whether the process of each block is there.
 fn blocks_are_there(world: &World, blocks: &[Block]) -> bool
-    ensures { result ≡ list_all (λ b. is_there world.now b.pid) blocks.now }
+    ensures value { result ≡ list_all (λ b. is_there world.now b.pid) blocks.now }
 {
     blocks.iter().all(|block| is_there(world, block.pid))
 }
 
 /// Whether each process that a command names is there.
 fn are_there(world: &World, command: &Command) -> bool
-    ensures { result ≡ are_there world.now command.now }
+    ensures value { result ≡ are_there world.now command.now }
 {
     match command {
         Command::Step { pid, .. }
@@ -131,8 +132,8 @@ fn are_there(world: &World, command: &Command) -> bool
 
 /// Carries out a command whose processes are there.
 fn carry_out(alloc: Global, world: &mut World, command: Command) -> Result<Reply, AllocError>
-    requires { IsCommand command }
-    ensures { IfOk result (λ r. record { text = string_bytes r.text; world = world.new; ends = r.ends } ≡ carried_out world.old command) }
+    requires ranges { IsCommand command }
+    ensures effect { IfOk result (λ r. effect_of r world.new ≡ carried_out world.old command) }
 {
     let text = match command {
         Command::Step { pid, count } => {
@@ -170,8 +171,8 @@ fn carry_out(alloc: Global, world: &mut World, command: Command) -> Result<Reply
 
 /// Carries out a command, or refuses it where a process isn't there.
 fn obey(alloc: Global, world: &mut World, command: Command) -> Result<Reply, AllocError>
-    requires { IsCommand command }
-    ensures { IfOk result (λ r. record { text = string_bytes r.text; world = world.new; ends = r.ends } ≡ obeyed world.old command) }
+    requires ranges { IsCommand command }
+    ensures effect { IfOk result (λ r. effect_of r world.new ≡ command_effect world.old command) }
 {
     if are_there(world, &command) {
         carry_out(alloc, world, command)
@@ -183,7 +184,7 @@ fn obey(alloc: Global, world: &mut World, command: Command) -> Result<Reply, All
 /// Carries out a line.
 #[tactic(auto, unfolding(crate::specs::Effects::line_effect))]
 pub fn perform(alloc: Global, world: &mut World, line: &[u8]) -> Result<Reply, AllocError>
-    ensures { IfOk result (λ r. record { text = string_bytes r.text; world = world.new; ends = r.ends } ≡ line_effect world.old line.now) }
+    ensures effect { IfOk result (λ r. effect_of r world.new ≡ line_effect world.old line.now) }
 {
     let words = split_words(alloc, line)?;
     let Some((name, operands)) = words.as_slice().split_first() else {

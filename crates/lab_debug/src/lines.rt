@@ -34,7 +34,7 @@ impl Model for Pending {
 impl Pending {
     /// No bytes.
     pub fn new() -> Pending
-        ensures { result ≡ [] }
+        ensures empty { result ≡ [] }
     {
         Pending {
             bytes: [0; CHUNK],
@@ -45,7 +45,9 @@ impl Pending {
 
     /// Reads where nothing is left.
     fn fill<R: Read>(&mut self, input: &mut Input<R>) -> Result<(), Failed>
-        ensures same { OnOk result (Keeps (prepend_known self.old (R.remaining input.old.device)) (prepend_known self.new (R.remaining input.new.device))) }
+        ensures same { OnOk result (Keeps
+            (prepend_known self.old (R.remaining input.old.device))
+            (prepend_known self.new (R.remaining input.new.device))) }
         ensures end { OnOk result (self.new ≡ [] → IsAtEnd (R.remaining input.new.device)) }
         ensures err { OnErr result (IsTrue input.new.failed) }
     {
@@ -60,7 +62,9 @@ impl Pending {
 
     /// Whether nothing more comes.
     pub fn is_at_end<R: Read>(&mut self, input: &mut Input<R>) -> Result<bool, Failed>
-        ensures same { OnOk result (Keeps (prepend_known self.old (R.remaining input.old.device)) (prepend_known self.new (R.remaining input.new.device))) }
+        ensures same { OnOk result (Keeps
+            (prepend_known self.old (R.remaining input.old.device))
+            (prepend_known self.new (R.remaining input.new.device))) }
         ensures end { IfOk result (λ end. IsTrue end ↔ (self.new ≡ [])) }
         ensures known { IfOk result (λ end. IsTrue end → IsAtEnd (R.remaining input.new.device)) }
         ensures err { OnErr result (IsTrue input.new.failed) }
@@ -71,7 +75,9 @@ impl Pending {
 
     /// The next byte, or none at the end.
     fn next_byte<R: Read>(&mut self, input: &mut Input<R>) -> Result<Option<u8>, Failed>
-        ensures byte { IfOk result (λ next. TakesByte (prepend_known self.old (R.remaining input.old.device)) (prepend_known self.new (R.remaining input.new.device)) next) }
+        ensures byte { IfOk result (λ next. TakesByte
+            (prepend_known self.old (R.remaining input.old.device))
+            (prepend_known self.new (R.remaining input.new.device)) next) }
         ensures err { OnErr result (IsTrue input.new.failed) }
     {
         if self.is_at_end(input)? {
@@ -88,10 +94,14 @@ impl Pending {
         alloc: Global,
         input: &mut Input<R>,
     ) -> Result<Option<Vec<u8>>, SessionFault>
-        ensures line { IfOk result (λ found. TakesLine (prepend_known self.old (R.remaining input.old.device))
-            (prepend_known self.new (R.remaining input.new.device)) (option_map (λ line. line.items) found)) }
-        ensures limit { IfOk result (λ found. IfSome found (λ line. length line.items ≤ line_limit)) }
-        ensures err { IfErr result (λ e. Stops e (prepend_known self.old (R.remaining input.old.device)) input.new.failed) }
+        ensures line { IfOk result (λ found. TakesLine
+            (prepend_known self.old (R.remaining input.old.device))
+            (prepend_known self.new (R.remaining input.new.device))
+            (option_map (λ line. line.items) found)) }
+        ensures limit { IfOk result (λ found.
+            IfSome found (λ line. length line.items ≤ line_limit)) }
+        ensures err { IfErr result (λ e.
+            Stops e (prepend_known self.old (R.remaining input.old.device)) input.new.failed) }
     {
         let mut line = Vec::new(alloc);
         loop {

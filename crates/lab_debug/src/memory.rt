@@ -1,8 +1,10 @@
 //! Ranges of memory.
-ghost use Rattle.std.specs.Prelude.{◌≡◌, ◌≤◌, ◌+◌, ◌++◌, OnOk, string_bytes};
+ghost use Rattle.std.specs.Prelude.{◌≤◌, ◌+◌, OnOk};
 ghost use Rattle.lc3_table.specs.Text.{line_text};
-ghost use Rattle.lab_sched.specs.Held.{seen};
-ghost use Rattle.lab_debug.specs.Texts.{machine_of, word_line, memory_lines, mem_text, dis_text};
+ghost use Rattle.lab_sched.specs.Held.{process_view};
+ghost use Rattle.lab_sched.specs.Worlds.{machine_of};
+ghost use Rattle.lab_debug.specs.Rows.{Adds};
+ghost use Rattle.lab_debug.specs.Texts.{word_line, memory_lines, mem_text, dis_text};
 
 use crate::machine;
 use lab_sched::{Process, World};
@@ -13,7 +15,7 @@ use std::alloc::AllocError;
 /// Adds an address and its word.
 #[tactic(auto, unfolding(crate::specs::Texts::word_line))]
 fn push_word(text: &mut String, address: u16, word: u16) -> Result<(), AllocError>
-    ensures { OnOk result (string_bytes text.new ≡ string_bytes text.old ++ word_line address word) }
+    ensures text { OnOk result (Adds text.old text.new (word_line address word)) }
 {
     let place = Hex(address);
     let content = Hex(word);
@@ -26,7 +28,7 @@ fn push_word(text: &mut String, address: u16, word: u16) -> Result<(), AllocErro
 /// Adds an address, its word and the word's text.
 #[tactic(auto, unfolding(lc3_table::specs::Text::line_text))]
 fn push_word_text(text: &mut String, address: u16, word: u16) -> Result<(), AllocError>
-    ensures { OnOk result (string_bytes text.new ≡ string_bytes text.old ++ line_text address word) }
+    ensures text { OnOk result (Adds text.old text.new (line_text address word)) }
 {
     let place = Hex(address);
     let content = Hex(word);
@@ -46,7 +48,8 @@ fn push_words(
     count: u32,
 ) -> Result<(), AllocError>
     requires range { address + count ≤ 65536 }
-    ensures { OnOk result (string_bytes text.new ≡ string_bytes text.old ++ memory_lines word_line address count (machine_of (seen process.now))) }
+    ensures text { OnOk result (Adds text.old text.new
+        (memory_lines word_line address count (machine_of (process_view process.now)))) }
 {
     for i in 0..count {
         let place = (address + i) as u16;
@@ -64,7 +67,8 @@ fn push_texts(
     count: u32,
 ) -> Result<(), AllocError>
     requires range { address + count ≤ 65536 }
-    ensures { OnOk result (string_bytes text.new ≡ string_bytes text.old ++ memory_lines line_text address count (machine_of (seen process.now))) }
+    ensures text { OnOk result (Adds text.old text.new
+        (memory_lines line_text address count (machine_of (process_view process.now)))) }
 {
     for i in 0..count {
         let place = (address + i) as u16;
@@ -82,7 +86,7 @@ pub fn push_mem(
     count: u32,
 ) -> Result<(), AllocError>
     requires range { address + count ≤ 65536 }
-    ensures { OnOk result (string_bytes text.new ≡ string_bytes text.old ++ mem_text pid address count world.now) }
+    ensures text { OnOk result (Adds text.old text.new (mem_text pid address count world.now)) }
 {
     match world.process(pid) {
         Some(process) => push_words(text, process, u32::from(address), count),
@@ -99,7 +103,7 @@ pub fn push_dis(
     count: u32,
 ) -> Result<(), AllocError>
     requires range { address + count ≤ 65536 }
-    ensures { OnOk result (string_bytes text.new ≡ string_bytes text.old ++ dis_text pid address count world.now) }
+    ensures text { OnOk result (Adds text.old text.new (dis_text pid address count world.now)) }
 {
     match world.process(pid) {
         Some(process) => push_texts(text, process, u32::from(address), count),

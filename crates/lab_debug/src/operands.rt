@@ -13,7 +13,7 @@ const BLANKS: &[u8] = b" \t\r";
 
 /// The words of a line.
 pub fn split_words(alloc: Global, line: &[u8]) -> Result<Vec<&[u8]>, AllocError>
-    ensures { IfOk result (λ words. map (λ word. word.now) words.items ≡ words_of line.now) }
+    ensures words { IfOk result (λ words. map (λ word. word.now) words.items ≡ words_of line.now) }
 {
     words_between(alloc, BLANKS, line)
 }
@@ -21,7 +21,7 @@ pub fn split_words(alloc: Global, line: &[u8]) -> Result<Vec<&[u8]>, AllocError>
 /// The number that a word writes, from `low` to `high`.
 #[tactic(auto, using(crate::proofs::NumberLemmas::number_within_capped))]
 pub fn number_in(low: u32, high: u32, word: &[u8]) -> Option<u32>
-    requires { high < 1_000_000_000 }
+    requires small { high < 1_000_000_000 }
     ensures value { result ≡ number_within low high word.now }
     ensures range { IfSome result (λ n. (low ≤ n) × (n ≤ high)) }
 {
@@ -63,7 +63,7 @@ pub fn count_in(word: &[u8]) -> Option<u32>
 
 /// The operand, where there is just one.
 pub fn one<'a>(operands: &[&'a [u8]]) -> Option<&'a [u8]>
-    ensures { option_map (λ w. w.now) result ≡ one_of (map (λ word. word.now) operands.now) }
+    ensures value { option_map (λ w. w.now) result ≡ one_of (map (λ word. word.now) operands.now) }
 {
     match operands {
         [a] => Some(*a),
@@ -73,7 +73,8 @@ pub fn one<'a>(operands: &[&'a [u8]]) -> Option<&'a [u8]>
 
 /// The operands, where there are just two.
 pub fn two<'a>(operands: &[&'a [u8]]) -> Option<(&'a [u8], &'a [u8])>
-    ensures { option_map (λ w. (w.0.now, w.1.now)) result ≡ two_of (map (λ word. word.now) operands.now) }
+    ensures value { option_map (λ w. (w.0.now, w.1.now)) result
+        ≡ two_of (map (λ word. word.now) operands.now) }
 {
     match operands {
         [a, b] => Some((*a, *b)),
@@ -86,7 +87,8 @@ pub type Three<'a> = (&'a [u8], &'a [u8], &'a [u8]);
 
 /// The operands, where there are just three.
 pub fn three<'a>(operands: &[&'a [u8]]) -> Option<Three<'a>>
-    ensures { option_map (λ w. (w.0.now, w.1.now, w.2.now)) result ≡ three_of (map (λ word. word.now) operands.now) }
+    ensures value { option_map (λ w. (w.0.now, w.1.now, w.2.now)) result
+        ≡ three_of (map (λ word. word.now) operands.now) }
 {
     match operands {
         [a, b, c] => Some((*a, *b, *c)),

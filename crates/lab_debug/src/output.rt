@@ -1,7 +1,9 @@
 //! What processes have written.
-ghost use Rattle.std.specs.Prelude.{◌≡◌, ◌<◌, ◌++◌, Some, OnOk, IsTrue, string_bytes, flat_map};
-ghost use Rattle.lab_sched.specs.Held.{seen};
-ghost use Rattle.lab_debug.specs.Texts.{machine_of, is_plain, escape_text, escaped, out_line, out_text};
+ghost use Rattle.std.specs.Prelude.{◌≡◌, ◌<◌, Some, OnOk, IsTrue, flat_map};
+ghost use Rattle.lab_sched.specs.Held.{process_view};
+ghost use Rattle.lab_sched.specs.Worlds.{machine_of};
+ghost use Rattle.lab_debug.specs.Rows.{Adds};
+ghost use Rattle.lab_debug.specs.Texts.{is_plain, escape_text, escape_of, out_line, out_text};
 
 use crate::machine;
 use lab_sched::World;
@@ -32,9 +34,9 @@ impl fmt::Display for Escape {
 }
 
 /// Adds a byte so that it can be printed.
-#[tactic(auto, unfolding(crate::specs::Texts::escaped))]
+#[tactic(auto, unfolding(crate::specs::Texts::escape_of))]
 fn push_byte(text: &mut String, byte: u8) -> Result<(), AllocError>
-    ensures { OnOk result (string_bytes text.new ≡ string_bytes text.old ++ escaped byte) }
+    ensures text { OnOk result (Adds text.old text.new (escape_of byte)) }
 {
     if is_plain_byte(byte) {
         text.push(char::from(byte))
@@ -49,7 +51,7 @@ fn push_byte(text: &mut String, byte: u8) -> Result<(), AllocError>
 
 /// Adds bytes so that each can be printed.
 fn push_escaped(text: &mut String, bytes: &[u8]) -> Result<(), AllocError>
-    ensures { OnOk result (string_bytes text.new ≡ string_bytes text.old ++ flat_map escaped bytes.now) }
+    ensures text { OnOk result (Adds text.old text.new (flat_map escape_of bytes.now)) }
 {
     for byte in bytes {
         push_byte(text, *byte)?;
@@ -60,7 +62,7 @@ fn push_escaped(text: &mut String, bytes: &[u8]) -> Result<(), AllocError>
 /// Adds an output line.
 #[tactic(auto, unfolding(crate::specs::Texts::out_line))]
 fn push_line(text: &mut String, pid: usize, bytes: &[u8]) -> Result<(), AllocError>
-    ensures { OnOk result (string_bytes text.new ≡ string_bytes text.old ++ out_line pid bytes.now) }
+    ensures text { OnOk result (Adds text.old text.new (out_line pid bytes.now)) }
 {
     write!(text, "out {pid}")?;
     if !bytes.is_empty() {
@@ -72,7 +74,7 @@ fn push_line(text: &mut String, pid: usize, bytes: &[u8]) -> Result<(), AllocErr
 
 /// Adds the output line of process `pid`, where it is there.
 pub fn push_out(text: &mut String, world: &World, pid: usize) -> Result<(), AllocError>
-    ensures { OnOk result (string_bytes text.new ≡ string_bytes text.old ++ out_text pid world.now) }
+    ensures text { OnOk result (Adds text.old text.new (out_text pid world.now)) }
 {
     match world.process(pid) {
         Some(process) => push_line(text, pid, machine::output(process)),

@@ -1,5 +1,6 @@
 //! The profile of a world.
-ghost use Rattle.std.specs.Prelude.{◌≡◌, ◌++◌, OnOk, string_bytes};
+ghost use Rattle.std.specs.Prelude.{OnOk};
+ghost use Rattle.lab_debug.specs.Rows.{Adds};
 ghost use Rattle.lab_debug.specs.Texts.{profile_text};
 
 use lab_sched::World;
@@ -7,7 +8,7 @@ use std::alloc::AllocError;
 
 /// Adds the profile that the processes have.
 pub fn push_profile(text: &mut String, world: &World) -> Result<(), AllocError>
-    ensures { OnOk result (string_bytes text.new ≡ string_bytes text.old ++ profile_text world.now) }
+    ensures text { OnOk result (Adds text.old text.new (profile_text world.now)) }
 {
     let profile = world.profile();
     match write!(text, "profile {profile}\n") {

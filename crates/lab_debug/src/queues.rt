@@ -1,8 +1,8 @@
 //! Message queues and their messages.
-ghost use Rattle.std.specs.Prelude.{◌≡◌, ◌++◌, Some, OnOk, string_bytes, flat_map};
+ghost use Rattle.std.specs.Prelude.{Some, OnOk, flat_map};
 ghost use Rattle.std.specs.Option.{option_copied};
-ghost use Rattle.ipc_kernel.specs.Places.{place_at, queue_and_name};
-ghost use Rattle.lab_debug.specs.Objects.{name_text, object_part, sizes_part, queue_line, word_part, message_line, queue_lines, mqs_text};
+ghost use Rattle.lab_debug.specs.Rows.{Adds};
+ghost use Rattle.lab_debug.specs.Objects.{name_text, object_part, sizes_part, queue_line, word_part, message_line, queue_text, mqs_text};
 
 use ipc_kernel::OBJECT_PLACES;
 use ipc_names::Name;
@@ -33,7 +33,8 @@ impl fmt::Display for NameText<'_> {
 /// Adds the place and the name of an object, each with a blank.
 #[tactic(auto, unfolding(crate::specs::Objects::object_part))]
 pub fn push_object(text: &mut String, place: u8, name: Option<&Name>) -> Result<(), AllocError>
-    ensures { OnOk result (string_bytes text.new ≡ string_bytes text.old ++ object_part place (option_copied name.entry)) }
+    ensures text { OnOk result (Adds text.old text.new
+        (object_part place (option_copied name.entry))) }
 {
     let name = NameText(name);
     match write!(text, "{place} {name} ") {
@@ -45,7 +46,7 @@ pub fn push_object(text: &mut String, place: u8, name: Option<&Name>) -> Result<
 /// Adds the sizes of a queue.
 #[tactic(auto, unfolding(crate::specs::Objects::sizes_part))]
 fn push_sizes(text: &mut String, queue: &Queue) -> Result<(), AllocError>
-    ensures { OnOk result (string_bytes text.new ≡ string_bytes text.old ++ sizes_part queue.now) }
+    ensures text { OnOk result (Adds text.old text.new (sizes_part queue.now)) }
 {
     let (most, size, count) = queue.attr();
     match write!(text, "{most} {size} {count}\n") {
@@ -61,7 +62,8 @@ fn push_queue(
     name: Option<&Name>,
     queue: &Queue,
 ) -> Result<(), AllocError>
-    ensures { OnOk result (string_bytes text.new ≡ string_bytes text.old ++ queue_line place (option_copied name.entry) queue.now) }
+    ensures text { OnOk result (Adds text.old text.new
+        (queue_line place (option_copied name.entry) queue.now)) }
 {
     push_object(text, place, name)?;
     push_sizes(text, queue)
@@ -69,7 +71,7 @@ fn push_queue(
 
 /// Adds words, each after a blank.
 fn push_words(text: &mut String, words: &[u16]) -> Result<(), AllocError>
-    ensures { OnOk result (string_bytes text.new ≡ string_bytes text.old ++ flat_map word_part words.now) }
+    ensures text { OnOk result (Adds text.old text.new (flat_map word_part words.now)) }
 {
     for word in words {
         let word = Hex(*word);
@@ -81,7 +83,8 @@ fn push_words(text: &mut String, words: &[u16]) -> Result<(), AllocError>
 /// Adds the line of a message.
 #[tactic(auto, unfolding(crate::specs::Objects::message_line))]
 fn push_message(text: &mut String, priority: u16, words: &[u16]) -> Result<(), AllocError>
-    ensures { OnOk result (string_bytes text.new ≡ string_bytes text.old ++ message_line (record { priority = priority; words = words.now })) }
+    ensures text { OnOk result (Adds text.old text.new
+        (message_line (record { priority = priority; words = words.now }))) }
 {
     write!(text, " {priority}")?;
     push_words(text, words)?;
@@ -90,7 +93,7 @@ fn push_message(text: &mut String, priority: u16, words: &[u16]) -> Result<(), A
 
 /// Adds the messages of a queue, in the order in which they would be received.
 fn push_messages(text: &mut String, queue: &Queue) -> Result<(), AllocError>
-    ensures { OnOk result (string_bytes text.new ≡ string_bytes text.old ++ flat_map message_line queue.now.messages) }
+    ensures text { OnOk result (Adds text.old text.new (flat_map message_line queue.now.messages)) }
 {
     let (_, _, count) = queue.attr();
     for i in 0..count {
@@ -104,7 +107,7 @@ fn push_messages(text: &mut String, queue: &Queue) -> Result<(), AllocError>
 
 /// Adds the queue in a place, if there is one, and its messages.
 fn push_place(text: &mut String, world: &World, place: u8) -> Result<(), AllocError>
-    ensures { OnOk result (string_bytes text.new ≡ string_bytes text.old ++ queue_lines place (queue_and_name (place_at world.now.kernel.places place))) }
+    ensures text { OnOk result (Adds text.old text.new (queue_text place world.now)) }
 {
     match world.kernel().queue_at(place) {
         Some((name, queue)) => {
@@ -118,7 +121,7 @@ fn push_place(text: &mut String, world: &World, place: u8) -> Result<(), AllocEr
 /// Adds the queues in order of place.
 #[tactic(auto, using(crate::proofs::RowLemmas::each_none))]
 pub fn push_mqs(text: &mut String, world: &World) -> Result<(), AllocError>
-    ensures { OnOk result (string_bytes text.new ≡ string_bytes text.old ++ mqs_text world.now) }
+    ensures text { OnOk result (Adds text.old text.new (mqs_text world.now)) }
 {
     for place in 0..OBJECT_PLACES as u8 {
         push_place(text, world, place)?;

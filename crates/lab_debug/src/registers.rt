@@ -1,8 +1,9 @@
 //! Registers, program counter and condition code.
-ghost use Rattle.std.specs.Prelude.{◌≡◌, ◌++◌, Some, OnOk, string_bytes};
-ghost use Rattle.lab_sched.specs.Held.{seen};
-ghost use Rattle.lab_debug.specs.Rows.{each};
-ghost use Rattle.lab_debug.specs.Texts.{machine_of, code_text, register_part, counter_part, regs_line, regs_text};
+ghost use Rattle.std.specs.Prelude.{◌≡◌, Some, OnOk};
+ghost use Rattle.lab_sched.specs.Held.{process_view};
+ghost use Rattle.lab_sched.specs.Worlds.{machine_of};
+ghost use Rattle.lab_debug.specs.Rows.{Adds, each};
+ghost use Rattle.lab_debug.specs.Texts.{code_text, register_part, counter_part, regs_line, regs_text};
 
 use crate::machine;
 use lab_sched::{Process, World};
@@ -23,7 +24,8 @@ fn code_name(code: Cc) -> &'static str
 /// Adds a register and a blank.
 #[tactic(auto, unfolding(crate::specs::Texts::register_part))]
 fn push_register(text: &mut String, process: &Process, r: Reg) -> Result<(), AllocError>
-    ensures { OnOk result (string_bytes text.new ≡ string_bytes text.old ++ register_part (machine_of (seen process.now)) r) }
+    ensures text { OnOk result (Adds text.old text.new
+        (register_part (machine_of (process_view process.now)) r)) }
 {
     let word = Hex(machine::reg(process, r));
     match write!(text, "{r} {word} ") {
@@ -35,7 +37,8 @@ fn push_register(text: &mut String, process: &Process, r: Reg) -> Result<(), All
 /// Adds R0 to R7, each with a blank.
 #[tactic(auto, using(crate::proofs::RowLemmas::each_none, crate::proofs::RowLemmas::each_more))]
 fn push_registers(text: &mut String, process: &Process) -> Result<(), AllocError>
-    ensures { OnOk result (string_bytes text.new ≡ string_bytes text.old ++ each 8 (register_part (machine_of (seen process.now)))) }
+    ensures text { OnOk result (Adds text.old text.new
+        (each 8 (register_part (machine_of (process_view process.now))))) }
 {
     for number in 0..8u16 {
         push_register(text, process, Reg::of_low_bits(number))?;
@@ -46,7 +49,8 @@ fn push_registers(text: &mut String, process: &Process) -> Result<(), AllocError
 /// Adds the program counter and the condition code.
 #[tactic(auto, unfolding(crate::specs::Texts::counter_part))]
 fn push_counter(text: &mut String, process: &Process) -> Result<(), AllocError>
-    ensures { OnOk result (string_bytes text.new ≡ string_bytes text.old ++ counter_part (machine_of (seen process.now))) }
+    ensures text { OnOk result (Adds text.old text.new
+        (counter_part (machine_of (process_view process.now)))) }
 {
     let pc = Hex(machine::pc(process));
     let code = code_name(machine::cc(process));
@@ -58,7 +62,8 @@ fn push_counter(text: &mut String, process: &Process) -> Result<(), AllocError>
 
 /// Adds the line of a process's registers.
 fn push_line(text: &mut String, process: &Process) -> Result<(), AllocError>
-    ensures { OnOk result (string_bytes text.new ≡ string_bytes text.old ++ regs_line (machine_of (seen process.now))) }
+    ensures text { OnOk result (Adds text.old text.new
+        (regs_line (machine_of (process_view process.now)))) }
 {
     push_registers(text, process)?;
     push_counter(text, process)
@@ -66,7 +71,7 @@ fn push_line(text: &mut String, process: &Process) -> Result<(), AllocError>
 
 /// Adds the registers of process `pid`, where it is there.
 pub fn push_regs(text: &mut String, world: &World, pid: usize) -> Result<(), AllocError>
-    ensures { OnOk result (string_bytes text.new ≡ string_bytes text.old ++ regs_text pid world.now) }
+    ensures text { OnOk result (Adds text.old text.new (regs_text pid world.now)) }
 {
     match world.process(pid) {
         Some(process) => push_line(text, process),

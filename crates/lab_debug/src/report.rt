@@ -1,8 +1,8 @@
 //! Verdicts and reports.
-ghost use Rattle.std.specs.Prelude.{◌≡◌, ◌++◌, OnOk, length, string_bytes};
-ghost use Rattle.lab_debug.specs.Rows.{each};
+ghost use Rattle.std.specs.Prelude.{◌≡◌, OnOk};
+ghost use Rattle.lab_debug.specs.Rows.{Adds};
 ghost use Rattle.lab_debug.specs.Verdicts.{verdict_line, verdict_text};
-ghost use Rattle.lab_debug.specs.Reports.{process_report, report_text};
+ghost use Rattle.lab_debug.specs.Reports.{process_report, process_reports, report_text};
 
 use crate::output::push_out;
 use crate::status::push_status;
@@ -22,14 +22,14 @@ fn line_of(verdict: Verdict) -> &'static str
 
 /// Adds the verdict on a world.
 pub fn push_verdict(text: &mut String, world: &World) -> Result<(), AllocError>
-    ensures { OnOk result (string_bytes text.new ≡ string_bytes text.old ++ verdict_text world.now) }
+    ensures text { OnOk result (Adds text.old text.new (verdict_text world.now)) }
 {
     text.push_str(line_of(world.verdict()))
 }
 
 /// Adds the status line and the output line of process `pid`.
 fn push_process(text: &mut String, world: &World, pid: usize) -> Result<(), AllocError>
-    ensures { OnOk result (string_bytes text.new ≡ string_bytes text.old ++ process_report pid world.now) }
+    ensures text { OnOk result (Adds text.old text.new (process_report pid world.now)) }
 {
     push_status(text, world, pid)?;
     push_out(text, world, pid)
@@ -38,7 +38,7 @@ fn push_process(text: &mut String, world: &World, pid: usize) -> Result<(), Allo
 /// Adds these of each process.
 #[tactic(auto, using(crate::proofs::RowLemmas::each_none))]
 fn push_processes(text: &mut String, world: &World) -> Result<(), AllocError>
-    ensures { OnOk result (string_bytes text.new ≡ string_bytes text.old ++ each (length world.now.processes) (λ pid. process_report pid world.now)) }
+    ensures text { OnOk result (Adds text.old text.new (process_reports world.now)) }
 {
     for pid in 0..world.count() {
         push_process(text, world, pid)?;
@@ -49,7 +49,7 @@ fn push_processes(text: &mut String, world: &World) -> Result<(), AllocError>
 /// Adds the report on a world.
 #[tactic(auto, unfolding(crate::specs::Reports::report_text))]
 pub fn push_report(text: &mut String, world: &World) -> Result<(), AllocError>
-    ensures { OnOk result (string_bytes text.new ≡ string_bytes text.old ++ report_text world.now) }
+    ensures text { OnOk result (Adds text.old text.new (report_text world.now)) }
 {
     push_processes(text, world)?;
     push_verdict(text, world)

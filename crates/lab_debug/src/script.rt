@@ -3,8 +3,8 @@ ghost use Rattle.std.specs.Prelude.{◌≡◌, Ok, IfOk, IfErr, OnOk, OnErr, IfS
 ghost use Rattle.std.specs.Option.{option_map};
 ghost use Rattle.std.specs.Io.KnownBytes.{Appends};
 ghost use Rattle.lab_io.specs.Device.{AppendsPrefix};
-ghost use Rattle.lab_debug.specs.Effects.{line_effect};
-ghost use Rattle.lab_debug.specs.Script.{script, Explains};
+ghost use Rattle.lab_debug.specs.Effects.{session};
+ghost use Rattle.lab_debug.specs.Script.{Explains};
 
 use crate::LINE_COUNT_LIMIT;
 use crate::effect::perform;
@@ -22,12 +22,17 @@ fn perform_lines<R: Read, W: Write>(
     input: &mut Input<R>,
     output: &mut Output<W>,
 ) -> Result<(), SessionFault>
-    ensures written { IfSome (R.remaining input.old.device) (λ bytes.
-        OnOk result (Appends (W.contents output.old.device) (W.contents output.new.device) (script line_effect world.old bytes).text)) }
-    ensures world { IfSome (R.remaining input.old.device) (λ bytes. OnOk result ((script line_effect world.old bytes).end ≡ Ok world.new)) }
-    ensures prefix { IfSome (R.remaining input.old.device) (λ bytes.
-        OnErr result (AppendsPrefix (W.contents output.old.device) (W.contents output.new.device) (script line_effect world.old bytes).text)) }
-    ensures fault { IfErr result (λ e. Explains e (option_map (script line_effect world.old) (R.remaining input.old.device)) input.new.failed output.new.failed) }
+    ensures written { IfSome (R.remaining input.old.device) (λ bytes. OnOk result (Appends
+        (W.contents output.old.device) (W.contents output.new.device)
+        (session world.old bytes).text)) }
+    ensures world { IfSome (R.remaining input.old.device) (λ bytes.
+        OnOk result ((session world.old bytes).end ≡ Ok world.new)) }
+    ensures prefix { IfSome (R.remaining input.old.device) (λ bytes. OnErr result (AppendsPrefix
+        (W.contents output.old.device) (W.contents output.new.device)
+        (session world.old bytes).text)) }
+    ensures fault { IfErr result (λ e. Explains e
+        (option_map (session world.old) (R.remaining input.old.device))
+        input.new.failed output.new.failed) }
 {
     let mut pending = Pending::new();
     for _ in 0..LINE_COUNT_LIMIT {
@@ -59,12 +64,17 @@ pub fn session<R: Read, W: Write>(
     input: &mut Input<R>,
     output: &mut Output<W>,
 ) -> Result<World, SessionFault>
-    ensures written { IfSome (R.remaining input.old.device) (λ bytes.
-        OnOk result (Appends (W.contents output.old.device) (W.contents output.new.device) (script line_effect world bytes).text)) }
-    ensures world { IfSome (R.remaining input.old.device) (λ bytes. IfOk result (λ last. (script line_effect world bytes).end ≡ Ok last)) }
-    ensures prefix { IfSome (R.remaining input.old.device) (λ bytes.
-        OnErr result (AppendsPrefix (W.contents output.old.device) (W.contents output.new.device) (script line_effect world bytes).text)) }
-    ensures fault { IfErr result (λ e. Explains e (option_map (script line_effect world) (R.remaining input.old.device)) input.new.failed output.new.failed) }
+    ensures written { IfSome (R.remaining input.old.device) (λ bytes. OnOk result (Appends
+        (W.contents output.old.device) (W.contents output.new.device)
+        (session world bytes).text)) }
+    ensures world { IfSome (R.remaining input.old.device) (λ bytes.
+        IfOk result (λ last. (session world bytes).end ≡ Ok last)) }
+    ensures prefix { IfSome (R.remaining input.old.device) (λ bytes. OnErr result (AppendsPrefix
+        (W.contents output.old.device) (W.contents output.new.device)
+        (session world bytes).text)) }
+    ensures fault { IfErr result (λ e. Explains e
+        (option_map (session world) (R.remaining input.old.device))
+        input.new.failed output.new.failed) }
 {
     let mut world = world;
     perform_lines(alloc, &mut world, input, output)?;

@@ -1,7 +1,7 @@
 //! Semaphores and their values.
-ghost use Rattle.std.specs.Prelude.{◌≡◌, ◌++◌, OnOk, string_bytes};
-ghost use Rattle.ipc_kernel.specs.Places.{place_at, value_and_name};
-ghost use Rattle.lab_debug.specs.Objects.{semaphore_line, sems_text};
+ghost use Rattle.std.specs.Prelude.{OnOk};
+ghost use Rattle.lab_debug.specs.Rows.{Adds};
+ghost use Rattle.lab_debug.specs.Objects.{semaphore_text, sems_text};
 
 use crate::queues::push_object;
 use ipc_kernel::OBJECT_PLACES;
@@ -10,7 +10,7 @@ use std::alloc::AllocError;
 
 /// Adds the line of the semaphore in a place, if there is one.
 fn push_place(text: &mut String, world: &World, place: u8) -> Result<(), AllocError>
-    ensures { OnOk result (string_bytes text.new ≡ string_bytes text.old ++ semaphore_line place (value_and_name (place_at world.now.kernel.places place))) }
+    ensures text { OnOk result (Adds text.old text.new (semaphore_text place world.now)) }
 {
     let Some((name, value)) = world.kernel().semaphore_at(place) else {
         return Ok(());
@@ -25,7 +25,7 @@ fn push_place(text: &mut String, world: &World, place: u8) -> Result<(), AllocEr
 /// Adds the semaphores in order of place.
 #[tactic(auto, using(crate::proofs::RowLemmas::each_none))]
 pub fn push_sems(text: &mut String, world: &World) -> Result<(), AllocError>
-    ensures { OnOk result (string_bytes text.new ≡ string_bytes text.old ++ sems_text world.now) }
+    ensures text { OnOk result (Adds text.old text.new (sems_text world.now)) }
 {
     for place in 0..OBJECT_PLACES as u8 {
         push_place(text, world, place)?;

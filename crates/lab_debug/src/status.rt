@@ -1,7 +1,9 @@
 //! Status lines.
-ghost use Rattle.std.specs.Prelude.{◌≡◌, ◌++◌, Some, OnOk, string_bytes};
-ghost use Rattle.lab_sched.specs.Held.{seen};
-ghost use Rattle.lab_debug.specs.Texts.{machine_of, how_text, place_text, state_text, status_line, status_text, procs_text};
+ghost use Rattle.std.specs.Prelude.{◌≡◌, Some, OnOk};
+ghost use Rattle.lab_sched.specs.Held.{process_view};
+ghost use Rattle.lab_sched.specs.Worlds.{machine_of};
+ghost use Rattle.lab_debug.specs.Rows.{Adds};
+ghost use Rattle.lab_debug.specs.Texts.{how_text, place_text, state_text, status_line, status_text, procs_text};
 
 use crate::machine;
 use lab_sched::{Process, World};
@@ -16,7 +18,7 @@ use std::fmt;
 struct Place<'a>(&'a Process);
 
 impl fmt::Display for Place<'_> {
-    ghost output = { λ p. Some (place_text (machine_of (seen p.0.now))) };
+    ghost output = { λ p. Some (place_text (machine_of (process_view p.0.now))) };
 
     #[tactic(auto, unfolding(crate::specs::Texts::place_text))]
     fn fmt<W: fmt::Write>(&self, f: &mut fmt::Formatter<W>) -> fmt::Result {
@@ -48,7 +50,7 @@ pub fn how_name(how: How) -> &'static str
 struct State<'a>(&'a Process);
 
 impl fmt::Display for State<'_> {
-    ghost output = { λ s. Some (state_text (seen s.0.now)) };
+    ghost output = { λ s. Some (state_text (process_view s.0.now)) };
 
     fn fmt<W: fmt::Write>(&self, f: &mut fmt::Formatter<W>) -> fmt::Result {
         let pc = Hex(machine::pc(self.0));
@@ -67,7 +69,8 @@ impl fmt::Display for State<'_> {
 /// Adds the status line of a process.
 #[tactic(auto, unfolding(crate::specs::Texts::status_line))]
 fn push_line(text: &mut String, pid: usize, process: &Process) -> Result<(), AllocError>
-    ensures { OnOk result (string_bytes text.new ≡ string_bytes text.old ++ status_line pid (seen process.now)) }
+    ensures text { OnOk result
+        (Adds text.old text.new (status_line pid (process_view process.now))) }
 {
     let state = State(process);
     match write!(text, "{pid} {state}\n") {
@@ -78,7 +81,7 @@ fn push_line(text: &mut String, pid: usize, process: &Process) -> Result<(), All
 
 /// Adds the status line of process `pid`, where it is there.
 pub fn push_status(text: &mut String, world: &World, pid: usize) -> Result<(), AllocError>
-    ensures { OnOk result (string_bytes text.new ≡ string_bytes text.old ++ status_text pid world.now) }
+    ensures text { OnOk result (Adds text.old text.new (status_text pid world.now)) }
 {
     match world.process(pid) {
         Some(process) => push_line(text, pid, process),
@@ -89,7 +92,7 @@ pub fn push_status(text: &mut String, world: &World, pid: usize) -> Result<(), A
 /// Adds each status line.
 #[tactic(auto, using(crate::proofs::RowLemmas::each_none))]
 pub fn push_procs(text: &mut String, world: &World) -> Result<(), AllocError>
-    ensures { OnOk result (string_bytes text.new ≡ string_bytes text.old ++ procs_text world.now) }
+    ensures text { OnOk result (Adds text.old text.new (procs_text world.now)) }
 {
     for pid in 0..world.count() {
         push_status(text, world, pid)?;

@@ -17,7 +17,8 @@ use crate::status::{push_procs, push_status};
 use lab_sched::World;
 use std::alloc::{AllocError, Global};
 
-/// The status line of process `pid`, as `0 running x3000 NOP`. A process that isn't there has no line.
+/// The status line of process `pid`, as `0 running x3000 NOP`. A process that isn't there has no
+/// line.
 pub fn status_text(alloc: Global, world: &World, pid: usize) -> Result<String, AllocError>
     ensures text { IfOk result (λ s. string_bytes s ≡ status_text pid world.now) }
 {
@@ -35,7 +36,8 @@ pub fn regs_text(alloc: Global, world: &World, pid: usize) -> Result<String, All
     Ok(text)
 }
 
-/// The words of a range of memory of process `pid`, each on a line with its address, as `x3000 xE002`.
+/// The words of a range of memory of process `pid`, each on a line with its address, as
+/// `x3000 xE002`.
 pub fn mem_text(
     alloc: Global,
     world: &World,
@@ -76,7 +78,8 @@ pub fn procs_text(alloc: Global, world: &World) -> Result<String, AllocError>
     Ok(text)
 }
 
-/// The queues in order of place, each with its messages in the order in which they would be received.
+/// The queues in order of place, each with its messages in the order in which they would be
+/// received.
 pub fn mqs_text(alloc: Global, world: &World) -> Result<String, AllocError>
     ensures text { IfOk result (λ s. string_bytes s ≡ mqs_text world.now) }
 {
@@ -103,7 +106,8 @@ pub fn fds_text(alloc: Global, world: &World, pid: usize) -> Result<String, Allo
     Ok(text)
 }
 
-/// What process `pid` has written, on one line; a byte that can't be printed, and a backslash, is written `\\x` and two digits.
+/// What process `pid` has written, on one line; a byte that can't be printed, and a backslash, is
+/// written `\\x` and two digits.
 pub fn out_text(alloc: Global, world: &World, pid: usize) -> Result<String, AllocError>
     ensures text { IfOk result (λ s. string_bytes s ≡ out_text pid world.now) }
 {

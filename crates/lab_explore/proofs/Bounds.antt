@@ -2,22 +2,22 @@
 use Rattle.std.proofs.Common.{ℕ, zero, suc, ◌+◌, ◌-◌, ◌*◌, ◌<◌, ◌≤◌, ◌≡◌, List, [], ◌∷◌, Option, Some, None, refl, sym, ap, subst, ◌∙◌, arith, length, slice_get, set, inl, inr}
 use Rattle.std.proofs.lemmas.Bool.Decides.{eqb_tells}
 use Rattle.lc3_machine.specs.Process.{Process as Machine}
-use Rattle.lab_sched.specs.Worlds.{Process, Running, Waiting, Ended, WorldState, Act, moves, calls, act, told, Turn, nothing, local_step, kernel_step, turn, turn_in, after, step, IsEffective}
-use Rattle.lab_sched.specs.Course.{AreEffective}
-use Rattle.lab_sched.specs.Alone.{AreLocal}
-use Rattle.lab_sched.proofs.Places.{get-set_same, get-set_other, get_past}
-use Rattle.lab_sched.proofs.Courses.{turn_local}
+use Rattle.lab_sched.specs.Worlds.{Process, Running, Waiting, Ended, WorldState, NextAction, moves, calls, next_action, process_after_answer, StepEffect, nothing, local_step, kernel_step, step_effect, step_effect_in, after, step, IsEffective}
+use Rattle.lab_sched.specs.Execution.{AreEffective}
+use Rattle.lab_sched.specs.LocalRun.{AreLocal}
+use Rattle.lab_sched.proofs.ListPlaces.{get-set_same, get-set_other, get_past}
+use Rattle.lab_sched.proofs.Executions.{turn_local}
 use Rattle.lab_sched.proofs.Commutes.{after_other}
 use Rattle.lab_explore.specs.declared.store.Store.{Store}
 use Rattle.lab_explore.specs.Calls.{IsAtCall, IsAhead, Both, Alongside}
-use Rattle.lab_explore.specs.Stored.{IsAt, IsReached, AreReached, HasEdge, IsSearched}
+use Rattle.lab_explore.specs.Private.Stored.{IsAt, IsReached, AreReached, HasEdge, IsSearched}
 use Rattle.lab_explore.specs.Rounds.{Rises, AreRising, AreBounded}
-use Rattle.lab_explore.proofs.Ahead.{none_local}
-use Rattle.lab_explore.proofs.Begins.{at_unique}
+use Rattle.lab_explore.proofs.AfterLocalSteps.{none_local}
+use Rattle.lab_explore.proofs.FirstWorlds.{at_unique}
 use Rattle.ipc_kernel.specs.Alike.{IsAlike, IsConsistent}
 use Rattle.ipc_kernel.proofs.Alikes.{alike_then}
 use Rattle.lab_explore.proofs.AlikeWorlds.{turn_alike, kernel_alike, consistent_after}
-use Rattle.lab_explore.proofs.Simulates.{same_after}
+use Rattle.lab_explore.proofs.HeldAdvances.{same_after}
 
 -- the sum of a list
 total : List ℕ → ℕ
@@ -82,7 +82,7 @@ none_taken (suc k) (Waiting m c) u at h = absurd h
 none_taken (suc k) (Ended e) u at h = absurd h
 
 -- a local step leaves one less
-one_taken : (k : ℕ) (m q : Machine) (u : Process) → act m ≡ moves q → AreLocal k (Running m) u → IsAtCall u → (j : ℕ) × (k ≡ suc j) × AreLocal j (Running q) u
+one_taken : (k : ℕ) (m q : Machine) (u : Process) → next_action m ≡ moves q → AreLocal k (Running m) u → IsAtCall u → (j : ℕ) × (k ≡ suc j) × AreLocal j (Running q) u
 one_taken zero m q u e h at = let asks = subst IsAtCall (sym h) at in let is = asks.1 in absurd (cc)
 one_taken (suc j) m q u e h at = let is = h.1 in let same : h.0 ≡ q = cc in (j, refl, subst (λ x. AreLocal j (Running x) u) same h.2)
 
@@ -109,12 +109,12 @@ reached_by (Some s) (Some u) x e r = (r.ahead.taken, r.few, (r.ahead.local, r.ah
 
 -- a process that is there stays there
 still_there : (w : WorldState) (p : ℕ) (s : Process) → slice_get w.processes p ≡ Some s → (x : Process) × (slice_get (step w p).processes p ≡ Some x)
-still_there w p s e = by (turn_in w p)
+still_there w p s e = by (step_effect_in w p)
   where
-    by : (t : Turn) → (x : Process) × (slice_get (after w p t).processes p ≡ Some x)
+    by : (t : StepEffect) → (x : Process) × (slice_get (after w p t).processes p ≡ Some x)
     by nothing = (s, e)
     by (local_step n) = (Running n, get-set_same w.processes p (Running n) (get_past w.processes p s e))
-    by (kernel_step m c a) = (told m c a, get-set_same w.processes p (told m c a) (get_past w.processes p s e))
+    by (kernel_step m c a) = (process_after_answer m c a, get-set_same w.processes p (process_after_answer m c a) (get_past w.processes p s e))
 
 -- the state of a process of a world whose advance is known
 both_there : (a : Option ℕ) (b c : Option Process) (s : Process) → b ≡ Some s → TakesAt a b c → (k : ℕ) × (u : Process) × (a ≡ Some k) × (c ≡ Some u) × AreLocal k s u × IsAtCall u
@@ -127,7 +127,7 @@ both_there (Some k) (Some b) (Some u) s e h = let same : b ≡ s = cc in (k, u, 
 
 module _ (t : Store) (order : List ℕ) (start : WorldState) (searched : IsSearched start t) (rises : Rises order t.edges.items) where
   -- after a local step one less is left
-  local_left : (w : WorldState) (p n : ℕ) (m q : Machine) → slice_get w.processes p ≡ Some (Running m) → act m ≡ moves q → HasLeft t order w n
+  local_left : (w : WorldState) (p n : ℕ) (m q : Machine) → slice_get w.processes p ≡ Some (Running m) → next_action m ≡ moves q → HasLeft t order w n
       → (j : ℕ) × (j < n) × HasLeft t order (step w p) j
   local_left w p n m q a e left =
       let found = both_there (slice_get left.taken p) (slice_get w.processes p) (slice_get left.advance.processes p) (Running m) a (left.processes p) in
@@ -161,7 +161,7 @@ module _ (t : Store) (order : List ℕ) (start : WorldState) (searched : IsSearc
       (j, less, subst (λ x. HasLeft t order x j) (sym stepped) here)
 
   -- after a step of the kernel less is left
-  call_left : (w : WorldState) (p n : ℕ) (s : Process) → slice_get w.processes p ≡ Some s → IsAtCall s → IsEffective (turn_in w p) → HasLeft t order w n
+  call_left : (w : WorldState) (p n : ℕ) (s : Process) → slice_get w.processes p ≡ Some s → IsAtCall s → IsEffective (step_effect_in w p) → HasLeft t order w n
       → (j : ℕ) × (j < n) × HasLeft t order (step w p) j
   call_left w p n s a at effective left = (j, less, now)
     where
@@ -174,23 +174,23 @@ module _ (t : Store) (order : List ℕ) (start : WorldState) (searched : IsSearc
       there : slice_get v.processes p ≡ Some s
       there = found.3 ∙ ap (λ x. Some x) (none_local found.0 s found.1 at found.4)
 
-      same_turn : turn_in v p ≡ turn_in w p
-      same_turn = turn_alike w.kernel v.kernel p (slice_get v.processes p) left.consistent left.kernel ∙ ap (λ o. turn w.kernel p o) (there ∙ sym a)
+      same_turn : step_effect_in v p ≡ step_effect_in w p
+      same_turn = turn_alike w.kernel v.kernel p (slice_get v.processes p) left.consistent left.kernel ∙ ap (λ o. step_effect w.kernel p o) (there ∙ sym a)
 
       edge : HasEdge t left.at v p
       edge =
           let done = searched.expanded left.at (get_past t.rows.items left.at left.here.0 left.here.1) in
           let same : v ≡ done.0 = at_unique t left.at v done.0 left.here done.1 in
-          subst (λ x. HasEdge t left.at x p) (sym same) (done.2 p (subst (λ x. IsEffective (turn_in x p)) same (subst IsEffective (sym same_turn) effective)))
+          subst (λ x. HasEdge t left.at x p) (sym same) (done.2 p (subst (λ x. IsEffective (step_effect_in x p)) same (subst IsEffective (sym same_turn) effective)))
 
       u : WorldState
       u = edge.2
 
-      reached : AreReached (after v p (turn_in w p)) u
+      reached : AreReached (after v p (step_effect_in w p)) u
       reached = subst (λ x. AreReached (after v p x) u) same_turn edge.6
 
-      stays : slice_get (step w p).processes p ≡ slice_get (after v p (turn_in w p)).processes p
-      stays = same_after w v p s (turn_in w p) a there
+      stays : slice_get (step w p).processes p ≡ slice_get (after v p (step_effect_in w p)).processes p
+      stays = same_after w v p s (step_effect_in w p) a there
 
       next : (i : ℕ) × (i < 4294967296) × TakesAt (Some i) (slice_get (step w p).processes p) (slice_get u.processes p)
       next =
@@ -204,8 +204,8 @@ module _ (t : Store) (order : List ℕ) (start : WorldState) (searched : IsSearc
             subst (λ x. TakesAt (slice_get (set left.taken p next.0) x) (slice_get (step w p).processes x) (slice_get u.processes x)) same.1
             (subst (λ o. TakesAt o (slice_get (step w p).processes p) (slice_get u.processes p)) (sym (get-set_same left.taken p next.0 (get_past left.taken p found.0 found.2))) next.2)
         | inr other ↦
-            let old = subst (λ o. TakesAt (slice_get left.taken i) o (slice_get v.processes i)) (sym (after_other w i p (turn_in w p) other.1)) (left.processes i) in
-            let then_at = subst (λ o. Both IsReached o (slice_get u.processes i)) (after_other v i p (turn_in w p) other.1) (reached.processes i) in
+            let old = subst (λ o. TakesAt (slice_get left.taken i) o (slice_get v.processes i)) (sym (after_other w i p (step_effect_in w p) other.1)) (left.processes i) in
+            let then_at = subst (λ o. Both IsReached o (slice_get u.processes i)) (after_other v i p (step_effect_in w p) other.1) (reached.processes i) in
             subst (λ o. TakesAt o (slice_get (step w p).processes i) (slice_get u.processes i)) (sym (get-set_other left.taken p i next.0 other.1))
             (taken_on (slice_get left.taken i) (slice_get (step w p).processes i) (slice_get v.processes i) (slice_get u.processes i) old then_at)
       ]
@@ -219,8 +219,8 @@ module _ (t : Store) (order : List ℕ) (start : WorldState) (searched : IsSearc
         advance = u;
         taken = set left.taken p next.0;
         here = edge.5;
-        kernel = alike_then (step w p).kernel (after v p (turn_in w p)).kernel u.kernel (kernel_alike w v p (turn_in w p) left.consistent left.kernel) reached.kernel;
-        consistent = consistent_after w p (turn_in w p) left.consistent;
+        kernel = alike_then (step w p).kernel (after v p (step_effect_in w p)).kernel u.kernel (kernel_alike w v p (step_effect_in w p) left.consistent left.kernel) reached.kernel;
+        consistent = consistent_after w p (step_effect_in w p) left.consistent;
         processes = takes;
         most = refl;
       }
@@ -238,16 +238,16 @@ module _ (t : Store) (order : List ℕ) (start : WorldState) (searched : IsSearc
           falls : (x y i k l a b n : ℕ) → y + k ≡ x + i → k ≡ 0 → i < 4294967296 → a < b → b ≤ l → x + 4294967296 * (l - a) ≡ n → y + 4294967296 * (l - b) < n
           falls x y i k l a b n sums none few rise within old = omega arith
 
-  step_left : (w : WorldState) (p n : ℕ) → IsEffective (turn_in w p) → HasLeft t order w n → (j : ℕ) × (j < n) × HasLeft t order (step w p) j
+  step_left : (w : WorldState) (p n : ℕ) → IsEffective (step_effect_in w p) → HasLeft t order w n → (j : ℕ) × (j < n) × HasLeft t order (step w p) j
   step_left w p n effective left = by (slice_get w.processes p) refl
     where
-      running : (m : Machine) (a : Act) → act m ≡ a → slice_get w.processes p ≡ Some (Running m) → (j : ℕ) × (j < n) × HasLeft t order (step w p) j
+      running : (m : Machine) (a : NextAction) → next_action m ≡ a → slice_get w.processes p ≡ Some (Running m) → (j : ℕ) × (j < n) × HasLeft t order (step w p) j
       running m (moves q) e a = local_left w p n m q a e left
       running m (calls c) e a = call_left w p n (Running m) a (c, e) effective left
 
       by : (o : Option Process) → slice_get w.processes p ≡ o → (j : ℕ) × (j < n) × HasLeft t order (step w p) j
-      by None a = absurd (subst (λ o. IsEffective (turn w.kernel p o)) a effective)
-      by (Some (Running m)) a = running m (act m) refl a
+      by None a = absurd (subst (λ o. IsEffective (step_effect w.kernel p o)) a effective)
+      by (Some (Running m)) a = running m (next_action m) refl a
       by (Some (Waiting m c)) a = call_left w p n (Waiting m c) a tt effective left
       by (Some (Ended e)) a = call_left w p n (Ended e) a tt effective left
 

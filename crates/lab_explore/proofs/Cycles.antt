@@ -2,19 +2,19 @@
 use Rattle.std.proofs.Common.{ℕ, zero, suc, ◌≡◌, ◌≤◌, ◌++◌, List, [], Option, Some, None, IfSome, sym, ap, subst, ◌∙◌, arith, length}
 use Rattle.std.proofs.lemmas.List.{length-append}
 use Rattle.lab_sched.specs.Worlds.{WorldState, run}
-use Rattle.lab_sched.specs.Course.{AreEffective}
+use Rattle.lab_sched.specs.Execution.{AreEffective}
 use Rattle.lab_sched.specs.Schedules.{steps_of}
-use Rattle.lab_sched.proofs.Courses.{effective-append}
+use Rattle.lab_sched.proofs.Executions.{effective-append}
 use Rattle.lab_explore.specs.declared.ends.Walk.{Walk}
 use Rattle.lab_explore.specs.declared.rounds.Round.{Round}
 use Rattle.lab_explore.specs.declared.store.Store.{Store}
-use Rattle.lab_explore.specs.Stored.{IsLike}
+use Rattle.lab_explore.specs.Private.Stored.{IsLike}
 use Rattle.ipc_kernel.specs.Alike.{IsConsistent}
 use Rattle.lab_explore.specs.Calls.{AreAlike}
 use Rattle.lab_explore.proofs.AlikeWorlds.{world_itself, world_then, world_back, run_alike, effective_alike, consistent_run}
 use Rattle.lab_explore.specs.Ends.{IsWalk}
 use Rattle.lab_explore.specs.Rounds.{IsRound, AreEndless}
-use Rattle.lab_explore.proofs.Begins.{at_unique}
+use Rattle.lab_explore.proofs.FirstWorlds.{at_unique}
 
 -- a walk to the world of a row, and one from there to the world of that row
 pub walk_round : (start : WorldState) (first second : Walk) (t : Store) (i : ℕ) (r : Round) → IsWalk start first → IsLike t i first.world → IsWalk first.world second → IsLike t i second.world

@@ -1,7 +1,8 @@
 -- Explorations: what the parts of one say together.
-use Rattle.std.proofs.Common.{ℕ, ◌≡◌, ◌≤◌, ◌++◌, [], ◌∷◌, slice_get, List, refl, sym, ap, subst, ◌∙◌, All, length, map, inl, inr}
+use Rattle.std.proofs.Common.{ℕ, ◌≡◌, ◌≤◌, ◌++◌, [], ◌∷◌, slice_get, List, refl, sym, ap, subst, ◌∙◌, arith, All, length, map, inl, inr}
 use Rattle.std.proofs.lemmas.List.{length-map, length-replicate}
 use Rattle.std.proofs.lemmas.List.Elements.{All-weaker}
+use Rattle.ipc_kernel.specs.Limits.{process_max}
 use Rattle.ipc_kernel.specs.Kernel.{KernelState, empty_kernel}
 use Rattle.lab_sched.specs.declared.process.Process.{Process as Kept}
 use Rattle.lab_sched.specs.declared.process.Process.TheVariants as kept
@@ -10,48 +11,53 @@ use Rattle.ipc_kernel.specs.Alike.{IsConsistent}
 use Rattle.ipc_kernel.proofs.Consistents.{consistent_empty}
 use Rattle.lab_explore.specs.Calls.{AreAlike}
 use Rattle.lab_explore.proofs.AlikeWorlds.{world_then, world_back, rest_alike, one_verdict, consistent_run}
-use Rattle.lab_sched.specs.Worlds.{HaveOneProfile, Process, Running, Waiting, Ended, WorldState, turn, turn_in, run}
+use Rattle.lab_sched.specs.Worlds.{HaveOneProfile, Process, Running, Waiting, Ended, WorldState, step_effect, step_effect_in, run}
 use Rattle.lab_sched.specs.Finished.{IsAtRest}
 use Rattle.lab_sched.specs.Schedules.{steps_of}
 use Rattle.lab_sched.specs.Verdicts.{IsVerdict, IsWaiting, HasEnded, AreStuck}
 use Rattle.lab_sched.specs.declared.verdict.Verdict.{Verdict}
 use Rattle.lab_sched.specs.declared.verdict.Verdict.TheVariants as verdict
 use Rattle.lab_sched.proofs.WorldLemmas.{fresh_world}
-use Rattle.lab_sched.proofs.Rests.{at_rest}
-use Rattle.lab_sched.specs.Held.{seen, IsHeld, IsWorld}
+use Rattle.lab_sched.proofs.IneffectiveProcesses.{at_rest}
+use Rattle.lab_sched.specs.Held.{process_view, IsHeld, IsWorld}
 use Rattle.lab_sched.specs.Starts.{Runs}
 use Rattle.lab_explore.specs.declared.store.Store.{Store}
 use Rattle.lab_explore.specs.declared.ends.End.{End}
 use Rattle.lab_explore.specs.declared.ends.Walk.{Walk}
 use Rattle.lab_explore.specs.Closed.{IsClosed, AreAtRest}
-use Rattle.lab_explore.specs.Stored.{IsAt, IsLike, Holds, Each, Keeps}
-use Rattle.lab_explore.specs.Ends.{IsWalk, IsEnd, HasEnd, HaveAllEnds, NoneStuck, NeverStuck}
+use Rattle.lab_explore.specs.Private.Stored.{IsAt, IsLike, Holds, Keeps}
+use Rattle.lab_explore.specs.Private.Walked.{AreStarts, HaveRowEnds}
+use Rattle.lab_explore.specs.Ends.{IsWalk, IsEnd, AreEnds, HasEnd, HaveAllEnds, NoneStuck, NeverStuck}
 use Rattle.lab_explore.proofs.Pushes.{get_pushed}
-use Rattle.lab_explore.proofs.Begins.{at_unique}
-use Rattle.lab_explore.proofs.Simulates.{has_every_end, idle}
+use Rattle.lab_explore.proofs.FirstWorlds.{at_unique}
+use Rattle.lab_explore.proofs.HeldAdvances.{has_every_end, idle}
 
 runs_held : (s : Kept) → Runs s → IsHeld s
 runs_held (kept.Running m) runs = tt
 runs_held (kept.Waiting h c) runs = absurd runs
 runs_held (kept.Ended e) runs = absurd runs
 
--- processes that run wait for nothing
-pub all_held : (ps : List Kept) → All Runs ps → All IsHeld ps
-all_held ps runs = All-weaker Runs IsHeld runs_held ps runs
-
 -- the start of a laboratory, by its processes
-pub started : (w : WorldState) (ps : List Kept) (k : KernelState) (n : ℕ) → map seen ps ≡ w.processes → w.kernel ≡ empty_kernel (length w.processes) → n ≡ length ps → k ≡ empty_kernel n
-    → w ≡ record { processes = map seen ps; kernel = k }
+pub started : (w : WorldState) (ps : List Kept) (k : KernelState) (n : ℕ) → map process_view ps ≡ w.processes → w.kernel ≡ empty_kernel (length w.processes) → n ≡ length ps → k ≡ empty_kernel n
+    → w ≡ record { processes = map process_view ps; kernel = k }
 started w ps k n processes kernel count is =
-    let lengths : length w.processes ≡ n = ap length (sym processes) ∙ length-map ps seen ∙ sym count in
+    let lengths : length w.processes ≡ n = ap length (sym processes) ∙ length-map ps process_view ∙ sym count in
     let same : w.kernel ≡ k = kernel ∙ ap empty_kernel lengths ∙ sym is in
-    ap (λ xs. record { processes = xs; kernel = w.kernel }) (sym processes) ∙ ap (λ x. record { processes = map seen ps; kernel = x }) same
+    ap (λ xs. record { processes = xs; kernel = w.kernel }) (sym processes) ∙ ap (λ x. record { processes = map process_view ps; kernel = x }) same
 
-pub lengths : (w : WorldState) (ps : List Kept) → map seen ps ≡ w.processes → length w.processes ≡ length ps
-lengths w ps processes = ap length (sym processes) ∙ length-map ps seen
+pub lengths : (w : WorldState) (ps : List Kept) → map process_view ps ≡ w.processes → length w.processes ≡ length ps
+lengths w ps processes = ap length (sym processes) ∙ length-map ps process_view
+
+-- the processes of a laboratory before its first step are starts
+pub are_starts : (w : WorldState) (ps qs : List Kept) → qs ≡ ps → map process_view ps ≡ w.processes → All Runs ps
+    → HaveOneProfile (map process_view ps) → 1 ≤ length w.processes → length w.processes ≤ process_max → AreStarts qs
+are_starts w ps qs same processes running profile some few =
+    let count : length w.processes ≡ length ps = lengths w ps processes in
+    subst AreStarts (sym same)
+    (record { running = running; profile = profile; some = omega (arith, count, some); few = omega (arith, count, few) })
 
 -- all ends, where the worlds of a store are closed, and each of them that is at rest has its end
-pub all_ends : (fresh start : WorldState) (t : Store) (ends : List End) → fresh ≡ start → IsConsistent start.kernel → Each (IsEnd fresh) ends → IsClosed start (Holds t) → ((i : ℕ) (w : WorldState) → IsAt t i w → AreAtRest w → HasEnd ends w)
+pub all_ends : (fresh start : WorldState) (t : Store) (ends : List End) → fresh ≡ start → IsConsistent start.kernel → AreEnds fresh ends → IsClosed start (Holds t) → HaveRowEnds t ends
     → HaveAllEnds fresh ends
 all_ends fresh start t ends same consistent each closed all =
     subst (λ s. HaveAllEnds s ends) (sym same)
@@ -60,19 +66,18 @@ all_ends fresh start t ends same consistent each closed all =
     let held = has_every_end start (Holds t) consistent closed ps rest in
     let found = all held.1.0 held.0 held.1.1 (rest_alike w held.0 (consistent_run ps start consistent) held.2 rest) in
     let alike = world_then w held.0 found.1.world held.2 found.3 in
-    let end = subst (λ s. Each (IsEnd s) ends) same each found.0 found.1 found.2 in
+    let end = subst (λ s. AreEnds s ends) same each found.0 found.1 found.2 in
     let there = subst (λ (x : WorldState). IsConsistent x.kernel) end.leads (consistent_run (steps_of found.1.schedule) start consistent) in
     (found.0, found.1, found.2, alike, one_verdict found.1.world w found.1.verdict there (world_back w found.1.world alike) end.verdict))
 
-pub same_ends : (fresh start : WorldState) (ends : List End) → fresh ≡ start → Each (IsEnd start) ends → Each (IsEnd fresh) ends
-same_ends fresh start ends same each = subst (λ s. Each (IsEnd s) ends) (sym same) each
+pub same_ends : (fresh start : WorldState) (ends : List End) → fresh ≡ start → AreEnds start ends → AreEnds fresh ends
+same_ends fresh start ends same each = subst (λ s. AreEnds s ends) (sym same) each
 
 -- copies of processes over the empty kernel
-pub copies_world : (ps cs : List Kept) (k : KernelState) → cs ≡ ps → All Runs ps → HaveOneProfile (map seen ps) → 1 ≤ length ps → length ps ≤ 64
-    → k ≡ empty_kernel (length ps) → IsWorld cs k
-copies_world ps cs k same runs profile some few empty =
+pub copies_world : (ps cs : List Kept) (k : KernelState) → cs ≡ ps → AreStarts ps → k ≡ empty_kernel (length ps) → IsWorld cs k
+copies_world ps cs k same starts empty =
     let count : length ps ≡ length k.processes = sym (ap (λ (x : KernelState). length x.processes) empty ∙ length-replicate (length ps) closed_process) in
-    subst (λ xs. IsWorld xs k) (sym same) (fresh_world ps k (record { running = runs; profile = profile; some = some; few = few; count = count; empty = empty }))
+    subst (λ xs. IsWorld xs k) (sym same) (fresh_world ps k (record { running = starts.running; profile = starts.profile; some = starts.some; few = starts.few; count = count; empty = empty }))
 
 ended_rests : (k : KernelState) (p : ℕ) (s : Process) → HasEnded s → IsAtRest k p s
 ended_rests k p (Running m) h = h
@@ -83,8 +88,8 @@ ended_rests k p (Ended e) h = h
 pub verdict_rests : (w : WorldState) (v : Verdict) → IsVerdict w v → (v ≡ verdict.Open → ⊥) → AreAtRest w
 verdict_rests w verdict.Ended h n p s at = ended_rests w.kernel p s (h p s at)
 verdict_rests w verdict.Stuck h n p s at =
-    elim (idle (turn_in w p)) [
-      | inl none ↦ at_rest w.kernel p s (ap (λ o. turn w.kernel p o) (sym at) ∙ none)
+    elim (idle (step_effect_in w p)) [
+      | inl none ↦ at_rest w.kernel p s (ap (λ o. step_effect w.kernel p o) (sym at) ∙ none)
       | inr effective ↦ absurd (h.none_moves p effective)
     ]
 verdict_rests w verdict.Open h n p s at = absurd (n refl)

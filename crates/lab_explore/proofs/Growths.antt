@@ -6,21 +6,19 @@ use Rattle.ipc_kernel.specs.Alike.{IsAlike}
 use Rattle.ipc_kernel.proofs.Alikes.{alike_itself}
 use Rattle.lab_sched.specs.declared.process.Process.{Process as Kept}
 use Rattle.lab_sched.specs.Worlds.{Process, WorldState}
-use Rattle.lab_sched.specs.Held.{seen}
+use Rattle.lab_sched.specs.Held.{process_view}
 use Rattle.lab_explore.specs.declared.store.Row.{Row}
 use Rattle.lab_explore.specs.declared.store.Edge.{Edge}
 use Rattle.lab_explore.specs.declared.store.Store.{Store}
 use Rattle.lab_explore.specs.declared.store.Next.{Next}
 use Rattle.lab_explore.specs.declared.store.Next.TheVariants.{Nothing, Limit, To}
 use Rattle.lab_explore.specs.declared.known.Moves.{Moves}
-use Rattle.lab_explore.specs.Known.{AreKnown}
+use Rattle.lab_explore.specs.Private.Known.{AreKnown}
 use Rattle.lab_explore.specs.Calls.{Alongside}
 use Rattle.lab_explore.specs.Closed.{HasAdvance}
-use Rattle.lab_explore.specs.Stored.{Each, IsState, IsKernel, IsRow, IsAt, Holds, IsReady, IsStore, Grows, IsNext, IsMove, HasEdge, IsTried, IsExpanded}
+use Rattle.lab_explore.specs.Private.Stored.{IsState, IsKernel, IsRow, IsAt, Holds, IsReady, IsStore, Grows, IsNext, IsMove, HasEdge, IsTried, IsExpanded}
+use Rattle.lab_explore.specs.Ends.{Each}
 use Rattle.lab_explore.proofs.Pushes.{both_weaker, keeps_push, each_push, get_pushed}
-
-pub grows_none : (t : Store) → Grows t t
-grows_none t = record { kernels = λ i x e. e; states = λ i x e. e; rows = λ i x e. e; edges = λ i x e. e }
 
 pub grows_more : (t u v : Store) → Grows t u → Grows u v → Grows t v
 grows_more t u v g h = record {
@@ -30,18 +28,18 @@ grows_more t u v g h = record {
   edges = λ i x e. h.edges i x (g.edges i x e);
 }
 
-kept_at : (o : Option Kept) (s : Process) → option_map seen o ≡ Some s → (k : Kept) × (o ≡ Some k) × (seen k ≡ s)
+kept_at : (o : Option Kept) (s : Process) → option_map process_view o ≡ Some s → (k : Kept) × (o ≡ Some k) × (process_view k ≡ s)
 kept_at None s e = absurd (cc)
-kept_at (Some k) s e = let same : seen k ≡ s = cc in (k, refl, same)
+kept_at (Some k) s e = let same : process_view k ≡ s = cc in (k, refl, same)
 
 -- the state that is kept at a place
-pub state_kept : (t : Store) (i : ℕ) (s : Process) → IsState t i s → (k : Kept) × (slice_get t.states.items i ≡ Some k) × (seen k ≡ s)
+pub state_kept : (t : Store) (i : ℕ) (s : Process) → IsState t i s → (k : Kept) × (slice_get t.states.items i ≡ Some k) × (process_view k ≡ s)
 state_kept t i s h = kept_at (slice_get t.states.items i) s h
 
 pub state_grows : (t u : Store) (i : ℕ) (s : Process) → Grows t u → IsState t i s → IsState u i s
 state_grows t u i s g h =
     let k = state_kept t i s h in
-    ap (λ o. option_map seen o) (g.states i k.0 k.1) ∙ ap (λ x. Some x) k.2
+    ap (λ o. option_map process_view o) (g.states i k.0 k.1) ∙ ap (λ x. Some x) k.2
 
 pub row_grows : (t u : Store) (r : Row) (w : WorldState) → Grows t u → IsRow t r w → IsRow u r w
 row_grows t u r w g h = record {
@@ -97,10 +95,10 @@ states_pushed t u k s ready states kernels rows edges =
     } in
     (g, store_grows t u s g (subst (λ xs. Each IsReady xs) (sym states) (each_push IsReady t.states.items k s.states ready)) rows)
 
-pub state_pushed : (xs ys : List Kept) (k : Kept) (i : ℕ) → ys ≡ xs ++ k ∷ [] → i ≡ length xs → option_map seen (slice_get ys i) ≡ Some (seen k)
+pub state_pushed : (xs ys : List Kept) (k : Kept) (i : ℕ) → ys ≡ xs ++ k ∷ [] → i ≡ length xs → option_map process_view (slice_get ys i) ≡ Some (process_view k)
 state_pushed xs ys k i states is =
-    ap (λ zs. option_map seen (slice_get zs i)) states ∙ ap (λ n. option_map seen (slice_get (xs ++ k ∷ []) n)) is
-    ∙ ap (λ o. option_map seen o) (get_pushed xs k)
+    ap (λ zs. option_map process_view (slice_get zs i)) states ∙ ap (λ n. option_map process_view (slice_get (xs ++ k ∷ []) n)) is
+    ∙ ap (λ o. option_map process_view o) (get_pushed xs k)
 
 -- one kernel more
 pub kernels_pushed : (t u : Store) (k : KernelState) → IsStore t → u.kernels.items ≡ t.kernels.items ++ k ∷ [] → u.states.items ≡ t.states.items → u.rows.items ≡ t.rows.items

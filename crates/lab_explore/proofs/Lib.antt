@@ -1,11 +1,11 @@
 mod AlikeWorlds
-mod Ahead
-mod Simulates
-mod Advances
+mod AfterLocalSteps
+mod HeldAdvances
+mod StepsToCalls
 mod Pushes
 mod Growths
-mod Nexts
-mod Begins
+mod StepsOfRows
+mod FirstWorlds
 mod Walks
 mod Explorations
 mod Bounds

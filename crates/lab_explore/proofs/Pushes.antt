@@ -2,12 +2,10 @@
 use Rattle.std.proofs.Common.{ℕ, zero, suc, ◌≡◌, ◌<◌, get_or, List, [], ◌∷◌, ◌++◌, Option, Some, None, refl, sym, subst, slice_get, length, set, inl, inr}
 use Rattle.std.proofs.lemmas.Bool.Decides.{eqb_tells}
 use Rattle.std.proofs.lemmas.Option.{slice_get_read}
-use Rattle.lab_sched.proofs.Places.{get-set_same, get-set_other, get_past}
+use Rattle.lab_sched.proofs.ListPlaces.{get-set_same, get-set_other, get_past}
 use Rattle.lab_explore.specs.Calls.{Both, Alongside}
-use Rattle.lab_explore.specs.Stored.{Each, Keeps}
-
-pub keeps_all : {A : Type 0} (xs : List A) → Keeps xs xs
-keeps_all xs i x e = e
+use Rattle.lab_explore.specs.Private.Stored.{Keeps}
+use Rattle.lab_explore.specs.Ends.{Each}
 
 pub keeps_push : {A : Type 0} (xs : List A) (x : A) → Keeps xs (xs ++ x ∷ [])
 keeps_push [] x i y e = absurd (cc)

@@ -5,26 +5,26 @@ use Rattle.std.proofs.lemmas.Option.{slice_get_past}
 use Rattle.lab_sched.specs.declared.schedule.block.Block.{Block}
 use Rattle.lab_sched.specs.declared.stepped.Stepped.{Stepped}
 use Rattle.lab_sched.specs.declared.stepped.Stepped.TheVariants as stepped
-use Rattle.lab_sched.specs.Worlds.{WorldState, Turn, nothing, local_step, kernel_step, turn_in, step, run, IsEffective}
-use Rattle.lab_sched.specs.Held.{told_of}
-use Rattle.lab_sched.specs.Course.{AreEffective}
+use Rattle.lab_sched.specs.Worlds.{WorldState, StepEffect, nothing, local_step, kernel_step, step_effect_in, step, run, IsEffective}
+use Rattle.lab_sched.specs.Held.{stepped_of}
+use Rattle.lab_sched.specs.Execution.{AreEffective}
 use Rattle.lab_sched.specs.Schedules.{steps_of}
 use Rattle.lab_sched.proofs.Runs.{run-append, run-one}
-use Rattle.lab_sched.proofs.Courses.{effective-append}
+use Rattle.lab_sched.proofs.Executions.{effective-append}
 use Rattle.lab_explore.specs.declared.ends.Walk.{Walk}
 use Rattle.lab_explore.specs.Calls.{Both, Alongside}
 use Rattle.lab_explore.specs.Ends.{IsWalk}
 
-told_effective : (t : Turn) → (told_of t ≡ stepped.Same → ⊥) → IsEffective t
+told_effective : (t : StepEffect) → (stepped_of t ≡ stepped.Same → ⊥) → IsEffective t
 told_effective nothing h = absurd (h refl)
 told_effective (local_step n) h = tt
 told_effective (kernel_step m c a) h = tt
 
 -- one step more
-pub walk_more : (start : WorldState) (old new : Walk) (p : ℕ) (told : Stepped) → IsWalk start old → new.world ≡ step old.world p → told ≡ told_of (turn_in old.world p)
+pub walk_more : (start : WorldState) (old new : Walk) (p : ℕ) (told : Stepped) → IsWalk start old → new.world ≡ step old.world p → told ≡ stepped_of (step_effect_in old.world p)
     → (told ≡ stepped.Same → ⊥) → steps_of new.schedule ≡ steps_of old.schedule ++ replicate 1 p → IsWalk start new
 walk_more start old new p told h world-is told-is moved steps-is =
-    let one : IsEffective (turn_in old.world p) = told_effective (turn_in old.world p) (λ e. moved (told-is ∙ e)) in
+    let one : IsEffective (step_effect_in old.world p) = told_effective (step_effect_in old.world p) (λ e. moved (told-is ∙ e)) in
     let there : AreEffective (run start (steps_of old.schedule)) (p ∷ []) = subst (λ w. AreEffective w (p ∷ [])) (sym h.leads) (one, tt) in
     record {
       effective = subst (AreEffective start) (sym steps-is) (effective-append start (steps_of old.schedule) (p ∷ []) h.effective there);

@@ -2,12 +2,12 @@
 use Rattle.std.specs.Prelude.{ℕ, ◌≡◌, List, Option, Some, None, slice_get}
 use Rattle.ipc_kernel.specs.declared.call.Call.{Call}
 use Rattle.ipc_kernel.specs.Alike.{IsAlike}
-use Rattle.lab_sched.specs.Worlds.{Process, Running, Waiting, Ended, WorldState, calls, act}
-use Rattle.lab_sched.specs.Alone.{AreLocal}
+use Rattle.lab_sched.specs.Worlds.{Process, Running, Waiting, Ended, WorldState, calls, next_action}
+use Rattle.lab_sched.specs.LocalRun.{AreLocal}
 
 -- the process asks for a call, or waits, or has ended
 abbrev pub IsAtCall : Process → Type 0
-IsAtCall (Running m) = (c : Call) × (act m ≡ calls c)
+IsAtCall (Running m) = (c : Call) × (next_action m ≡ calls c)
 IsAtCall (Waiting m c) = Unit {0}
 IsAtCall (Ended e) = Unit {0}
 

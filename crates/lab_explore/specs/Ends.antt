@@ -2,9 +2,9 @@
 use Rattle.std.specs.Prelude.{ℕ, ◌≡◌, List, Some, length, map, slice_get}
 use Rattle.ipc_kernel.specs.Kernel.{empty_kernel}
 use Rattle.lab_sched.specs.declared.process.Process.{Process as Kept}
-use Rattle.lab_sched.specs.Held.{seen}
+use Rattle.lab_sched.specs.Held.{process_view}
 use Rattle.lab_sched.specs.Worlds.{WorldState, run}
-use Rattle.lab_sched.specs.Course.{AreEffective}
+use Rattle.lab_sched.specs.Execution.{AreEffective}
 use Rattle.lab_sched.specs.Schedules.{steps_of}
 use Rattle.lab_sched.specs.Verdicts.{IsVerdict, AreStuck}
 use Rattle.lab_sched.specs.declared.verdict.Verdict.TheVariants.{Open, Stuck}
@@ -12,18 +12,22 @@ use Rattle.lab_explore.specs.declared.ends.End.{End}
 use Rattle.lab_explore.specs.declared.ends.Walk.{Walk}
 use Rattle.lab_explore.specs.Calls.{AreAlike}
 use Rattle.lab_explore.specs.Closed.{AreAtRest}
-use Rattle.lab_explore.specs.Stored.{Each}
+
+-- P holds of each element
+abbrev pub Each : {A : Type 0} → (A → Type 0) → List A → Type 0
+Each {A} P xs = (i : ℕ) (x : A) → slice_get xs i ≡ Some x → P x
 
 -- processes before their first step, over the empty kernel
 abbrev pub first_world : List Kept → WorldState
-first_world ps = record { processes = map seen ps; kernel = empty_kernel (length ps) }
+first_world ps = record { processes = map process_view ps; kernel = empty_kernel (length ps) }
 
 -- effective steps lead from the start to the world
 pub record IsWalk (start : WorldState) (w : Walk) : Type 0 where
   pub effective : AreEffective start (steps_of w.schedule)
   pub leads : run start (steps_of w.schedule) ≡ w.world
 
--- the effective steps of the schedule lead from the start to the world, which is at rest, and ended or stuck
+-- the effective steps of the schedule lead from the start to the world, which is at rest, and ended
+-- or stuck
 pub record IsEnd (start : WorldState) (e : End) : Type 0 where
   pub effective : AreEffective start (steps_of e.schedule)
   pub leads : run start (steps_of e.schedule) ≡ e.world
@@ -31,18 +35,23 @@ pub record IsEnd (start : WorldState) (e : End) : Type 0 where
   pub verdict : IsVerdict e.world e.verdict
   pub closed : e.verdict ≡ Open → ⊥
 
+-- each is an end from the start
+abbrev pub AreEnds : WorldState → List End → Type 0
+AreEnds start ends = Each (IsEnd start) ends
+
 -- one of the ends is in a world alike: with the same processes, over a kernel that is alike
 abbrev pub HasEnd : List End → WorldState → Type 0
 HasEnd ends w = (i : ℕ) × (e : End) × (slice_get ends i ≡ Some e) × AreAlike w e.world
 
 -- one of the ends is in a world alike, and its verdict is the world's
-abbrev pub IsTold : List End → WorldState → Type 0
-IsTold ends w = (i : ℕ) × (e : End) × (slice_get ends i ≡ Some e) × AreAlike w e.world × IsVerdict w e.verdict
+abbrev pub IsReported : List End → WorldState → Type 0
+IsReported ends w =
+    (i : ℕ) × (e : End) × (slice_get ends i ≡ Some e) × AreAlike w e.world × IsVerdict w e.verdict
 
--- whatever steps are taken from the start, effective or not: if the world after them is at rest, one of the ends is in a
--- world alike, with its verdict
+-- whatever steps are taken from the start, effective or not: if the world after them is at rest,
+-- one of the ends is in a world alike, with its verdict
 abbrev pub HaveAllEnds : WorldState → List End → Type 0
-HaveAllEnds start ends = (ps : List ℕ) → AreAtRest (run start ps) → IsTold ends (run start ps)
+HaveAllEnds start ends = (ps : List ℕ) → AreAtRest (run start ps) → IsReported ends (run start ps)
 
 -- no end is stuck
 abbrev pub NoneStuck : List End → Type 0

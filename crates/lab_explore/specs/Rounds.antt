@@ -1,19 +1,22 @@
--- Runs that never end: rounds, by which steps lead from a world to one alike, and what shows that there is none.
+-- Runs that never end: rounds, by which steps lead from a world to one alike, and what shows that
+-- there is none.
 use Rattle.std.specs.Prelude.{ℕ, ◌≡◌, ◌<◌, ◌≤◌, List, Some, length, slice_get}
 use Rattle.lab_sched.specs.Worlds.{WorldState, run}
-use Rattle.lab_sched.specs.Course.{AreEffective}
+use Rattle.lab_sched.specs.Execution.{AreEffective}
 use Rattle.lab_sched.specs.Schedules.{steps_of}
 use Rattle.lab_explore.specs.declared.store.Edge.{Edge}
 use Rattle.lab_explore.specs.declared.rounds.Round.{Round}
 use Rattle.lab_explore.specs.Calls.{AreAlike}
-use Rattle.lab_explore.specs.Stored.{Each}
+use Rattle.lab_explore.specs.Ends.{Each}
 
--- effective steps lead from the start to a world, and others, at least one, from that world to one alike
+-- effective steps lead from the start to a world, and others, at least one, from that world to one
+-- alike
 pub record IsRound (start : WorldState) (r : Round) : Type 0 where
   pub effective : AreEffective start (steps_of r.schedule)
   pub some : 1 ≤ length (steps_of r.steps)
   pub goes_on : AreEffective (run start (steps_of r.schedule)) (steps_of r.steps)
-  pub returns : AreAlike (run start (steps_of r.schedule)) (run (run start (steps_of r.schedule)) (steps_of r.steps))
+  pub returns : AreAlike (run start (steps_of r.schedule))
+      (run (run start (steps_of r.schedule)) (steps_of r.steps))
 
 -- there are lists of effective steps as long as one likes
 abbrev pub AreEndless : WorldState → Type 0
@@ -23,7 +26,8 @@ AreEndless start = (n : ℕ) → (ps : List ℕ) × AreEffective start ps × (n 
 abbrev pub AreBounded : WorldState → Type 0
 AreBounded start = (n : ℕ) × ((ps : List ℕ) → AreEffective start ps → length ps ≤ n)
 
--- the edge leads from a row with a number to one with a greater number, which isn't above the length of the list
+-- the edge leads from a row with a number to one with a greater number, which isn't above the
+-- length of the list
 pub record IsRising (order : List ℕ) (e : Edge) : Type 0 where
   pub before : ℕ
   pub after : ℕ

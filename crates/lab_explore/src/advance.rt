@@ -1,7 +1,7 @@
 //! The local steps of a process, up to its next call.
 ghost use Rattle.std.specs.Prelude.{◌≡◌, ◌≤◌, IsTrue, IfOk, false};
-ghost use Rattle.lab_sched.specs.Held.{seen, IsHeld};
-ghost use Rattle.lab_sched.specs.Alone.{AreLocal};
+ghost use Rattle.lab_sched.specs.Held.{process_view, IsHeld};
+ghost use Rattle.lab_sched.specs.LocalRun.{AreLocal};
 ghost use Rattle.lab_explore.specs.Calls.{IsAtCall};
 
 use lab_sched::{Next, Process, find_next};
@@ -26,8 +26,9 @@ struct Ran {
 /// of memory.
 fn run_on(alloc: Global, process: &mut Process, most: u32) -> Result<Ran, AllocError>
     requires held { IsHeld process.old }
-    ensures local { IfOk result (λ r. AreLocal r.taken (seen process.old) (seen process.new)) }
-    ensures at_call { IfOk result (λ r. IsTrue r.at_call → IsAtCall (seen process.new)) }
+    ensures local { IfOk result
+        (λ r. AreLocal r.taken (process_view process.old) (process_view process.new)) }
+    ensures at_call { IfOk result (λ r. IsTrue r.at_call → IsAtCall (process_view process.new)) }
     ensures held { IsHeld process.new }
     ensures within { IfOk result (λ r. r.taken ≤ most) }
 {
@@ -53,7 +54,7 @@ fn run_on(alloc: Global, process: &mut Process, most: u32) -> Result<Ran, AllocE
 }
 
 fn is_running(process: &Process) -> bool
-    ensures at_call { result ≡ false → IsAtCall (seen process.now) }
+    ensures at_call { result ≡ false → IsAtCall (process_view process.now) }
 {
     matches!(process, Process::Running(_))
 }
@@ -62,8 +63,9 @@ fn is_running(process: &Process) -> bool
 /// memory.
 pub(crate) fn advance(alloc: Global, mut process: Process, most: u32) -> Result<Ahead, AllocError>
     requires held { IsHeld process }
-    ensures local { IfOk result (λ a. AreLocal a.taken (seen process) (seen a.process)) }
-    ensures at_call { IfOk result (λ a. IsTrue a.at_call → IsAtCall (seen a.process)) }
+    ensures local { IfOk result
+        (λ a. AreLocal a.taken (process_view process) (process_view a.process)) }
+    ensures at_call { IfOk result (λ a. IsTrue a.at_call → IsAtCall (process_view a.process)) }
     ensures held { IfOk result (λ a. IsHeld a.process) }
     ensures within { IfOk result (λ a. a.taken ≤ most) }
 {

@@ -1,15 +1,14 @@
 //! The ends among the worlds of a search, each reached again from the start.
-ghost use Rattle.std.specs.Prelude.{◌≡◌, ◌<◌, ◌≤◌, ℕ, All, Some, IsTrue, false, length, map, IfOk, IfSome, OnOk};
-ghost use Rattle.ipc_kernel.specs.Limits.{process_max};
-ghost use Rattle.lab_sched.specs.Worlds.{HaveOneProfile, WorldState};
-ghost use Rattle.lab_sched.specs.Held.{seen};
-ghost use Rattle.lab_sched.specs.Starts.{Runs};
+ghost use Rattle.std.specs.Prelude.{◌≡◌, ◌<◌, IsTrue, false, length, IfOk, OnOk};
+ghost use Rattle.lab_sched.specs.Worlds.{WorldState};
+ghost use Rattle.lab_sched.specs.Held.{process_view};
 ghost use Rattle.lab_sched.specs.declared.verdict.Verdict.TheVariants.{Open};
 ghost use Rattle.lab_sched.specs.declared.stepped.Stepped.TheVariants.{Same};
 ghost use Rattle.lab_sched.specs.Finished.{IsAtRest};
 ghost use Rattle.lab_explore.specs.Closed.{AreAtRest};
-ghost use Rattle.lab_explore.specs.Stored.{IsState, IsAt, IsLike, Each, Keeps};
-ghost use Rattle.lab_explore.specs.Ends.{first_world, IsWalk, IsEnd, HasEnd};
+ghost use Rattle.lab_explore.specs.Private.Stored.{IsState, IsAt, IsLike, Keeps};
+ghost use Rattle.lab_explore.specs.Private.Walked.{AreStarts, KeepsStart, HasRowEnd, HaveRowEnds};
+ghost use Rattle.lab_explore.specs.Ends.{first_world, IsWalk, IsEnd, AreEnds};
 
 use crate::ExploreFault;
 use crate::search::Search;
@@ -37,7 +36,7 @@ pub(crate) struct Walk {
 /// Whether a process has ended, or waits and must still wait.
 fn is_at_rest(process: &Process, kernel: &Kernel, pid: usize) -> bool
     requires process { pid < length kernel.now.processes }
-    ensures no { result ≡ false → IsAtRest kernel.now pid (seen process.now) → ⊥ }
+    ensures no { result ≡ false → IsAtRest kernel.now pid (process_view process.now) → ⊥ }
 {
     match process {
         Process::Running(_) => false,
@@ -48,14 +47,14 @@ fn is_at_rest(process: &Process, kernel: &Kernel, pid: usize) -> bool
 
 /// Whether a step that was told so is effective.
 fn changes(stepped: Stepped) -> bool
-    ensures { IsTrue result → stepped ≡ Same → ⊥ }
+    ensures effective { IsTrue result → stepped ≡ Same → ⊥ }
 {
     !matches!(stepped, Stepped::Same)
 }
 
 /// Takes a step, which must be effective.
 pub(crate) fn go(walk: &mut Walk, pid: usize) -> Result<(), ExploreFault>
-    ensures walk { OnOk result ((start : WorldState) → IsWalk start walk.old → IsWalk start walk.new) }
+    ensures walk { OnOk result (KeepsStart walk.old walk.new) }
 {
     if pid >= PROCESS_MAX || walk.schedule.total() >= MOST_STEPS {
         return Err(ExploreFault::Unvouched);
@@ -72,7 +71,7 @@ pub(crate) fn go(walk: &mut Walk, pid: usize) -> Result<(), ExploreFault>
 
 /// Takes so many steps, each of which must be effective.
 pub(crate) fn go_on(walk: &mut Walk, pid: usize, count: u32) -> Result<(), ExploreFault>
-    ensures walk { OnOk result ((start : WorldState) → IsWalk start walk.old → IsWalk start walk.new) }
+    ensures walk { OnOk result (KeepsStart walk.old walk.new) }
 {
     for _ in 0..count {
         go(walk, pid)?;
@@ -83,7 +82,8 @@ pub(crate) fn go_on(walk: &mut Walk, pid: usize, count: u32) -> Result<(), Explo
 impl Store {
     /// Whether the world of a row may be at rest.
     fn may_rest(&self, at: usize) -> Result<bool, ExploreFault>
-        ensures no { IfOk result (λ rests. rests ≡ false → (w : WorldState) → IsAt self.now at w → AreAtRest w → ⊥) }
+        ensures no { IfOk result (λ rests. rests ≡ false → (w : WorldState)
+            → IsAt self.now at w → AreAtRest w → ⊥) }
     {
         let Some(row) = self.rows.get(at) else {
             return Err(ExploreFault::Unvouched);
@@ -107,7 +107,7 @@ impl Store {
 
     /// Whether a state is that of a process.
     fn is_state(&self, state: u32, process: &Process) -> bool
-        ensures same { IsTrue result → IsState self.now state (seen process.now) }
+        ensures same { IsTrue result → IsState self.now state (process_view process.now) }
     {
         match self.states.get(state as usize) {
             Some(kept) => kept.is_same(process),
@@ -160,7 +160,7 @@ impl Store {
 
 /// Whether a world that stands so isn't at rest.
 fn is_open(verdict: Verdict) -> bool
-    ensures { result ≡ false → verdict ≡ Open → ⊥ }
+    ensures closed { result ≡ false → verdict ≡ Open → ⊥ }
 {
     matches!(verdict, Verdict::Open)
 }
@@ -179,10 +179,7 @@ fn copies(alloc: Global, processes: &[Process]) -> Result<Vec<Process>, AllocErr
 
 /// The world of processes before their first steps.
 pub(crate) fn world_of(alloc: Global, processes: &[Process]) -> Result<World, ExploreFault>
-    requires running { All Runs processes.now }
-    requires profile { HaveOneProfile (map seen processes.now) }
-    requires some { 1 ≤ length processes.now }
-    requires few { length processes.now ≤ process_max }
+    requires starts { AreStarts processes.now }
     ensures world { IfOk result (λ w. w ≡ first_world processes.now) }
 {
     let kernel = Kernel::new(alloc, processes.len())?;
@@ -207,7 +204,7 @@ fn exchange(local: &mut Vec<u32>, pid: usize, count: u32) -> Result<u32, Explore
 
 /// Takes the local steps of each process.
 fn go_local(walk: &mut Walk, local: &[u32]) -> Result<(), ExploreFault>
-    ensures walk { OnOk result ((start : WorldState) → IsWalk start walk.old → IsWalk start walk.new) }
+    ensures walk { OnOk result (KeepsStart walk.old walk.new) }
 {
     for (pid, count) in local.iter().enumerate() {
         go_on(walk, pid, *count)?;
@@ -216,15 +213,15 @@ fn go_local(walk: &mut Walk, local: &[u32]) -> Result<(), ExploreFault>
 }
 
 impl Search {
-    /// Goes the way to a row. The local steps of a process are taken just before its next call, and its last ones at the
-    /// end.
+    /// Goes the way to a row. The local steps of a process are taken just before its next call, and
+    /// its last ones at the end.
     pub(crate) fn go_to(
         &self,
         alloc: Global,
         at: usize,
         walk: &mut Walk,
     ) -> Result<(), ExploreFault>
-        ensures walk { OnOk result ((start : WorldState) → IsWalk start walk.old → IsWalk start walk.new) }
+        ensures walk { OnOk result (KeepsStart walk.old walk.new) }
     {
         let way = self.store.way(alloc, at)?;
         let mut local = Vec::from_slice(alloc, self.firsts.as_slice())?;
@@ -257,10 +254,7 @@ impl Search {
 
     /// The end of a row, reached again.
     fn vouched(&self, alloc: Global, processes: &[Process], at: usize) -> Result<End, ExploreFault>
-        requires running { All Runs processes.now }
-        requires profile { HaveOneProfile (map seen processes.now) }
-        requires some { 1 ≤ length processes.now }
-        requires few { length processes.now ≤ process_max }
+        requires starts { AreStarts processes.now }
         ensures end { IfOk result (λ e. IsEnd (first_world processes.now) e) }
         ensures row { IfOk result (λ e. IsLike self.now.store at e.world) }
     {
@@ -288,13 +282,11 @@ impl Search {
         at: usize,
         ends: &mut Vec<End>,
     ) -> Result<(), ExploreFault>
-        requires running { All Runs processes.now }
-        requires profile { HaveOneProfile (map seen processes.now) }
-        requires some { 1 ≤ length processes.now }
-        requires few { length processes.now ≤ process_max }
-        ensures each { OnOk result (Each (IsEnd (first_world processes.now)) ends.old.items → Each (IsEnd (first_world processes.now)) ends.new.items) }
+        requires starts { AreStarts processes.now }
+        ensures each { OnOk result (AreEnds (first_world processes.now) ends.old.items
+            → AreEnds (first_world processes.now) ends.new.items) }
         ensures keeps { OnOk result (Keeps ends.old.items ends.new.items) }
-        ensures here { OnOk result ((w : WorldState) → IsAt self.now.store at w → AreAtRest w → HasEnd ends.new.items w) }
+        ensures here { OnOk result (HasRowEnd self.now.store ends.new.items at) }
     {
         if !self.store.may_rest(at)? {
             return Ok(());
@@ -310,12 +302,9 @@ impl Search {
         alloc: Global,
         processes: &[Process],
     ) -> Result<Vec<End>, ExploreFault>
-        requires running { All Runs processes.now }
-        requires profile { HaveOneProfile (map seen processes.now) }
-        requires some { 1 ≤ length processes.now }
-        requires few { length processes.now ≤ process_max }
-        ensures ends { IfOk result (λ ends. Each (IsEnd (first_world processes.now)) ends.items) }
-        ensures all { IfOk result (λ ends. (i : ℕ) (w : WorldState) → IsAt self.now.store i w → AreAtRest w → HasEnd ends.items w) }
+        requires starts { AreStarts processes.now }
+        ensures ends { IfOk result (λ ends. AreEnds (first_world processes.now) ends.items) }
+        ensures all { IfOk result (λ ends. HaveRowEnds self.now.store ends.items) }
     {
         let mut ends = Vec::new(alloc);
         for at in 0..self.store.rows.len() {

@@ -1,12 +1,7 @@
 //! Explorations.
-ghost use Rattle.std.specs.Prelude.{◌≡◌, ◌≤◌, ℕ, All, IsTrue, length, map, None, IfOk, IfSome};
-ghost use Rattle.ipc_kernel.specs.Limits.{process_max};
-ghost use Rattle.lab_sched.specs.Worlds.{HaveOneProfile, WorldState};
-ghost use Rattle.lab_sched.specs.Held.{seen};
-ghost use Rattle.lab_sched.specs.Starts.{Runs};
-ghost use Rattle.lab_explore.specs.Closed.{AreAtRest};
-ghost use Rattle.lab_explore.specs.Stored.{IsAt, Each};
-ghost use Rattle.lab_explore.specs.Ends.{first_world, IsEnd, HasEnd, HaveAllEnds, NoneStuck, NeverStuck};
+ghost use Rattle.std.specs.Prelude.{◌≡◌, IsTrue, None, IfOk, IfSome};
+ghost use Rattle.lab_explore.specs.Private.Walked.{AreStarts, HaveRowEnds};
+ghost use Rattle.lab_explore.specs.Ends.{first_world, AreEnds, HaveAllEnds, NoneStuck, NeverStuck};
 ghost use Rattle.lab_explore.specs.Rounds.{IsRound, AreRising, AreEndless, AreBounded};
 
 use crate::search::{Search, search_all};
@@ -16,8 +11,8 @@ use ipc_kernel::Kernel;
 use lab_sched::{Fresh, Process};
 use std::alloc::Global;
 
-/// What the programs of a laboratory can come to: their ends, a round, if they can go on for ever, how many worlds were
-/// visited, and whether these are all ends.
+/// What the programs of a laboratory can come to: their ends, a round, if they can go on for ever,
+/// how many worlds were visited, and whether these are all ends.
 #[derive(Drop)]
 pub struct Exploration {
     pub ends: Vec<End>,
@@ -39,9 +34,11 @@ pub fn explore<O: Observer>(
     limits: Limits,
     observer: &mut O,
 ) -> Result<Exploration, ExploreFault>
-    ensures sound { IfOk result (λ found. Each (IsEnd fresh) found.ends.items) }
-    ensures complete { IfOk result (λ found. IsTrue found.complete → HaveAllEnds fresh found.ends.items) }
-    ensures free { IfOk result (λ found. IsTrue found.complete → NoneStuck found.ends.items → NeverStuck fresh) }
+    ensures sound { IfOk result (λ found. AreEnds fresh found.ends.items) }
+    ensures complete { IfOk result (λ found.
+        IsTrue found.complete → HaveAllEnds fresh found.ends.items) }
+    ensures free { IfOk result (λ found.
+        IsTrue found.complete → NoneStuck found.ends.items → NeverStuck fresh) }
     ensures round { IfOk result (λ found. IfSome found.round (λ r. IsRound fresh r)) }
     ensures endless { IfOk result (λ found. IfSome found.round (λ r. AreEndless fresh)) }
     ensures bounded { IfOk result (λ found. IsTrue found.complete → found.round ≡ None
@@ -69,17 +66,14 @@ impl Search {
         alloc: Global,
         processes: &[Process],
     ) -> Result<Exploration, ExploreFault>
-        requires running { All Runs processes.now }
-        requires profile { HaveOneProfile (map seen processes.now) }
-        requires some { 1 ≤ length processes.now }
-        requires few { length processes.now ≤ process_max }
+        requires starts { AreStarts processes.now }
         ensures ends { IfOk result (λ found.
-            Each (IsEnd (first_world processes.now)) found.ends.items) }
-        ensures all { IfOk result (λ found. (i : ℕ) (w : WorldState) → IsAt self.now.store i w
-            → AreAtRest w → HasEnd found.ends.items w) }
+            AreEnds (first_world processes.now) found.ends.items) }
+        ensures all { IfOk result (λ found. HaveRowEnds self.now.store found.ends.items) }
         ensures round { IfOk result (λ found.
             IfSome found.round (λ r. IsRound (first_world processes.now) r)) }
-        ensures none { IfOk result (λ found. found.round ≡ None → AreRising self.now.store.edges.items) }
+        ensures none { IfOk result (λ found.
+            found.round ≡ None → AreRising self.now.store.edges.items) }
         ensures complete { IfOk result (λ found. IsTrue found.complete → IsTrue self.now.complete) }
     {
         let ends = self.ends(alloc, processes)?;

@@ -1,12 +1,13 @@
-//! The order of worlds along the edges between them, and cycles. That an order is one is checked; a cycle is run again
-//! (`rounds`).
+//! The order of worlds along the edges between them, and cycles. That an order is one is checked; a
+//! cycle is run again (`rounds`).
 ghost use Rattle.std.specs.Prelude.{◌≡◌, ◌<◌, ◌≤◌, ℕ, Some, IsTrue, length, slice_get};
 ghost use Rattle.lab_explore.specs.Rounds.{IsRising, Rises};
 
 use crate::store::Edge;
 use std::alloc::{AllocError, Global};
 
-/// A cycle: a row that lies on it, and the edges from there to it again, the last of which comes first.
+/// A cycle: a row that lies on it, and the edges from there to it again, the last of which comes
+/// first.
 #[derive(Drop)]
 pub(crate) struct Cycle {
     pub at: usize,
@@ -92,7 +93,8 @@ fn release(
     Ok(())
 }
 
-/// A number for each row, from 1, with which those that lead to it have less; 0 for a row to which a cycle leads.
+/// A number for each row, from 1, with which those that lead to it have less; 0 for a row to which
+/// a cycle leads.
 pub(crate) fn order_of(
     alloc: Global,
     edges: &[Edge],
@@ -174,8 +176,8 @@ fn least_on_cycle(before: &[usize], row: usize) -> usize {
     least
 }
 
-/// Follows the edges from a row: those to rows that weren't reached are written down, with the place of the edge plus 1;
-/// with the place of an edge to the goal, if there is one.
+/// Follows the edges from a row: those to rows that weren't reached are written down, with the
+/// place of the edge plus 1; with the place of an edge to the goal, if there is one.
 fn follow(
     edges: &[Edge],
     range: (usize, usize),

@@ -1,8 +1,8 @@
 //! The moves that a search has made.
 ghost use Rattle.std.specs.Prelude.{◌≡◌, [], IfOk, IfSome, OnOk};
 ghost use Rattle.lab_explore.specs.declared.store.Store.{Store as Kept};
-ghost use Rattle.lab_explore.specs.Stored.{IsMove};
-ghost use Rattle.lab_explore.specs.Known.{AreKnown};
+ghost use Rattle.lab_explore.specs.Private.Stored.{IsMove};
+ghost use Rattle.lab_explore.specs.Private.Known.{AreKnown};
 
 use crate::index::Index;
 use crate::store::Next;
@@ -46,7 +46,8 @@ impl Moves {
 
     /// The move from these places, if it was made.
     pub(crate) fn find(&self, kernel: u32, pid: u32, state: u32) -> Option<Next>
-        ensures known { (t : Kept) → AreKnown t self.now → IfSome result (λ next. IsMove t kernel pid state next) }
+        ensures known { (t : Kept) → AreKnown t self.now
+            → IfSome result (λ next. IsMove t kernel pid state next) }
     {
         let mut number = self.index.newest(move_digest(kernel, pid, state));
         while number > 0 {
@@ -69,7 +70,8 @@ impl Moves {
         state: u32,
         next: Next,
     ) -> Result<(), AllocError>
-        ensures known { OnOk result ((t : Kept) → AreKnown t self.old → IsMove t kernel pid state next → AreKnown t self.new) }
+        ensures known { OnOk result ((t : Kept) → AreKnown t self.old
+            → IsMove t kernel pid state next → AreKnown t self.new) }
     {
         self.index.add(move_digest(kernel, pid, state))?;
         self.made.push(Move {

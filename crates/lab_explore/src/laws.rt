@@ -4,7 +4,7 @@ ghost use Rattle.lab_explore.specs.Alikes.{StepsAlike, OneVerdict};
 
 /// A list of worlds that has the advance of the start, and that of each effective step from each of
 /// its worlds, has every world at rest that any steps lead to, but for the numbers of places.
-#[tactic(auto, using(crate::proofs::Simulates::holds_every_end))]
+#[tactic(auto, using(crate::proofs::HeldAdvances::holds_every_end))]
 pub fn closed_lists_hold_every_end()
     ensures law { HoldsEveryEnd }
 {}

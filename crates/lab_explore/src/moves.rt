@@ -1,10 +1,10 @@
 //! What each process does next.
-ghost use Rattle.std.specs.Prelude.{◌≡◌, ◌<◌, ℕ, Some, IsTrue, true, length, slice_get, IfOk, IfSome, OnOk};
+ghost use Rattle.std.specs.Prelude.{◌≡◌, ℕ, IsTrue, IfOk, IfSome, OnOk};
 ghost use Rattle.ipc_kernel.specs.Kernel.{KernelState};
 ghost use Rattle.lab_sched.specs.Worlds.{Process as Seen, WorldState, step};
 ghost use Rattle.lab_explore.specs.declared.trying.Tried.TheVariants.{Came};
-ghost use Rattle.lab_explore.specs.Known.{AreKnown};
-ghost use Rattle.lab_explore.specs.Stored.{IsState, IsReady, IsRow, IsStore, Grows, AreReached, HasEdge, IsNext, IsMove, IsStepped, IsAt, IsTried, IsExpanded};
+ghost use Rattle.lab_explore.specs.Private.Known.{AreKnown};
+ghost use Rattle.lab_explore.specs.Private.Stored.{IsReady, IsRow, IsStore, Grows, AreReached, HasEdge, IsNext, IsMove, IsStepped, IsKeptStep, IsAt, IsTried, IsExpanded};
 
 use crate::known::Moves;
 use crate::store::{Edge, Next, Row, Store};
@@ -46,8 +46,7 @@ impl Store {
         most: u32,
     ) -> Result<Tried, ExploreFault>
         requires store { IsStore self.now }
-        ensures tried { IfOk result (λ tried. (k : KernelState) × (s : Seen) × (slice_get self.now.kernels.items kernel ≡ Some k)
-            × IsState self.now state s × IsStepped k pid s tried) }
+        ensures tried { IfOk result (λ tried. IsKeptStep self.now kernel pid state tried) }
     {
         let Some(kernel) = self.kernels.get(kernel as usize) else {
             return Err(ExploreFault::Unvouched);
@@ -64,7 +63,8 @@ impl Store {
         requires ready { IsReady made.process }
         ensures store { OnOk result (IsStore self.new) }
         ensures grows { OnOk result (Grows self.old self.new) }
-        ensures next { IfOk result (λ next. (k : KernelState) (p : ℕ) (s : Seen) → IsStepped k p s (Came made) → IsNext self.new k p s next) }
+        ensures next { IfOk result (λ next. (k : KernelState) (p : ℕ) (s : Seen)
+            → IsStepped k p s (Came made) → IsNext self.new k p s next) }
     {
         let Made {
             kernel,
@@ -142,8 +142,8 @@ impl Store {
 }
 
 impl Store {
-    /// Keeps the world of a row, and the edge to it by a step of process `pid` from the world of another, if there are
-    /// fewer worlds than `most`; with whether both are kept now.
+    /// Keeps the world of a row, and the edge to it by a step of process `pid` from the world of
+    /// another, if there are fewer worlds than `most`; with whether both are kept now.
     fn keep_edge(&mut self, at: usize, pid: u32, row: Row, most: u32) -> Result<bool, AllocError>
         requires store { IsStore self.old }
         requires row { (w : WorldState) × IsRow self.old row w }
@@ -163,8 +163,8 @@ impl Store {
         Ok(true)
     }
 
-    /// Tries process `pid` from the world of a row, and keeps the world where it comes; with whether
-    /// that could be done.
+    /// Tries process `pid` from the world of a row, and keeps the world where it comes; with
+    /// whether that could be done.
     pub(crate) fn try_process(
         &mut self,
         alloc: Global,
@@ -178,7 +178,8 @@ impl Store {
         ensures store { OnOk result (IsStore self.new) }
         ensures known { OnOk result (AreKnown self.new moves.new) }
         ensures grows { OnOk result (Grows self.old self.new) }
-        ensures tried { IfOk result (λ whole. IsTrue whole → (w : WorldState) → IsAt self.old at w → IsTried self.new at w pid) }
+        ensures tried { IfOk result (λ whole. IsTrue whole → (w : WorldState)
+            → IsAt self.old at w → IsTried self.new at w pid) }
     {
         let Some((kernel, state)) = self.places(at, pid) else {
             return Err(ExploreFault::Unvouched);

@@ -1,11 +1,9 @@
 //! Rounds: steps that lead from a world to one alike, so that some interleaving never ends.
-ghost use Rattle.std.specs.Prelude.{◌≡◌, ◌≤◌, ℕ, All, IsTrue, length, map, None, IfOk, IfSome, OnOk};
-ghost use Rattle.ipc_kernel.specs.Limits.{process_max};
-ghost use Rattle.lab_sched.specs.Worlds.{HaveOneProfile, WorldState};
-ghost use Rattle.lab_sched.specs.Held.{seen};
-ghost use Rattle.lab_sched.specs.Starts.{Runs};
+ghost use Rattle.std.specs.Prelude.{◌≡◌, ◌≤◌, length, None, IfOk, IfSome, OnOk};
+ghost use Rattle.lab_sched.specs.Worlds.{WorldState};
 ghost use Rattle.lab_sched.specs.Schedules.{steps_of};
-ghost use Rattle.lab_explore.specs.Stored.{IsLike};
+ghost use Rattle.lab_explore.specs.Private.Stored.{IsLike};
+ghost use Rattle.lab_explore.specs.Private.Walked.{AreStarts, KeepsStart};
 ghost use Rattle.lab_explore.specs.Ends.{first_world, IsWalk};
 ghost use Rattle.lab_explore.specs.Rounds.{IsRound, AreRising};
 
@@ -18,7 +16,8 @@ use crate::trying::discard;
 use lab_sched::{Process, Schedule};
 use std::alloc::Global;
 
-/// A schedule that leads to a world, and steps from that world to one alike, at least one. They can be repeated for ever.
+/// A schedule that leads to a world, and steps from that world to one alike, at least one. They can
+/// be repeated for ever.
 #[derive(Drop)]
 pub struct Round {
     pub schedule: Schedule,
@@ -27,7 +26,7 @@ pub struct Round {
 
 /// Takes the steps of edges, the last of which comes first.
 fn go_edges(walk: &mut Walk, edges: &[Edge]) -> Result<(), ExploreFault>
-    ensures walk { OnOk result ((start : WorldState) → IsWalk start walk.old → IsWalk start walk.new) }
+    ensures walk { OnOk result (KeepsStart walk.old walk.new) }
 {
     for edge in edges.iter().rev() {
         go(walk, edge.pid as usize)?;
@@ -37,7 +36,8 @@ fn go_edges(walk: &mut Walk, edges: &[Edge]) -> Result<(), ExploreFault>
 }
 
 impl Search {
-    /// The round by a schedule that led to the world of a row, and by steps from there, which must have led to a world alike.
+    /// The round by a schedule that led to the world of a row, and by steps from there, which must
+    /// have led to a world alike.
     fn closed(&self, at: usize, schedule: Schedule, walk: Walk) -> Result<Round, ExploreFault>
         ensures schedule { IfOk result (λ r. r.schedule ≡ schedule) }
         ensures steps { IfOk result (λ r. r.steps ≡ walk.schedule) }
@@ -60,7 +60,8 @@ impl Search {
 
     /// The round by a walk to the world of a row, and by edges from there to it.
     fn go_round(&self, alloc: Global, cycle: &Cycle, walk: Walk) -> Result<Round, ExploreFault>
-        ensures round { IfOk result (λ r. (start : WorldState) → IsWalk start walk → IsRound start r) }
+        ensures round { IfOk result (λ r. (start : WorldState)
+            → IsWalk start walk → IsRound start r) }
     {
         let Walk { world, schedule } = walk;
         if !self.store.is_row(cycle.at, &world) {
@@ -92,10 +93,7 @@ impl Search {
         processes: &[Process],
         cycle: &Cycle,
     ) -> Result<Round, ExploreFault>
-        requires running { All Runs processes.now }
-        requires profile { HaveOneProfile (map seen processes.now) }
-        requires some { 1 ≤ length processes.now }
-        requires few { length processes.now ≤ process_max }
+        requires starts { AreStarts processes.now }
         ensures round { IfOk result (λ r. IsRound (first_world processes.now) r) }
     {
         let mut walk = Walk {
@@ -120,10 +118,7 @@ impl Search {
         alloc: Global,
         processes: &[Process],
     ) -> Result<Option<Round>, ExploreFault>
-        requires running { All Runs processes.now }
-        requires profile { HaveOneProfile (map seen processes.now) }
-        requires some { 1 ≤ length processes.now }
-        requires few { length processes.now ≤ process_max }
+        requires starts { AreStarts processes.now }
         ensures round { IfOk result (λ round.
             IfSome round (λ r. IsRound (first_world processes.now) r)) }
         ensures none { IfOk result (λ round. round ≡ None → AreRising self.now.store.edges.items) }

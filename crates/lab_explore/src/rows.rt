@@ -1,8 +1,8 @@
 //! The worlds that a search keeps.
-ghost use Rattle.std.specs.Prelude.{◌≡◌, ◌<◌, ℕ, Some, IsTrue, true, length, slice_get, slice_set, IfOk, IfSome, OnOk};
+ghost use Rattle.std.specs.Prelude.{◌≡◌, Some, IsTrue, length, slice_get, slice_set, IfOk, IfSome, OnOk};
 ghost use Rattle.lab_sched.specs.Worlds.{WorldState};
 ghost use Rattle.lab_explore.specs.declared.store.Row.{Row};
-ghost use Rattle.lab_explore.specs.Stored.{IsRow, IsAt, IsStore, Grows};
+ghost use Rattle.lab_explore.specs.Private.Stored.{IsRow, IsAt, IsStore, Grows};
 
 use crate::ExploreFault;
 use crate::store::{Row, Store, place_of};
@@ -29,7 +29,8 @@ fn row_digest(row: &Row) -> u64 {
 impl Store {
     /// The number of a row of the same world, if one is kept.
     fn find_row(&self, row: &Row, hash: u64) -> Option<usize>
-        ensures found { IfSome result (λ i. (w : WorldState) → IsRow self.now row.now w → IsAt self.now i w) }
+        ensures found { IfSome result (λ i. (w : WorldState)
+            → IsRow self.now row.now w → IsAt self.now i w) }
     {
         let mut number = self.row_index.newest(hash);
         while number > 0 {
@@ -44,7 +45,8 @@ impl Store {
         None
     }
 
-    /// Keeps the world of a row, if there are fewer than `most`; with its number, if it is kept now.
+    /// Keeps the world of a row, if there are fewer than `most`; with its number, if it is kept
+    /// now.
     pub(crate) fn keep_row(&mut self, row: Row, most: u32) -> Result<Option<usize>, AllocError>
         requires store { IsStore self.old }
         requires row { (w : WorldState) × IsRow self.old row w }
@@ -68,7 +70,8 @@ impl Store {
 
     /// The places of the kernel and of the state of process `pid` in a row.
     pub(crate) fn places(&self, at: usize, pid: u32) -> Option<(u32, u32)>
-        ensures places { IfSome result (λ x. (r : Row) × (slice_get self.now.rows.items at ≡ Some r) × (r.kernel ≡ x.0)
+        ensures places { IfSome result (λ x. (r : Row)
+            × (slice_get self.now.rows.items at ≡ Some r) × (r.kernel ≡ x.0)
             × (slice_get r.states.items pid ≡ Some x.1)) }
     {
         let row = self.rows.get(at)?;
@@ -78,7 +81,8 @@ impl Store {
 
     /// The number of processes of a row.
     pub(crate) fn width(&self, at: usize) -> Option<u32>
-        ensures width { IfSome result (λ n. (r : Row) × (slice_get self.now.rows.items at ≡ Some r) × (n ≡ length r.states.items)) }
+        ensures width { IfSome result (λ n. (r : Row)
+            × (slice_get self.now.rows.items at ≡ Some r) × (n ≡ length r.states.items)) }
     {
         let row = self.rows.get(at)?;
         match place_of(row.states.len()) {

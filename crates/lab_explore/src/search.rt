@@ -1,10 +1,8 @@
 //! The search of every world.
-ghost use Rattle.std.specs.Prelude.{◌≡◌, ◌<◌, ℕ, All, IsTrue, length, map, IfOk, IfSome, OnOk};
-ghost use Rattle.lab_sched.specs.Worlds.{Process as Seen};
-ghost use Rattle.lab_sched.specs.Held.{seen, IsHeld};
-ghost use Rattle.lab_explore.specs.Closed.{HasAdvance};
-ghost use Rattle.lab_explore.specs.Known.{AreKnown};
-ghost use Rattle.lab_explore.specs.Stored.{IsState, IsReady, IsStore, Grows, IsExpanded, IsSearched, Holds, IsCome, IsBegun};
+ghost use Rattle.std.specs.Prelude.{All, IsTrue, map, IfOk, IfSome, OnOk};
+ghost use Rattle.lab_sched.specs.Held.{process_view, IsHeld};
+ghost use Rattle.lab_explore.specs.Private.Known.{AreKnown};
+ghost use Rattle.lab_explore.specs.Private.Stored.{IsState, IsReady, IsStore, Grows, AreExpanded, IsSearched, IsCome, IsBegun};
 
 use crate::advance::{Ahead, advance};
 use crate::known::Moves;
@@ -47,7 +45,8 @@ impl Store {
         requires at_call { IsTrue ahead.at_call → IsReady ahead.process }
         ensures store { OnOk result (IsStore self.new) }
         ensures grows { OnOk result (Grows self.old self.new) }
-        ensures kept { IfOk result (λ come. IfSome come (λ x. IsTrue ahead.at_call × IsState self.new x.state (seen ahead.process))) }
+        ensures kept { IfOk result (λ come. IfSome come (λ x.
+            IsTrue ahead.at_call × IsState self.new x.state (process_view ahead.process))) }
     {
         let Ahead {
             process,
@@ -73,7 +72,8 @@ impl Store {
         requires held { IsHeld process.now }
         ensures store { OnOk result (IsStore self.new) }
         ensures grows { OnOk result (Grows self.old self.new) }
-        ensures come { IfOk result (λ come. IfSome come (λ x. IsCome self.new x.state (seen process.now))) }
+        ensures come { IfOk result (λ come. IfSome come (λ x.
+            IsCome self.new x.state (process_view process.now))) }
     {
         let process = process.copy(alloc)?;
         let ahead = advance(alloc, process, most)?;
@@ -92,7 +92,8 @@ impl Store {
         requires held { All IsHeld processes.now }
         ensures store { OnOk result (IsStore self.new) }
         ensures grows { OnOk result (Grows self.old self.new) }
-        ensures begun { IfOk result (λ begun. IfSome begun (λ x. IsBegun self.new x.states.items (map seen processes.now))) }
+        ensures begun { IfOk result (λ begun. IfSome begun (λ x.
+            IsBegun self.new x.states.items (map process_view processes.now))) }
     {
         let mut states = Vec::new(alloc);
         let mut firsts = Vec::new(alloc);
@@ -118,7 +119,7 @@ impl Store {
         requires known { AreKnown self.old moves.old }
         ensures store { OnOk result (IsStore self.new) }
         ensures grows { OnOk result (Grows self.old self.new) }
-        ensures all { IfOk result (λ whole. IsTrue whole → (i : ℕ) → i < length self.new.rows.items → IsExpanded self.new i) }
+        ensures all { IfOk result (λ whole. IsTrue whole → AreExpanded self.new) }
     {
         let most = limits.worlds as usize;
         let mut whole = true;
@@ -147,7 +148,7 @@ fn fill<O: Observer>(
     requires store { IsStore store.old }
     requires held { All IsHeld processes.now }
     ensures complete { IfOk result (λ r. IsTrue r.1 →
-        IsSearched (record { processes = map seen processes.now; kernel = kernel }) store.new) }
+        IsSearched (record { processes = map process_view processes.now; kernel = kernel }) store.new) }
 {
     let kernel = store.keep_kernel(kernel)?;
     let Some(begun) = store.begin(alloc, processes, limits.steps)? else {
@@ -179,7 +180,7 @@ pub(crate) fn search_all<O: Observer>(
 ) -> Result<Search, ExploreFault>
     requires held { All IsHeld processes.now }
     ensures complete { IfOk result (λ s. IsTrue s.complete →
-        IsSearched (record { processes = map seen processes.now; kernel = kernel }) s.store) }
+        IsSearched (record { processes = map process_view processes.now; kernel = kernel }) s.store) }
 {
     let mut store = match Store::new(alloc) {
         Ok(store) => store,

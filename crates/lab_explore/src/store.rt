@@ -2,8 +2,8 @@
 ghost use Rattle.std.specs.Prelude.{◌≡◌, ◌<◌, ℕ, Some, IsTrue, true, length, slice_get, IfOk, IfSome, OnOk};
 ghost use Rattle.std.specs.Option.{option_map};
 ghost use Rattle.lab_sched.specs.Worlds.{WorldState};
-ghost use Rattle.lab_sched.specs.Held.{seen, IsHeld};
-ghost use Rattle.lab_explore.specs.Stored.{IsState, IsKernel, IsRow, IsAt, Holds, IsReady, IsStore, Grows, IsMove, IsTried, IsExpanded};
+ghost use Rattle.lab_sched.specs.Held.{process_view, IsHeld};
+ghost use Rattle.lab_explore.specs.Private.Stored.{IsState, IsKernel, IsRow, IsAt, Holds, IsReady, IsStore, Grows, IsMove, IsTried, IsExpanded};
 
 use crate::index::Index;
 use ipc_kernel::Kernel;
@@ -28,8 +28,8 @@ pub(crate) enum Next {
     Nothing,
     /// More local steps than it may take.
     Limit,
-    /// A step of the kernel, and then so many local steps; the places of the kernel and of its state
-    /// then.
+    /// A step of the kernel, and then so many local steps; the places of the kernel and of its
+    /// state then.
     To { kernel: u32, state: u32, taken: u32 },
 }
 
@@ -43,8 +43,8 @@ pub(crate) fn place_of(at: usize) -> Result<u32, AllocError>
     }
 }
 
-/// A step of process `pid` from the world of a row, and then so many local steps of it, to the world
-/// of a row.
+/// A step of process `pid` from the world of a row, and then so many local steps of it, to the
+/// world of a row.
 #[derive(Clone, Copy, Drop)]
 pub(crate) struct Edge {
     pub from: u32,
@@ -84,7 +84,7 @@ impl Store {
 
     /// The place of a state, if it is kept.
     fn find_state(&self, process: &Process, hash: u64) -> Option<usize>
-        ensures found { IfSome result (λ i. IsState self.now i (seen process.now)) }
+        ensures found { IfSome result (λ i. IsState self.now i (process_view process.now)) }
     {
         let mut number = self.state_index.newest(hash);
         while number > 0 {
@@ -122,7 +122,7 @@ impl Store {
         requires ready { IsReady process }
         ensures store { OnOk result (IsStore self.new) }
         ensures grows { OnOk result (Grows self.old self.new) }
-        ensures state { IfOk result (λ i. IsState self.new i (seen process)) }
+        ensures state { IfOk result (λ i. IsState self.new i (process_view process)) }
     {
         let hash = process.digest();
         if let Some(at) = self.find_state(&process, hash) {

@@ -1,11 +1,11 @@
 //! Steps that are tried on copies.
-ghost use Rattle.std.specs.Prelude.{◌≡◌, ◌<◌, ◌^◌, ℕ, Some, IsTrue, length, IfOk};
+ghost use Rattle.std.specs.Prelude.{◌<◌, ◌^◌, ℕ, IsTrue, length, IfOk};
 ghost use Rattle.ipc_kernel.specs.Kernel.{KernelState};
-ghost use Rattle.lab_sched.specs.Worlds.{Process as Seen, turn};
-ghost use Rattle.lab_sched.specs.Held.{seen, IsHeld, process_after, kernel_after};
-ghost use Rattle.lab_sched.specs.Alone.{AreLocal};
+ghost use Rattle.lab_sched.specs.Worlds.{Process as Seen};
+ghost use Rattle.lab_sched.specs.Held.{process_view, IsHeld, step_of};
+ghost use Rattle.lab_sched.specs.LocalRun.{AreLocal};
 ghost use Rattle.lab_explore.specs.Calls.{IsAtCall};
-ghost use Rattle.lab_explore.specs.Stored.{IsStepped, IsRun};
+ghost use Rattle.lab_explore.specs.Private.Stored.{IsStepped, IsRun};
 
 use crate::ExploreFault;
 use crate::advance::{Ahead, advance};
@@ -40,8 +40,9 @@ pub(crate) fn discard<T: Drop>(_value: T) {}
 fn made_of(kernel: Kernel, ahead: Ahead) -> Option<Made>
     requires held { IsHeld ahead.process }
     requires few { ahead.taken < 2 ^ 32 }
-    requires at_call { IsTrue ahead.at_call → IsAtCall (seen ahead.process) }
-    ensures made { (s : Seen) → AreLocal ahead.taken s (seen ahead.process) → IsRun kernel s result }
+    requires at_call { IsTrue ahead.at_call → IsAtCall (process_view ahead.process) }
+    ensures made { (s : Seen) → AreLocal ahead.taken s (process_view ahead.process)
+        → IsRun kernel s result }
 {
     let Ahead {
         process,
@@ -68,7 +69,7 @@ fn run_on(
     most: u32,
 ) -> Result<Option<Made>, ExploreFault>
     requires held { IsHeld process }
-    ensures run { IfOk result (λ made. IsRun kernel (seen process) made) }
+    ensures run { IfOk result (λ made. IsRun kernel (process_view process) made) }
 {
     match advance(alloc, process, most) {
         Ok(ahead) => Ok(made_of(kernel, ahead)),
@@ -81,7 +82,8 @@ fn run_on(
 
 /// What came of a step, where the process then made its local steps.
 fn came(made: Option<Made>) -> Tried
-    ensures came { (k : KernelState) (p : ℕ) (s : Seen) → IsRun (kernel_after k p (turn k p (Some s))) (process_after s (turn k p (Some s))) made → IsStepped k p s result }
+    ensures came { (k : KernelState) (p : ℕ) (s : Seen)
+        → IsRun (step_of k p s).kernel (step_of k p s).process made → IsStepped k p s result }
 {
     match made {
         Some(made) => Tried::Came(made),
@@ -99,7 +101,7 @@ fn step_on(
 ) -> Result<Tried, ExploreFault>
     requires process { pid < length kernel.processes }
     requires held { IsHeld process }
-    ensures stepped { IfOk result (λ tried. IsStepped kernel pid (seen process) tried) }
+    ensures stepped { IfOk result (λ tried. IsStepped kernel pid (process_view process) tried) }
 {
     match take_step(alloc, &mut process, &mut kernel, pid) {
         Ok(Stepped::Same) => {
@@ -125,7 +127,8 @@ pub(crate) fn try_step(
     most: u32,
 ) -> Result<Tried, ExploreFault>
     requires held { IsHeld process.now }
-    ensures stepped { IfOk result (λ tried. IsStepped kernel.now pid (seen process.now) tried) }
+    ensures stepped { IfOk result
+        (λ tried. IsStepped kernel.now pid (process_view process.now) tried) }
 {
     if pid >= kernel.count() {
         return Err(ExploreFault::Unvouched);

@@ -40,7 +40,8 @@ impl<W: Write> Output<W> {
     pub fn write(&mut self, buf: &[u8]) -> Result<usize, Failed>
         ensures bound { WritesAtMost result buf.now }
         ensures progress { IfOk result (λ count. 0 < length buf.now → 0 < count) }
-        ensures bytes { WriteAppends (W.contents self.old.device) (W.contents self.new.device) result buf.now }
+        ensures bytes { WriteAppends (W.contents self.old.device) (W.contents self.new.device)
+            result buf.now }
         ensures ok { OnOk result (self.new.failed ≡ self.old.failed) }
         ensures err { OnErr result (IsTrue self.new.failed) }
     {

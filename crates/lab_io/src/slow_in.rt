@@ -21,7 +21,11 @@ impl<'a> Model for SlowIn<'a> {
 
     ghost Value = { SlowReader };
 
-    ghost view = { λ s. record { bytes = s.bytes.now; per_call = s.per_call; before_failure = s.before_failure } };
+    ghost view = { λ s. record {
+      bytes = s.bytes.now;
+      per_call = s.per_call;
+      before_failure = s.before_failure;
+    } };
 
     ghost invariant = { λ s. 1 ≤ s.per_call };
 }

@@ -60,7 +60,8 @@ impl Write for SlowOut<'_> {
 
     fn write(&mut self, buf: &[u8]) -> io::Result<usize>
         ensures bound { WritesAtMost result buf.now }
-        ensures bytes { WriteAppends (Some self.old.written) (Some self.new.written) result buf.now }
+        ensures bytes { WriteAppends (Some self.old.written) (Some self.new.written)
+            result buf.now }
         ensures fails { IsErr result ↔ (self.old.before_failure ≡ 0) }
         ensures count { IfOk result
             (λ n. n

@@ -1,3 +1,4 @@
+pub mod FaultLemmas
 pub mod MomentLemmas
 pub mod SafeLemmas
 pub mod StartLemmas

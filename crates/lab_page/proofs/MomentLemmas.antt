@@ -1,10 +1,10 @@
 -- The moments of steps, one after another.
-use Rattle.std.proofs.Common.{◌≡◌, ℕ, zero, suc, ◌+◌, ◌<◌, Bool, if◌then◌else◌, List, [], ◌∷◌, ◌++◌, length, replicate, take, get_or, refl, sym, ap, subst, ◌∙◌, append_assoc, append-nil, arith}
+use Rattle.std.proofs.Common.{◌≡◌, ℕ, zero, suc, ◌+◌, ◌<◌, Bool, List, [], ◌∷◌, ◌++◌, length, replicate, take, get_or, refl, sym, ap, ◌∙◌, append_assoc, append-nil}
 use Rattle.std.proofs.lemmas.List.{replicate-append-replicate}
 use Rattle.ipc_kernel.specs.declared.call.Answer.TheVariants.{Done, Wait}
 use Rattle.lab_sched.specs.Schedules.{steps_of}
-use Rattle.lab_sched.specs.Worlds.{WorldState, Turn, nothing, local_step, kernel_step, turn_in, step}
-use Rattle.lab_sched.specs.Held.{told_of}
+use Rattle.lab_sched.specs.Worlds.{WorldState, StepEffect, nothing, local_step, kernel_step, step_effect_in, step}
+use Rattle.lab_sched.specs.Held.{stepped_of}
 use Rattle.lab_sched.specs.declared.schedule.block.Block.{Block}
 use Rattle.lab_sched.specs.declared.stepped.Stepped.{Stepped}
 use Rattle.lab_sched.specs.declared.stepped.Stepped.TheVariants as stepped
@@ -13,7 +13,7 @@ use Rattle.lab_trace.specs.Scenes.{Scene, first_scene, line, next, scene_after}
 use Rattle.lab_trace.specs.Lines.{widths_for}
 use Rattle.lab_trace.specs.declared.lines.Widths.{Widths}
 use Rattle.lab_trace.proofs.SceneLemmas.{renumbered, next-still}
-use Rattle.lab_page.specs.Moments.{Moment, moment_told, listed, moment, moments, moments_of}
+use Rattle.lab_page.specs.Moments.{Moment, moment_told, moment_list, moment, moments, moments_of}
 use Rattle.lab_page.specs.Runs.{ending_at, ending_of}
 
 pub moments-none : (v : Widths) (b : Bool) (s : Scene) → moments v b s [] ≡ []
@@ -24,7 +24,7 @@ moments-one : (v : Widths) (b : Bool) (s : Scene) (p : ℕ) → moments v b s (p
 unfolding moments
 moments-one v b s p = append-nil (moment v b s p)
 
-moments-append : (v : Widths) (b : Bool) (s : Scene) (xs ys : List ℕ) → moments v b s (xs ++ ys) ≡ moments v b s xs ++ moments v b (scene_after s xs) ys
+pub moments-append : (v : Widths) (b : Bool) (s : Scene) (xs ys : List ℕ) → moments v b s (xs ++ ys) ≡ moments v b s xs ++ moments v b (scene_after s xs) ys
 unfolding moments scene_after
 moments-append v b s [] ys = refl
 moments-append v b s (x ∷ xs) ys =
@@ -32,13 +32,13 @@ moments-append v b s (x ∷ xs) ys =
     ∙ sym (append_assoc (moment v b s x) (moments v b (next s x) xs) (moments v b (scene_after (next s x) xs) ys))
 
 -- a step without an effect has no moment
-pub moment-still : (v : Widths) (b : Bool) (s : Scene) (p : ℕ) → turn_in s.world p ≡ nothing → moment v b s p ≡ []
+pub moment-still : (v : Widths) (b : Bool) (s : Scene) (p : ℕ) → step_effect_in s.world p ≡ nothing → moment v b s p ≡ []
 unfolding moment
 moment-still v b s p e =
-    ap (λ (t : Turn). listed (moment_told b (told_of t) (line v s p) s.number p (step s.world p))) e
+    ap (λ (t : StepEffect). moment_list (moment_told b (stepped_of t) (line v s p) s.number p (step s.world p))) e
 
 -- nor have n of them
-moments-still : (n : ℕ) (v : Widths) (b : Bool) (s : Scene) (p : ℕ) → turn_in s.world p ≡ nothing → moments v b s (replicate n p) ≡ []
+moments-still : (n : ℕ) (v : Widths) (b : Bool) (s : Scene) (p : ℕ) → step_effect_in s.world p ≡ nothing → moments v b s (replicate n p) ≡ []
 unfolding moments
 moments-still zero v b s p e = refl
 moments-still (suc n) v b s p e =
@@ -47,17 +47,17 @@ moments-still (suc n) v b s p e =
     ∙ moments-still n v b (renumbered s (s.number + 1)) p e
 
 -- what a step is told as stands for: itself, or so many steps without an effect
-pub moments-told : (v : Widths) (b : Bool) (s : Scene) (p k : ℕ) (t : Stepped) → t ≡ told_of (turn_in s.world p) → ((t ≡ stepped.Same → ⊥) → k ≡ 1)
+pub moments-told : (v : Widths) (b : Bool) (s : Scene) (p k : ℕ) (t : Stepped) → t ≡ stepped_of (step_effect_in s.world p) → ((t ≡ stepped.Same → ⊥) → k ≡ 1)
     → moments v b s (replicate k p) ≡ moment v b s p
-moments-told v b s p k t is one = by (turn_in s.world p) refl
+moments-told v b s p k t is one = by (step_effect_in s.world p) refl
   where
     single : k ≡ 1 → moments v b s (replicate k p) ≡ moment v b s p
     single e = ap (λ (n : ℕ). moments v b s (replicate n p)) e ∙ moments-one v b s p
 
-    other : (u : Turn) → turn_in s.world p ≡ u → (told_of u ≡ stepped.Same → ⊥) → moments v b s (replicate k p) ≡ moment v b s p
-    other u at ne = single (one (λ e. ne (ap told_of (sym at) ∙ sym is ∙ e)))
+    other : (u : StepEffect) → step_effect_in s.world p ≡ u → (stepped_of u ≡ stepped.Same → ⊥) → moments v b s (replicate k p) ≡ moment v b s p
+    other u at ne = single (one (λ e. ne (ap stepped_of (sym at) ∙ sym is ∙ e)))
 
-    by : (u : Turn) → turn_in s.world p ≡ u → moments v b s (replicate k p) ≡ moment v b s p
+    by : (u : StepEffect) → step_effect_in s.world p ≡ u → moments v b s (replicate k p) ≡ moment v b s p
     by nothing at = moments-still k v b s p at ∙ sym (moment-still v b s p at)
     by (local_step m) at = other (local_step m) at (λ e. cc)
     by (kernel_step m c (Done r)) at = other (kernel_step m c (Done r)) at (λ e. cc)

@@ -1,3 +1,5 @@
+pub mod Limits
 pub mod Moments
 pub mod Runs
+pub mod Faults
 pub mod Pages

@@ -1,11 +1,12 @@
 -- The moments of a run: after each step with an effect, what the trace and the debugger print.
-use Rattle.std.specs.Prelude.{ℕ, ◌+◌, ◌-◌, min, Bool, true, false, if◌then◌else◌, Option, Some, None, List, [], ◌∷◌, ◌++◌, length, string_bytes, slice_get}
+use Rattle.std.specs.Prelude.{ℕ, ◌+◌, ◌-◌, min, Bool, if◌then◌else◌, Option, Some, None, List, [], ◌∷◌, ◌++◌, length, string_bytes, slice_get}
+use Rattle.std.specs.List.{sum_by}
 use Rattle.std.specs.Option.{option_map}
 use Rattle.lc3_word.specs.Segment.{first_device}
-use Rattle.lab_sched.specs.Worlds.{Process, WorldState, turn_in, step}
-use Rattle.lab_sched.specs.Held.{told_of}
+use Rattle.lab_sched.specs.Worlds.{Process, WorldState, step_effect_in, step, machine_of}
+use Rattle.lab_sched.specs.Held.{stepped_of}
 use Rattle.lab_sched.specs.declared.stepped.Stepped.{Stepped}
-use Rattle.lab_debug.specs.Texts.{machine_of, regs_text, dis_text}
+use Rattle.lab_debug.specs.Texts.{regs_text, dis_text}
 use Rattle.lab_debug.specs.Objects.{fds_text, mqs_text, sems_text}
 use Rattle.lab_trace.specs.Lines.{widths_for}
 use Rattle.lab_trace.specs.Scenes.{Scene, first_scene, has_effect, line, next}
@@ -32,6 +33,7 @@ pub record Moment : Type 0 where
 abbrev pub code_around : ℕ → ℕ → WorldState → List ℕ
 code_around p pc w = dis_text p (pc - 3) (min (pc + 5) first_device - (pc - 3)) w
 
+-- the words around the program counter of process p, where it is there
 abbrev pub code_of : ℕ → Option Process → WorldState → List ℕ
 code_of p None w = []
 code_of p (Some s) w = code_around p (machine_of s).pc w
@@ -44,6 +46,24 @@ code_text p w = code_of p (slice_get w.processes p) w
 abbrev pub event_of : List ℕ → ℕ → WorldState → Event
 event_of l p w = record { line = l; held = fds_text p w; queues = mqs_text w; semaphores = sems_text w }
 
+-- how many bytes the texts of an event have
+abbrev pub event_size : Event → ℕ
+event_size e = length e.line + length e.held + length e.queues + length e.semaphores
+
+-- how many bytes the texts of an event have, where there is one
+abbrev pub event_size_of : Option Event → ℕ
+event_size_of None = 0
+event_size_of (Some e) = event_size e
+
+-- how many bytes the texts of a moment have
+abbrev pub moment_size : Moment → ℕ
+moment_size m = length m.registers + length m.code + event_size_of m.event
+
+-- how many bytes the texts of moments have
+abbrev pub size_of : List Moment → ℕ
+size_of ms = sum_by moment_size ms
+
+-- the moment after step n of process p, with this event, by the world after it
 abbrev pub moment_with : Option Event → ℕ → ℕ → WorldState → Moment
 moment_with e n p w =
     record { number = n; process = p; registers = regs_text p w; code = code_text p w; event = e }
@@ -53,9 +73,10 @@ abbrev pub moment_by : Bool → List ℕ → ℕ → ℕ → WorldState → Opti
 moment_by whole [] n p w = if whole then Some (moment_with None n p w) else None
 moment_by whole (b ∷ bs) n p w = Some (moment_with (Some (event_of (b ∷ bs) p w)) n p w)
 
-abbrev pub listed : Option Moment → List Moment
-listed None = []
-listed (Some m) = m ∷ []
+-- a moment, where there is one
+abbrev pub moment_list : Option Moment → List Moment
+moment_list None = []
+moment_list (Some m) = m ∷ []
 
 -- the moment after a step of this kind; one without an effect has none
 abbrev pub moment_told : Bool → Stepped → List ℕ → ℕ → ℕ → WorldState → Option Moment
@@ -63,7 +84,7 @@ moment_told whole t l n p w = if has_effect t then moment_by whole l n p w else 
 
 -- the moment after the next step, of process p, or nothing
 unfoldable pub moment : Widths → Bool → Scene → ℕ → List Moment
-moment v whole s p = listed (moment_told whole (told_of (turn_in s.world p)) (line v s p) s.number p (step s.world p))
+moment v whole s p = moment_list (moment_told whole (stepped_of (step_effect_in s.world p)) (line v s p) s.number p (step s.world p))
 
 -- the moments of steps
 unfoldable pub moments : Widths → Bool → Scene → List ℕ → List Moment
@@ -74,7 +95,7 @@ moments v whole s (p ∷ ps) = moment v whole s p ++ moments v whole (next s p) 
 unfoldable pub moments_of : Bool → WorldState → List ℕ → List Moment
 moments_of whole w ps = moments (widths_for (length ps) (length w.processes)) whole (first_scene w) ps
 
--- what is kept as texts
+-- the event that is kept as texts
 abbrev pub event_shown : HeldEvent → Event
 event_shown e = record {
   line = string_bytes e.line;
@@ -83,6 +104,7 @@ event_shown e = record {
   semaphores = string_bytes e.semaphores;
 }
 
+-- the moment that is kept as texts
 abbrev pub moment_shown : HeldMoment → Moment
 moment_shown m = record {
   number = m.step;

@@ -1,6 +1,8 @@
 -- The page of a trace.
 use Rattle.std.specs.Prelude.{ℕ, ◌≡◌, ◌==◌, false, if◌then◌else◌, List, [], ◌∷◌, ◌++◌, codes}
 use Rattle.std.specs.List.{list_any, flat_map}
+use Rattle.std.specs.Fmt.{decimal}
+use Rattle.lab_page.specs.Limits.{most_whole}
 use Rattle.lab_page.specs.declared.template.TheConstants.{HEAD, TOP, DATA, SCRIPT, END}
 use Rattle.lab_page.specs.declared.template.style.TheConstants.{STYLE}
 use Rattle.lab_page.specs.declared.template.body.TheConstants.{BODY}
@@ -18,24 +20,31 @@ use Rattle.lab_page.specs.declared.template.setup.TheConstants.{SETUP}
 unfoldable pub before : List ℕ
 before = HEAD.now ++ STYLE.now ++ TOP.now ++ BODY.now ++ DATA.now
 
--- the scripts: what reads the data, what draws, what shows a moment
+-- the scripts that read the data
 unfoldable pub reading : List ℕ
 reading = RECORDS.now ++ STATE.now ++ STUDY.now
 
+-- the limit of steps that the scripts name
+unfoldable pub limit : List ℕ
+limit = codes "const MOST_WHOLE = " ++ decimal most_whole ++ codes ";"
+
+-- the scripts that draw
 unfoldable pub drawing : List ℕ
 drawing = LAYOUT.now ++ BOXES.now ++ PICTURE.now
 
+-- the scripts that show a moment
 unfoldable pub showing : List ℕ
 showing = PANEL.now ++ MOVING.now ++ SETUP.now
 
 -- the page behind its data
 unfoldable pub after : List ℕ
-after = SCRIPT.now ++ reading ++ drawing ++ showing ++ END.now
+after = SCRIPT.now ++ reading ++ limit ++ drawing ++ showing ++ END.now
 
 -- a byte of JSON that stands in a page: a `<`, which only a string can hold, is escaped (RFC 8259, 7)
 unfoldable pub safe_byte : ℕ → List ℕ
 safe_byte byte = if byte == 0x3C then codes "\\u003C" else byte ∷ []
 
+-- JSON in which each `<` is escaped
 abbrev pub safe : List ℕ → List ℕ
 safe json = flat_map safe_byte json
 

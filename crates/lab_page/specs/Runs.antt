@@ -13,8 +13,8 @@ use Rattle.lab_trace.specs.Lines.{widths_for}
 use Rattle.lab_trace.specs.Scenes.{Scene, first_scene, scene_after}
 use Rattle.lab_trace.specs.Traces.{ending}
 use Rattle.lab_trace.specs.declared.lines.Widths.{Widths}
-use Rattle.lab_page.specs.Moments.{Moment, code_text, moments_of, moment_shown}
-use Rattle.lab_page.specs.declared.TheConstants.{MOST_WHOLE}
+use Rattle.lab_page.specs.Limits.{most_whole}
+use Rattle.lab_page.specs.Moments.{Moment, code_text, size_of, moments_of, moment_shown}
 use Rattle.lab_page.specs.declared.data.Row.{Row}
 use Rattle.lab_page.specs.declared.data.Run.{Run as HeldRun}
 use Rattle.lab_page.specs.declared.data.Source.{Source as HeldSource}
@@ -26,6 +26,7 @@ pub record Start : Type 0 where
   pub registers : List ℕ
   pub code : List ℕ
 
+-- process p of a world, with this name
 abbrev pub start : WorldState → ℕ → List ℕ → Start
 start w p name = record { name = name; registers = regs_text p w; code = code_text p w }
 
@@ -47,12 +48,17 @@ source_of text p = record { text = text; rows = p.rows; words = p.image.words }
 abbrev pub ending_at : Widths → Scene → List ℕ
 ending_at v s = ending v s.world s.tally
 
+-- what stands behind the lines of the trace of a world by these steps
 unfoldable pub ending_of : WorldState → List ℕ → List ℕ
 ending_of w ps = ending_at (widths_for (length ps) (length w.processes)) (scene_after (first_scene w) ps)
 
 -- whether a page of a schedule has its counted steps too
 abbrev pub is_whole : List Block → Bool
-is_whole s = nat_le (length (steps_of s)) MOST_WHOLE
+is_whole s = nat_le (length (steps_of s)) most_whole
+
+-- how many bytes the texts of the moments have that a schedule leads to
+abbrev pub run_size : WorldState → List Block → ℕ
+run_size w s = size_of (moments_of (is_whole s) w (steps_of s))
 
 -- a run: the schedule, the processes before it, their sources, what the steps led to, and the end of the trace
 pub record Run : Type 0 where
@@ -76,23 +82,28 @@ run_of w s names sources = record {
   ending = ending_of w (steps_of s);
 }
 
--- what is kept as texts
+-- the start that is kept as texts
 abbrev pub start_shown : HeldStart → Start
 start_shown s =
     record { name = string_bytes s.name; registers = string_bytes s.registers; code = string_bytes s.code }
 
+-- the row that is kept
 abbrev pub row_shown : Row → AssembledRow
 row_shown r = record { line = r.line; address = r.address; count = r.count }
 
+-- the rows that are kept
 abbrev pub rows_shown : List Row → List AssembledRow
 rows_shown rs = map row_shown rs
 
+-- the source that is kept as texts
 abbrev pub source_shown : HeldSource → Source
 source_shown s = record { text = string_bytes s.text; rows = rows_shown s.rows.items; words = s.words.items }
 
+-- the sources that are kept as texts, each where there is one
 abbrev pub sources_shown : List (Option HeldSource) → List (Option Source)
 sources_shown ss = map (option_map source_shown) ss
 
+-- the run that is kept as texts
 abbrev pub run_shown : HeldRun → Run
 run_shown r = record {
   format = r.format.now;

@@ -32,7 +32,8 @@ fn moment_by(
     pid: usize,
     line: String,
 ) -> Result<Option<Moment>, AllocError>
-    ensures moment { IfOk result (λ m. option_map moment_shown m ≡ moment_by whole (string_bytes line) step pid world.now) }
+    ensures moment { IfOk result (λ m. option_map moment_shown m
+        ≡ moment_by whole (string_bytes line) step pid world.now) }
 {
     let is_counted = line.is_empty();
     if is_counted && !whole {

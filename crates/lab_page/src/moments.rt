@@ -1,12 +1,14 @@
 //! The moments of a run.
-ghost use Rattle.std.specs.Prelude.{ℕ, ◌≡◌, ◌<◌, ◌≤◌, ◌+◌, ◌++◌, ◌∷◌, [], OnOk, IfOk, length, map, replicate, string_bytes};
+ghost use Rattle.std.specs.Prelude.{ℕ, ◌≡◌, ◌<◌, ◌≤◌, ◌+◌, ◌++◌, ◌∷◌, [], OnOk, IfOk, IfErr, length, map, replicate, string_bytes};
 ghost use Rattle.std.specs.Option.{option_map};
 ghost use Rattle.lab_sched.specs.Schedules.{most_steps, steps_of, total_of};
-ghost use Rattle.lab_sched.specs.Worlds.{step, turn_in};
-ghost use Rattle.lab_sched.specs.Held.{told_of};
-ghost use Rattle.lab_trace.specs.Scenes.{scene_after, tallied, IsKept};
+ghost use Rattle.lab_sched.specs.Worlds.{step, step_effect_in};
+ghost use Rattle.lab_sched.specs.Held.{stepped_of};
+ghost use Rattle.lab_trace.specs.Scenes.{scene_at, scene_after, next_tally, IsKept};
 ghost use Rattle.lab_trace.specs.Traces.{AreThere};
-ghost use Rattle.lab_page.specs.Moments.{listed, moment, moments, moment_shown};
+ghost use Rattle.lab_page.specs.Faults.{IsFault};
+ghost use Rattle.lab_page.specs.Limits.{most_bytes};
+ghost use Rattle.lab_page.specs.Moments.{moment_list, moment, moments, event_shown, event_size, moment_shown, moment_size, size_of};
 
 use crate::MOST_BYTES;
 use crate::data::{Event, Moment};
@@ -26,16 +28,24 @@ pub struct Moments {
 }
 
 impl Model for Moments {
-    ghost use Rattle.std.specs.Prelude.{List, map};
-    ghost use Rattle.lab_page.specs.Moments.{Moment, moment_shown};
+    ghost use Rattle.std.specs.Prelude.{◌≡◌, ◌≤◌, List, map};
+    ghost use Rattle.lab_page.specs.Limits.{most_bytes};
+    ghost use Rattle.lab_page.specs.Moments.{Moment, moment_shown, size_of};
 
     ghost Value = { List Moment };
 
     ghost view = { λ m. map moment_shown m.moments.items };
+
+    ghost invariant = { λ m. (m.bytes ≡ size_of (map moment_shown m.moments.items))
+        × (m.bytes ≤ most_bytes) };
 }
 
-/// The bytes of an event's texts.
-fn event_bytes(event: &Event) -> usize {
+/// The bytes of an event's texts, of which those above the most bytes of a page aren't told apart.
+fn event_bytes(event: &Event) -> usize
+    ensures few { event_size (event_shown event.now) ≤ most_bytes
+        → result ≡ event_size (event_shown event.now) }
+    ensures many { most_bytes < event_size (event_shown event.now) → most_bytes < result }
+{
     event
         .line
         .len()
@@ -44,8 +54,12 @@ fn event_bytes(event: &Event) -> usize {
         .saturating_add(event.semaphores.len())
 }
 
-/// The bytes of a moment's texts.
-fn moment_bytes(moment: &Moment) -> usize {
+/// The bytes of a moment's texts, of which those above the most bytes of a page aren't told apart.
+fn moment_bytes(moment: &Moment) -> usize
+    ensures few { moment_size (moment_shown moment.now) ≤ most_bytes
+        → result ≡ moment_size (moment_shown moment.now) }
+    ensures many { most_bytes < moment_size (moment_shown moment.now) → most_bytes < result }
+{
     let texts = moment.registers.len().saturating_add(moment.code.len());
     match &moment.event {
         Some(event) => texts.saturating_add(event_bytes(event)),
@@ -64,21 +78,26 @@ impl Moments {
         }
     }
 
-    /// Adds a moment.
+    /// Adds a moment, where its texts and those before them have no more bytes than a page may have.
     fn push(&mut self, moment: Moment) -> Result<(), PageFault>
         ensures added { OnOk result (self.new ≡ self.old ++ moment_shown moment ∷ []) }
+        ensures fault { IfErr result (λ e. IsFault e (self.old ++ moment_shown moment ∷ [])) }
     {
-        self.bytes = self.bytes.saturating_add(moment_bytes(&moment));
-        if self.bytes > MOST_BYTES {
+        let bytes = self.bytes.saturating_add(moment_bytes(&moment));
+        if bytes > MOST_BYTES {
             return Err(PageFault::TooLarge);
         }
         self.moments.push(moment)?;
+        self.bytes = bytes;
         Ok(())
     }
 
     /// Adds a moment, where there is one.
     fn push_some(&mut self, moment: Option<Moment>) -> Result<(), PageFault>
-        ensures added { OnOk result (self.new ≡ self.old ++ listed (option_map moment_shown moment)) }
+        ensures added { OnOk result (self.new
+            ≡ self.old ++ moment_list (option_map moment_shown moment)) }
+        ensures fault { IfErr result
+            (λ e. IsFault e (self.old ++ moment_list (option_map moment_shown moment))) }
     {
         match moment {
             Some(moment) => self.push(moment),
@@ -89,6 +108,7 @@ impl Moments {
     /// The moments in a vector.
     pub fn into_vec(self) -> Vec<Moment>
         ensures moments { map moment_shown result.items ≡ self }
+        ensures fits { size_of self ≤ most_bytes }
     {
         self.moments
     }
@@ -107,13 +127,15 @@ impl Moments {
         pid: usize,
     ) -> Result<Stepped, PageFault>
         requires process { pid < length world.old.processes }
-        requires kept { IsKept (record { number = number; world = world.old; tally = tally.old }) }
+        requires kept { IsKept (scene_at number world.old tally.old) }
         ensures moments { OnOk result (self.new ≡ self.old
-            ++ moment widths whole (record { number = number; world = world.old; tally = tally.old }) pid) }
+            ++ moment widths whole (scene_at number world.old tally.old) pid) }
         ensures world { OnOk result (world.new ≡ step world.old pid) }
         ensures tally { OnOk result
-            (tally.new ≡ tallied (record { number = number; world = world.old; tally = tally.old }) pid) }
-        ensures told { IfOk result (λ s. s ≡ told_of (turn_in world.old pid)) }
+            (tally.new ≡ next_tally (scene_at number world.old tally.old) pid) }
+        ensures told { IfOk result (λ s. s ≡ stepped_of (step_effect_in world.old pid)) }
+        ensures fault { IfErr result (λ e. IsFault e (self.old
+            ++ moment widths whole (scene_at number world.old tally.old) pid)) }
     {
         let Traced { line, stepped } = trace_step(alloc, world, tally, widths, number, pid)?;
         let moment = moment_told(alloc, world, whole, stepped, number, pid, line)?;
@@ -133,14 +155,17 @@ impl Moments {
         block: Block,
     ) -> Result<(), PageFault>
         requires process { block.pid < length world.old.processes }
-        requires room { first + block.count ≤ 1_000_000_000 }
-        requires kept { IsKept (record { number = first; world = world.old; tally = tally.old }) }
+        requires room { first + block.count ≤ most_steps + 1 }
+        requires kept { IsKept (scene_at first world.old tally.old) }
         ensures moments { OnOk result (self.new ≡ self.old
-            ++ moments widths whole (record { number = first; world = world.old; tally = tally.old })
+            ++ moments widths whole (scene_at first world.old tally.old)
             (replicate block.count block.pid)) }
-        ensures scene { OnOk result (record { number = first + block.count; world = world.new; tally = tally.new }
-            ≡ scene_after (record { number = first; world = world.old; tally = tally.old })
+        ensures scene { OnOk result (scene_at (first + block.count) world.new tally.new
+            ≡ scene_after (scene_at first world.old tally.old)
             (replicate block.count block.pid)) }
+        ensures fault { IfErr result (λ e. IsFault e (self.old
+            ++ moments widths whole (scene_at first world.old tally.old)
+            (replicate block.count block.pid))) }
     {
         let mut done = 0;
         while done < block.count {
@@ -161,13 +186,15 @@ impl Moments {
         whole: bool,
         blocks: &[Block],
     ) -> Result<(), PageFault>
-        requires kept { IsKept (record { number = 1; world = world.old; tally = tally.old }) }
+        requires kept { IsKept (scene_at 1 world.old tally.old) }
         requires room { total_of blocks.now ≤ most_steps }
         requires there { AreThere world.old blocks.now }
         ensures moments { OnOk result (self.new ≡ self.old
-            ++ moments widths whole (record { number = 1; world = world.old; tally = tally.old }) (steps_of blocks.now)) }
-        ensures scene { OnOk result ((number : ℕ) × (record { number = number; world = world.new; tally = tally.new }
-            ≡ scene_after (record { number = 1; world = world.old; tally = tally.old }) (steps_of blocks.now))) }
+            ++ moments widths whole (scene_at 1 world.old tally.old) (steps_of blocks.now)) }
+        ensures scene { OnOk result ((number : ℕ) × (scene_at number world.new tally.new
+            ≡ scene_after (scene_at 1 world.old tally.old) (steps_of blocks.now))) }
+        ensures fault { IfErr result (λ e. IsFault e (self.old
+            ++ moments widths whole (scene_at 1 world.old tally.old) (steps_of blocks.now))) }
     {
         let mut number = 1;
         for block in blocks {

@@ -26,7 +26,8 @@ fn page_with(alloc: Global, json: &str) -> Result<Vec<u8>, AllocError>
 ///
 /// `TooLarge` tells that the data have more than [`MOST_BYTES`] bytes.
 pub fn page(alloc: Global, run: &Run) -> Result<Vec<u8>, PageFault>
-    ensures page { IfOk result (λ v. (json : List ℕ) × (v.items ≡ page_text json) × HasNoTag (safe json)) }
+    ensures page { IfOk result (λ v. (json : List ℕ)
+        × (v.items ≡ page_text json) × HasNoTag (safe json)) }
 {
     let Ok(json) = serde_json::to_string(alloc, run) else {
         return Err(PageFault::NoMemory);

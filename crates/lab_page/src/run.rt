@@ -1,9 +1,12 @@
 //! A run by a schedule, as a page holds it.
-ghost use Rattle.std.specs.Prelude.{◌≡◌, ℕ, Some, Err, IfOk, map, string_bytes};
+ghost use Rattle.std.specs.Prelude.{◌≡◌, ◌≤◌, ℕ, Some, Err, OnOk, IfOk, IfErr, map, string_bytes};
 ghost use Rattle.lab_sched.specs.Schedules.{steps_of};
+ghost use Rattle.lab_sched.specs.Worlds.{run};
 ghost use Rattle.lab_trace.specs.Traces.{missing_after, AreThere};
-ghost use Rattle.lab_page.specs.Moments.{moments_of, moment_shown};
-ghost use Rattle.lab_page.specs.Runs.{ending_of, run_of, run_shown, sources_shown};
+ghost use Rattle.lab_page.specs.Faults.{IsFault, Explains};
+ghost use Rattle.lab_page.specs.Limits.{most_bytes};
+ghost use Rattle.lab_page.specs.Moments.{moments_of, moment_shown, size_of};
+ghost use Rattle.lab_page.specs.Runs.{ending_of, run_of, run_size, run_shown, sources_shown};
 ghost use Rattle.lab_page.specs.declared.fault.PageFault.TheVariants.{NoProcess};
 
 use crate::MOST_WHOLE;
@@ -35,7 +38,13 @@ fn take_steps(
     requires there { AreThere world.old schedule.now }
     ensures moments { IfOk result (λ o. map moment_shown o.moments.items
         ≡ moments_of whole world.old (steps_of schedule.now)) }
-    ensures ending { IfOk result (λ o. string_bytes o.ending ≡ ending_of world.old (steps_of schedule.now)) }
+    ensures ending { IfOk result (λ o. string_bytes o.ending
+        ≡ ending_of world.old (steps_of schedule.now)) }
+    ensures world { OnOk result (world.new ≡ run world.old (steps_of schedule.now)) }
+    ensures fits { OnOk result
+        (size_of (moments_of whole world.old (steps_of schedule.now)) ≤ most_bytes) }
+    ensures fault { IfErr result
+        (λ e. IsFault e (moments_of whole world.old (steps_of schedule.now))) }
 {
     let widths = Widths::new(alloc, schedule.total(), world.count())?;
     let mut tally = Tally::new(alloc, world.count())?;
@@ -53,7 +62,8 @@ fn take_steps(
 /// # Errors
 ///
 /// `NoProcess` tells after how many steps the schedule names a process that isn't there, and then no step was taken;
-/// `TooLarge` that the texts of the moments have more than [`MOST_BYTES`](crate::MOST_BYTES) bytes.
+/// `TooLarge` that the texts of the moments have more than [`MOST_BYTES`](crate::MOST_BYTES) bytes. After it, and after
+/// `NoMemory`, nothing is said of the world.
 pub fn run_of(
     alloc: Global,
     world: &mut World,
@@ -62,9 +72,14 @@ pub fn run_of(
     sources: Vec<Option<Source>>,
 ) -> Result<Run, PageFault>
     ensures run { IfOk result (λ r. run_shown r
-        ≡ run_of world.old schedule.now (map string_bytes names.now) (sources_shown sources.items)) }
+        ≡ run_of world.old schedule.now (map string_bytes names.now)
+        (sources_shown sources.items)) }
+    ensures world { OnOk result (world.new ≡ run world.old (steps_of schedule.now)) }
+    ensures fits { OnOk result (run_size world.old schedule.now ≤ most_bytes) }
     ensures no_process { (done : ℕ) → missing_after world.old (steps_of schedule.now) ≡ Some done
         → result ≡ Err (NoProcess done) }
+    ensures fault { IfErr result (λ e. Explains e world.old schedule.now) }
+    ensures untouched { (done : ℕ) → result ≡ Err (NoProcess done) → world.new ≡ world.old }
 {
     if let Some(done) = missing_after(world, schedule) {
         return Err(PageFault::NoProcess { done });

@@ -10,7 +10,7 @@ const LESS_THAN: &[u8] = b"\\u003C";
 /// Adds a byte of JSON.
 #[tactic(auto, unfolding(crate::specs::Pages::safe_byte))]
 fn push_byte(bytes: &mut Vec<u8>, byte: u8) -> Result<(), AllocError>
-    ensures { OnOk result (bytes.new.items ≡ bytes.old.items ++ safe_byte byte) }
+    ensures bytes { OnOk result (bytes.new.items ≡ bytes.old.items ++ safe_byte byte) }
 {
     if byte == b'<' {
         bytes.extend_from_slice(LESS_THAN)
@@ -21,7 +21,7 @@ fn push_byte(bytes: &mut Vec<u8>, byte: u8) -> Result<(), AllocError>
 
 /// Adds a text of JSON, in which each `<` is escaped.
 pub fn push_safe(bytes: &mut Vec<u8>, json: &[u8]) -> Result<(), AllocError>
-    ensures { OnOk result (bytes.new.items ≡ bytes.old.items ++ safe json.now) }
+    ensures bytes { OnOk result (bytes.new.items ≡ bytes.old.items ++ safe json.now) }
 {
     for byte in json {
         push_byte(bytes, *byte)?;

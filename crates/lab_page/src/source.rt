@@ -23,7 +23,8 @@ fn rows_of(alloc: Global, assembled: &Assembled) -> Result<Vec<Row>, AllocError>
 
 /// The source with this text, by what it is assembled to.
 pub fn source_of(alloc: Global, text: String, assembled: &Assembled) -> Result<Source, AllocError>
-    ensures source { IfOk result (λ s. source_shown s ≡ source_of (string_bytes text) assembled.now) }
+    ensures source { IfOk result (λ s. source_shown s
+        ≡ source_of (string_bytes text) assembled.now) }
 {
     Ok(Source {
         text,

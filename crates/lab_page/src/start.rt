@@ -21,7 +21,8 @@ fn start(alloc: Global, world: &World, pid: usize, name: &str) -> Result<Start, 
 
 /// The processes with these names, of a world before its first step.
 pub fn starts(alloc: Global, world: &World, names: &[String]) -> Result<Vec<Start>, AllocError>
-    ensures starts { IfOk result (λ v. map start_shown v.items ≡ starts world.now (map string_bytes names.now)) }
+    ensures starts { IfOk result (λ v. map start_shown v.items
+        ≡ starts world.now (map string_bytes names.now)) }
 {
     let mut starts = Vec::new(alloc);
     for (pid, name) in names.iter().enumerate() {

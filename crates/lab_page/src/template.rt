@@ -1,7 +1,7 @@
 //! The page around its data: the same text for every trace.
 
 ghost use Rattle.std.specs.Prelude.{◌≡◌, ◌++◌, OnOk};
-ghost use Rattle.lab_page.specs.Pages.{before, reading, drawing, showing, after};
+ghost use Rattle.lab_page.specs.Pages.{before, reading, limit, drawing, showing, after};
 
 mod body;
 mod boxes;
@@ -15,6 +15,7 @@ mod state;
 mod study;
 mod style;
 
+use crate::MOST_WHOLE;
 use crate::template::body::BODY;
 use crate::template::boxes::BOXES;
 use crate::template::layout::LAYOUT;
@@ -55,7 +56,7 @@ const END: &str = r##"</script>
 
 /// Adds a part of the page.
 fn push_part(bytes: &mut Vec<u8>, part: &str) -> Result<(), AllocError>
-    ensures { OnOk result (bytes.new.items ≡ bytes.old.items ++ part.now) }
+    ensures bytes { OnOk result (bytes.new.items ≡ bytes.old.items ++ part.now) }
 {
     bytes.extend_from_slice(part.as_bytes())?;
     Ok(())
@@ -64,7 +65,7 @@ fn push_part(bytes: &mut Vec<u8>, part: &str) -> Result<(), AllocError>
 /// Adds the page before its data.
 #[tactic(auto, unfolding(crate::specs::Pages::before))]
 pub fn push_before(bytes: &mut Vec<u8>) -> Result<(), AllocError>
-    ensures { OnOk result (bytes.new.items ≡ bytes.old.items ++ before) }
+    ensures bytes { OnOk result (bytes.new.items ≡ bytes.old.items ++ before) }
 {
     push_part(bytes, HEAD)?;
     push_part(bytes, STYLE)?;
@@ -77,7 +78,7 @@ pub fn push_before(bytes: &mut Vec<u8>) -> Result<(), AllocError>
 /// Adds the scripts that read the data.
 #[tactic(auto, unfolding(crate::specs::Pages::reading))]
 fn push_reading(bytes: &mut Vec<u8>) -> Result<(), AllocError>
-    ensures { OnOk result (bytes.new.items ≡ bytes.old.items ++ reading) }
+    ensures bytes { OnOk result (bytes.new.items ≡ bytes.old.items ++ reading) }
 {
     push_part(bytes, RECORDS)?;
     push_part(bytes, STATE)?;
@@ -85,10 +86,20 @@ fn push_reading(bytes: &mut Vec<u8>) -> Result<(), AllocError>
     Ok(())
 }
 
+/// Adds the limit of steps that the scripts name.
+#[tactic(auto, unfolding(crate::specs::Pages::limit))]
+fn push_limit(bytes: &mut Vec<u8>) -> Result<(), AllocError>
+    ensures bytes { OnOk result (bytes.new.items ≡ bytes.old.items ++ limit) }
+{
+    let most = MOST_WHOLE;
+    let text = format!(in *bytes.allocator(); "const MOST_WHOLE = {most};")?;
+    push_part(bytes, &text)
+}
+
 /// Adds the scripts that draw.
 #[tactic(auto, unfolding(crate::specs::Pages::drawing))]
 fn push_drawing(bytes: &mut Vec<u8>) -> Result<(), AllocError>
-    ensures { OnOk result (bytes.new.items ≡ bytes.old.items ++ drawing) }
+    ensures bytes { OnOk result (bytes.new.items ≡ bytes.old.items ++ drawing) }
 {
     push_part(bytes, LAYOUT)?;
     push_part(bytes, BOXES)?;
@@ -99,7 +110,7 @@ fn push_drawing(bytes: &mut Vec<u8>) -> Result<(), AllocError>
 /// Adds the scripts of the panel and of the controls.
 #[tactic(auto, unfolding(crate::specs::Pages::showing))]
 fn push_showing(bytes: &mut Vec<u8>) -> Result<(), AllocError>
-    ensures { OnOk result (bytes.new.items ≡ bytes.old.items ++ showing) }
+    ensures bytes { OnOk result (bytes.new.items ≡ bytes.old.items ++ showing) }
 {
     push_part(bytes, PANEL)?;
     push_part(bytes, MOVING)?;
@@ -110,10 +121,11 @@ fn push_showing(bytes: &mut Vec<u8>) -> Result<(), AllocError>
 /// Adds the page behind its data.
 #[tactic(auto, unfolding(crate::specs::Pages::after))]
 pub fn push_after(bytes: &mut Vec<u8>) -> Result<(), AllocError>
-    ensures { OnOk result (bytes.new.items ≡ bytes.old.items ++ after) }
+    ensures bytes { OnOk result (bytes.new.items ≡ bytes.old.items ++ after) }
 {
     push_part(bytes, SCRIPT)?;
     push_reading(bytes)?;
+    push_limit(bytes)?;
     push_drawing(bytes)?;
     push_showing(bytes)?;
     push_part(bytes, END)?;

@@ -9,25 +9,24 @@ use Rattle.ipc_kernel.specs.declared.call.Answer.{Answer}
 use Rattle.ipc_kernel.specs.declared.call.Answer.TheVariants.{Done, Wait}
 use Rattle.ipc_kernel.specs.Kernel.{KernelState}
 use Rattle.ipc_kernel.specs.Answer.{answer}
-use Rattle.lab_sched.specs.Worlds.{Process, Running, Waiting, Ended, WorldState, Act, moves, calls, act, Turn, nothing, local_step, kernel_step, turn, turn_in, first_try, retry, told, after, step, IsEffective, entry_of, run, entries}
-use Rattle.lab_sched.specs.Held.{process_after}
-use Rattle.lab_sched.specs.Course.{AreEffective, count, Commute}
+use Rattle.lab_sched.specs.Worlds.{Process, Running, Waiting, Ended, WorldState, NextAction, moves, calls, next_action, StepEffect, nothing, local_step, kernel_step, step_effect, step_effect_in, first_try, retry, process_after_answer, process_after, after, step, IsEffective, entry_of, run, entries}
+use Rattle.lab_sched.specs.Execution.{AreEffective, count, Commute}
 use Rattle.lab_sched.specs.History.{replay}
 use Rattle.lab_sched.specs.declared.entry.Entry.{Entry}
-use Rattle.lab_sched.proofs.Places.{get-set_same, get-set_other, get_past, same_gets}
+use Rattle.lab_sched.proofs.ListPlaces.{get-set_same, get-set_other, get_past, same_gets}
 use Rattle.lab_sched.proofs.Runs.{length-run}
-use Rattle.lab_sched.proofs.Courses.{kernel_run}
+use Rattle.lab_sched.proofs.Executions.{kernel_run}
 
 -- one effective step of a process, which takes an answer if it is a call's
-abbrev one_act : Machine → Act → List Answer → Process × List Answer
+abbrev one_act : Machine → NextAction → List Answer → Process × List Answer
 one_act m (moves q) rs = (Running q, rs)
 one_act m (calls c) [] = (Running m, [])
-one_act m (calls c) (a ∷ rs) = (told m c a, rs)
+one_act m (calls c) (a ∷ rs) = (process_after_answer m c a, rs)
 
 abbrev one : Process → List Answer → Process × List Answer
-one (Running m) rs = one_act m (act m) rs
+one (Running m) rs = one_act m (next_action m) rs
 one (Waiting m c) [] = (Waiting m c, [])
-one (Waiting m c) (a ∷ rs) = (told m c a, rs)
+one (Waiting m c) (a ∷ rs) = (process_after_answer m c a, rs)
 one (Ended e) rs = (Ended e, rs)
 
 -- the process after n effective steps with these answers
@@ -40,7 +39,7 @@ abbrev answers : ℕ → List Entry → List Answer
 answers p [] = []
 answers p (e ∷ es) = cond (e.pid == p) (e.answer ∷ answers p es) (answers p es)
 
-abbrev answers_of : Turn → List Answer
+abbrev answers_of : StepEffect → List Answer
 answers_of nothing = []
 answers_of (local_step q) = []
 answers_of (kernel_step m c a) = a ∷ []
@@ -51,7 +50,7 @@ answers-append p (x ∷ xs) ys =
     elim (x.pid == p) as (λ b. cond b (x.answer ∷ answers p (xs ++ ys)) (answers p (xs ++ ys)) ≡ cond b (x.answer ∷ answers p xs) (answers p xs) ++ answers p ys)
     [ true ↦ ap (λ zs. x.answer ∷ zs) (answers-append p xs ys) | false ↦ answers-append p xs ys ]
 
-one_try : (k : KernelState) (p : ℕ) (m : Machine) (q : Act) (rs : List Answer)
+one_try : (k : KernelState) (p : ℕ) (m : Machine) (q : NextAction) (rs : List Answer)
     → one_act m q (answers_of (first_try k p m q) ++ rs) ≡ (process_after (Running m) (first_try k p m q), rs)
 one_try k p m (moves n) rs = refl
 one_try k p m (calls c) rs = refl
@@ -61,31 +60,31 @@ one_retry : (m : Machine) (c : Call) (a : Answer) (rs : List Answer) → IsEffec
 one_retry m c Wait rs h = absurd h
 one_retry m c (Done r) rs h = refl
 
-one_turn : (k : KernelState) (p : ℕ) (s : Process) (rs : List Answer) → IsEffective (turn k p (Some s))
-    → one s (answers_of (turn k p (Some s)) ++ rs) ≡ (process_after s (turn k p (Some s)), rs)
-one_turn k p (Running m) rs h = one_try k p m (act m) rs
+one_turn : (k : KernelState) (p : ℕ) (s : Process) (rs : List Answer) → IsEffective (step_effect k p (Some s))
+    → one s (answers_of (step_effect k p (Some s)) ++ rs) ≡ (process_after s (step_effect k p (Some s)), rs)
+one_turn k p (Running m) rs h = one_try k p m (next_action m) rs
 one_turn k p (Waiting m c) rs h = one_retry m c (answer k p c).0 rs h
 one_turn k p (Ended e) rs h = absurd h
 
-answers_mine : (p : ℕ) (t : Turn) → answers p (entry_of p t) ≡ answers_of t
+answers_mine : (p : ℕ) (t : StepEffect) → answers p (entry_of p t) ≡ answers_of t
 answers_mine p nothing = refl
 answers_mine p (local_step q) = refl
 answers_mine p (kernel_step m c a) = elim (eqb_tells p p) [ inl same ↦ rw same.0 refl | inr other ↦ absurd (other.1 refl) ]
 
-answers_other : (p q : ℕ) (t : Turn) → (q == p) ≡ false → answers p (entry_of q t) ≡ []
+answers_other : (p q : ℕ) (t : StepEffect) → (q == p) ≡ false → answers p (entry_of q t) ≡ []
 answers_other p q nothing e = refl
 answers_other p q (local_step n) e = refl
 answers_other p q (kernel_step m c a) e = rw e refl
 
-after_mine : (w : WorldState) (p : ℕ) (s : Process) (t : Turn) → slice_get w.processes p ≡ Some s → slice_get (after w p t).processes p ≡ Some (process_after s t)
+after_mine : (w : WorldState) (p : ℕ) (s : Process) (t : StepEffect) → slice_get w.processes p ≡ Some s → slice_get (after w p t).processes p ≡ Some (process_after s t)
 after_mine w p s nothing at = at
 after_mine w p s (local_step q) at = get-set_same w.processes p (Running q) (get_past w.processes p s at)
-after_mine w p s (kernel_step m c a) at = get-set_same w.processes p (told m c a) (get_past w.processes p s at)
+after_mine w p s (kernel_step m c a) at = get-set_same w.processes p (process_after_answer m c a) (get_past w.processes p s at)
 
-pub after_other : (w : WorldState) (p q : ℕ) (t : Turn) → q ≢ p → slice_get (after w q t).processes p ≡ slice_get w.processes p
+pub after_other : (w : WorldState) (p q : ℕ) (t : StepEffect) → q ≢ p → slice_get (after w q t).processes p ≡ slice_get w.processes p
 after_other w p q nothing ne = refl
 after_other w p q (local_step n) ne = get-set_other w.processes q p (Running n) ne
-after_other w p q (kernel_step m c a) ne = get-set_other w.processes q p (told m c a) ne
+after_other w p q (kernel_step m c a) ne = get-set_other w.processes q p (process_after_answer m c a) ne
 
 walks : (w : WorldState) (xs : List ℕ) (p : ℕ) (s : Process) → AreEffective w xs → slice_get w.processes p ≡ Some s
     → slice_get (run w xs).processes p ≡ Some (walk s (count p xs) (answers p (entries w xs)))
@@ -93,27 +92,27 @@ unfolding run entries
 walks w [] p s h at = at
 walks w (q ∷ xs) p s h at = elim (eqb_tells q p) [
   | inl same ↦
-      let t = turn w.kernel p (Some s) in
+      let t = step_effect w.kernel p (Some s) in
       let rs = answers p (entries (step w q) xs) in
-      let mine : turn_in w q ≡ t = ap (λ n. turn_in w n) same.1 ∙ ap (λ o. turn w.kernel p o) at in
+      let mine : step_effect_in w q ≡ t = ap (λ n. step_effect_in w n) same.1 ∙ ap (λ o. step_effect w.kernel p o) at in
       let effective : IsEffective t = subst IsEffective mine h.0 in
       let here : slice_get (step w q).processes p ≡ Some (process_after s t) =
-      ap (λ n. slice_get (after w n (turn_in w q)).processes p) same.1 ∙ after_mine w p s (turn_in w q) at ∙ ap (λ u. Some (process_after s u)) mine in
+      ap (λ n. slice_get (after w n (step_effect_in w q)).processes p) same.1 ∙ after_mine w p s (step_effect_in w q) at ∙ ap (λ u. Some (process_after s u)) mine in
       let rest = walks (step w q) xs p (process_after s t) h.1 here in
-      let told : answers p (entries w (q ∷ xs)) ≡ answers_of t ++ rs =
-      answers-append p (entry_of q (turn_in w q)) (entries (step w q) xs)
-      ∙ ap (λ zs. zs ++ rs) (ap (λ n. answers p (entry_of n (turn_in w q))) same.1 ∙ answers_mine p (turn_in w q) ∙ ap answers_of mine) in
+      let process_after_answer : answers p (entries w (q ∷ xs)) ≡ answers_of t ++ rs =
+      answers-append p (entry_of q (step_effect_in w q)) (entries (step w q) xs)
+      ∙ ap (λ zs. zs ++ rs) (ap (λ n. answers p (entry_of n (step_effect_in w q))) same.1 ∙ answers_mine p (step_effect_in w q) ∙ ap answers_of mine) in
       let counted : count p (q ∷ xs) ≡ suc (count p xs) = ap (λ b. cond b (count p xs + 1) (count p xs)) same.0 ∙ add-one (count p xs) in
       let one_more : walk s (suc (count p xs)) (answers_of t ++ rs) ≡ walk (process_after s t) (count p xs) rs =
       ap (λ x. walk x.0 (count p xs) x.1) (one_turn w.kernel p s rs effective) in
-      rest ∙ ap (λ x. Some x) (sym (ap (λ n. walk s n (answers p (entries w (q ∷ xs)))) counted ∙ ap (λ zs. walk s (suc (count p xs)) zs) told ∙ one_more))
+      rest ∙ ap (λ x. Some x) (sym (ap (λ n. walk s n (answers p (entries w (q ∷ xs)))) counted ∙ ap (λ zs. walk s (suc (count p xs)) zs) process_after_answer ∙ one_more))
   | inr other ↦
-      let here : slice_get (step w q).processes p ≡ Some s = after_other w p q (turn_in w q) other.1 ∙ at in
+      let here : slice_get (step w q).processes p ≡ Some s = after_other w p q (step_effect_in w q) other.1 ∙ at in
       let rest = walks (step w q) xs p s h.1 here in
-      let told : answers p (entries w (q ∷ xs)) ≡ answers p (entries (step w q) xs) =
-      answers-append p (entry_of q (turn_in w q)) (entries (step w q) xs) ∙ ap (λ zs. zs ++ answers p (entries (step w q) xs)) (answers_other p q (turn_in w q) other.0) in
+      let process_after_answer : answers p (entries w (q ∷ xs)) ≡ answers p (entries (step w q) xs) =
+      answers-append p (entry_of q (step_effect_in w q)) (entries (step w q) xs) ∙ ap (λ zs. zs ++ answers p (entries (step w q) xs)) (answers_other p q (step_effect_in w q) other.0) in
       let counted : count p (q ∷ xs) ≡ count p xs = ap (λ b. cond b (count p xs + 1) (count p xs)) other.0 in
-      rest ∙ ap (λ x. Some x) (sym (ap (λ n. walk s n (answers p (entries w (q ∷ xs)))) counted ∙ ap (λ zs. walk s (count p xs) zs) told))
+      rest ∙ ap (λ x. Some x) (sym (ap (λ n. walk s n (answers p (entries w (q ∷ xs)))) counted ∙ ap (λ zs. walk s (count p xs) zs) process_after_answer))
 ]
 
 none_past : {A : Type 0} (xs : List A) (p : ℕ) → slice_get xs p ≡ None → length xs ≤ p

@@ -10,24 +10,22 @@ use Rattle.ipc_kernel.specs.declared.call.Answer.{Answer}
 use Rattle.ipc_kernel.specs.declared.call.Answer.TheVariants.{Done, Wait}
 use Rattle.ipc_kernel.specs.Kernel.{KernelState}
 use Rattle.ipc_kernel.specs.Answer.{answer}
-use Rattle.ipc_traps.specs.Asked.{Request, Local, Refuses, Calls, Ends, asked}
+use Rattle.ipc_traps.specs.Asked.{Request, Local, Refuses, Calls, Ends, next_request}
 use Rattle.ipc_traps.proofs.Profiles.{Keeps, asked_keeps, replied_profile}
 use Rattle.lab_sched.specs.declared.process.Process.{Process as Kept}
 use Rattle.lab_sched.specs.declared.fresh.Program.{Program}
 use Rattle.lab_sched.specs.declared.stepped.Stepped.{Stepped}
 use Rattle.lab_sched.specs.declared.next.Next.{Next}
 use Rattle.lab_sched.specs.declared.next.Next.TheVariants as next
-use Rattle.lab_sched.specs.Worlds.{Process, Running, Waiting, Ended, Act, moves, calls, act, act_for, told, told_by, turn, first_try, retry, profile_of, HasProfile, first_profile, HaveOneProfile}
-use Rattle.lab_sched.specs.Held.{seen, process_after, Taken, step_of}
-use Rattle.lab_sched.specs.Segments.{IsAfterLocal}
-use Rattle.lab_sched.specs.Alone.{AreLocal, IsTold, Leads, Alone}
+use Rattle.lab_sched.specs.Worlds.{Process, Running, Waiting, Ended, NextAction, moves, calls, next_action, action_for, process_after_answer, process_after_answer_to, step_effect, first_try, retry, process_after, profile_of, HasProfile, first_profile, HaveOneProfile}
+use Rattle.lab_sched.specs.Held.{process_view, StepResult, HasStepped}
+use Rattle.lab_sched.specs.LocalRun.{AreLocal, TakesAnswer, Leads, IsLocalRun}
 use Rattle.lab_sched.specs.Settling.{IsNext}
 use Rattle.lab_sched.specs.Starts.{start_of}
-use Rattle.lab_sched.proofs.Alones.{segment_local}
-use Rattle.lab_sched.specs.declared.trace.Told.{Told}
+use Rattle.lab_sched.specs.declared.trace.TracedCall.{TracedCall}
 use Rattle.lab_sched.specs.declared.trace.Trace.{Trace}
 
-told-by : (m : Machine) (c : Call) (request : Request) (a : Answer) → profile_of (told_by m c request a) ≡ m.profile
+told-by : (m : Machine) (c : Call) (request : Request) (a : Answer) → profile_of (process_after_answer_to m c request a) ≡ m.profile
 told-by m c request Wait = refl
 told-by m c (Local n) (Done r) = replied_profile m r
 told-by m c (Refuses e) (Done r) = replied_profile m r
@@ -35,30 +33,30 @@ told-by m c (Calls d) (Done r) = replied_profile m r
 told-by m c (Ends how) (Done r) = ended_profile m how
 
 -- an answer keeps the profile
-pub told_profile : (m : Machine) (c : Call) (a : Answer) → profile_of (told m c a) ≡ m.profile
-unfolding told
-told_profile m c a = told-by m c (asked m) a
+pub told_profile : (m : Machine) (c : Call) (a : Answer) → profile_of (process_after_answer m c a) ≡ m.profile
+unfolding process_after_answer
+told_profile m c a = told-by m c (next_request m) a
 
 -- a local step goes on with this profile
-abbrev KeepsIn : Profile → Act → Type 0
+abbrev KeepsIn : Profile → NextAction → Type 0
 KeepsIn profile (moves n) = n.profile ≡ profile
 KeepsIn profile (calls c) = Unit {0}
 
-acts : (m : Machine) (request : Request) → Keeps m request → KeepsIn m.profile (act_for m request)
+acts : (m : Machine) (request : Request) → Keeps m request → KeepsIn m.profile (action_for m request)
 unfolding Keeps
 acts m (Local n) h = h
 acts m (Refuses e) h = replied_profile m _
 acts m (Calls c) h = tt
 acts m (Ends how) h = tt
 
-act_keeps : (m : Machine) → KeepsIn m.profile (act m)
-unfolding act
-act_keeps m = acts m (asked m) (asked_keeps m)
+act_keeps : (m : Machine) → KeepsIn m.profile (next_action m)
+unfolding next_action
+act_keeps m = acts m (next_request m) (asked_keeps m)
 
-pub moves_profile : (m q : Machine) → act m ≡ moves q → q.profile ≡ m.profile
+pub moves_profile : (m q : Machine) → next_action m ≡ moves q → q.profile ≡ m.profile
 moves_profile m q is = subst (KeepsIn m.profile) is (act_keeps m)
 
-first-try : (k : KernelState) (p : ℕ) (m : Machine) (a : Act) → KeepsIn m.profile a → profile_of (process_after (Running m) (first_try k p m a)) ≡ m.profile
+first-try : (k : KernelState) (p : ℕ) (m : Machine) (a : NextAction) → KeepsIn m.profile a → profile_of (process_after (Running m) (first_try k p m a)) ≡ m.profile
 first-try k p m (moves n) h = h
 first-try k p m (calls c) h = told_profile m c (answer k p c).0
 
@@ -67,15 +65,15 @@ retried m c Wait = refl
 retried m c (Done r) = told_profile m c (Done r)
 
 -- a step keeps the profile
-pub turn_profile : (k : KernelState) (p : ℕ) (s : Process) → profile_of (process_after s (turn k p (Some s))) ≡ profile_of s
-turn_profile k p (Running m) = first-try k p m (act m) (act_keeps m)
+pub turn_profile : (k : KernelState) (p : ℕ) (s : Process) → profile_of (process_after s (step_effect k p (Some s))) ≡ profile_of s
+turn_profile k p (Running m) = first-try k p m (next_action m) (act_keeps m)
 turn_profile k p (Waiting m c) = retried m c (answer k p c).0
 turn_profile k p (Ended e) = refl
 
 -- so does one that may be refused memory
 pub step_profile : (k k' : KernelState) (p : ℕ) (s s' : Process) {E : Type 0} (result : Result Stepped E)
-    → IfOk result (λ told. record { process = s'; kernel = k'; told = told } ≡ step_of k p s) → OnErr result (s' ≡ s) → profile_of s' ≡ profile_of s
-step_profile k k' p s s' (Ok told) is same = ap (λ (x : Taken). profile_of x.process) is ∙ turn_profile k p s
+    → IfOk result (HasStepped k p s k' s') → OnErr result (s' ≡ s) → profile_of s' ≡ profile_of s
+step_profile k k' p s s' (Ok process_after_answer) is same = ap (λ (x : StepResult). profile_of x.process) is ∙ turn_profile k p s
 step_profile k k' p s s' (Err e) is same = ap profile_of same
 
 -- local steps keep the profile
@@ -85,9 +83,6 @@ locals_profile (suc n) (Running m) u h = locals_profile n (Running h.0) u h.2 �
 locals_profile (suc n) (Waiting m c) u h = absurd h
 locals_profile (suc n) (Ended e) u h = absurd h
 
-pub segment_profile : (n : ℕ) (s u : Process) → IsAfterLocal s n u → profile_of u ≡ profile_of s
-segment_profile n s u h = locals_profile n s u (segment_local n s u h)
-
 -- what a process does next keeps the profile
 pub next_keeps : (s : Process) (most : ℕ) (n : Next) (u : Process) → IsNext s most n u → profile_of u ≡ profile_of s
 next_keeps s most (next.Moved n) u h = locals_profile n s u h.2
@@ -95,19 +90,19 @@ next_keeps s most (next.Asks c) u h = ap profile_of h.0
 next_keeps s most next.Ended u h = ap profile_of h.0
 next_keeps s most next.Short u h = ap profile_of h
 
-is_told : (s : Process) (c : Call) (a : Answer) (v : Process) → IsTold s c a v → profile_of v ≡ profile_of s
+is_told : (s : Process) (c : Call) (a : Answer) (v : Process) → TakesAnswer s c a v → profile_of v ≡ profile_of s
 is_told (Running m) c a v h = ap profile_of (sym h.1) ∙ told_profile m c a
 is_told (Waiting m d) c (Done r) v h = ap profile_of (sym h.1) ∙ told_profile m c (Done r)
 is_told (Waiting m d) c Wait v h = absurd h
 is_told (Ended e) c a v h = absurd h
 
-leads_profile : (ts : List Told) (s : Process) (n : ℕ) (u : Process) → Leads s ts n u → profile_of u ≡ profile_of s
+leads_profile : (ts : List TracedCall) (s : Process) (n : ℕ) (u : Process) → Leads s ts n u → profile_of u ≡ profile_of s
 leads_profile [] s n u h = locals_profile n s u h
 leads_profile (t ∷ ts) s n u h =
     leads_profile ts h.1 n u h.4 ∙ is_told h.0 t.call t.answer h.1 h.3 ∙ locals_profile t.before s h.0 h.2
 
 -- a trace keeps the profile
-pub alone_profile : (s : Process) (t : Trace) (u : Process) → Alone s t u → profile_of u ≡ profile_of s
+pub alone_profile : (s : Process) (t : Trace) (u : Process) → IsLocalRun s t u → profile_of u ≡ profile_of s
 alone_profile s t u h = leads_profile t.calls.items s t.after u h
 
 -- processes of this profile have one
@@ -118,8 +113,3 @@ one_of profile (s ∷ ss) h = All-weaker (HasProfile profile) (HasProfile (profi
 -- the processes of programs have the profile that they were made of
 pub starts_profile : (profile : Profile) (ps : List Program) → HaveOneProfile (map (start_of profile) ps)
 starts_profile profile ps = one_of profile (map (start_of profile) ps) (All-map (HasProfile profile) (start_of profile) ps (λ i d below. refl))
-
--- the first process has the profile of all
-pub first_has : (ps : List Kept) (s : Kept) → 1 ≤ length ps → s ≡ get_or ps 0 s → profile_of (seen s) ≡ first_profile (map seen ps)
-first_has [] s some read = absurd (omega (arith, some))
-first_has (t ∷ ts) s some read = ap (λ x. profile_of (seen x)) read

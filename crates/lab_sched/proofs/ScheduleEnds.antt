@@ -6,7 +6,7 @@ use Rattle.std.proofs.lemmas.List.{replicate-append-replicate, replicate_more, s
 use Rattle.std.proofs.lemmas.List.Sums.{sum_by_push}
 use Rattle.lab_sched.specs.declared.schedule.block.Block.{Block}
 use Rattle.lab_sched.specs.Schedules.{block, steps_of, total_of, IsBlock, AreApart, IsSchedule, most_steps}
-use Rattle.lab_sched.specs.Settling.{resized}
+use Rattle.lab_sched.specs.Settling.{with_count}
 use Rattle.lab_sched.proofs.ScheduleJoins.{last-split, length-front, steps-append, steps-one}
 
 -- lists with equal ends
@@ -50,19 +50,12 @@ valid-last (x ∷ front) c h k = (h.0, valid-last front c h.1 k)
 total-last : (front : List Block) (d : Block) → total_of (front ++ d ∷ []) ≡ total_of front + d.count
 total-last front d = sum_by_push (λ (b : Block). b.count) front d
 
--- what is known of the last block
-pub last_count : (xs : List Block) (n : ℕ) (d : Block) → length xs ≡ n → 0 < n → d ≡ get_or xs (n - 1) d → AllByRecursion IsBlock xs → (1 ≤ d.count) × (d.count ≤ total_of xs)
-last_count xs n d l h e v =
-    let s = last-split xs n d l h e in
-    let total : total_of xs ≡ total_of (take (n - 1) xs) + d.count = ap total_of s ∙ total-last (take (n - 1) xs) d in
-    ((valid-ends (take (n - 1) xs) d (subst (λ ys. AllByRecursion IsBlock ys) s v)).1.some, omega arith)
-
 -- n steps in the place of the last one
 
-resized_none : (d : Block) (n : ℕ) → d.count - 1 + n ≡ 0 → resized d n ≡ []
+resized_none : (d : Block) (n : ℕ) → d.count - 1 + n ≡ 0 → with_count d n ≡ []
 resized_none d n e = rw (eq-eqb (d.count - 1 + n) 0 e) refl
 
-resized_some : (d : Block) (n : ℕ) → ((d.count - 1 + n == 0) ≡ false) → resized d n ≡ block d.pid (d.count - 1 + n) ∷ []
+resized_some : (d : Block) (n : ℕ) → ((d.count - 1 + n == 0) ≡ false) → with_count d n ≡ block d.pid (d.count - 1 + n) ∷ []
 resized_some d n e = rw e refl
 
 schedule-resized : (front : List Block) (d : Block) (n : ℕ) (t : Bool) → (d.count - 1 + n == 0) ≡ t → IsSchedule (front ++ d ∷ []) → total_of (front ++ d ∷ []) + n ≤ most_steps + 1
@@ -85,7 +78,7 @@ schedule-resized front d n false e h room =
     some_of zero e = absurd (cc)
     some_of (suc m) e = omega arith
 
-pub resized_schedule : (front : List Block) (d : Block) (n : ℕ) → IsSchedule (front ++ d ∷ []) → total_of (front ++ d ∷ []) + n ≤ most_steps + 1 → IsSchedule (front ++ resized d n)
+pub resized_schedule : (front : List Block) (d : Block) (n : ℕ) → IsSchedule (front ++ d ∷ []) → total_of (front ++ d ∷ []) + n ≤ most_steps + 1 → IsSchedule (front ++ with_count d n)
 resized_schedule front d n h room = schedule-resized front d n (d.count - 1 + n == 0) refl h room
 
 total-resized : (front : List Block) (d : Block) (n : ℕ) (t : Bool) → (d.count - 1 + n == 0) ≡ t → 1 ≤ d.count
@@ -96,7 +89,7 @@ total-resized front d n true e some =
     omega (arith, total-last front d)
 total-resized front d n false e some = omega (arith, total-last front (block d.pid (d.count - 1 + n)), total-last front d)
 
-pub resized_total : (front : List Block) (d : Block) (n : ℕ) → 1 ≤ d.count → total_of (front ++ resized d n) + 1 ≡ total_of (front ++ d ∷ []) + n
+pub resized_total : (front : List Block) (d : Block) (n : ℕ) → 1 ≤ d.count → total_of (front ++ with_count d n) + 1 ≡ total_of (front ++ d ∷ []) + n
 resized_total front d n some = total-resized front d n (d.count - 1 + n == 0) refl some
 
 steps-resized : (front : List Block) (d : Block) (n : ℕ) (t : Bool) → (d.count - 1 + n == 0) ≡ t
@@ -108,7 +101,7 @@ steps-resized front d n false e =
     steps-append front (block d.pid (d.count - 1 + n) ∷ []) ∙ ap (λ s. steps_of front ++ s) (steps-one (block d.pid (d.count - 1 + n)))
 
 pub resized_steps : (front : List Block) (d : Block) (n p : ℕ) (ps : List ℕ) → 1 ≤ d.count → steps_of (front ++ d ∷ []) ≡ ps ++ p ∷ []
-    → steps_of (front ++ resized d n) ≡ ps ++ replicate n p
+    → steps_of (front ++ with_count d n) ≡ ps ++ replicate n p
 resized_steps front d n p ps some e =
     let k : ℕ = d.count - 1 in
     let one : replicate d.count d.pid ≡ replicate k d.pid ++ d.pid ∷ [] = ap (λ m. replicate m d.pid) (omega arith) ∙ sym (replicate_more k d.pid) in
@@ -125,20 +118,14 @@ resized_steps front d n p ps some e =
 same_last : (xs front : List Block) (n : ℕ) (d last : Block) → length xs ≡ n → 0 < n → d ≡ get_or xs (n - 1) d → xs ≡ front ++ last ∷ [] → (take (n - 1) xs ≡ front) × (d ≡ last)
 same_last xs front n d last l h e s = same_ends (take (n - 1) xs) front d last (sym (last-split xs n d l h e) ∙ s)
 
-pub resized_pop : (xs ys front : List Block) (n m : ℕ) (d last : Block) → length xs ≡ n → 0 < n → d ≡ get_or xs (n - 1) d → d.count - 1 + m ≡ 0 → ys ≡ take (n - 1) xs
-    → xs ≡ front ++ last ∷ [] → ys ≡ front ++ resized last m
-resized_pop xs ys front n m d last l h e none is s =
-    let same = same_last xs front n d last l h e s in
-    is ∙ same.0 ∙ sym (ap (λ r. front ++ r) (resized_none last m (subst (λ b. b.count - 1 + m ≡ 0) same.1 none)) ∙ append-nil front)
-
 pub resized_set : (xs ys front : List Block) (n m : ℕ) (d last : Block) → length xs ≡ n → 0 < n → d ≡ get_or xs (n - 1) d → (d.count - 1 + m ≡ 0 → ⊥)
-    → ys ≡ set xs (n - 1) (block d.pid (d.count - 1 + m)) → xs ≡ front ++ last ∷ [] → ys ≡ front ++ resized last m
+    → ys ≡ set xs (n - 1) (block d.pid (d.count - 1 + m)) → xs ≡ front ++ last ∷ [] → ys ≡ front ++ with_count last m
 resized_set xs ys front n m d last l h e some is s =
     let same = same_last xs front n d last l h e s in
     is ∙ ap (λ zs. set zs (n - 1) (block d.pid (d.count - 1 + m))) (last-split xs n d l h e)
     ∙ set_at (take (n - 1) xs) d [] (block d.pid (d.count - 1 + m)) (n - 1) (length-front xs n l h)
     ∙ ap (λ f. f ++ block d.pid (d.count - 1 + m) ∷ []) same.0
-    ∙ ap (λ r. front ++ r) (sym (resized_some d m (false_from_ne_true (d.count - 1 + m == 0) (λ t. some (eqb-true (d.count - 1 + m) 0 t)))) ∙ ap (λ b. resized b m) same.1)
+    ∙ ap (λ r. front ++ r) (sym (resized_some d m (false_from_ne_true (d.count - 1 + m == 0) (λ t. some (eqb-true (d.count - 1 + m) 0 t)))) ∙ ap (λ b. with_count b m) same.1)
 
 -- a schedule that has a step has a last block
 pub some_last : (xs : List Block) → 1 ≤ total_of xs → (front : List Block) × (last : Block) × (xs ≡ front ++ last ∷ [])
@@ -160,18 +147,18 @@ pub record IsResized (xs ys : List Block) (n : ℕ) : Type 0 where
   pub steps : (ps : List ℕ) (p : ℕ) → steps_of xs ≡ ps ++ p ∷ [] → steps_of ys ≡ ps ++ replicate n p
 
 pub is_resized : (xs ys : List Block) (n : ℕ) → IsSchedule xs → 1 ≤ total_of xs → total_of xs + n ≤ most_steps + 1
-    → ((front : List Block) (last : Block) → xs ≡ front ++ last ∷ [] → ys ≡ front ++ resized last n) → IsResized xs ys n
+    → ((front : List Block) (last : Block) → xs ≡ front ++ last ∷ [] → ys ≡ front ++ with_count last n) → IsResized xs ys n
 is_resized xs ys n h some room is =
     let e = some_last xs some in
     let front = e.0 in
     let last = e.1 in
     let s = e.2 in
-    let ys-is : ys ≡ front ++ resized last n = is front last s in
+    let ys-is : ys ≡ front ++ with_count last n = is front last s in
     let h' : IsSchedule (front ++ last ∷ []) = subst IsSchedule s h in
     let count = (valid-ends front last h'.valid).1.some in
     let total : total_of xs ≡ total_of (front ++ last ∷ []) = ap total_of s in
     record {
       schedule = subst IsSchedule (sym ys-is) (resized_schedule front last n h' (omega (arith, total)));
-      total = let t = resized_total front last n count in let u : total_of ys ≡ total_of (front ++ resized last n) = ap total_of ys-is in omega arith;
+      total = let t = resized_total front last n count in let u : total_of ys ≡ total_of (front ++ with_count last n) = ap total_of ys-is in omega arith;
       steps = λ ps p f. ap steps_of ys-is ∙ resized_steps front last n p ps count (sym (ap steps_of s) ∙ f);
     }

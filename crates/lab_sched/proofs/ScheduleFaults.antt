@@ -7,10 +7,10 @@ use Rattle.std.proofs.lemmas.Bool.Decides.{nat_tests}
 use Rattle.lab_sched.specs.declared.schedule.block.Block.{Block}
 use Rattle.lab_sched.specs.declared.schedule.fault.SchedFault.{SchedFault}
 use Rattle.lab_sched.specs.declared.schedule.fault.SchedFault.TheVariants.{BadBlock, TooLong}
-use Rattle.lab_sched.specs.Schedules.{block, total_of, steps_of, joined, IsBlock, IsSchedule, most_steps}
-use Rattle.lc3_word.specs.Numbers.{unsigned}
-use Rattle.lab_sched.specs.ScheduleTexts.{words, is_star, in_range, process_in, count_in, block_at, block_from, block_in, block_or, written, too_long, scheduled, within, reading_of_words, reading, Gives, Fails, ◌>>=◌}
-use Rattle.lab_sched.specs.ScheduleLaws.{IsFirst, IsFirstOver, IsFirstTooLong, FirstBadBlock, FirstTooLong, ReadSteps}
+use Rattle.lab_sched.specs.Schedules.{block, total_of, steps_of, joined_blocks, IsBlock, IsSchedule, most_steps}
+use Rattle.lc3_word.specs.Numbers.{unsigned_number}
+use Rattle.lab_sched.specs.ScheduleTexts.{words, is_star, in_range, process_in, count_in, block_at, block_from, block_in, block_or, blocks_of_words, too_long, schedule_of_blocks, within, reading_of_words, reading, Gives, Fails, ◌>>=◌}
+use Rattle.lab_sched.specs.ScheduleLaws.{IsFirstBad, IsFirstOver, IsFirstTooLong, FirstBadBlock, FirstTooLong, ReadSteps}
 use Rattle.lab_sched.proofs.ScheduleJoins.{apart-joined, total-joined, steps-joined, valid-joined}
 use Rattle.ipc_kernel.specs.Limits.{process_max}
 
@@ -23,14 +23,14 @@ with_block b w ws (Ok cs) bs ih e h =
     rw (e, ih cs refl) (ap (map Some) same)
 with_block b w ws (Err f) bs ih e h = cc
 
-written-blocks : (at : ℕ) (ws : List (List ℕ)) (bs : List Block) → written at ws ≡ Ok bs → map block_in ws ≡ map Some bs
-unfolding written
+written-blocks : (at : ℕ) (ws : List (List ℕ)) (bs : List Block) → blocks_of_words at ws ≡ Ok bs → map block_in ws ≡ map Some bs
+unfolding blocks_of_words
 written-blocks at [] bs h = let same : [] ≡ bs = cc in ap (map Some) same
 written-blocks at (w ∷ ws) bs h = go (written-blocks (at + 1) ws) (block_in w) refl h
   where
-    go : ((cs : List Block) → written (at + 1) ws ≡ Ok cs → map block_in ws ≡ map Some cs) → (o : Option Block) → block_in w ≡ o → (block_or at o >>= λ b. written (at + 1) ws >>= λ cs. Ok (b ∷ cs)) ≡ Ok bs → map block_in (w ∷ ws) ≡ map Some bs
+    go : ((cs : List Block) → blocks_of_words (at + 1) ws ≡ Ok cs → map block_in ws ≡ map Some cs) → (o : Option Block) → block_in w ≡ o → (block_or at o >>= λ b. blocks_of_words (at + 1) ws >>= λ cs. Ok (b ∷ cs)) ≡ Ok bs → map block_in (w ∷ ws) ≡ map Some bs
     go ih None e k = cc
-    go ih (Some b) e k = with_block b w ws (written (at + 1) ws) bs ih e k
+    go ih (Some b) e k = with_block b w ws (blocks_of_words (at + 1) ws) bs ih e k
 
 -- the blocks of a word are valid
 range_at_most : (low high n m : ℕ) (o : Option ℕ) → in_range low high o ≡ Some n → (low ≤ n) × (n ≤ high)
@@ -44,11 +44,11 @@ range_at_most low high n m (Some k) h = go (nat_le low k) (nat_le k high) refl r
 
 process_in-valid : (w : List ℕ) (p : ℕ) → process_in w ≡ Some p → p < process_max
 unfolding process_in
-process_in-valid w p h = let r = range_at_most 0 63 p 0 (unsigned 10 w) h in omega (arith, r.1)
+process_in-valid w p h = let r = range_at_most 0 63 p 0 (unsigned_number 10 w) h in omega (arith, r.1)
 
 count_in-valid : (w : List ℕ) (n : ℕ) → count_in w ≡ Some n → 1 ≤ n
 unfolding count_in
-count_in-valid w n h = let r = range_at_most 1 most_steps n 0 (unsigned 10 w) h in omega (arith, r.0)
+count_in-valid w n h = let r = range_at_most 1 most_steps n 0 (unsigned_number 10 w) h in omega (arith, r.0)
 
 block_from-valid : (p n : Option ℕ) (b : Block) → ((k : ℕ) → p ≡ Some k → k < process_max) → ((k : ℕ) → n ≡ Some k → 1 ≤ k)
     → block_from p n ≡ Some b → IsBlock b
@@ -128,14 +128,14 @@ over at total found (b ∷ bs) k h = go (over (at + 1) (total + b.count) found b
 
 -- the three laws
 
-scheduled-reads : (bs s : List Block) → AllByRecursion IsBlock bs → scheduled bs ≡ Ok s → IsSchedule s × (steps_of s ≡ steps_of bs)
-unfolding scheduled
+scheduled-reads : (bs s : List Block) → AllByRecursion IsBlock bs → schedule_of_blocks bs ≡ Ok s → IsSchedule s × (steps_of s ≡ steps_of bs)
+unfolding schedule_of_blocks
 scheduled-reads bs s v h = go (too_long 1 0 bs) refl h
   where
-    go : (o : Option ℕ) → too_long 1 0 bs ≡ o → within o (joined bs) ≡ Ok s → IsSchedule s × (steps_of s ≡ steps_of bs)
+    go : (o : Option ℕ) → too_long 1 0 bs ≡ o → within o (joined_blocks bs) ≡ Ok s → IsSchedule s × (steps_of s ≡ steps_of bs)
     go None e f =
-        let same : joined bs ≡ s = cc in
-        let made : IsSchedule (joined bs) = record {
+        let same : joined_blocks bs ≡ s = cc in
+        let made : IsSchedule (joined_blocks bs) = record {
           valid = valid-joined bs v;
           apart = apart-joined bs;
           within = omega (arith, total-joined bs, within-limit 1 0 bs (omega arith) e);
@@ -145,9 +145,9 @@ scheduled-reads bs s v h = go (too_long 1 0 bs) refl h
 
 pub read_steps_lem : ReadSteps
 unfolding reading_of_words
-read_steps_lem text s h = go (written 1 (words text)) refl h
+read_steps_lem text s h = go (blocks_of_words 1 (words text)) refl h
   where
-    go : (read : Result (List Block) SchedFault) → written 1 (words text) ≡ read → (read >>= scheduled) ≡ Ok s
+    go : (read : Result (List Block) SchedFault) → blocks_of_words 1 (words text) ≡ read → (read >>= schedule_of_blocks) ≡ Ok s
         → IsSchedule s × ((blocks : List Block) × (map block_in (words text) ≡ map Some blocks) × (steps_of s ≡ steps_of blocks))
     go (Ok bs) e f =
         let all = written-blocks 1 (words text) bs e in
@@ -155,11 +155,11 @@ read_steps_lem text s h = go (written 1 (words text)) refl h
         (r.0, (bs, all, r.1))
     go (Err g) e f = cc
 
-scheduled-over : (bs : List Block) (at : ℕ) → scheduled bs ≡ Err (TooLong at) → IsFirstOver bs at
-unfolding scheduled
+scheduled-over : (bs : List Block) (at : ℕ) → schedule_of_blocks bs ≡ Err (TooLong at) → IsFirstOver bs at
+unfolding schedule_of_blocks
 scheduled-over bs at h = go (too_long 1 0 bs) refl h
   where
-    go : (o : Option ℕ) → too_long 1 0 bs ≡ o → within o (joined bs) ≡ Err (TooLong at) → IsFirstOver bs at
+    go : (o : Option ℕ) → too_long 1 0 bs ≡ o → within o (joined_blocks bs) ≡ Err (TooLong at) → IsFirstOver bs at
     go None e f = cc
     go (Some found) e f =
         let same : found ≡ at = cc in
@@ -168,16 +168,16 @@ scheduled-over bs at h = go (too_long 1 0 bs) refl h
         let before : at - 1 ≡ r.0 = omega (arith, r.1) in
         record { some = omega arith; within = omega (arith, r.2); here = rw here (omega (arith, r.3)); earlier = rw before (omega (arith, r.4)) }
 
-no_bad : (bs : List Block) (at : ℕ) → scheduled bs ≡ Err (BadBlock at) → ⊥
-unfolding scheduled
+no_bad : (bs : List Block) (at : ℕ) → schedule_of_blocks bs ≡ Err (BadBlock at) → ⊥
+unfolding schedule_of_blocks
 no_bad bs at h = go (too_long 1 0 bs) h
   where
-    go : (o : Option ℕ) → within o (joined bs) ≡ Err (BadBlock at) → ⊥
+    go : (o : Option ℕ) → within o (joined_blocks bs) ≡ Err (BadBlock at) → ⊥
     go None f = cc
     go (Some found) f = cc
 
-written-long : (at found : ℕ) (ws : List (List ℕ)) → written at ws ≡ Err (TooLong found) → ⊥
-unfolding written
+written-long : (at found : ℕ) (ws : List (List ℕ)) → blocks_of_words at ws ≡ Err (TooLong found) → ⊥
+unfolding blocks_of_words
 written-long at found [] h = cc
 written-long at found (w ∷ ws) h = go (written-long (at + 1) found ws) (block_in w) h
   where
@@ -185,24 +185,24 @@ written-long at found (w ∷ ws) h = go (written-long (at + 1) found ws) (block_
     then_none b (Ok cs) ih k = cc
     then_none b (Err f) ih k = ih cc
 
-    go : (written (at + 1) ws ≡ Err (TooLong found) → ⊥) → (o : Option Block) → (block_or at o >>= λ b. written (at + 1) ws >>= λ cs. Ok (b ∷ cs)) ≡ Err (TooLong found) → ⊥
+    go : (blocks_of_words (at + 1) ws ≡ Err (TooLong found) → ⊥) → (o : Option Block) → (block_or at o >>= λ b. blocks_of_words (at + 1) ws >>= λ cs. Ok (b ∷ cs)) ≡ Err (TooLong found) → ⊥
     go ih None k = cc
-    go ih (Some b) k = then_none b (written (at + 1) ws) ih k
+    go ih (Some b) k = then_none b (blocks_of_words (at + 1) ws) ih k
 
 pub first_too_long_lem : FirstTooLong
 unfolding reading_of_words
-first_too_long_lem text at h = go (written 1 (words text)) refl h
+first_too_long_lem text at h = go (blocks_of_words 1 (words text)) refl h
   where
-    go : (read : Result (List Block) SchedFault) → written 1 (words text) ≡ read → (read >>= scheduled) ≡ Err (TooLong at)
+    go : (read : Result (List Block) SchedFault) → blocks_of_words 1 (words text) ≡ read → (read >>= schedule_of_blocks) ≡ Err (TooLong at)
         → (blocks : List Block) × (map block_in (words text) ≡ map Some blocks) × IsFirstOver blocks at
     go (Ok bs) e f = (bs, written-blocks 1 (words text) bs e, scheduled-over bs at f)
     go (Err g) e f = absurd (written-long 1 at (words text) (e ∙ f))
 
 -- the first bad block
 
-first_bad : (at found : ℕ) (ws : List (List ℕ)) → written at ws ≡ Err (BadBlock found)
+first_bad : (at found : ℕ) (ws : List (List ℕ)) → blocks_of_words at ws ≡ Err (BadBlock found)
     → (i : ℕ) × (found ≡ at + i) × (i < length ws) × (block_in (get_or ws i []) ≡ None) × ((k : ℕ) → k < i → ¬ (block_in (get_or ws k []) ≡ None))
-unfolding written
+unfolding blocks_of_words
 first_bad at found [] h = cc
 first_bad at found (w ∷ ws) h = go (first_bad (at + 1) found ws) (block_in w) refl h
   where
@@ -215,18 +215,18 @@ first_bad at found (w ∷ ws) h = go (first_bad (at + 1) found ws) (block_in w) 
     earlier i b e f zero l n = cc
     earlier i b e f (suc k) l n = f k (omega arith) n
 
-    go : (written (at + 1) ws ≡ Err (BadBlock found)
+    go : (blocks_of_words (at + 1) ws ≡ Err (BadBlock found)
         → (i : ℕ) × (found ≡ at + 1 + i) × (i < length ws) × (block_in (get_or ws i []) ≡ None) × ((k : ℕ) → k < i → ¬ (block_in (get_or ws k []) ≡ None)))
-        → (o : Option Block) → block_in w ≡ o → (block_or at o >>= λ b. written (at + 1) ws >>= λ cs. Ok (b ∷ cs)) ≡ Err (BadBlock found)
+        → (o : Option Block) → block_in w ≡ o → (block_or at o >>= λ b. blocks_of_words (at + 1) ws >>= λ cs. Ok (b ∷ cs)) ≡ Err (BadBlock found)
         → (i : ℕ) × (found ≡ at + i) × (i < length (w ∷ ws)) × (block_in (get_or (w ∷ ws) i []) ≡ None) × ((k : ℕ) → k < i → ¬ (block_in (get_or (w ∷ ws) k []) ≡ None))
     go ih None e k = let same : at ≡ found = cc in (0, omega arith, omega arith, e, λ j l. absurd (omega arith))
     go ih (Some b) e k =
-        let r = ih (rest b (written (at + 1) ws) k) in
+        let r = ih (rest b (blocks_of_words (at + 1) ws) k) in
         (suc r.0, omega (arith, r.1), omega (arith, r.2), r.3, earlier r.0 b e r.4)
 
 bad_first : (at i : ℕ) (ws : List (List ℕ)) → i < length ws → block_in (get_or ws i []) ≡ None → ((k : ℕ) → k < i → ¬ (block_in (get_or ws k []) ≡ None))
-    → written at ws ≡ Err (BadBlock (at + i))
-unfolding written
+    → blocks_of_words at ws ≡ Err (BadBlock (at + i))
+unfolding blocks_of_words
 bad_first at i [] l h f = absurd (omega arith)
 bad_first at zero (w ∷ ws) l h f = rw h (ap (λ n. Err (BadBlock n)) (omega arith))
 bad_first at (suc i) (w ∷ ws) l h f = go (bad_first (at + 1) i ws (omega arith) h (λ k m. f (suc k) (omega arith))) (block_in w) refl
@@ -234,31 +234,31 @@ bad_first at (suc i) (w ∷ ws) l h f = go (bad_first (at + 1) i ws (omega arith
     shift : (b : Block) (read : Result (List Block) SchedFault) (n : ℕ) → read ≡ Err (BadBlock n) → (read >>= λ cs. Ok (b ∷ cs)) ≡ Err (BadBlock n)
     shift b read n e = rw e refl
 
-    go : written (at + 1) ws ≡ Err (BadBlock (at + 1 + i)) → (o : Option Block) → block_in w ≡ o → (block_or at o >>= λ b. written (at + 1) ws >>= λ cs. Ok (b ∷ cs)) ≡ Err (BadBlock (at + suc i))
+    go : blocks_of_words (at + 1) ws ≡ Err (BadBlock (at + 1 + i)) → (o : Option Block) → block_in w ≡ o → (block_or at o >>= λ b. blocks_of_words (at + 1) ws >>= λ cs. Ok (b ∷ cs)) ≡ Err (BadBlock (at + suc i))
     go ih None e = absurd (f 0 (omega arith) e)
     go ih (Some b) e =
-        shift b (written (at + 1) ws) (at + suc i)
+        shift b (blocks_of_words (at + 1) ws) (at + suc i)
         (ih ∙ ap (λ n. Err (BadBlock n)) (omega arith))
 
 pub first_bad_block_lem : FirstBadBlock
 unfolding reading_of_words
 first_bad_block_lem text at = (to, from)
   where
-    to_read : (read : Result (List Block) SchedFault) → (read >>= scheduled) ≡ Err (BadBlock at) → read ≡ Err (BadBlock at)
+    to_read : (read : Result (List Block) SchedFault) → (read >>= schedule_of_blocks) ≡ Err (BadBlock at) → read ≡ Err (BadBlock at)
     to_read (Ok bs) h = absurd (no_bad bs at h)
     to_read (Err f) h = h
 
-    to : (written 1 (words text) >>= scheduled) ≡ Err (BadBlock at) → IsFirst (λ word. block_in word ≡ None) (words text) at
+    to : (blocks_of_words 1 (words text) >>= schedule_of_blocks) ≡ Err (BadBlock at) → IsFirstBad (words text) at
     to h =
-        let r = first_bad 1 at (words text) (to_read (written 1 (words text)) h) in
+        let r = first_bad 1 at (words text) (to_read (blocks_of_words 1 (words text)) h) in
         let before : at - 1 ≡ r.0 = omega (arith, r.1) in
         record { some = omega (arith, r.1); within = omega (arith, r.1, r.2); here = rw before r.3; earlier = rw before r.4 }
 
-    from : IsFirst (λ word. block_in word ≡ None) (words text) at → (written 1 (words text) >>= scheduled) ≡ Err (BadBlock at)
+    from : IsFirstBad (words text) at → (blocks_of_words 1 (words text) >>= schedule_of_blocks) ≡ Err (BadBlock at)
     from h =
-        let bad : written 1 (words text) ≡ Err (BadBlock (1 + (at - 1))) = bad_first 1 (at - 1) (words text) (omega (arith, h.some, h.within)) h.here h.earlier in
+        let bad : blocks_of_words 1 (words text) ≡ Err (BadBlock (1 + (at - 1))) = bad_first 1 (at - 1) (words text) (omega (arith, h.some, h.within)) h.here h.earlier in
         let same : 1 + (at - 1) ≡ at = omega (arith, h.some) in
-        ap (λ r. r >>= scheduled) (bad ∙ ap (λ n. Err (BadBlock n)) same)
+        ap (λ r. r >>= schedule_of_blocks) (bad ∙ ap (λ n. Err (BadBlock n)) same)
 
 -- what an answer that gives the reading of a text says
 pub gives_ok : (r : Result (List Block) SchedFault) (text : List ℕ) → Gives (λ s. s) r (reading text) → IfOk r (λ s. reading text ≡ Ok s)
@@ -269,7 +269,7 @@ pub gives_err : (r : Result (List Block) SchedFault) (text : List ℕ) → Gives
 gives_err (Ok s) text gives = tt
 gives_err (Err e) text gives = gives
 
-pub gives_bad : (r : Result (List Block) SchedFault) (text : List ℕ) → Gives (λ s. s) r (reading text) → (at : ℕ) → r ≡ Err (BadBlock at) → IsFirst (λ word. block_in word ≡ None) (words text) at
+pub gives_bad : (r : Result (List Block) SchedFault) (text : List ℕ) → Gives (λ s. s) r (reading text) → (at : ℕ) → r ≡ Err (BadBlock at) → IsFirstBad (words text) at
 gives_bad r text gives at is = (first_bad_block_lem text at).0 (subst (λ x. Gives (λ (s : List Block). s) x (reading text)) is gives)
 
 pub gives_long : (r : Result (List Block) SchedFault) (text : List ℕ) → Gives (λ s. s) r (reading text) → (at : ℕ) → r ≡ Err (TooLong at) → IsFirstTooLong (words text) at

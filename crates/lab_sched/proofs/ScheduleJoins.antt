@@ -7,7 +7,7 @@ use Rattle.std.proofs.lemmas.List.Sums.{sum_by-cons, sum_by_push}
 use Rattle.std.proofs.lemmas.Bool.Decides.{nat_tests}
 use Rattle.lab_sched.specs.declared.schedule.block.Block.{Block}
 use Rattle.lab_sched.specs.ScheduleLaws.{StepsTell}
-use Rattle.lab_sched.specs.Schedules.{block, steps_of, total_of, before, joined, IsBlock, AreApart, IsSchedule, most_steps}
+use Rattle.lab_sched.specs.Schedules.{block, steps_of, total_of, before, joined_blocks, IsBlock, AreApart, IsSchedule, most_steps}
 
 same_pid : (m n : ℕ) → (m == n) ≡ true → m ≡ n
 same_pid m n h = grind (arith, nat_tests)
@@ -33,10 +33,10 @@ steps-before b (c ∷ rest) = go (b.pid == c.pid) refl
         rw (← same_pid b.pid c.pid h) (rw (← replicate-append-replicate b.count c.count b.pid) (append_assoc (replicate b.count b.pid) (replicate c.count b.pid) (steps_of rest)))
     go false h = refl
 
-pub steps-joined : (bs : List Block) → steps_of (joined bs) ≡ steps_of bs
-unfolding steps_of joined
+pub steps-joined : (bs : List Block) → steps_of (joined_blocks bs) ≡ steps_of bs
+unfolding steps_of joined_blocks
 steps-joined [] = refl
-steps-joined (b ∷ rest) = steps-before b (joined rest) ∙ ap (λ s. replicate b.count b.pid ++ s) (steps-joined rest)
+steps-joined (b ∷ rest) = steps-before b (joined_blocks rest) ∙ ap (λ s. replicate b.count b.pid ++ s) (steps-joined rest)
 
 -- totals
 
@@ -48,11 +48,11 @@ total-before b (c ∷ rest) = go (b.pid == c.pid)
     go true = omega (arith, sum_by-cons (λ (d : Block). d.count) (block b.pid (b.count + c.count)) rest, sum_by-cons (λ (d : Block). d.count) c rest)
     go false = sum_by-cons (λ (d : Block). d.count) b (c ∷ rest)
 
-pub total-joined : (bs : List Block) → total_of (joined bs) ≡ total_of bs
-unfolding joined
+pub total-joined : (bs : List Block) → total_of (joined_blocks bs) ≡ total_of bs
+unfolding joined_blocks
 total-joined [] = refl
 total-joined (b ∷ rest) =
-    total-before b (joined rest) ∙ ap (λ n. b.count + n) (total-joined rest) ∙ sym (sum_by-cons (λ (d : Block). d.count) b rest)
+    total-before b (joined_blocks rest) ∙ ap (λ n. b.count + n) (total-joined rest) ∙ sym (sum_by-cons (λ (d : Block). d.count) b rest)
 
 pub length-steps : (bs : List Block) → length (steps_of bs) ≡ total_of bs
 unfolding steps_of
@@ -79,16 +79,16 @@ apart-before b (c ∷ rest) h = go (b.pid == c.pid) refl
     go true e = apart-like (block b.pid (b.count + c.count)) c rest (same_pid b.pid c.pid e) h
     go false e = (other_pid b.pid c.pid e, h)
 
-pub apart-joined : (bs : List Block) → AreApart (joined bs)
-unfolding joined
+pub apart-joined : (bs : List Block) → AreApart (joined_blocks bs)
+unfolding joined_blocks
 apart-joined [] = tt
-apart-joined (b ∷ rest) = apart-before b (joined rest) (apart-joined rest)
+apart-joined (b ∷ rest) = apart-before b (joined_blocks rest) (apart-joined rest)
 
 before-apart : (b c : Block) (rest : List Block) → b.pid ≢ c.pid → before b (c ∷ rest) ≡ b ∷ c ∷ rest
 before-apart b c rest h = rw (is_other b.pid c.pid h) refl
 
-pub joined-apart : (bs : List Block) → AreApart bs → joined bs ≡ bs
-unfolding joined
+pub joined-apart : (bs : List Block) → AreApart bs → joined_blocks bs ≡ bs
+unfolding joined_blocks
 joined-apart [] h = refl
 joined-apart (b ∷ []) h = refl
 joined-apart (b ∷ c ∷ rest) h = ap (before b) (joined-apart (c ∷ rest) h.1) ∙ before-apart b c rest h.0
@@ -96,8 +96,8 @@ joined-apart (b ∷ c ∷ rest) h = ap (before b) (joined-apart (c ∷ rest) h.1
 -- a block at the end
 
 pub joined-push_same : (front : List Block) (c b : Block) → AreApart (front ++ c ∷ []) → c.pid ≡ b.pid
-    → joined (front ++ c ∷ [] ++ b ∷ []) ≡ front ++ block b.pid (c.count + b.count) ∷ []
-unfolding joined
+    → joined_blocks (front ++ c ∷ [] ++ b ∷ []) ≡ front ++ block b.pid (c.count + b.count) ∷ []
+unfolding joined_blocks
 joined-push_same [] c b h e = rw (is_same c.pid b.pid e) (ap (λ p. block p (c.count + b.count) ∷ []) e)
 joined-push_same (x ∷ []) c b h e =
     ap (before x) (joined-push_same [] c b tt e) ∙ before-apart x (block b.pid (c.count + b.count)) [] (λ f. h.0 (f ∙ sym e))
@@ -125,20 +125,20 @@ before-before b c (d ∷ rest) e = go (c.pid == d.pid) refl
         (same_block b.pid (b.count + (c.count + d.count)) (b.count + c.count + d.count) rest (omega arith))
     go false h = rw (is_same b.pid c.pid e, is_other b.pid d.pid (λ f. other_pid c.pid d.pid h (sym e ∙ f))) refl
 
-joined-before : (b : Block) (zs ys : List Block) → joined (before b zs ++ ys) ≡ before b (joined (zs ++ ys))
-unfolding joined
+joined-before : (b : Block) (zs ys : List Block) → joined_blocks (before b zs ++ ys) ≡ before b (joined_blocks (zs ++ ys))
+unfolding joined_blocks
 joined-before b [] ys = refl
 joined-before b (c ∷ zs) ys = go (b.pid == c.pid) refl
   where
     go : (t : Bool) → (b.pid == c.pid) ≡ t
-        → joined (cond t (block b.pid (b.count + c.count) ∷ zs) (b ∷ c ∷ zs) ++ ys) ≡ before b (before c (joined (zs ++ ys)))
-    go true h = sym (before-before b c (joined (zs ++ ys)) (same_pid b.pid c.pid h))
+        → joined_blocks (cond t (block b.pid (b.count + c.count) ∷ zs) (b ∷ c ∷ zs) ++ ys) ≡ before b (before c (joined_blocks (zs ++ ys)))
+    go true h = sym (before-before b c (joined_blocks (zs ++ ys)) (same_pid b.pid c.pid h))
     go false h = refl
 
-pub joined-joined : (xs ys : List Block) → joined (joined xs ++ ys) ≡ joined (xs ++ ys)
-unfolding joined
+pub joined-joined : (xs ys : List Block) → joined_blocks (joined_blocks xs ++ ys) ≡ joined_blocks (xs ++ ys)
+unfolding joined_blocks
 joined-joined [] ys = refl
-joined-joined (b ∷ rest) ys = joined-before b (joined rest) ys ∙ ap (before b) (joined-joined rest ys)
+joined-joined (b ∷ rest) ys = joined-before b (joined_blocks rest) ys ∙ ap (before b) (joined-joined rest ys)
 
 -- valid blocks
 
@@ -150,16 +150,16 @@ valid-before b (c ∷ rest) h hs = go (b.pid == c.pid)
     go true = (record { process = h.process; some = omega arith }, hs.1)
     go false = (h, hs)
 
-pub valid-joined : (bs : List Block) → AllByRecursion IsBlock bs → AllByRecursion IsBlock (joined bs)
-unfolding joined
+pub valid-joined : (bs : List Block) → AllByRecursion IsBlock bs → AllByRecursion IsBlock (joined_blocks bs)
+unfolding joined_blocks
 valid-joined [] h = tt
-valid-joined (b ∷ rest) h = valid-before b (joined rest) h.0 (valid-joined rest h.1)
+valid-joined (b ∷ rest) h = valid-before b (joined_blocks rest) h.0 (valid-joined rest h.1)
 
 valid-push : (bs : List Block) (b : Block) → AllByRecursion IsBlock bs → IsBlock b → AllByRecursion IsBlock (bs ++ b ∷ [])
 valid-push [] b h k = (k, tt)
 valid-push (c ∷ bs) b h k = (h.0, valid-push bs b h.1 k)
 
-pub total-push : (bs : List Block) (b : Block) → total_of (joined (bs ++ b ∷ [])) ≡ total_of bs + b.count
+pub total-push : (bs : List Block) (b : Block) → total_of (joined_blocks (bs ++ b ∷ [])) ≡ total_of bs + b.count
 total-push bs b = total-joined (bs ++ b ∷ []) ∙ sum_by_push (λ (d : Block). d.count) bs b
 
 pub steps-append : (xs ys : List Block) → steps_of (xs ++ ys) ≡ steps_of xs ++ steps_of ys
@@ -172,10 +172,10 @@ pub steps-one : (b : Block) → steps_of (b ∷ []) ≡ replicate b.count b.pid
 unfolding steps_of
 steps-one b = append-nil (replicate b.count b.pid)
 
-pub steps-push : (bs : List Block) (b : Block) → steps_of (joined (bs ++ b ∷ [])) ≡ steps_of bs ++ replicate b.count b.pid
+pub steps-push : (bs : List Block) (b : Block) → steps_of (joined_blocks (bs ++ b ∷ [])) ≡ steps_of bs ++ replicate b.count b.pid
 steps-push bs b = steps-joined (bs ++ b ∷ []) ∙ steps-append bs (b ∷ []) ∙ ap (λ s. steps_of bs ++ s) (steps-one b)
 
-pub schedule-push : (bs : List Block) (b : Block) → IsSchedule bs → IsBlock b → total_of bs + b.count ≤ most_steps → IsSchedule (joined (bs ++ b ∷ []))
+pub schedule-push : (bs : List Block) (b : Block) → IsSchedule bs → IsBlock b → total_of bs + b.count ≤ most_steps → IsSchedule (joined_blocks (bs ++ b ∷ []))
 schedule-push bs b h k room = record {
   valid = valid-joined (bs ++ b ∷ []) (valid-push bs b h.valid k);
   apart = apart-joined (bs ++ b ∷ []);
@@ -196,25 +196,25 @@ pub same_read : (xs : List Block) (i : ℕ) (d e : Block) → i < length xs → 
 same_read xs i d e h p q = p ∙ get_or_default xs i d e h ∙ sym q
 
 pub joined-set : (xs : List Block) (n : ℕ) (d b : Block) → length xs ≡ n → 0 < n → AreApart xs → d ≡ get_or xs (n - 1) d → d.pid ≡ b.pid
-    → set xs (n - 1) (block d.pid (d.count + b.count)) ≡ joined (xs ++ b ∷ [])
+    → set xs (n - 1) (block d.pid (d.count + b.count)) ≡ joined_blocks (xs ++ b ∷ [])
 joined-set xs n d b l h apart e same = go (take (n - 1) xs) (last-split xs n d l h e) (length-front xs n l h)
   where
-    go : (f : List Block) → xs ≡ f ++ d ∷ [] → length f ≡ n - 1 → set xs (n - 1) (block d.pid (d.count + b.count)) ≡ joined (xs ++ b ∷ [])
+    go : (f : List Block) → xs ≡ f ++ d ∷ [] → length f ≡ n - 1 → set xs (n - 1) (block d.pid (d.count + b.count)) ≡ joined_blocks (xs ++ b ∷ [])
     go f s k =
         ap (λ ys. set ys (n - 1) (block d.pid (d.count + b.count))) s
         ∙ set_at f d [] (block d.pid (d.count + b.count)) (n - 1) k
         ∙ ap (λ p. f ++ block p (d.count + b.count) ∷ []) same
         ∙ sym (joined-push_same f d b (subst AreApart s apart) same)
-        ∙ ap (λ ys. joined (ys ++ b ∷ [])) (sym s)
+        ∙ ap (λ ys. joined_blocks (ys ++ b ∷ [])) (sym s)
 
 pub joined-apart_push : (xs : List Block) (n : ℕ) (d b : Block) → length xs ≡ n → 0 < n → AreApart xs → d ≡ get_or xs (n - 1) d → d.pid ≢ b.pid
-    → xs ++ b ∷ [] ≡ joined (xs ++ b ∷ [])
+    → xs ++ b ∷ [] ≡ joined_blocks (xs ++ b ∷ [])
 joined-apart_push xs n d b l h apart e other = go (take (n - 1) xs) (last-split xs n d l h e)
   where
-    go : (f : List Block) → xs ≡ f ++ d ∷ [] → xs ++ b ∷ [] ≡ joined (xs ++ b ∷ [])
+    go : (f : List Block) → xs ≡ f ++ d ∷ [] → xs ++ b ∷ [] ≡ joined_blocks (xs ++ b ∷ [])
     go f s = sym (joined-apart (xs ++ b ∷ []) (subst (λ ys. AreApart (ys ++ b ∷ [])) (sym s) (apart-push f d b (subst AreApart s apart) other)))
 
-pub joined-first : (xs : List Block) (b : Block) → length xs ≡ 0 → xs ++ b ∷ [] ≡ joined (xs ++ b ∷ [])
+pub joined-first : (xs : List Block) (b : Block) → length xs ≡ 0 → xs ++ b ∷ [] ≡ joined_blocks (xs ++ b ∷ [])
 joined-first xs b l = rw (nil_from_length xs l) (sym (joined-apart (b ∷ []) tt))
 
 -- blocks from steps

@@ -14,7 +14,7 @@ use Rattle.std.proofs.Common.{lt-ltb}
 use Rattle.lab_sched.specs.declared.schedule.block.Block.{Block}
 use Rattle.lab_sched.specs.ScheduleLaws.{ReadsBack}
 use Rattle.lab_sched.specs.Schedules.{total_of, IsBlock, IsSchedule, most_steps}
-use Rattle.lab_sched.specs.ScheduleTexts.{block_text, schedule_text, words, is_star, in_range, process_in, count_in, block_at, block_from, block_in, written, too_long, scheduled, reading_of_words, reading, ◌>>=◌}
+use Rattle.lab_sched.specs.ScheduleTexts.{block_text, schedule_text, words, is_star, in_range, process_in, count_in, block_at, block_from, block_in, blocks_of_words, too_long, schedule_of_blocks, reading_of_words, reading, ◌>>=◌}
 use Rattle.lab_sched.proofs.ScheduleJoins.{joined-apart}
 use Rattle.lab_sched.proofs.ScheduleWords.{is_space, words-blank, words-last, words-none}
 use Rattle.lc3_word.proofs.Numerals.{unsigned-decimal}
@@ -82,8 +82,8 @@ words-text b (c ∷ rest) v s =
     words-blank (block_text b) (block_text c ++ later_text rest) (text_some b) (text_no_space b v.0 s.0)
     ∙ ap (λ ws. block_text b ∷ ws) (words-text c rest v.1 s.1)
 
-written-text : (at : ℕ) (bs : List Block) → AllByRecursion IsBlock bs → AreSmall bs → written at (map block_text bs) ≡ Ok bs
-unfolding written
+written-text : (at : ℕ) (bs : List Block) → AllByRecursion IsBlock bs → AreSmall bs → blocks_of_words at (map block_text bs) ≡ Ok bs
+unfolding blocks_of_words
 written-text at [] v s = refl
 written-text at (b ∷ rest) v s = rw (block_in-text b v.0 s.0, written-text (at + 1) rest v.1 s.1) refl
 
@@ -106,10 +106,10 @@ words-schedule [] h = words-none
 words-schedule (b ∷ rest) h = words-text b rest h.valid (small-from_total (b ∷ rest) h.within)
 
 pub reads_back_lem : ReadsBack
-unfolding reading_of_words scheduled
+unfolding reading_of_words schedule_of_blocks
 reads_back_lem bs h =
-    ap (λ ws. written 1 ws >>= scheduled) (words-schedule bs h)
-    ∙ ap (λ r. r >>= scheduled) (written-text 1 bs h.valid (small-from_total bs h.within))
+    ap (λ ws. blocks_of_words 1 ws >>= schedule_of_blocks) (words-schedule bs h)
+    ∙ ap (λ r. r >>= schedule_of_blocks) (written-text 1 bs h.valid (small-from_total bs h.within))
     ∙ rw (too_long-none 1 0 bs (omega (arith, h.within))) (ap Ok (joined-apart bs h.apart))
 
 -- a text that was written reads back

@@ -1,13 +1,13 @@
 -- One more word of a text, and one more block of a schedule.
 use Rattle.std.proofs.Common.{◌≡◌, ℕ, ◌+◌, ◌<◌, ◌≤◌, true, false, List, [], ◌∷◌, ◌++◌, length, take, drop, get_or, refl, ap, sym, ◌∙◌, arith, Some, None, Result, Ok, Err, append_assoc, append-nil}
 use Rattle.std.specs.Prelude.{nat_lt}
-use Rattle.std.proofs.lemmas.List.{drop_more, take_more, take_all, drop_all, length_push}
+use Rattle.std.proofs.lemmas.List.{drop_more, take_more, take_all, drop_all}
 use Rattle.std.proofs.lemmas.Bool.Decides.{nat_tests}
 use Rattle.lab_sched.specs.declared.schedule.block.Block.{Block}
 use Rattle.lab_sched.specs.declared.schedule.fault.SchedFault.{SchedFault}
 use Rattle.lab_sched.specs.declared.schedule.fault.SchedFault.TheVariants.{BadBlock, TooLong, NoMemory}
-use Rattle.lab_sched.specs.Schedules.{joined, most_steps}
-use Rattle.lab_sched.specs.ScheduleTexts.{written, block_in, too_long, scheduled, reading_of_words, Fails, ◌>>=◌}
+use Rattle.lab_sched.specs.Schedules.{joined_blocks, most_steps}
+use Rattle.lab_sched.specs.ScheduleTexts.{blocks_of_words, block_in, too_long, schedule_of_blocks, reading_of_words, Fails, ◌>>=◌}
 use Rattle.lab_sched.proofs.ScheduleJoins.{joined-joined}
 
 -- blocks found so far, and those that are read
@@ -20,25 +20,25 @@ front_more found b (Ok bs) = ap Ok (sym (append_assoc found (b ∷ []) bs))
 front_more found b (Err e) = refl
 
 pub written-more : (found : List Block) (at : ℕ) (word : List ℕ) (ws : List (List ℕ)) (b : Block) → Some b ≡ block_in word
-    → with_front found (written at (word ∷ ws)) ≡ with_front (found ++ b ∷ []) (written (at + 1) ws)
-unfolding written
-written-more found at word ws b e = rw (← e) (front_more found b (written (at + 1) ws))
+    → with_front found (blocks_of_words at (word ∷ ws)) ≡ with_front (found ++ b ∷ []) (blocks_of_words (at + 1) ws)
+unfolding blocks_of_words
+written-more found at word ws b e = rw (← e) (front_more found b (blocks_of_words (at + 1) ws))
 
 pub written-bad : (found : List Block) (at : ℕ) (word : List ℕ) (ws : List (List ℕ)) → None ≡ block_in word
-    → with_front found (written at (word ∷ ws)) ≡ Err (BadBlock at)
-unfolding written
+    → with_front found (blocks_of_words at (word ∷ ws)) ≡ Err (BadBlock at)
+unfolding blocks_of_words
 written-bad found at word ws e = rw (← e) refl
 
-pub written-end : (found : List Block) (at : ℕ) → with_front found (written at []) ≡ Ok found
-unfolding written
+pub written-end : (found : List Block) (at : ℕ) → with_front found (blocks_of_words at []) ≡ Ok found
+unfolding blocks_of_words
 written-end found at = ap Ok (append-nil found)
 
 front_none : (read : Result (List Block) SchedFault) → read ≡ with_front [] read
 front_none (Ok bs) = refl
 front_none (Err e) = refl
 
-pub written-start : (at : ℕ) (ws : List (List ℕ)) → written at ws ≡ with_front [] (written at ws)
-written-start at ws = front_none (written at ws)
+pub written-start : (at : ℕ) (ws : List (List ℕ)) → blocks_of_words at ws ≡ with_front [] (blocks_of_words at ws)
+written-start at ws = front_none (blocks_of_words at ws)
 
 -- blocks in a row
 
@@ -62,30 +62,30 @@ pub too_long-end : (bs : List Block) (i total : ℕ) → length bs ≤ i → too
 unfolding too_long
 too_long-end bs i total h = rw (drop_all i bs h) refl
 
-pub joined-none : [] ≡ joined []
-unfolding joined
+pub joined-none : [] ≡ joined_blocks []
+unfolding joined_blocks
 joined-none = refl
 
-pub joined-more : (bs : List Block) (i : ℕ) (d : Block) → i < length bs → joined (joined (take i bs) ++ get_or bs i d ∷ []) ≡ joined (take (i + 1) bs)
-joined-more bs i d h = joined-joined (take i bs) (get_or bs i d ∷ []) ∙ ap joined (sym (take_more bs i d h))
+pub joined-more : (bs : List Block) (i : ℕ) (d : Block) → i < length bs → joined_blocks (joined_blocks (take i bs) ++ get_or bs i d ∷ []) ≡ joined_blocks (take (i + 1) bs)
+joined-more bs i d h = joined-joined (take i bs) (get_or bs i d ∷ []) ∙ ap joined_blocks (sym (take_more bs i d h))
 
-pub scheduled-long : (bs : List Block) (at : ℕ) → too_long 1 0 bs ≡ Some at → scheduled bs ≡ Err (TooLong at)
-unfolding scheduled
+pub scheduled-long : (bs : List Block) (at : ℕ) → too_long 1 0 bs ≡ Some at → schedule_of_blocks bs ≡ Err (TooLong at)
+unfolding schedule_of_blocks
 scheduled-long bs at e = rw e refl
 
-pub scheduled-ok : (bs made : List Block) (i : ℕ) → too_long 1 0 bs ≡ None → made ≡ joined (take i bs) → length bs ≤ i → scheduled bs ≡ Ok made
-unfolding scheduled
-scheduled-ok bs made i e m h = rw e (ap Ok (ap joined (sym (take_all i bs h)) ∙ sym m))
+pub scheduled-ok : (bs made : List Block) (i : ℕ) → too_long 1 0 bs ≡ None → made ≡ joined_blocks (take i bs) → length bs ≤ i → schedule_of_blocks bs ≡ Ok made
+unfolding schedule_of_blocks
+scheduled-ok bs made i e m h = rw e (ap Ok (ap joined_blocks (sym (take_all i bs h)) ∙ sym m))
 
 pub fails-then : {A B : Type 0} (e : SchedFault) (read : Result A SchedFault) (next : A → Result B SchedFault) → Fails e read → Fails e (read >>= next)
 fails-then (BadBlock at) read next h = rw h refl
 fails-then (TooLong at) read next h = rw h refl
 fails-then NoMemory read next h = tt
 
-pub reading-fails : (e : SchedFault) (ws : List (List ℕ)) → Fails e (written 1 ws) → Fails e (reading_of_words ws)
+pub reading-fails : (e : SchedFault) (ws : List (List ℕ)) → Fails e (blocks_of_words 1 ws) → Fails e (reading_of_words ws)
 unfolding reading_of_words
-reading-fails e ws h = fails-then e (written 1 ws) scheduled h
+reading-fails e ws h = fails-then e (blocks_of_words 1 ws) schedule_of_blocks h
 
-pub reading-ok : (ws : List (List ℕ)) (blocks : List Block) → written 1 ws ≡ Ok blocks → reading_of_words ws ≡ scheduled blocks
+pub reading-ok : (ws : List (List ℕ)) (blocks : List Block) → blocks_of_words 1 ws ≡ Ok blocks → reading_of_words ws ≡ schedule_of_blocks blocks
 unfolding reading_of_words
 reading-ok ws blocks h = rw h refl

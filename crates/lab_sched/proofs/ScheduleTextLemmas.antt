@@ -9,10 +9,6 @@ use Rattle.lab_sched.specs.ScheduleTexts.{block_text, schedule_text}
 abbrev pub later_text : List Block → List ℕ
 later_text blocks = flat_map (λ b. 32 ∷ block_text b) blocks
 
-pub later-more : (bytes : List ℕ) (bs : List Block) (i : ℕ) (b : Block) → i < length bs → b ≡ get_or bs i b
-    → bytes ++ later_text (drop i bs) ≡ bytes ++ (32 ∷ block_text b) ++ later_text (drop (i + 1) bs)
-later-more bytes bs i b h e = rw (drop_more bs i b h, ← e) (sym (append_assoc bytes (32 ∷ block_text b) (later_text (drop (i + 1) bs))))
-
 pub later-end : (bytes : List ℕ) (bs : List Block) (i : ℕ) → length bs ≤ i → bytes ++ later_text (drop i bs) ≡ bytes
 later-end bytes bs i h = rw (drop_all i bs h) (append-nil bytes)
 

@@ -1,15 +1,15 @@
 -- The words of a schedule's text.
 use Rattle.std.proofs.Common.{◌≡◌, ℕ, Bool, ◌<◌, true, false, List, [], ◌∷◌, ◌++◌, length, filter, ap, ◌∙◌, refl, arith}
-use Rattle.std.specs.Prelude.{codes, not, ◌==◌}
+use Rattle.std.specs.Prelude.{not, ◌==◌}
 use Rattle.std.specs.List.{slice_split, All}
 use Rattle.std.proofs.lemmas.Bool.Decides.{nat_tests}
 use Rattle.std.proofs.lemmas.List.Splits.{slice_split_at, slice_split_none}
-use Rattle.lc3_word.specs.Blanks.{is_among, is_word, words_between}
+use Rattle.lc3_word.specs.Blanks.{is_among, is_word, words_between, white_space}
 use Rattle.lab_sched.specs.ScheduleTexts.{words}
 
 -- a blank of a schedule's text
 abbrev pub is_space : ℕ → Bool
-is_space c = is_among (codes " \t\r\n") c
+is_space c = is_among white_space c
 
 some_test : (n : ℕ) → 0 < n → not (n == 0) ≡ true
 some_test n h = grind (arith, nat_tests)

@@ -2,7 +2,7 @@
 use Rattle.std.proofs.Common.{◌≡◌, ℕ, zero, suc, ◌+◌, ◌<◌, Bool, true, false, not, ◌&&◌, ◌||◌, List, [], ◌∷◌, Option, Some, None, length, slice_get, refl, ap, subst, ◌∙◌, arith}
 use Rattle.std.specs.List.{list_all, list_any, range_with_len}
 use Rattle.std.proofs.lemmas.Option.{slice_get_within}
-use Rattle.lab_sched.specs.Worlds.{Process, Running, Waiting, Ended, WorldState, Turn, nothing, local_step, kernel_step, turn, turn_in, IsEffective}
+use Rattle.lab_sched.specs.Worlds.{Process, Running, Waiting, Ended, WorldState, StepEffect, nothing, local_step, kernel_step, step_effect, step_effect_in, IsEffective}
 use Rattle.lab_sched.specs.declared.verdict.Verdict.{Verdict}
 use Rattle.lab_sched.specs.declared.verdict.Verdict.TheVariants as verdict
 use Rattle.lab_sched.specs.Verdicts.{IsRunning, IsWaiting, HasEnded, HaveEnded, AreStuck, IsVerdict, is_running, is_waiting, is_ended, is_nothing, all_ended, none_moves, are_stuck, verdict_of, VerdictWorkedOut}
@@ -77,12 +77,12 @@ ended-is (Running m) h = absurd h
 ended-is (Waiting m c) h = absurd h
 ended-is (Ended d) h = refl
 
-rests-yes : (t : Turn) → is_nothing t ≡ true → IsEffective t → ⊥
+rests-yes : (t : StepEffect) → is_nothing t ≡ true → IsEffective t → ⊥
 rests-yes nothing e h = h
 rests-yes (local_step n) e h = cc
 rests-yes (kernel_step m c a) e h = cc
 
-rests-is : (t : Turn) → (IsEffective t → ⊥) → is_nothing t ≡ true
+rests-is : (t : StepEffect) → (IsEffective t → ⊥) → is_nothing t ≡ true
 rests-is nothing h = refl
 rests-is (local_step n) h = absurd (h tt)
 rests-is (kernel_step m c a) h = absurd (h tt)
@@ -101,24 +101,24 @@ number-at a (suc n) (suc p) h = let same : (a + 1) + p ≡ a + suc p = omega ari
 
 -- whether the step of process p does nothing
 abbrev rests : (w : WorldState) (p : ℕ) → Bool
-rests w p = is_nothing (turn_in w p)
+rests w p = is_nothing (step_effect_in w p)
 
 none_moves-at : (w : WorldState) (p : ℕ) → none_moves w ≡ true → p < length w.processes → rests w p ≡ true
 none_moves-at w p none h =
     let first : 0 + p ≡ p = omega arith in
     all-at (rests w) (range_with_len 0 (length w.processes)) p p none (number-at 0 (length w.processes) p h ∙ ap Some first)
 
-none_moves-yes : (w : WorldState) → none_moves w ≡ true → (p : ℕ) → IsEffective (turn_in w p) → ⊥
+none_moves-yes : (w : WorldState) → none_moves w ≡ true → (p : ℕ) → IsEffective (step_effect_in w p) → ⊥
 none_moves-yes w none p = by (slice_get w.processes p) refl
   where
-    by : (o : Option Process) → slice_get w.processes p ≡ o → IsEffective (turn w.kernel p o) → ⊥
+    by : (o : Option Process) → slice_get w.processes p ≡ o → IsEffective (step_effect w.kernel p o) → ⊥
     by None at h = h
     by (Some s) at h =
-        let still : is_nothing (turn w.kernel p (Some s)) ≡ true = subst (λ o. is_nothing (turn w.kernel p o) ≡ true) at (none_moves-at w p none (slice_get_within w.processes p s at)) in
-        rests-yes (turn w.kernel p (Some s)) still h
+        let still : is_nothing (step_effect w.kernel p (Some s)) ≡ true = subst (λ o. is_nothing (step_effect w.kernel p o) ≡ true) at (none_moves-at w p none (slice_get_within w.processes p s at)) in
+        rests-yes (step_effect w.kernel p (Some s)) still h
 
-none_moves-is : (w : WorldState) → ((p : ℕ) → IsEffective (turn_in w p) → ⊥) → none_moves w ≡ true
-none_moves-is w h = all-from (rests w) (range_with_len 0 (length w.processes)) (λ i p at. rests-is (turn_in w p) (h p))
+none_moves-is : (w : WorldState) → ((p : ℕ) → IsEffective (step_effect_in w p) → ⊥) → none_moves w ≡ true
+none_moves-is w h = all-from (rests w) (range_with_len 0 (length w.processes)) (λ i p at. rests-is (step_effect_in w p) (h p))
 
 both : (a b : Bool) → (a && b) ≡ true → (a ≡ true) × (b ≡ true)
 both true b e = (refl, e)

@@ -4,7 +4,7 @@ use Rattle.ipc_kernel.specs.declared.call.Answer.TheVariants.{Wait}
 use Rattle.ipc_kernel.specs.Kernel.{KernelState}
 use Rattle.ipc_kernel.specs.Answer.{answer}
 use Rattle.lab_sched.specs.Worlds.{Process, Running, Waiting, Ended, WorldState}
-use Rattle.lab_sched.specs.Course.{count}
+use Rattle.lab_sched.specs.Execution.{count}
 
 -- the process has ended, or waits and must still wait
 abbrev pub IsAtRest : KernelState → ℕ → Process → Type 0

@@ -3,12 +3,11 @@ pub mod ScheduleTexts
 pub mod ScheduleLaws
 pub mod Worlds
 pub mod Held
-pub mod Segments
 pub mod Starts
 pub mod Verdicts
-pub mod Course
+pub mod Execution
 pub mod History
-pub mod Alone
+pub mod LocalRun
 pub mod Finished
 pub mod Settled
 pub mod Settling

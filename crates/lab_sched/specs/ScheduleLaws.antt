@@ -20,9 +20,13 @@ pub record IsFirst (P : List ℕ → Type 0) (words : List (List ℕ)) (at : ℕ
   pub here : P (slice_index_or words (at - 1) [])
   pub earlier : (k : ℕ) → k < at - 1 → ¬ P (slice_index_or words k [])
 
+-- word number `at`, counted from 1, is the first that is no block
+abbrev pub IsFirstBad : List (List ℕ) → ℕ → Type 0
+IsFirstBad words at = IsFirst (λ word. block_in word ≡ None) words at
+
 -- a bad block is named exactly where there is one, and it is the first
 abbrev pub FirstBadBlock : Type 0
-FirstBadBlock = (text : List ℕ) (at : ℕ) → (reading text ≡ Err (BadBlock at)) ↔ IsFirst (λ word. block_in word ≡ None) (words text) at
+FirstBadBlock = (text : List ℕ) (at : ℕ) → (reading text ≡ Err (BadBlock at)) ↔ IsFirstBad (words text) at
 
 -- block number `at`, counted from 1, is the first with which the blocks so far have more than the most steps
 pub record IsFirstOver (blocks : List Block) (at : ℕ) : Type 0 where

@@ -1,13 +1,13 @@
 -- The text of a schedule, and what a text is read as.
-use Rattle.std.specs.Prelude.{ℕ, ◌+◌, ◌-◌, ◌==◌, ◌||◌, ◌&&◌, ◌≡◌, nat_lt, nat_le, not, Bool, true, false, if◌then◌else◌, Option, Some, None, Result, Ok, Err, List, [], ◌∷◌, ◌++◌, take, drop, codes, decimal, position}
+use Rattle.std.specs.Prelude.{ℕ, ◌+◌, ◌-◌, ◌==◌, ◌&&◌, ◌≡◌, nat_lt, nat_le, Bool, if◌then◌else◌, Option, Some, None, Result, Ok, Err, List, [], ◌∷◌, ◌++◌, take, drop, decimal, position}
 use Rattle.ipc_kernel.specs.Limits.{process_max}
 use Rattle.std.specs.List.{flat_map}
-use Rattle.lc3_word.specs.Blanks.{words_between}
-use Rattle.lc3_word.specs.Numbers.{unsigned}
+use Rattle.lc3_word.specs.Blanks.{words_between, white_space}
+use Rattle.lc3_word.specs.Numbers.{unsigned_number}
 use Rattle.lab_sched.specs.declared.schedule.block.Block.{Block}
 use Rattle.lab_sched.specs.declared.schedule.fault.SchedFault.{SchedFault}
 use Rattle.lab_sched.specs.declared.schedule.fault.SchedFault.TheVariants.{BadBlock, TooLong, NoMemory}
-use Rattle.lab_sched.specs.Schedules.{block, joined, most_steps}
+use Rattle.lab_sched.specs.Schedules.{block, joined_blocks, most_steps}
 
 -- `P*N`
 unfoldable pub block_text : Block → List ℕ
@@ -18,12 +18,13 @@ unfoldable pub schedule_text : List Block → List ℕ
 schedule_text [] = []
 schedule_text (b ∷ rest) = block_text b ++ flat_map (λ c. 32 ∷ block_text c) rest
 
+-- whether a byte is `*`
 abbrev pub is_star : ℕ → Bool
 is_star c = c == 42
 
 -- the words of a text, between blanks, tabs, carriage returns and line feeds
 abbrev pub words : List ℕ → List (List ℕ)
-words text = words_between (codes " \t\r\n") text
+words text = words_between white_space text
 
 -- a number that is at least low and at most high
 abbrev pub in_range : ℕ → ℕ → Option ℕ → Option ℕ
@@ -32,11 +33,13 @@ in_range low high (Some n) = if nat_le low n && nat_le n high then Some n else N
 
 -- decimal digits
 unfoldable pub process_in : List ℕ → Option ℕ
-process_in text = in_range 0 (process_max - 1) (unsigned 10 text)
+process_in text = in_range 0 (process_max - 1) (unsigned_number 10 text)
 
+-- decimal digits, of 1 to the most steps of a schedule
 unfoldable pub count_in : List ℕ → Option ℕ
-count_in text = in_range 1 most_steps (unsigned 10 text)
+count_in text = in_range 1 most_steps (unsigned_number 10 text)
 
+-- so many steps of a process, where both are there
 abbrev pub block_from : Option ℕ → Option ℕ → Option Block
 block_from (Some pid) (Some n) = Some (block pid n)
 block_from (Some pid) None = None
@@ -52,6 +55,7 @@ unfoldable pub block_in : List ℕ → Option Block
 block_in word = block_at (position is_star word) word
 
 infixl 20 ◌>>=◌
+-- what follows a result, unless that is a fault
 abbrev pub ◌>>=◌ : {A B : Type 0} → Result A SchedFault → (A → Result B SchedFault) → Result B SchedFault
 (Err e) >>= next = Err e
 (Ok a) >>= next = next a
@@ -62,26 +66,27 @@ block_or at None = Err (BadBlock at)
 block_or at (Some b) = Ok b
 
 -- the blocks that words write, where the first of them is word number `at`
-unfoldable pub written : ℕ → List (List ℕ) → Result (List Block) SchedFault
-written at [] = Ok []
-written at (word ∷ rest) = block_or at (block_in word) >>= λ b. written (at + 1) rest >>= λ bs. Ok (b ∷ bs)
+unfoldable pub blocks_of_words : ℕ → List (List ℕ) → Result (List Block) SchedFault
+blocks_of_words at [] = Ok []
+blocks_of_words at (word ∷ rest) = block_or at (block_in word) >>= λ b. blocks_of_words (at + 1) rest >>= λ bs. Ok (b ∷ bs)
 
 -- the number of the block with which more than the most steps are reached, where these steps come before block number `at`
 unfoldable pub too_long : ℕ → ℕ → List Block → Option ℕ
 too_long at total [] = None
 too_long at total (b ∷ rest) = if nat_lt most_steps (total + b.count) then Some at else too_long (at + 1) (total + b.count) rest
 
+-- the blocks, or the fault that there are too many steps with block number `at`
 abbrev pub within : Option ℕ → List Block → Result (List Block) SchedFault
 within None blocks = Ok blocks
 within (Some at) blocks = Err (TooLong at)
 
 -- the schedule of blocks in a row
-unfoldable pub scheduled : List Block → Result (List Block) SchedFault
-scheduled blocks = within (too_long 1 0 blocks) (joined blocks)
+unfoldable pub schedule_of_blocks : List Block → Result (List Block) SchedFault
+schedule_of_blocks blocks = within (too_long 1 0 blocks) (joined_blocks blocks)
 
 -- what words are read as
 unfoldable pub reading_of_words : List (List ℕ) → Result (List Block) SchedFault
-reading_of_words ws = written 1 ws >>= scheduled
+reading_of_words ws = blocks_of_words 1 ws >>= schedule_of_blocks
 
 -- what a text is read as
 abbrev pub reading : List ℕ → Result (List Block) SchedFault

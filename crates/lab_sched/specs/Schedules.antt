@@ -26,9 +26,9 @@ before b [] = b ∷ []
 before b (c ∷ rest) = if b.pid == c.pid then block b.pid (b.count + c.count) ∷ rest else b ∷ (c ∷ rest)
 
 -- blocks in a row as one schedule: neighbours of the same process are joined
-unfoldable pub joined : List Block → List Block
-joined [] = []
-joined (b ∷ rest) = before b (joined rest)
+unfoldable pub joined_blocks : List Block → List Block
+joined_blocks [] = []
+joined_blocks (b ∷ rest) = before b (joined_blocks rest)
 
 -- a process number and at least one step
 pub record IsBlock (b : Block) : Type 0 where

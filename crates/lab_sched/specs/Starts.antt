@@ -8,7 +8,7 @@ use Rattle.lab_sched.specs.declared.fresh.Program.{Program}
 use Rattle.lab_sched.specs.declared.process.Process.{Process as Kept}
 use Rattle.lab_sched.specs.declared.process.Process.TheVariants as kept
 use Rattle.lab_sched.specs.Worlds.{HaveOneProfile, Process, Running, WorldState}
-use Rattle.lab_sched.specs.Held.{seen}
+use Rattle.lab_sched.specs.Held.{process_view}
 
 -- a process of a profile at the start of a program
 abbrev pub start_of : Profile → Program → Process
@@ -31,7 +31,7 @@ Runs (kept.Ended e) = ⊥
 -- the processes of a laboratory before its first step, and its kernel, which is empty
 pub record IsFresh (ps : List Kept) (k : KernelState) : Type 0 where
   pub running : All Runs ps
-  pub profile : HaveOneProfile (map seen ps)
+  pub profile : HaveOneProfile (map process_view ps)
   pub some : 1 ≤ length ps
   pub few : length ps ≤ process_max
   pub count : length ps ≡ length k.processes

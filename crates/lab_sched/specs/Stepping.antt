@@ -6,17 +6,17 @@ use Rattle.lc3_machine.specs.declared.machine.Progress.{Progress}
 use Rattle.lc3_machine.specs.declared.machine.Progress.TheVariants as progress
 use Rattle.lc3_machine.specs.Process.{Process as Machine, Stops}
 use Rattle.lc3_machine.specs.Effects.{next_step}
-use Rattle.lc3_machine.specs.Reply.{ended}
+use Rattle.lc3_machine.specs.Reply.{process_after_end}
 use Rattle.ipc_kernel.specs.declared.call.Call.{Call}
 use Rattle.ipc_kernel.specs.declared.call.Reply.{Reply}
 use Rattle.ipc_kernel.specs.declared.call.Answer.TheVariants.{Done}
 use Rattle.ipc_kernel.specs.Replies.{IsReplyTo}
-use Rattle.ipc_traps.specs.Asked.{Calls, asked}
+use Rattle.ipc_traps.specs.Asked.{Calls, next_request}
 use Rattle.lab_sched.specs.declared.process.Process.{Process as Kept}
 use Rattle.lab_sched.specs.declared.process.Process.TheVariants as kept
 use Rattle.lab_sched.specs.declared.stepping.Asking.{Asking}
 use Rattle.lab_sched.specs.declared.stepping.Asking.TheVariants as asking
-use Rattle.lab_sched.specs.Worlds.{Process, Running, Waiting, Ended, WorldState, moves, act, told}
+use Rattle.lab_sched.specs.Worlds.{Process, Running, Waiting, Ended, WorldState, moves, next_action, process_after_answer}
 
 -- a running process whose next step is this trap or end
 abbrev pub StandsBefore : Process → Want → Type 0
@@ -34,16 +34,11 @@ StopsBy (Ended e) p = Unit {0}
 
 -- what came of a running process that stood before a trap
 abbrev pub IsAsking : Process → Asking → Process → Type 0
-IsAsking (Running m) asking.Waits u = (c : Call) × (asked m ≡ Calls c) × (u ≡ Waiting m c)
-IsAsking (Running m) asking.Refused u = (q : Machine) × (act m ≡ moves q) × (u ≡ Running q)
+IsAsking (Running m) asking.Waits u = (c : Call) × (next_request m ≡ Calls c) × (u ≡ Waiting m c)
+IsAsking (Running m) asking.Refused u = (q : Machine) × (next_action m ≡ moves q) × (u ≡ Running q)
 IsAsking (Running m) asking.Short u = u ≡ Running m
 IsAsking (Waiting m c) a u = ⊥
 IsAsking (Ended e) a u = ⊥
-
-abbrev pub IsWaiting : Process → Type 0
-IsWaiting (Running m) = ⊥
-IsWaiting (Waiting m c) = Unit {0}
-IsWaiting (Ended e) = ⊥
 
 -- a process that waits for a call with this reply
 abbrev pub CanTakeReply : Kept → Reply → Type 0
@@ -54,7 +49,7 @@ CanTakeReply (kept.Ended e) r = ⊥
 -- a waiting process after the reply to its call
 abbrev pub after_reply : Process → Reply → Process
 after_reply (Running m) r = Running m
-after_reply (Waiting m c) r = told m c (Done r)
+after_reply (Waiting m c) r = process_after_answer m c (Done r)
 after_reply (Ended e) r = Ended e
 
 -- a waiting process before it began to wait
@@ -65,7 +60,7 @@ before_wait (Ended e) = Ended e
 
 -- a running process after its end
 abbrev pub after_end : Process → How → Process
-after_end (Running m) how = Ended (record { process = ended m how; how = how })
+after_end (Running m) how = Ended (record { process = process_after_end m how; how = how })
 after_end (Waiting m c) how = Waiting m c
 after_end (Ended e) how = Ended e
 

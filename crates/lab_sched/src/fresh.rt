@@ -3,7 +3,7 @@ ghost use Rattle.std.specs.Prelude.{◌≡◌, ◌≤◌, ◌↔◌, length, map
 ghost use Rattle.ipc_kernel.specs.Limits.{process_max};
 ghost use Rattle.ipc_kernel.specs.Kernel.{empty_kernel};
 ghost use Rattle.lab_sched.specs.Starts.{start_of, fresh, IsCount, Runs};
-ghost use Rattle.lab_sched.specs.Held.{seen};
+ghost use Rattle.lab_sched.specs.Held.{process_view};
 ghost use Rattle.lab_sched.specs.Worlds.{HaveOneProfile};
 ghost use Rattle.lab_sched.specs.declared.fresh.FreshFault.TheVariants.{Count, NoMemory};
 
@@ -61,12 +61,12 @@ pub struct Fresh {
 impl Model for Fresh {
     ghost use Rattle.std.specs.Prelude.{map};
     ghost use Rattle.lab_sched.specs.Worlds.{WorldState};
-    ghost use Rattle.lab_sched.specs.Held.{seen};
+    ghost use Rattle.lab_sched.specs.Held.{process_view};
     ghost use Rattle.lab_sched.specs.Starts.{IsFresh};
 
     ghost Value = { WorldState };
 
-    ghost view = { λ f. record { processes = map seen f.processes.items; kernel = f.kernel } };
+    ghost view = { λ f. record { processes = map process_view f.processes.items; kernel = f.kernel } };
 
     ghost invariant = { λ f. IsFresh f.processes.items f.kernel };
 }
@@ -77,7 +77,8 @@ fn started(
     programs: &[Program],
     profile: Profile,
 ) -> Result<Vec<Process>, AllocError>
-    ensures starts { IfOk result (λ v. map seen v.items ≡ map (start_of profile) programs.now) }
+    ensures starts { IfOk result
+        (λ v. map process_view v.items ≡ map (start_of profile) programs.now) }
     ensures running { IfOk result (λ v. All Runs v.items) }
 {
     let mut processes = Vec::with_capacity(alloc, programs.len())?;
@@ -106,9 +107,9 @@ impl Fresh {
     /// The processes at their starts, 1 to 64, each running, all of one profile. The kernel that
     /// they were to share is empty.
     pub fn processes(self) -> Vec<Process>
-        ensures processes { map seen result.items ≡ self.processes }
+        ensures processes { map process_view result.items ≡ self.processes }
         ensures running { All Runs result.items }
-        ensures profile { HaveOneProfile (map seen result.items) }
+        ensures profile { HaveOneProfile (map process_view result.items) }
         ensures some { 1 ≤ length self.processes }
         ensures few { length self.processes ≤ process_max }
         ensures empty { self.kernel ≡ empty_kernel (length self.processes) }

@@ -1,6 +1,7 @@
-//! Laws over the definitions alone: of schedules and their texts, of effective steps, and of verdicts.
+//! Laws over the definitions alone: of schedules and their texts, of effective steps, and of
+//! verdicts.
 ghost use Rattle.lab_sched.specs.ScheduleLaws.{ReadsBack, StepsTell, FirstBadBlock, FirstTooLong, ReadSteps};
-ghost use Rattle.lab_sched.specs.Course.{Commute};
+ghost use Rattle.lab_sched.specs.Execution.{Commute};
 ghost use Rattle.lab_sched.specs.Verdicts.{VerdictWorkedOut};
 
 /// A schedule's text reads back as the schedule.

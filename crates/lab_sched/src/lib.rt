@@ -22,6 +22,6 @@ pub use stepped::Stepped;
 pub use stepping::{
     Asking, begin_call, end_process, local_steps, take_back, take_reply, take_step,
 };
-pub use trace::{Told, Trace};
+pub use trace::{Trace, TracedCall};
 pub use verdict::Verdict;
 pub use world::{RunStop, StepFault, Unwatched, Watch, World};

@@ -1,9 +1,10 @@
 //! What a process does next.
 ghost use Rattle.std.specs.Prelude.{◌≡◌, ◌≤◌, ℕ};
 ghost use Rattle.lc3_machine.specs.declared.want.Want.TheVariants.{Trap};
-ghost use Rattle.lab_sched.specs.Held.{seen, IsHeld};
+ghost use Rattle.lab_sched.specs.Held.{process_view, IsHeld};
 ghost use Rattle.lab_sched.specs.Settling.{AsksFor, IsNext};
-ghost use Rattle.lab_sched.specs.Stepping.{IsWaiting, StandsBefore, StopsBy, before_wait};
+ghost use Rattle.lab_sched.specs.Stepping.{StandsBefore, StopsBy, before_wait};
+ghost use Rattle.lab_sched.specs.Verdicts.{IsWaiting};
 
 use crate::Process;
 use crate::stepping::{Asking, begin_call, local_steps};
@@ -26,12 +27,12 @@ pub enum Next {
 }
 
 /// The process before it began to wait, and its call.
-#[tactic(auto, using(crate::proofs::Locals::asks))]
+#[tactic(auto, using(crate::proofs::LocalSteps::asks))]
 fn taken_back(process: Process, (): ()) -> (Process, Call)
     requires held { IsHeld process }
-    requires waits { IsWaiting (seen process) }
-    ensures process { seen result.0 ≡ before_wait (seen process) }
-    ensures asks { AsksFor (seen result.0) result.1 }
+    requires waits { IsWaiting (process_view process) }
+    ensures process { process_view result.0 ≡ before_wait (process_view process) }
+    ensures asks { AsksFor (process_view result.0) result.1 }
     ensures held { IsHeld result.0 }
 {
     match process {
@@ -43,8 +44,9 @@ fn taken_back(process: Process, (): ()) -> (Process, Call)
 /// What a process does next that stands before a trap of the kernel.
 fn next_trap(alloc: Global, process: &mut Process, vector: u8) -> Next
     requires held { IsHeld process.old }
-    requires stands { StandsBefore (seen process.old) (Trap vector) }
-    ensures next { (most : ℕ) → 1 ≤ most → IsNext (seen process.old) most result (seen process.new) }
+    requires stands { StandsBefore (process_view process.old) (Trap vector) }
+    ensures next { (most : ℕ)
+        → 1 ≤ most → IsNext (process_view process.old) most result (process_view process.new) }
     ensures held { IsHeld process.new }
 {
     match begin_call(alloc, process, vector) {
@@ -57,8 +59,9 @@ fn next_trap(alloc: Global, process: &mut Process, vector: u8) -> Next
 /// What a process does next that takes no local step of its own.
 fn next_call(alloc: Global, process: &mut Process, progress: Progress) -> Next
     requires held { IsHeld process.old }
-    requires stops { StopsBy (seen process.old) progress }
-    ensures next { (most : ℕ) → 1 ≤ most → IsNext (seen process.old) most result (seen process.new) }
+    requires stops { StopsBy (process_view process.old) progress }
+    ensures next { (most : ℕ)
+        → 1 ≤ most → IsNext (process_view process.old) most result (process_view process.new) }
     ensures held { IsHeld process.new }
 {
     match process {
@@ -80,7 +83,7 @@ fn next_call(alloc: Global, process: &mut Process, progress: Progress) -> Next
 pub fn find_next(alloc: Global, process: &mut Process, most: u32) -> Next
     requires held { IsHeld process.old }
     requires some { 1 ≤ most }
-    ensures next { IsNext (seen process.old) most result (seen process.new) }
+    ensures next { IsNext (process_view process.old) most result (process_view process.new) }
     ensures held { IsHeld process.new }
 {
     let (taken, progress) = local_steps(process, most);

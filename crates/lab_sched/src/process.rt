@@ -1,9 +1,9 @@
 //! Processes of a laboratory.
 ghost use Rattle.std.specs.Prelude.{◌≡◌, ◌↔◌, IfOk, IsTrue};
-ghost use Rattle.lab_sched.specs.Worlds.{profile_of};
+ghost use Rattle.lab_sched.specs.Worlds.{machine_of, profile_of};
 
 use ipc_kernel::Call;
-use lc3_machine::{Ended, Running, Waiting};
+use lc3_machine::{Ended, Machine, Running, Waiting};
 use lc3_table::Profile;
 use std::alloc::{AllocError, Global};
 
@@ -16,17 +16,25 @@ pub enum Process {
 }
 
 impl Process {
-    ghost use Rattle.lab_sched.specs.Held.{seen};
+    ghost use Rattle.lab_sched.specs.Held.{process_view};
+
+    /// The machine of the process, whatever its status.
+    #[inline]
+    pub fn machine(&self) -> &Machine
+        ensures process { result.now.process ≡ machine_of (process_view self.now) }
+    {
+        match self {
+            Process::Running(running) => running.machine(),
+            Process::Waiting(waiting, _) => waiting.machine(),
+            Process::Ended(ended) => ended.machine(),
+        }
+    }
 
     /// The profile of the machine.
     pub fn profile(&self) -> Profile
-        ensures value { result ≡ profile_of (seen self.now) }
+        ensures value { result ≡ profile_of (process_view self.now) }
     {
-        match self {
-            Process::Running(running) => running.profile(),
-            Process::Waiting(waiting, _) => waiting.profile(),
-            Process::Ended(ended) => ended.profile(),
-        }
+        self.machine().profile()
     }
 
     /// An equal process, of which the same can be written without taking memory.
@@ -46,7 +54,7 @@ impl Process {
 
     /// Whether two processes are the same, whatever of them can be written without taking memory.
     pub fn is_same(&self, other: &Process) -> bool
-        ensures same { IsTrue result ↔ (seen self.now ≡ seen other.now) }
+        ensures same { IsTrue result ↔ (process_view self.now ≡ process_view other.now) }
     {
         match (self, other) {
             (Process::Running(running), Process::Running(other)) => running.is_same(other),
@@ -58,8 +66,8 @@ impl Process {
         }
     }
 
-    /// A number that is the same for equal processes of a world and, as a rule, another for others. A process that
-    /// waits asks for its call, so that the call adds nothing.
+    /// A number that is the same for equal processes of a world and, as a rule, another for others.
+    /// A process that waits asks for its call, so that the call adds nothing.
     pub fn digest(&self) -> u64 {
         match self {
             Process::Running(running) => running.digest(),

@@ -1,9 +1,9 @@
 //! Schedules: which process takes how many steps, in order.
-ghost use Rattle.std.specs.Prelude.{◌≡◌, ◌+◌, ◌<◌, ◌≤◌, [], ◌∷◌, ◌++◌, ◌^◌, length, map, replicate, ℕ, None, Ok, Err, OnOk, OnErr, IfOk, IfErr, string_bytes};
-ghost use Rattle.lab_sched.specs.Schedules.{block, steps_of, total_of, joined, AreApart, IsSchedule, most_steps};
+ghost use Rattle.std.specs.Prelude.{◌≡◌, ◌+◌, ◌<◌, ◌≤◌, [], ◌∷◌, ◌++◌, ◌^◌, length, map, replicate, ℕ, Ok, Err, OnOk, OnErr, IfOk, IfErr, string_bytes};
+ghost use Rattle.lab_sched.specs.Schedules.{block, steps_of, total_of, joined_blocks, AreApart, IsSchedule, most_steps};
 ghost use Rattle.lab_sched.specs.declared.schedule.fault.SchedFault.TheVariants.{BadBlock, TooLong};
-ghost use Rattle.lab_sched.specs.ScheduleTexts.{schedule_text, block_in, words, reading, reading_of_words, Fails};
-ghost use Rattle.lab_sched.specs.ScheduleLaws.{IsFirst, IsFirstTooLong};
+ghost use Rattle.lab_sched.specs.ScheduleTexts.{schedule_text, words, reading, reading_of_words, Fails};
+ghost use Rattle.lab_sched.specs.ScheduleLaws.{IsFirstBad, IsFirstTooLong};
 ghost use Rattle.ipc_kernel.specs.Limits.{process_max};
 
 mod block;
@@ -42,7 +42,7 @@ impl Model for Schedule {
 fn append(blocks: &mut Vec<Block>, block: Block) -> Result<(), AllocError>
     requires apart { AreApart blocks.old.items }
     requires room { total_of blocks.old.items + block.count < 2 ^ 32 }
-    ensures ok { OnOk result (blocks.new.items ≡ joined (blocks.old.items ++ block ∷ [])) }
+    ensures ok { OnOk result (blocks.new.items ≡ joined_blocks (blocks.old.items ++ block ∷ [])) }
     ensures err { OnErr result (blocks.new.items ≡ blocks.old.items) }
 {
     let len = blocks.len();
@@ -103,7 +103,7 @@ impl Schedule {
         requires process { pid < process_max }
         requires some { 1 ≤ n }
         requires room { total_of self.old + n ≤ most_steps }
-        ensures blocks { OnOk result (self.new ≡ joined (self.old ++ block pid n ∷ [])) }
+        ensures blocks { OnOk result (self.new ≡ joined_blocks (self.old ++ block pid n ∷ [])) }
         ensures steps { OnOk result (steps_of self.new ≡ steps_of self.old ++ replicate n pid) }
         ensures total { OnOk result (total_of self.new ≡ total_of self.old + n) }
         ensures err { OnErr result (self.new ≡ self.old) }
@@ -127,8 +127,10 @@ impl Schedule {
     pub fn read(alloc: Global, text: &str) -> Result<Schedule, SchedFault>
         ensures ok { IfOk result (λ schedule. reading text.now ≡ Ok schedule) }
         ensures err { IfErr result (λ fault. Fails fault (reading text.now)) }
-        ensures bad_block { (at : ℕ) → result ≡ Err (BadBlock at) → IsFirst (λ word. block_in word ≡ None) (words text.now) at }
-        ensures too_long { (at : ℕ) → result ≡ Err (TooLong at) → IsFirstTooLong (words text.now) at }
+        ensures bad_block { (at : ℕ)
+            → result ≡ Err (BadBlock at) → IsFirstBad (words text.now) at }
+        ensures too_long { (at : ℕ)
+            → result ≡ Err (TooLong at) → IsFirstTooLong (words text.now) at }
     {
         schedule_of(alloc, text.as_bytes())
     }

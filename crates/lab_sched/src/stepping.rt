@@ -1,14 +1,15 @@
 //! One step of one process: what it does next, and what the answer to its call makes of it.
-ghost use Rattle.std.specs.Prelude.{◌≡◌, ◌<◌, ◌≤◌, length, IfOk, OnOk, OnErr};
-ghost use Rattle.lc3_machine.specs.Steps.{AsksTrap};
+ghost use Rattle.std.specs.Prelude.{◌≡◌, ◌<◌, ◌≤◌, Some, length, IfOk, OnOk, OnErr};
+ghost use Rattle.lc3_machine.specs.Steps.{AsksTrap, after as machine_after};
 ghost use Rattle.lc3_machine.specs.declared.want.Want.TheVariants.{Trap, End};
-ghost use Rattle.ipc_traps.specs.Asked.{Calls, asked};
+ghost use Rattle.ipc_traps.specs.Asked.{Calls, next_request};
 ghost use Rattle.lab_sched.specs.declared.stepped.Stepped.TheVariants.{Same, Waits};
-ghost use Rattle.lab_sched.specs.Held.{seen, IsHeld, step_of};
-ghost use Rattle.lab_sched.specs.Segments.{IsAfterLocal};
+ghost use Rattle.lab_sched.specs.Held.{process_view, HasStepped, IsHeld};
+ghost use Rattle.lab_sched.specs.LocalRun.{AreLocal};
 ghost use Rattle.lab_sched.specs.Settling.{AsksFor};
-ghost use Rattle.lab_sched.specs.Worlds.{Running as RunningSeen};
-ghost use Rattle.lab_sched.specs.Stepping.{CanTakeReply, IsAsking, IsWaiting, StandsBefore, StopsBy, after_end, after_reply, before_wait};
+ghost use Rattle.lab_sched.specs.Verdicts.{IsWaiting};
+ghost use Rattle.lab_sched.specs.Worlds.{Running as RunningSeen, machine_of};
+ghost use Rattle.lab_sched.specs.Stepping.{CanTakeReply, IsAsking, StandsBefore, StopsBy, after_end, after_reply, before_wait};
 
 use crate::{Process, Stepped};
 use core::mem::replace_with;
@@ -36,14 +37,16 @@ struct TrapAt {
 }
 
 /// Takes local steps of a process, at most so many; with how many were taken, and what kept a
-/// running process from the next one.
+/// running process from the next one. They are steps of its machine alone: no refusal is among them.
 #[inline(always)]
 pub fn local_steps(process: &mut Process, most: u32) -> (u32, Progress)
     requires held { IsHeld process.old }
-    ensures local { IsAfterLocal (seen process.old) result.0 (seen process.new) }
+    ensures local { AreLocal result.0 (process_view process.old) (process_view process.new) }
+    ensures own { machine_after result.0 (machine_of (process_view process.old))
+        ≡ Some (machine_of (process_view process.new)) }
     ensures held { IsHeld process.new }
     ensures within { result.0 ≤ most }
-    ensures stops { result.0 < most → StopsBy (seen process.new) result.1 }
+    ensures stops { result.0 < most → StopsBy (process_view process.new) result.1 }
 {
     match process {
         Process::Running(running) => running.advance(most),
@@ -55,8 +58,8 @@ pub fn local_steps(process: &mut Process, most: u32) -> (u32, Progress)
 #[inline(always)]
 fn wait(mut call: AtCall, request: Call) -> (Process, Asking)
     requires trap { AsksTrap call.process }
-    requires request { asked call.process ≡ Calls request }
-    ensures asking { IsAsking (RunningSeen call.process) result.1 (seen result.0) }
+    requires request { next_request call.process ≡ Calls request }
+    ensures asking { IsAsking (RunningSeen call.process) result.1 (process_view result.0) }
     ensures held { IsHeld result.0 }
 {
     match prepare(&mut call) {
@@ -66,11 +69,11 @@ fn wait(mut call: AtCall, request: Call) -> (Process, Asking)
 }
 
 /// What a process does that stands before a trap of the kernel.
-#[tactic(auto, using(ipc_traps::proofs::Laws::room_plain), unfolding(crate::specs::Worlds::act))]
+#[tactic(auto, using(ipc_traps::proofs::Laws::room_plain), unfolding(crate::specs::Worlds::next_action))]
 #[inline(always)]
 fn ask(alloc: Global, call: AtCall) -> (Process, Asking)
     requires trap { AsksTrap call.process }
-    ensures asking { IsAsking (RunningSeen call.process) result.1 (seen result.0) }
+    ensures asking { IsAsking (RunningSeen call.process) result.1 (process_view result.0) }
     ensures held { IsHeld result.0 }
 {
     match read_call(alloc, &call) {
@@ -87,8 +90,8 @@ fn ask(alloc: Global, call: AtCall) -> (Process, Asking)
 /// The same of a process that runs.
 #[inline(always)]
 fn ask_by(process: Process, trap: TrapAt) -> (Process, Asking)
-    requires stands { StandsBefore (seen process) (Trap trap.vector) }
-    ensures asking { IsAsking (seen process) result.1 (seen result.0) }
+    requires stands { StandsBefore (process_view process) (Trap trap.vector) }
+    ensures asking { IsAsking (process_view process) result.1 (process_view result.0) }
     ensures held { IsHeld result.0 }
 {
     match process {
@@ -102,8 +105,8 @@ fn ask_by(process: Process, trap: TrapAt) -> (Process, Asking)
 /// local step.
 #[inline(always)]
 pub fn begin_call(alloc: Global, process: &mut Process, vector: u8) -> Asking
-    requires stands { StandsBefore (seen process.old) (Trap vector) }
-    ensures asking { IsAsking (seen process.old) result (seen process.new) }
+    requires stands { StandsBefore (process_view process.old) (Trap vector) }
+    ensures asking { IsAsking (process_view process.old) result (process_view process.new) }
     ensures held { IsHeld process.new }
 {
     replace_with(process, TrapAt { alloc, vector }, ask_by)
@@ -114,8 +117,8 @@ pub fn begin_call(alloc: Global, process: &mut Process, vector: u8) -> Asking
 fn replied_with_call(process: Process, reply: &Reply) -> (Process, Call)
     requires held { IsHeld process }
     requires reply { CanTakeReply process reply.now }
-    ensures told { seen result.0 ≡ after_reply (seen process) reply.now }
-    ensures call { AsksFor (seen process) result.1 }
+    ensures told { process_view result.0 ≡ after_reply (process_view process) reply.now }
+    ensures call { AsksFor (process_view process) result.1 }
     ensures held { IsHeld result.0 }
 {
     match process {
@@ -132,7 +135,7 @@ fn replied_with_call(process: Process, reply: &Reply) -> (Process, Call)
 fn replied(process: Process, reply: &Reply) -> (Process, ())
     requires held { IsHeld process }
     requires reply { CanTakeReply process reply.now }
-    ensures told { seen result.0 ≡ after_reply (seen process) reply.now }
+    ensures told { process_view result.0 ≡ after_reply (process_view process) reply.now }
     ensures held { IsHeld result.0 }
 {
     let (process, _) = replied_with_call(process, reply);
@@ -143,8 +146,8 @@ fn replied(process: Process, reply: &Reply) -> (Process, ())
 pub fn take_reply(process: &mut Process, reply: &Reply) -> Call
     requires held { IsHeld process.old }
     requires reply { CanTakeReply process.old reply.now }
-    ensures told { seen process.new ≡ after_reply (seen process.old) reply.now }
-    ensures call { AsksFor (seen process.old) result }
+    ensures told { process_view process.new ≡ after_reply (process_view process.old) reply.now }
+    ensures call { AsksFor (process_view process.old) result }
     ensures held { IsHeld process.new }
 {
     replace_with(process, reply, replied_with_call)
@@ -153,7 +156,7 @@ pub fn take_reply(process: &mut Process, reply: &Reply) -> Call
 /// The process as it was before it began to wait.
 fn resumed(process: Process, (): ()) -> (Process, ())
     requires held { IsHeld process }
-    ensures process { seen result.0 ≡ before_wait (seen process) }
+    ensures process { process_view result.0 ≡ before_wait (process_view process) }
     ensures held { IsHeld result.0 }
 {
     match process {
@@ -166,7 +169,7 @@ fn resumed(process: Process, (): ()) -> (Process, ())
 #[inline(always)]
 pub fn take_back(process: &mut Process)
     requires held { IsHeld process.old }
-    ensures process { seen process.new ≡ before_wait (seen process.old) }
+    ensures process { process_view process.new ≡ before_wait (process_view process.old) }
     ensures held { IsHeld process.new }
 {
     replace_with(process, (), resumed)
@@ -174,8 +177,8 @@ pub fn take_back(process: &mut Process)
 
 /// The process that has ended.
 fn ended(process: Process, how: How) -> (Process, ())
-    requires stands { StandsBefore (seen process) (End how) }
-    ensures ended { seen result.0 ≡ after_end (seen process) how }
+    requires stands { StandsBefore (process_view process) (End how) }
+    ensures ended { process_view result.0 ≡ after_end (process_view process) how }
     ensures held { IsHeld result.0 }
 {
     match process {
@@ -187,8 +190,8 @@ fn ended(process: Process, how: How) -> (Process, ())
 /// Ends a process that stands before its end.
 #[inline(always)]
 pub fn end_process(process: &mut Process, how: How)
-    requires stands { StandsBefore (seen process.old) (End how) }
-    ensures ended { seen process.new ≡ after_end (seen process.old) how }
+    requires stands { StandsBefore (process_view process.old) (End how) }
+    ensures ended { process_view process.new ≡ after_end (process_view process.old) how }
     ensures held { IsHeld process.new }
 {
     replace_with(process, how, ended)
@@ -199,10 +202,12 @@ pub fn end_process(process: &mut Process, how: How)
 fn retry(process: &mut Process, kernel: &mut Kernel, pid: usize) -> Result<Stepped, AllocError>
     requires process { pid < length kernel.old.processes }
     requires held { IsHeld process.old }
-    requires waits { IsWaiting (seen process.old) }
-    ensures ok { IfOk result (λ told. record { process = seen process.new; kernel = kernel.new; told = told } ≡ step_of kernel.old pid (seen process.old)) }
+    requires waits { IsWaiting (process_view process.old) }
+    ensures ok { IfOk result
+        (HasStepped kernel.old pid (process_view process.old) kernel.new
+        (process_view process.new)) }
     ensures held { IsHeld process.new }
-    ensures err { OnErr result (seen process.new ≡ seen process.old) }
+    ensures err { OnErr result (process_view process.new ≡ process_view process.old) }
     ensures kernel { OnErr result (kernel.new ≡ kernel.old) }
     ensures count { length kernel.new.processes ≡ length kernel.old.processes }
 {
@@ -235,10 +240,12 @@ fn first(stepped: Stepped) -> Stepped
 fn first_try(process: &mut Process, kernel: &mut Kernel, pid: usize) -> Result<Stepped, AllocError>
     requires process { pid < length kernel.old.processes }
     requires held { IsHeld process.old }
-    requires waits { IsWaiting (seen process.old) }
-    ensures ok { IfOk result (λ told. record { process = seen process.new; kernel = kernel.new; told = told } ≡ step_of kernel.old pid (before_wait (seen process.old))) }
+    requires waits { IsWaiting (process_view process.old) }
+    ensures ok { IfOk result (HasStepped
+        kernel.old pid (before_wait (process_view process.old)) kernel.new
+        (process_view process.new)) }
     ensures held { IsHeld process.new }
-    ensures err { OnErr result (seen process.new ≡ before_wait (seen process.old)) }
+    ensures err { OnErr result (process_view process.new ≡ before_wait (process_view process.old)) }
     ensures kernel { OnErr result (kernel.new ≡ kernel.old) }
     ensures count { length kernel.new.processes ≡ length kernel.old.processes }
 {
@@ -262,10 +269,12 @@ fn step_trap(
 ) -> Result<Stepped, AllocError>
     requires process { pid < length kernel.old.processes }
     requires held { IsHeld process.old }
-    requires stands { StandsBefore (seen process.old) (Trap vector) }
-    ensures ok { IfOk result (λ told. record { process = seen process.new; kernel = kernel.new; told = told } ≡ step_of kernel.old pid (seen process.old)) }
+    requires stands { StandsBefore (process_view process.old) (Trap vector) }
+    ensures ok { IfOk result
+        (HasStepped kernel.old pid (process_view process.old) kernel.new
+        (process_view process.new)) }
     ensures held { IsHeld process.new }
-    ensures err { OnErr result (seen process.new ≡ seen process.old) }
+    ensures err { OnErr result (process_view process.new ≡ process_view process.old) }
     ensures kernel { OnErr result (kernel.new ≡ kernel.old) }
     ensures count { length kernel.new.processes ≡ length kernel.old.processes }
 {
@@ -285,10 +294,12 @@ fn step_end(
 ) -> Result<Stepped, AllocError>
     requires process { pid < length kernel.old.processes }
     requires held { IsHeld process.old }
-    requires stands { StandsBefore (seen process.old) (End how) }
-    ensures ok { IfOk result (λ told. record { process = seen process.new; kernel = kernel.new; told = told } ≡ step_of kernel.old pid (seen process.old)) }
+    requires stands { StandsBefore (process_view process.old) (End how) }
+    ensures ok { IfOk result
+        (HasStepped kernel.old pid (process_view process.old) kernel.new
+        (process_view process.new)) }
     ensures held { IsHeld process.new }
-    ensures err { OnErr result (seen process.new ≡ seen process.old) }
+    ensures err { OnErr result (process_view process.new ≡ process_view process.old) }
     ensures kernel { OnErr result (kernel.new ≡ kernel.old) }
     ensures count { length kernel.new.processes ≡ length kernel.old.processes }
 {
@@ -308,10 +319,12 @@ pub(crate) fn step_on(
 ) -> Result<Stepped, AllocError>
     requires process { pid < length kernel.old.processes }
     requires held { IsHeld process.old }
-    requires stops { StopsBy (seen process.old) progress }
-    ensures ok { IfOk result (λ told. record { process = seen process.new; kernel = kernel.new; told = told } ≡ step_of kernel.old pid (seen process.old)) }
+    requires stops { StopsBy (process_view process.old) progress }
+    ensures ok { IfOk result
+        (HasStepped kernel.old pid (process_view process.old) kernel.new
+        (process_view process.new)) }
     ensures held { IsHeld process.new }
-    ensures err { OnErr result (seen process.new ≡ seen process.old) }
+    ensures err { OnErr result (process_view process.new ≡ process_view process.old) }
     ensures kernel { OnErr result (kernel.new ≡ kernel.old) }
     ensures count { length kernel.new.processes ≡ length kernel.old.processes }
 {
@@ -335,9 +348,11 @@ pub fn take_step(
 ) -> Result<Stepped, AllocError>
     requires process { pid < length kernel.old.processes }
     requires held { IsHeld process.old }
-    ensures ok { IfOk result (λ told. record { process = seen process.new; kernel = kernel.new; told = told } ≡ step_of kernel.old pid (seen process.old)) }
+    ensures ok { IfOk result
+        (HasStepped kernel.old pid (process_view process.old) kernel.new
+        (process_view process.new)) }
     ensures held { IsHeld process.new }
-    ensures err { OnErr result (seen process.new ≡ seen process.old) }
+    ensures err { OnErr result (process_view process.new ≡ process_view process.old) }
     ensures kernel { OnErr result (kernel.new ≡ kernel.old) }
     ensures count { length kernel.new.processes ≡ length kernel.old.processes }
 {

@@ -1,14 +1,14 @@
 //! Traces: what one process did, with the answers that it was given.
 ghost use Rattle.std.specs.Prelude.{◌≡◌, ◌+◌, ◌<◌, ◌≤◌, ◌^◌, OnOk, vec_len, vec_capacity};
 ghost use Rattle.lab_sched.specs.Worlds.{Process};
-ghost use Rattle.lab_sched.specs.Alone.{Alone, AreLocal, IsTold, steps};
+ghost use Rattle.lab_sched.specs.LocalRun.{IsLocalRun, AreLocal, TakesAnswer, steps};
 
 use ipc_kernel::{Answer, Call};
 use std::alloc::{AllocError, Global};
 
 /// A call with its answer, and how many local steps came before it.
 #[derive(Drop)]
-pub struct Told {
+pub struct TracedCall {
     pub before: u32,
     pub call: Call,
     pub answer: Answer,
@@ -17,14 +17,14 @@ pub struct Told {
 /// What a process did: its calls in order, and its local steps after the last one.
 #[derive(Drop)]
 pub struct Trace {
-    pub calls: Vec<Told>,
+    pub calls: Vec<TracedCall>,
     pub after: u32,
 }
 
 impl Trace {
     /// The trace of a process that has done nothing yet.
     pub fn new(alloc: Global) -> Trace
-        ensures alone { (s : Process) → Alone s result s }
+        ensures alone { (s : Process) → IsLocalRun s result s }
         ensures steps { steps result ≡ 0 }
     {
         Trace {
@@ -36,7 +36,7 @@ impl Trace {
     /// Makes room for two more calls.
     pub fn reserve(&mut self) -> Result<(), AllocError>
         ensures room { OnOk result (vec_len self.new.calls + 2 ≤ vec_capacity self.new.calls) }
-        ensures alone { (s x : Process) → Alone s self.old x → Alone s self.new x }
+        ensures alone { (s x : Process) → IsLocalRun s self.old x → IsLocalRun s self.new x }
         ensures steps { steps self.new ≡ steps self.old }
     {
         self.calls.reserve(2)
@@ -45,7 +45,8 @@ impl Trace {
     /// Adds so many local steps.
     pub fn add_local(&mut self, count: u32)
         requires few { steps self.old + count < 2 ^ 32 }
-        ensures alone { (s x y : Process) → Alone s self.old x → AreLocal count x y → Alone s self.new y }
+        ensures alone { (s x y : Process)
+            → IsLocalRun s self.old x → AreLocal count x y → IsLocalRun s self.new y }
         ensures steps { steps self.new ≡ steps self.old + count }
         ensures len { vec_len self.new.calls ≡ vec_len self.old.calls }
         ensures room { vec_capacity self.new.calls ≡ vec_capacity self.old.calls }
@@ -56,12 +57,13 @@ impl Trace {
     /// Adds a call with its answer.
     pub fn add_call(&mut self, call: Call, answer: Answer)
         requires room { vec_len self.old.calls < vec_capacity self.old.calls }
-        ensures alone { (s x y : Process) → Alone s self.old x → IsTold x call answer y → Alone s self.new y }
+        ensures alone { (s x y : Process)
+            → IsLocalRun s self.old x → TakesAnswer x call answer y → IsLocalRun s self.new y }
         ensures steps { steps self.new ≡ steps self.old + 1 }
         ensures len { vec_len self.new.calls ≡ vec_len self.old.calls + 1 }
         ensures room { vec_capacity self.new.calls ≡ vec_capacity self.old.calls }
     {
-        self.calls.push_reserved(Told {
+        self.calls.push_reserved(TracedCall {
             before: self.after,
             call,
             answer,

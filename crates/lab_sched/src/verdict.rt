@@ -1,7 +1,7 @@
 //! How a world stands.
-ghost use Rattle.std.specs.Prelude.{◌≡◌, ◌<◌, ℕ, length, Some, slice_get, true, false};
-ghost use Rattle.lab_sched.specs.Worlds.{Process as Seen, turn_in, nothing, IsEffective};
-ghost use Rattle.lab_sched.specs.Verdicts.{IsVerdict, HaveEnded, HasEnded, verdict_of};
+ghost use Rattle.std.specs.Prelude.{◌≡◌, ◌<◌, ℕ, length, true, false};
+ghost use Rattle.lab_sched.specs.Worlds.{step_effect_in, nothing, IsEffective};
+ghost use Rattle.lab_sched.specs.Verdicts.{IsVerdict, HaveEnded, HasNotEndedIn, verdict_of};
 
 use crate::World;
 
@@ -20,7 +20,8 @@ impl World {
     /// Whether all processes have ended.
     fn have_ended(&self) -> bool
         ensures yes { result ≡ true → HaveEnded self.now }
-        ensures no { result ≡ false → (p : ℕ) × (p < length self.now.processes) × ((s : Seen) → slice_get self.now.processes p ≡ Some s → HasEnded s → ⊥) }
+        ensures no { result ≡ false
+            → (p : ℕ) × (p < length self.now.processes) × HasNotEndedIn self.now p }
     {
         for pid in 0..self.count() {
             if !self.has_ended(pid) {
@@ -32,8 +33,9 @@ impl World {
 
     /// Whether the step of some process is effective.
     fn can_move(&self) -> bool
-        ensures yes { result ≡ true → (p : ℕ) × IsEffective (turn_in self.now p) }
-        ensures no { result ≡ false → (p : ℕ) → p < length self.now.processes → turn_in self.now p ≡ nothing }
+        ensures yes { result ≡ true → (p : ℕ) × IsEffective (step_effect_in self.now p) }
+        ensures no { result ≡ false
+            → (p : ℕ) → p < length self.now.processes → step_effect_in self.now p ≡ nothing }
     {
         for pid in 0..self.count() {
             if self.can_step(pid) {

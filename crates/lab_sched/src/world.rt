@@ -1,10 +1,10 @@
 //! Worlds of processes over one kernel.
-ghost use Rattle.std.specs.Prelude.{◌≡◌, ◌<◌, ◌≤◌, ◌↔◌, ℕ, map, length, slice_get, All, Err, Some, true, false, IfOk, OnOk, OnErr};
+ghost use Rattle.std.specs.Prelude.{◌≡◌, ◌<◌, ◌≤◌, ◌↔◌, map, length, slice_get, All, Err, Some, true, false, IfOk, OnOk, OnErr};
 ghost use Rattle.ipc_kernel.specs.Limits.{process_max};
 ghost use Rattle.std.specs.Option.{option_map, option_copied};
-ghost use Rattle.lab_sched.specs.Worlds.{HasProfile, Process as Seen, first_profile, turn, turn_in, step, nothing, IsEffective};
-ghost use Rattle.lab_sched.specs.Verdicts.{HasEnded};
-ghost use Rattle.lab_sched.specs.Held.{seen, told_of, IsWorld};
+ghost use Rattle.lab_sched.specs.Worlds.{HasNoProcess, HasProfile, first_profile, step_effect, step_effect_in, step, nothing, IsEffective};
+ghost use Rattle.lab_sched.specs.Verdicts.{HasEnded, HasEndedIn, HasNotEndedIn};
+ghost use Rattle.lab_sched.specs.Held.{process_view, stepped_of, IsWorld};
 ghost use Rattle.lab_sched.specs.declared.world.StepFault.TheVariants.{NoProcess};
 
 mod bits;
@@ -37,28 +37,30 @@ pub struct World {
 impl Model for World {
     ghost use Rattle.std.specs.Prelude.{map};
     ghost use Rattle.lab_sched.specs.Worlds.{WorldState};
-    ghost use Rattle.lab_sched.specs.Held.{seen, IsWorld};
+    ghost use Rattle.lab_sched.specs.Held.{process_view, IsWorld};
 
     ghost Value = { WorldState };
 
-    ghost view = { λ w. record { processes = map seen w.processes.items; kernel = w.kernel } };
+    ghost view = { λ w. record { processes = map process_view w.processes.items; kernel = w.kernel } };
 
     ghost invariant = { λ w. IsWorld w.processes.items w.kernel };
 }
 
 fn has_ended(process: &Process) -> bool
-    ensures yes { result ≡ true → HasEnded (seen process.now) }
-    ensures no { result ≡ false → HasEnded (seen process.now) → ⊥ }
+    ensures yes { result ≡ true → HasEnded (process_view process.now) }
+    ensures no { result ≡ false → HasEnded (process_view process.now) → ⊥ }
 {
     matches!(process, Process::Ended(_))
 }
 
 /// Whether the step of process `pid` is effective, by the process and the kernel.
-#[tactic(auto, using(crate::proofs::Stands::running_moves, crate::proofs::Stands::retry_moves, crate::proofs::Stands::retry_rests))]
+#[tactic(auto, using(crate::proofs::VerdictsByProcess::running_moves, crate::proofs::VerdictsByProcess::retry_moves, crate::proofs::VerdictsByProcess::retry_rests))]
 fn can_step(process: &Process, kernel: &Kernel, pid: usize) -> bool
     requires process { pid < length kernel.now.processes }
-    ensures yes { result ≡ true → IsEffective (turn kernel.now pid (Some (seen process.now))) }
-    ensures no { result ≡ false → turn kernel.now pid (Some (seen process.now)) ≡ nothing }
+    ensures yes { result ≡ true
+        → IsEffective (step_effect kernel.now pid (Some (process_view process.now))) }
+    ensures no { result ≡ false → step_effect kernel.now pid (Some (process_view process.now))
+        ≡ nothing }
 {
     match process {
         Process::Running(_) => true,
@@ -72,7 +74,7 @@ impl World {
     /// asks for the call that it is kept with, and the words of the reply are ready.
     pub fn join(processes: Vec<Process>, kernel: Kernel) -> World
         requires world { IsWorld processes.items kernel }
-        ensures processes { result.processes ≡ map seen processes.items }
+        ensures processes { result.processes ≡ map process_view processes.items }
         ensures kernel { result.kernel ≡ kernel }
     {
         World { processes, kernel }
@@ -97,7 +99,8 @@ impl World {
 
     /// A process, if it is there.
     pub fn process(&self, pid: usize) -> Option<&Process>
-        ensures process { option_map seen (option_copied result) ≡ slice_get self.now.processes pid }
+        ensures process { option_map process_view (option_copied result)
+            ≡ slice_get self.now.processes pid }
     {
         self.processes.get(pid)
     }
@@ -113,8 +116,8 @@ impl World {
     /// Whether a process has ended.
     pub(crate) fn has_ended(&self, pid: usize) -> bool
         requires process { pid < length self.now.processes }
-        ensures yes { result ≡ true → (s : Seen) → slice_get self.now.processes pid ≡ Some s → HasEnded s }
-        ensures no { result ≡ false → (s : Seen) → slice_get self.now.processes pid ≡ Some s → HasEnded s → ⊥ }
+        ensures yes { result ≡ true → HasEndedIn self.now pid }
+        ensures no { result ≡ false → HasNotEndedIn self.now pid }
     {
         has_ended(&self.processes[pid])
     }
@@ -122,17 +125,17 @@ impl World {
     /// Whether the step of a process is effective.
     pub(crate) fn can_step(&self, pid: usize) -> bool
         requires process { pid < length self.now.processes }
-        ensures yes { result ≡ true → IsEffective (turn_in self.now pid) }
-        ensures no { result ≡ false → turn_in self.now pid ≡ nothing }
+        ensures yes { result ≡ true → IsEffective (step_effect_in self.now pid) }
+        ensures no { result ≡ false → step_effect_in self.now pid ≡ nothing }
     {
         can_step(&self.processes[pid], &self.kernel, pid)
     }
 
     /// Takes one step of a process. After a fault nothing has changed.
     pub fn step(&mut self, pid: usize) -> Result<Stepped, StepFault>
-        ensures no_process { (result ≡ Err NoProcess) ↔ (length self.old.processes ≤ pid) }
+        ensures no_process { (result ≡ Err NoProcess) ↔ HasNoProcess self.old pid }
         ensures world { OnOk result (self.new ≡ step self.old pid) }
-        ensures told { IfOk result (λ stepped. stepped ≡ told_of (turn_in self.old pid)) }
+        ensures told { IfOk result (λ stepped. stepped ≡ stepped_of (step_effect_in self.old pid)) }
         ensures err { OnErr result (self.new ≡ self.old) }
     {
         if pid >= self.processes.len() {

@@ -1,5 +1,5 @@
-pub mod Books
-pub mod Steps
-pub mod Joins
+pub mod BookCalls
+pub mod WorkerSteps
+pub mod JoinedThreads
 pub mod Merges
-pub mod Endings
+pub mod ReportedSteps

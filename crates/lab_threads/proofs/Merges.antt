@@ -8,20 +8,20 @@ use Rattle.std.proofs.lemmas.Bool.Decides.{eqb_tells}
 use Rattle.ipc_kernel.specs.Kernel.{empty_kernel}
 use Rattle.ipc_kernel.specs.Answer.{answer}
 use Rattle.lab_sched.specs.Worlds.{Process, WorldState}
-use Rattle.lab_sched.specs.Course.{count, IsCourse}
-use Rattle.lab_sched.specs.Alone.{AreLocal, Leads, weight, steps}
+use Rattle.lab_sched.specs.Execution.{count, IsExecution}
+use Rattle.lab_sched.specs.LocalRun.{AreLocal, Leads, weight, steps}
 use Rattle.lab_sched.specs.History.{IsLegal}
-use Rattle.lab_sched.specs.Held.{seen}
+use Rattle.lab_sched.specs.Held.{process_view}
 use Rattle.lab_sched.specs.Schedules.{steps_of}
 use Rattle.lab_sched.specs.declared.schedule.block.Block.{Block}
 use Rattle.lab_sched.specs.declared.entry.Entry.{Entry}
 use Rattle.lab_sched.specs.declared.process.Process.{Process as ProcessValue}
-use Rattle.lab_sched.specs.declared.trace.Told.{Told}
-use Rattle.lab_sched.proofs.Places.{get-set_same, get-set_other}
-use Rattle.lab_sched.proofs.Courses.{count-append, count-replicate_same, count-replicate_other, course_none, course-append, course_item, course_local, with_process, called, course_kernel}
+use Rattle.lab_sched.specs.declared.trace.TracedCall.{TracedCall}
+use Rattle.lab_sched.proofs.ListPlaces.{get-set_same, get-set_other}
+use Rattle.lab_sched.proofs.Executions.{count-append, count-replicate_same, count-replicate_other, course_none, course-append, course_item, course_local, with_process, called, course_kernel}
 use Rattle.lab_threads.specs.declared.worker_result.WorkerResult.{WorkerResult}
-use Rattle.lab_threads.specs.WorkerResults.{AreWorkerResults}
-use Rattle.lab_threads.specs.Merged.{initial_world, final_world, IsFound, IsItem, AreLeft, IsMerged, AreCounted}
+use Rattle.lab_threads.specs.Private.WorkerResults.{AreWorkerResults}
+use Rattle.lab_threads.specs.Private.Merged.{initial_world, final_world, IsFound, IsItem, AreLeft, IsMerged, AreCounted}
 
 pub some_at : {A : Type 0} (xs : List A) (p : ℕ) → p < length xs → (x : A) × (slice_get xs p ≡ Some x)
 some_at [] p h = absurd (omega arith)
@@ -32,12 +32,12 @@ pub merged_none : (starts : List ProcessValue) (workers : List WorkerResult) (ne
     → AreWorkerResults limit starts workers → IsLegal (empty_kernel (length starts)) history → ((p : ℕ) → get_or next p 0 ≡ 0) → ps ≡ [] → IsMerged starts workers next ps [] history
 merged_none starts workers next ps limit history are legal zeros none = record {
   world = initial_world starts;
-  course = subst (λ qs. IsCourse (initial_world starts) qs (initial_world starts) []) (sym none) (course_none (initial_world starts));
+  course = subst (λ qs. IsExecution (initial_world starts) qs (initial_world starts) []) (sym none) (course_none (initial_world starts));
   legal = legal;
-  len = length-map starts seen ∙ sym are.len;
+  len = length-map starts process_view ∙ sym are.len;
   left = λ p x k at_x at_k.
       let start = some_at starts p (subst (λ n. p < n) are.len (slice_get_within workers p k at_k)) in
-      let is : x ≡ seen start.0 = same_Some x (seen start.0) (sym at_x ∙ slice_get-map seen starts p ∙ ap (λ o. option_map seen o) start.1) in
+      let is : x ≡ process_view start.0 = same_Some x (process_view start.0) (sym at_x ∙ slice_get-map process_view starts p ∙ ap (λ o. option_map process_view o) start.1) in
       rw (zeros p, is) (are.each p start.0 k start.1 at_k).alone;
 }
 
@@ -47,7 +47,7 @@ drop_get xs i x at =
 
 -- the process of one worker has gone on, and its place in the trace with it
 left_more : (xs : List Process) (workers : List WorkerResult) (next : List ℕ) → AreLeft xs workers next → (p : ℕ) (k : WorkerResult) (y : Process) → slice_get workers p ≡ Some k
-    → p < length xs → p < length next → Leads y (drop (get_or next p 0 + 1) k.trace.calls.items) k.trace.after (seen k.process)
+    → p < length xs → p < length next → Leads y (drop (get_or next p 0 + 1) k.trace.calls.items) k.trace.after (process_view k.process)
     → AreLeft (set xs p y) workers (set next p (get_or next p 0 + 1))
 left_more xs workers next left p k y at_k below within leads q z l at_z at_l = elim (eqb_tells p q) [
   | inl same ↦
@@ -55,33 +55,33 @@ left_more xs workers next left p k y at_k below within leads q z l at_z at_l = e
       let y_z : y ≡ z = same_Some y z (sym at_y ∙ at_z) in
       let k_l : k ≡ l = same_Some k l (sym at_k ∙ (rw same.1 at_l)) in
       let n : get_or (set next p (get_or next p 0 + 1)) q 0 ≡ get_or next p 0 + 1 = rw (← same.1) (get_or-set_same next p (get_or next p 0 + 1) 0 within) in
-      let P : WorkerResult → Type 0 = λ v. Leads z (drop (get_or (set next p (get_or next p 0 + 1)) q 0) v.trace.calls.items) v.trace.after (seen v.process) in
-      subst P k_l (subst (λ m. Leads z (drop m k.trace.calls.items) k.trace.after (seen k.process)) (sym n)
-      (subst (λ x. Leads x (drop (get_or next p 0 + 1) k.trace.calls.items) k.trace.after (seen k.process)) y_z leads))
+      let P : WorkerResult → Type 0 = λ v. Leads z (drop (get_or (set next p (get_or next p 0 + 1)) q 0) v.trace.calls.items) v.trace.after (process_view v.process) in
+      subst P k_l (subst (λ m. Leads z (drop m k.trace.calls.items) k.trace.after (process_view k.process)) (sym n)
+      (subst (λ x. Leads x (drop (get_or next p 0 + 1) k.trace.calls.items) k.trace.after (process_view k.process)) y_z leads))
   | inr other ↦
       let at_z' : slice_get xs q ≡ Some z = sym (get-set_other xs p q y other.1) ∙ at_z in
       let n : get_or (set next p (get_or next p 0 + 1)) q 0 ≡ get_or next q 0 = get_or-set_other next p q (get_or next p 0 + 1) 0 (λ e. other.1 (sym e)) in
-      subst (λ m. Leads z (drop m l.trace.calls.items) l.trace.after (seen l.process)) (sym n) (left q z l at_z' at_l)
+      subst (λ m. Leads z (drop m l.trace.calls.items) l.trace.after (process_view l.process)) (sym n) (left q z l at_z' at_l)
 ]
 
 -- one more entry: the local steps before it, and its call
-merged_more : (starts : List ProcessValue) (workers : List WorkerResult) (next ps : List ℕ) (done rest : List Entry) (e : Entry) (k : WorkerResult) (t : Told)
+merged_more : (starts : List ProcessValue) (workers : List WorkerResult) (next ps : List ℕ) (done rest : List Entry) (e : Entry) (k : WorkerResult) (t : TracedCall)
     → IsMerged starts workers next ps done (e ∷ rest) → slice_get workers e.pid ≡ Some k → e.pid < length next
     → slice_get k.trace.calls.items (get_or next e.pid 0) ≡ Some t → t.call ≡ e.call → t.answer ≡ e.answer
     → IsMerged starts workers (set next e.pid (get_or next e.pid 0 + 1)) (ps ++ replicate (t.before + 1) e.pid) (done ++ e ∷ []) rest
 merged_more starts workers next ps done rest e k t is at_k within at_t same_call same_answer =
     let w = is.world in
     let below : e.pid < length w.processes = subst (λ n. e.pid < n) (sym is.len) (slice_get_within workers e.pid k at_k) in
-    let x = get_or w.processes e.pid (seen k.process) in
-    let at_x : slice_get w.processes e.pid ≡ Some x = slice_get-get_or w.processes e.pid (seen k.process) below in
-    let leads : Leads x (t ∷ drop (get_or next e.pid 0 + 1) k.trace.calls.items) k.trace.after (seen k.process) =
-    subst (λ ts. Leads x ts k.trace.after (seen k.process)) (drop_get k.trace.calls.items (get_or next e.pid 0) t at_t) (is.left e.pid x k at_x at_k) in
+    let x = get_or w.processes e.pid (process_view k.process) in
+    let at_x : slice_get w.processes e.pid ≡ Some x = slice_get-get_or w.processes e.pid (process_view k.process) below in
+    let leads : Leads x (t ∷ drop (get_or next e.pid 0 + 1) k.trace.calls.items) k.trace.after (process_view k.process) =
+    subst (λ ts. Leads x ts k.trace.after (process_view k.process)) (drop_get k.trace.calls.items (get_or next e.pid 0) t at_t) (is.left e.pid x k at_x at_k) in
     let y = leads.1 in
     let answered : t.answer ≡ (answer w.kernel e.pid t.call).0 = same_answer ∙ is.legal.0 ∙ ap (λ c. (answer w.kernel e.pid c).0) (sym same_call) in
     let item = course_item w e.pid x leads.0 y t at_x leads.2 leads.3 answered in
-    let entry : IsCourse w (replicate (t.before + 1) e.pid) (called w e.pid t.call y) (e ∷ []) =
-    subst (λ c. IsCourse w (replicate (t.before + 1) e.pid) (called w e.pid t.call y) (record { pid = e.pid; call = c; answer = e.answer } ∷ [])) same_call
-    (subst (λ a. IsCourse w (replicate (t.before + 1) e.pid) (called w e.pid t.call y) (record { pid = e.pid; call = t.call; answer = a } ∷ [])) same_answer item) in
+    let entry : IsExecution w (replicate (t.before + 1) e.pid) (called w e.pid t.call y) (e ∷ []) =
+    subst (λ c. IsExecution w (replicate (t.before + 1) e.pid) (called w e.pid t.call y) (record { pid = e.pid; call = c; answer = e.answer } ∷ [])) same_call
+    (subst (λ a. IsExecution w (replicate (t.before + 1) e.pid) (called w e.pid t.call y) (record { pid = e.pid; call = t.call; answer = a } ∷ [])) same_answer item) in
     record {
       world = called w e.pid t.call y;
       course = course-append is.course entry;
@@ -93,7 +93,7 @@ merged_more starts workers next ps done rest e k t is at_k within at_t same_call
 pub counted_none : (workers : List WorkerResult) (next ps : List ℕ) → ((p : ℕ) → get_or next p 0 ≡ 0) → ps ≡ [] → AreCounted workers next ps
 counted_none workers next ps zeros none = record { each = λ p k at. rw (zeros p, none) (omega arith) }
 
-counted_more : (workers : List WorkerResult) (next ps : List ℕ) (p : ℕ) (k : WorkerResult) (t : Told) → AreCounted workers next ps → slice_get workers p ≡ Some k → p < length next
+counted_more : (workers : List WorkerResult) (next ps : List ℕ) (p : ℕ) (k : WorkerResult) (t : TracedCall) → AreCounted workers next ps → slice_get workers p ≡ Some k → p < length next
     → slice_get k.trace.calls.items (get_or next p 0) ≡ Some t
     → AreCounted workers (set next p (get_or next p 0 + 1)) (ps ++ replicate (t.before + 1) p)
 counted_more workers next ps p k t counted at_k within at_t = record {
@@ -118,20 +118,11 @@ counted_more workers next ps p k t counted at_k within at_t = record {
 -- all entries are merged, and the traces below i have ended
 pub record IsEnding (starts : List ProcessValue) (workers : List WorkerResult) (next ps : List ℕ) (history : List Entry) (i : ℕ) : Type 0 where
   pub world : WorldState
-  pub course : IsCourse (initial_world starts) ps world history
+  pub course : IsExecution (initial_world starts) ps world history
   pub len : length world.processes ≡ length workers
-  pub done : (p : ℕ) (x : Process) (k : WorkerResult) → p < i → slice_get world.processes p ≡ Some x → slice_get workers p ≡ Some k → x ≡ seen k.process
+  pub done : (p : ℕ) (x : Process) (k : WorkerResult) → p < i → slice_get world.processes p ≡ Some x → slice_get workers p ≡ Some k → x ≡ process_view k.process
   pub left : (p : ℕ) (x : Process) (k : WorkerResult) → i ≤ p → slice_get world.processes p ≡ Some x → slice_get workers p ≡ Some k
-      → Leads x (drop (get_or next p 0) k.trace.calls.items) k.trace.after (seen k.process)
-
-pub ending_none : (starts : List ProcessValue) (workers : List WorkerResult) (next ps : List ℕ) (history : List Entry) → IsMerged starts workers next ps history [] → IsEnding starts workers next ps history 0
-ending_none starts workers next ps history is = record {
-  world = is.world;
-  course = is.course;
-  len = is.len;
-  done = λ p x k below. absurd (omega arith);
-  left = λ p x k above. is.left p x k;
-}
+      → Leads x (drop (get_or next p 0) k.trace.calls.items) k.trace.after (process_view k.process)
 
 ending_more : (starts : List ProcessValue) (workers : List WorkerResult) (next ps : List ℕ) (history : List Entry) (i : ℕ) (k : WorkerResult) → IsEnding starts workers next ps history i
     → slice_get workers i ≡ Some k → get_or next i 0 ≡ length k.trace.calls.items
@@ -139,15 +130,15 @@ ending_more : (starts : List ProcessValue) (workers : List WorkerResult) (next p
 unfolding with_process
 ending_more starts workers next ps history i k is at_k whole =
     let w = is.world in
-    let u = seen k.process in
+    let u = process_view k.process in
     let below : i < length w.processes = subst (λ n. i < n) (sym is.len) (slice_get_within workers i k at_k) in
     let x = get_or w.processes i u in
     let at_x : slice_get w.processes i ≡ Some x = slice_get-get_or w.processes i u below in
     let none : drop (get_or next i 0) k.trace.calls.items ≡ [] = drop_all (get_or next i 0) k.trace.calls.items (omega (arith, whole)) in
     let locals : AreLocal k.trace.after x u = subst (λ ts. Leads x ts k.trace.after u) none (is.left i x k (omega arith) at_x at_k) in
     let course = course_local k.trace.after w i x u at_x locals in
-    let both : IsCourse (initial_world starts) (ps ++ replicate k.trace.after i) (with_process w i u) history =
-    subst (λ es. IsCourse (initial_world starts) (ps ++ replicate k.trace.after i) (with_process w i u) es) (append-nil history) (course-append is.course course) in
+    let both : IsExecution (initial_world starts) (ps ++ replicate k.trace.after i) (with_process w i u) history =
+    subst (λ es. IsExecution (initial_world starts) (ps ++ replicate k.trace.after i) (with_process w i u) es) (append-nil history) (course-append is.course course) in
     record {
       world = with_process w i u;
       course = both;
@@ -156,7 +147,7 @@ ending_more starts workers next ps history i k is at_k whole =
         | inl same ↦
             let at_i : slice_get (set w.processes i u) p ≡ Some u = rw (← same.1) (get-set_same w.processes i u below) in
             let k_l : k ≡ l = same_Some k l (sym at_k ∙ (rw same.1 at_l)) in
-            same_Some z u (sym at_z ∙ at_i) ∙ ap (λ v. seen v.process) k_l
+            same_Some z u (sym at_z ∙ at_i) ∙ ap (λ v. process_view v.process) k_l
         | inr other ↦ is.done p z l (let ne = other.1 in omega arith) (sym (get-set_other w.processes i p u other.1) ∙ at_z) at_l
       ];
       left = λ p z l above at_z at_l.
@@ -165,30 +156,27 @@ ending_more starts workers next ps history i k is at_k whole =
     }
 
 same_processes : (xs : List Process) (ks : List WorkerResult) → length xs ≡ length ks
-    → ((p : ℕ) (x : Process) (k : WorkerResult) → slice_get xs p ≡ Some x → slice_get ks p ≡ Some k → x ≡ seen k.process)
-    → xs ≡ map (λ k. seen k.process) ks
+    → ((p : ℕ) (x : Process) (k : WorkerResult) → slice_get xs p ≡ Some x → slice_get ks p ≡ Some k → x ≡ process_view k.process)
+    → xs ≡ map (λ k. process_view k.process) ks
 same_processes [] [] len each = refl
 same_processes [] (k ∷ ks) len each = absurd (omega arith)
 same_processes (x ∷ xs) [] len each = absurd (omega arith)
 same_processes (x ∷ xs) (k ∷ ks) len each =
     let rest = same_processes xs ks (omega arith) (λ p. each (suc p)) in
-    ap (λ y. y ∷ xs) (each 0 x k refl refl) ∙ ap (λ ys. seen k.process ∷ ys) rest
+    ap (λ y. y ∷ xs) (each 0 x k refl refl) ∙ ap (λ ys. process_view k.process ∷ ys) rest
 
 pub ending_all : (starts : List ProcessValue) (workers : List WorkerResult) (next ps : List ℕ) (history : List Entry) → IsEnding starts workers next ps history (length workers)
-    → IsCourse (initial_world starts) ps (final_world (length starts) workers history) history
+    → IsExecution (initial_world starts) ps (final_world (length starts) workers history) history
 ending_all starts workers next ps history is =
     let w = is.world in
-    let processes : w.processes ≡ map (λ k. seen k.process) workers = same_processes w.processes workers is.len (λ p x k at_x at_k. is.done p x k (slice_get_within workers p k at_k) at_x at_k) in
-    let e : w ≡ final_world (length starts) workers history = ap (λ xs. record { processes = xs; kernel = w.kernel }) processes ∙ ap (λ k. record { processes = map (λ k. seen k.process) workers; kernel = k }) (course_kernel is.course) in
-    subst (λ v. IsCourse (initial_world starts) ps v history) e is.course
+    let processes : w.processes ≡ map (λ k. process_view k.process) workers = same_processes w.processes workers is.len (λ p x k at_x at_k. is.done p x k (slice_get_within workers p k at_k) at_x at_k) in
+    let e : w ≡ final_world (length starts) workers history = ap (λ xs. record { processes = xs; kernel = w.kernel }) processes ∙ ap (λ k. record { processes = map (λ k. process_view k.process) workers; kernel = k }) (course_kernel is.course) in
+    subst (λ v. IsExecution (initial_world starts) ps v history) e is.course
 
 -- the counts once the traces below i have ended
 pub record AreEnded (workers : List WorkerResult) (next ps : List ℕ) (i : ℕ) : Type 0 where
   pub done : (p : ℕ) (k : WorkerResult) → p < i → slice_get workers p ≡ Some k → count p ps ≡ steps k.trace
   pub left : (p : ℕ) (k : WorkerResult) → i ≤ p → slice_get workers p ≡ Some k → count p ps + (weight (drop (get_or next p 0) k.trace.calls.items) + k.trace.after) ≡ steps k.trace
-
-pub ended_none : (workers : List WorkerResult) (next ps : List ℕ) → AreCounted workers next ps → AreEnded workers next ps 0
-ended_none workers next ps counted = record { done = λ p k below. absurd (omega arith); left = λ p k above. counted.each p k }
 
 ended_more : (workers : List WorkerResult) (next ps : List ℕ) (i : ℕ) (k : WorkerResult) → AreEnded workers next ps i → slice_get workers i ≡ Some k → get_or next i 0 ≡ length k.trace.calls.items
     → AreEnded workers next (ps ++ replicate k.trace.after i) (i + 1)
@@ -257,7 +245,7 @@ ended_step {workers} {next} {ps} {ps'} {i} k at whole ps-is is =
     subst (λ qs. AreEnded workers next qs (i + 1)) (sym ps-is) (ended_more workers next ps i k is at whole)
 
 -- what the code finds is the entry's item
-pub item_found : (workers : List WorkerResult) (next : List ℕ) (e : Entry) (w : WorkerResult) (calls : List Told) (at n : ℕ)
+pub item_found : (workers : List WorkerResult) (next : List ℕ) (e : Entry) (w : WorkerResult) (calls : List TracedCall) (at n : ℕ)
     → calls ≡ (get_or workers e.pid w).trace.calls.items → e.pid < length workers → at ≡ get_or next e.pid 0
     → IsFound calls at e n → IsItem workers next e n
 item_found workers next e w calls at n calls-is within at-is found = record {

@@ -1,5 +1,5 @@
 //! Books: the kernel that processes share, with the history of their calls.
-ghost use Rattle.std.specs.Prelude.{◌≡◌, ℕ, ◌<◌, ◌≤◌, ◌++◌, ◌∷◌, ◌↔◌, [], length, Option, Some, None, is_some, IfOk, OnOk, OnErr, IsTrue, true, false};
+ghost use Rattle.std.specs.Prelude.{◌≡◌, ◌<◌, ◌≤◌, ◌↔◌, [], length, Some, None, is_some, IfOk, OnOk, OnErr, IsTrue, true, false};
 ghost use Rattle.std.specs.Option.{option_copied};
 ghost use Rattle.ipc_kernel.specs.Limits.{process_max};
 ghost use Rattle.ipc_kernel.specs.Kernel.{empty_kernel};
@@ -7,8 +7,9 @@ ghost use Rattle.ipc_kernel.specs.Answer.{answer, is_done};
 ghost use Rattle.ipc_kernel.specs.Replies.{IsAnswerTo};
 ghost use Rattle.ipc_kernel.specs.declared.call.Call.{Call as CallValue};
 ghost use Rattle.ipc_kernel.specs.declared.call.Answer.TheVariants.{Wait};
-ghost use Rattle.lab_sched.specs.History.{IsLegal, replay, waits, still};
-ghost use Rattle.lab_threads.specs.BookState.{added, MayCall};
+ghost use Rattle.lab_sched.specs.History.{IsLegal, waits, still};
+ghost use Rattle.lab_threads.specs.BookState.{MayCall, history_after, kernel_of};
+ghost use Rattle.lab_threads.specs.Private.Added.{AddsEntry, AddsNone};
 
 use ipc_kernel::{Answer, Call, Kernel};
 use lab_sched::Entry;
@@ -27,7 +28,7 @@ pub struct Book {
 impl Model for Book {
     ghost use Rattle.std.specs.Prelude.{length};
     ghost use Rattle.lab_threads.specs.BookState.{BookState};
-    ghost use Rattle.lab_threads.specs.BookInvariant.{BookInvariant};
+    ghost use Rattle.lab_threads.specs.Private.BookInvariant.{BookInvariant};
 
     ghost Value = { BookState };
 
@@ -38,7 +39,7 @@ impl Model for Book {
 
 /// The call that waits after this answer.
 fn pending_call(call: Call, answer: &Answer) -> Option<Call>
-    ensures { result ≡ still call answer.now }
+    ensures pending { result ≡ still call answer.now }
 {
     match answer {
         Answer::Wait => Some(call),
@@ -48,12 +49,10 @@ fn pending_call(call: Call, answer: &Answer) -> Option<Call>
 
 /// Whether this answer to a call of a process has an entry, by whether the process waited for it.
 /// The try of a process that waits and must still wait has none.
-#[tactic(auto, using(crate::proofs::Books::added_first, crate::proofs::Books::added_done, crate::proofs::Books::added_still))]
+#[tactic(auto, using(crate::proofs::BookCalls::added_first, crate::proofs::BookCalls::added_done, crate::proofs::BookCalls::added_still))]
 fn has_entry(waited: bool, answer: &Answer) -> bool
-    ensures yes { result ≡ true → (o : Option CallValue) (p : ℕ) (c : CallValue) → is_some o ≡ waited →
-        added o p c answer.now ≡ record { pid = p; call = c; answer = answer.now } ∷ [] }
-    ensures no { result ≡ false → (answer.now ≡ Wait) × ((o : Option CallValue) (p : ℕ) (c : CallValue) → is_some o ≡ waited →
-        added o p c Wait ≡ []) }
+    ensures yes { result ≡ true → AddsEntry waited answer.now }
+    ensures no { result ≡ false → (answer.now ≡ Wait) × AddsNone waited Wait }
 {
     match answer {
         Answer::Done(_) => true,
@@ -90,7 +89,7 @@ impl Book {
 
     /// The kernel after all calls of the history.
     pub fn kernel(&self) -> &Kernel
-        ensures replay { result.now ≡ replay (empty_kernel self.now.count) self.now.history }
+        ensures replay { result.now ≡ kernel_of self.now }
         ensures count { length result.now.processes ≡ self.now.count }
     {
         &self.kernel
@@ -114,8 +113,8 @@ impl Book {
 
     /// Whether a process waits for a call.
     fn is_waiting(&self, pid: usize) -> bool
-        requires { pid < self.now.count }
-        ensures { is_some (waits self.now.history pid) ≡ result }
+        requires process { pid < self.now.count }
+        ensures waits { is_some (waits self.now.history pid) ≡ result }
     {
         match self.waits(pid) {
             Some(_) => true,
@@ -126,7 +125,8 @@ impl Book {
     /// Whether there is such a process, and it may make this call: one that waits may make the call
     /// that it waits for again, and no other.
     pub fn fits(&self, pid: usize, call: &Call) -> bool
-        ensures fits { IsTrue result ↔ ((pid < self.now.count) × MayCall (waits self.now.history pid) call.now) }
+        ensures fits { IsTrue result
+            ↔ ((pid < self.now.count) × MayCall (waits self.now.history pid) call.now) }
     {
         if pid >= self.count() {
             return false;
@@ -140,7 +140,8 @@ impl Book {
     /// Whether the call that a process waits for would be answered now without a wait.
     pub fn can_go(&self, pid: usize) -> bool
         requires process { pid < self.now.count }
-        ensures answered { (c : CallValue) → waits self.now.history pid ≡ Some c → result ≡ is_done (answer (replay (empty_kernel self.now.count) self.now.history) pid c).0 }
+        ensures answered { (c : CallValue) → waits self.now.history pid ≡ Some c
+            → result ≡ is_done (answer (kernel_of self.now) pid c).0 }
         ensures none { waits self.now.history pid ≡ None → result ≡ false }
     {
         match self.waits(pid) {
@@ -150,15 +151,17 @@ impl Book {
     }
 
     /// Answers a call of a process, and adds its entry to the history. Where the process waits for
-    /// the answer of this call and must still wait, nothing changes. The entry shares the words of the
-    /// call and of the answer. An error is want of memory: nothing has changed then.
+    /// the answer of this call and must still wait, nothing changes. The entry shares the words of
+    /// the call and of the answer. An error is want of memory: nothing has changed then.
     pub fn call(&mut self, pid: usize, call: &Call) -> Result<Answer, AllocError>
         requires process { pid < self.old.count }
         requires call { MayCall (waits self.old.history pid) call.now }
-        ensures answer { IfOk result (λ a. a ≡ (answer (replay (empty_kernel self.old.count) self.old.history) pid call.now).0) }
+        ensures answer { IfOk result (λ a. a ≡ (answer (kernel_of self.old) pid call.now).0) }
         ensures form { IfOk result (λ a. IsAnswerTo call.now a) }
-        ensures history { IfOk result (λ a. self.new.history ≡ self.old.history ++ added (waits self.old.history pid) pid call.now a) }
-        ensures kernel { OnOk result (replay (empty_kernel self.new.count) self.new.history ≡ (answer (replay (empty_kernel self.old.count) self.old.history) pid call.now).1) }
+        ensures history { IfOk result
+            (λ a. self.new.history ≡ history_after self.old pid call.now a) }
+        ensures kernel { OnOk result
+            (kernel_of self.new ≡ (answer (kernel_of self.old) pid call.now).1) }
         ensures count { self.new.count ≡ self.old.count }
         ensures err { OnErr result (self.new ≡ self.old) }
     {
@@ -182,7 +185,7 @@ impl Book {
 
     /// The kernel and the history.
     pub fn into_parts(self) -> (Kernel, Vec<Entry>)
-        ensures kernel { result.0 ≡ replay (empty_kernel self.count) self.history }
+        ensures kernel { result.0 ≡ kernel_of self }
         ensures count { length result.0.processes ≡ self.count }
         ensures history { result.1.items ≡ self.history }
         ensures legal { IsLegal (empty_kernel self.count) self.history }

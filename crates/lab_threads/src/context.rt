@@ -1,5 +1,5 @@
 //! What a worker has at hand.
-ghost use Rattle.lab_threads.specs.CallOutcome.{IsCallOutcome};
+ghost use Rattle.lab_threads.specs.Private.CallOutcome.{IsCallOutcome};
 
 use crate::Gate;
 use crate::monitor::{CallOutcome, Monitor};
@@ -25,7 +25,7 @@ impl<G: Gate> WorkerContext<'_, G> {
         may_wait: bool,
         nth: &mut u32,
     ) -> CallOutcome
-        ensures { IsCallOutcome call.now may_wait result }
+        ensures outcome { IsCallOutcome call.now may_wait result }
     {
         *nth = nth.saturating_add(1);
         self.gate.arrive(self.pid, *nth);

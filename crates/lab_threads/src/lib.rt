@@ -1,4 +1,5 @@
-//! Processes on threads, over one book of their calls, and an interleaving that leads to the end of a run.
+//! Processes on threads, over one book of their calls, and an interleaving that leads to the end of
+//! a run.
 #![tactic(auto)]
 
 mod book;

@@ -1,19 +1,12 @@
 //! One list of the steps of all workers, in which the calls stand as in the history.
-ghost use Rattle.std.specs.Prelude.{◌≡◌, ◌+◌, ◌++◌, ◌^◌, ◌<◌, ◌≤◌, [], ℕ, List, Some, true, IfOk, IfSome, slice_get, slice_index, length, replicate, IsTrue};
-ghost use Rattle.ipc_kernel.specs.Kernel.{empty_kernel};
-ghost use Rattle.lab_sched.specs.Alone.{steps};
-ghost use Rattle.lab_sched.specs.Course.{IsCourse, count};
-ghost use Rattle.lab_sched.specs.History.{IsLegal};
+ghost use Rattle.std.specs.Prelude.{◌≡◌, ◌+◌, ◌++◌, ◌^◌, ◌<◌, ◌≤◌, true, IfOk, IfSome, slice_index, length, replicate, IsTrue};
+ghost use Rattle.ipc_kernel.specs.Limits.{process_max};
 ghost use Rattle.lab_sched.specs.Schedules.{steps_of};
-ghost use Rattle.lab_sched.specs.declared.entry.Entry.{Entry as EntryValue};
-ghost use Rattle.lab_sched.specs.declared.process.Process.{Process as ProcessValue};
-ghost use Rattle.lab_threads.specs.declared.worker_result.WorkerResult.{WorkerResult as WorkerResultValue};
-ghost use Rattle.lab_threads.specs.WorkerResults.{AreWorkerResults};
-ghost use Rattle.lab_threads.specs.Merged.{initial_world, final_world, IsFound, IsItem, IsMerged, AreCounted};
+ghost use Rattle.lab_threads.specs.Private.Merged.{IsFound, IsItem, AreCounted, HaveAllSteps, AreCallsMerged, CompletesMerge, LeadToResults};
 
 use crate::worker_result::WorkerResult;
 use ipc_kernel::{Answer, Reply};
-use lab_sched::{Entry, MOST_STEPS, Schedule, Told};
+use lab_sched::{Entry, MOST_STEPS, Schedule, TracedCall};
 use std::alloc::{AllocError, Global};
 
 /// Whether two replies are the same.
@@ -47,7 +40,7 @@ fn is_same_answer(answer: &Answer, other: &Answer) -> bool
 }
 
 /// The number of local steps before the call that stands there, if it is the entry's.
-fn find(calls: &[Told], at: usize, entry: &Entry) -> Option<u32>
+fn find(calls: &[TracedCall], at: usize, entry: &Entry) -> Option<u32>
     ensures found { IfSome result (λ n. IsFound calls.now at entry.now n) }
     ensures within { IfSome result (λ n. at < length calls.now) }
     ensures few { IfSome result (λ n. n + 1 < 2 ^ 32) }
@@ -69,7 +62,7 @@ fn find(calls: &[Told], at: usize, entry: &Entry) -> Option<u32>
 /// The number of local steps before the next call of the entry's process, if that call is the
 /// entry's.
 fn item(workers: &[WorkerResult], next: &[usize], entry: &Entry) -> Option<u32>
-    requires { length next.now ≡ length workers.now }
+    requires len { length next.now ≡ length workers.now }
     ensures item { IfSome result (λ n. IsItem workers.now next.now entry.now n) }
     ensures few { IfSome result (λ n. n + 1 < 2 ^ 32) }
     ensures within { IfSome result (λ n. entry.now.pid < length next.now) }
@@ -84,8 +77,9 @@ fn item(workers: &[WorkerResult], next: &[usize], entry: &Entry) -> Option<u32>
 
 /// Adds steps of a process to a schedule; false where it has no room for them.
 fn add(schedule: &mut Schedule, pid: usize, n: u32) -> Result<bool, AllocError>
-    requires process { pid < 64 }
-    ensures steps { IfOk result (λ added. added ≡ true → steps_of schedule.new ≡ steps_of schedule.old ++ replicate n pid) }
+    requires process { pid < process_max }
+    ensures steps { IfOk result (λ added. added ≡ true
+        → steps_of schedule.new ≡ steps_of schedule.old ++ replicate n pid) }
 {
     if n == 0 {
         return Ok(true);
@@ -109,9 +103,11 @@ fn merge_calls(
     workers: &[WorkerResult],
     history: &[Entry],
 ) -> Result<Option<PartialMerge>, AllocError>
-    requires few { length workers.now ≤ 64 }
-    ensures merged { IfOk result (λ o. IfSome o (λ b. (starts : List ProcessValue) (limit : ℕ) → AreWorkerResults limit starts workers.now → IsLegal (empty_kernel (length starts)) history.now → IsMerged starts workers.now b.next.items (steps_of b.schedule) history.now [])) }
-    ensures counted { IfOk result (λ o. IfSome o (λ b. AreCounted workers.now b.next.items (steps_of b.schedule))) }
+    requires few { length workers.now ≤ process_max }
+    ensures merged { IfOk result (λ o. IfSome o (λ b.
+        AreCallsMerged workers.now history.now b.next.items (steps_of b.schedule))) }
+    ensures counted { IfOk result (λ o. IfSome o (λ b.
+        AreCounted workers.now b.next.items (steps_of b.schedule))) }
     ensures len { IfOk result (λ o. IfSome o (λ b. length b.next.items ≡ length workers.now)) }
 {
     let mut schedule = Schedule::new(alloc);
@@ -133,10 +129,13 @@ fn merge_ends(
     workers: &[WorkerResult],
     partial: PartialMerge,
 ) -> Result<Option<Schedule>, AllocError>
-    requires few { length workers.now ≤ 64 }
+    requires few { length workers.now ≤ process_max }
     requires len { length partial.next.items ≡ length workers.now }
-    ensures course { IfOk result (λ o. IfSome o (λ s. (starts : List ProcessValue) (history : List EntryValue) → IsMerged starts workers.now partial.next.items (steps_of partial.schedule) history [] → IsCourse (initial_world starts) (steps_of s) (final_world (length starts) workers.now history) history)) }
-    ensures counts { IfOk result (λ o. IfSome o (λ s. AreCounted workers.now partial.next.items (steps_of partial.schedule) → (p : ℕ) (k : WorkerResultValue) → slice_get workers.now p ≡ Some k → count p (steps_of s) ≡ steps k.trace)) }
+    ensures course { IfOk result (λ o. IfSome o (λ s.
+        CompletesMerge workers.now partial.next.items (steps_of partial.schedule) (steps_of s))) }
+    ensures counts { IfOk result (λ o. IfSome o (λ s.
+        AreCounted workers.now partial.next.items (steps_of partial.schedule)
+        → HaveAllSteps workers.now (steps_of s))) }
 {
     let PartialMerge { mut schedule, next } = partial;
     for pid in 0..workers.len() {
@@ -156,9 +155,10 @@ pub(crate) fn merge(
     workers: &[WorkerResult],
     history: &[Entry],
 ) -> Result<Option<Schedule>, AllocError>
-    requires few { length workers.now ≤ 64 }
-    ensures course { IfOk result (λ o. IfSome o (λ s. (starts : List ProcessValue) (limit : ℕ) → AreWorkerResults limit starts workers.now → IsLegal (empty_kernel (length starts)) history.now → IsCourse (initial_world starts) (steps_of s) (final_world (length starts) workers.now history.now) history.now)) }
-    ensures counts { IfOk result (λ o. IfSome o (λ s. (p : ℕ) (k : WorkerResultValue) → slice_get workers.now p ≡ Some k → count p (steps_of s) ≡ steps k.trace)) }
+    requires few { length workers.now ≤ process_max }
+    ensures course { IfOk result (λ o. IfSome o (λ s.
+        LeadToResults workers.now history.now (steps_of s))) }
+    ensures counts { IfOk result (λ o. IfSome o (λ s. HaveAllSteps workers.now (steps_of s))) }
 {
     match merge_calls(alloc, workers, history)? {
         None => Ok(None),

@@ -1,6 +1,6 @@
 //! The monitor: the book, and what the workers tell one another beside it, under one lock.
 ghost use Rattle.std.specs.Prelude.{◌≡◌, false, true};
-ghost use Rattle.lab_threads.specs.CallOutcome.{IsCallOutcome};
+ghost use Rattle.lab_threads.specs.Private.CallOutcome.{IsCallOutcome};
 
 use crate::Book;
 use crate::start::CommonStart;
@@ -47,7 +47,7 @@ pub(crate) enum CallOutcome {
 impl SharedState {
     /// Tries a call.
     fn try_call(&mut self, pid: usize, call: &Call) -> CallOutcome
-        ensures { IsCallOutcome call.now false result }
+        ensures outcome { IsCallOutcome call.now false result }
     {
         if !self.book.fits(pid, call) {
             return CallOutcome::Rejected;
@@ -136,7 +136,7 @@ impl Monitor {
         call: &Call,
         may_wait: bool,
     ) -> CallOutcome
-        ensures { IsCallOutcome call.now may_wait result }
+        ensures outcome { IsCallOutcome call.now may_wait result }
     {
         let mut state = self.state.lock(rt);
         match state.try_call(pid, call) {
@@ -159,7 +159,7 @@ impl Monitor {
         pid: usize,
         call: &Call,
     ) -> CallOutcome
-        ensures { IsCallOutcome call.now true result }
+        ensures outcome { IsCallOutcome call.now true result }
     {
         for _ in rt.forever() {
             state.begin_wait(pid);

@@ -1,19 +1,20 @@
 //! Runs on threads, and what they report.
-ghost use Rattle.std.specs.Prelude.{◌≡◌, ◌<◌, ◌≤◌, ◌+◌, ℕ, List, All, Some, true, IfOk, get_or, map, length, slice_get, sum};
-ghost use Rattle.ipc_kernel.specs.Kernel.{KernelState, empty_kernel};
+ghost use Rattle.std.specs.Prelude.{◌≡◌, ◌≤◌, ◌+◌, ℕ, List, All, true, IfOk, map, length, sum};
+ghost use Rattle.ipc_kernel.specs.Kernel.{empty_kernel};
+ghost use Rattle.ipc_kernel.specs.Limits.{process_max};
 ghost use Rattle.lab_sched.specs.Worlds.{HaveOneProfile, WorldState, run, entries};
-ghost use Rattle.lab_sched.specs.Alone.{steps};
-ghost use Rattle.lab_sched.specs.Course.{AreEffective, IsCourse, count};
+ghost use Rattle.lab_sched.specs.Execution.{AreEffective, IsExecution};
 ghost use Rattle.lab_sched.specs.Finished.{IsFinished};
-ghost use Rattle.lab_sched.specs.Held.{seen, IsHeld};
+ghost use Rattle.lab_sched.specs.Held.{process_view, IsHeld};
 ghost use Rattle.lab_sched.specs.History.{IsLegal, replay};
 ghost use Rattle.lab_sched.specs.Schedules.{steps_of, total_of, most_steps};
 ghost use Rattle.lab_sched.specs.Starts.{Runs};
 ghost use Rattle.lab_sched.specs.Verdicts.{IsVerdict};
 ghost use Rattle.lab_sched.specs.declared.process.Process.{Process as ProcessValue};
-ghost use Rattle.lab_threads.specs.WorkerResults.{AreWorkerResults};
-ghost use Rattle.lab_threads.specs.Merged.{initial_world, final_world};
-ghost use Rattle.lab_threads.specs.declared.worker_result.WorkerResult.{WorkerResult as WorkerResultValue};
+ghost use Rattle.lab_threads.specs.Limits.{most_steps_each};
+ghost use Rattle.lab_threads.specs.Private.WorkerResults.{AreWorkerResults};
+ghost use Rattle.lab_threads.specs.Private.Merged.{initial_world, HaveAllSteps, LeadToResults};
+ghost use Rattle.lab_threads.specs.Private.Reported.{IsReportFrom, MakeLimit};
 
 use crate::merging::merge;
 use crate::monitor::Monitor;
@@ -38,7 +39,7 @@ pub struct Report {
 
 /// The steps that each worker has left.
 fn lefts(alloc: Global, workers: &[WorkerResult]) -> Result<Vec<u32>, AllocError>
-    ensures { IfOk result (λ v. v.items ≡ map (λ k. k.left) workers.now) }
+    ensures left { IfOk result (λ v. v.items ≡ map (λ k. k.left) workers.now) }
 {
     let mut left = Vec::with_capacity(alloc, workers.len())?;
     for worker in workers {
@@ -49,7 +50,7 @@ fn lefts(alloc: Global, workers: &[WorkerResult]) -> Result<Vec<u32>, AllocError
 
 /// The process of each worker, where it stopped.
 fn ends(alloc: Global, workers: Vec<WorkerResult>) -> Result<Vec<Process>, AllocError>
-    ensures { IfOk result (λ v. v.items ≡ map (λ k. k.process) workers.items) }
+    ensures processes { IfOk result (λ v. v.items ≡ map (λ k. k.process) workers.items) }
 {
     workers
         .into_iter()
@@ -59,7 +60,7 @@ fn ends(alloc: Global, workers: Vec<WorkerResult>) -> Result<Vec<Process>, Alloc
 
 /// Whether a schedule has room for all steps that are left.
 fn has_room(schedule: &Schedule, left: &[u32]) -> bool
-    ensures { result ≡ true → total_of schedule.now + sum left.now ≤ most_steps }
+    ensures room { result ≡ true → total_of schedule.now + sum left.now ≤ most_steps }
 {
     let mut room = MOST_STEPS - schedule.total();
     for steps in left {
@@ -82,10 +83,9 @@ fn merged(
     workers: &[WorkerResult],
     history: &[Entry],
 ) -> Result<(Schedule, Vec<u32>), RunFault>
-    requires few { length workers.now ≤ 64 }
-    ensures course { IfOk result (λ r. (starts : List ProcessValue) (limit : ℕ) → AreWorkerResults limit starts workers.now → IsLegal (empty_kernel (length starts)) history.now
-        → IsCourse (initial_world starts) (steps_of r.0) (final_world (length starts) workers.now history.now) history.now) }
-    ensures counts { IfOk result (λ r. (p : ℕ) (k : WorkerResultValue) → slice_get workers.now p ≡ Some k → count p (steps_of r.0) ≡ steps k.trace) }
+    requires few { length workers.now ≤ process_max }
+    ensures course { IfOk result (λ r. LeadToResults workers.now history.now (steps_of r.0)) }
+    ensures counts { IfOk result (λ r. HaveAllSteps workers.now (steps_of r.0)) }
     ensures left { IfOk result (λ r. r.1.items ≡ map (λ k. k.left) workers.now) }
     ensures room { IfOk result (λ r. total_of r.0 + sum r.1.items ≤ most_steps) }
 {
@@ -99,7 +99,8 @@ fn merged(
     }
 }
 
-/// The report of a world that a schedule with this history led to, once all has gone on that has steps left.
+/// The report of a world that a schedule with this history led to, once all has gone on that has
+/// steps left.
 fn settled(
     mut world: World,
     mut schedule: Schedule,
@@ -108,8 +109,10 @@ fn settled(
 ) -> Result<Report, RunFault>
     requires len { length left.items ≡ length world.processes }
     requires room { total_of schedule + sum left.items ≤ most_steps }
-    ensures course { IfOk result (λ r. (start : WorldState) → IsCourse start (steps_of schedule) world history.items → IsCourse start (steps_of r.schedule) r.world r.history.items) }
-    ensures finished { IfOk result (λ r. (limit : ℕ) → ((p : ℕ) → p < length left.items → count p (steps_of schedule) + get_or left.items p 0 ≡ limit)
+    ensures course { IfOk result (λ r. (start : WorldState)
+        → IsExecution start (steps_of schedule) world history.items → IsReportFrom start r) }
+    ensures finished { IfOk result (λ r. (limit : ℕ)
+        → MakeLimit limit left.items (steps_of schedule)
         → IsFinished r.world (steps_of r.schedule) limit) }
     ensures verdict { IfOk result (λ r. IsVerdict r.world r.verdict) }
 {
@@ -137,11 +140,15 @@ fn reported(
     requires legal { IsLegal (empty_kernel (length kernel.processes)) history.items }
     requires kernel { kernel ≡ replay (empty_kernel (length kernel.processes)) history.items }
     requires held { All IsHeld (map (λ k. k.process) workers.items) }
-    requires profile { HaveOneProfile (map seen (map (λ k. k.process) workers.items)) }
+    requires profile { HaveOneProfile (map process_view (map (λ k. k.process) workers.items)) }
     requires some { 1 ≤ length workers.items }
-    requires few { length workers.items ≤ 64 }
-    ensures course { IfOk result (λ r. (starts : List ProcessValue) → AreWorkerResults limit starts workers.items → IsCourse (initial_world starts) (steps_of r.schedule) r.world r.history.items) }
-    ensures finished { IfOk result (λ r. (starts : List ProcessValue) → AreWorkerResults limit starts workers.items → IsFinished r.world (steps_of r.schedule) limit) }
+    requires few { length workers.items ≤ process_max }
+    ensures course { IfOk result (λ r. (starts : List ProcessValue)
+        → AreWorkerResults limit starts workers.items
+        → IsReportFrom (initial_world starts) r) }
+    ensures finished { IfOk result (λ r. (starts : List ProcessValue)
+        → AreWorkerResults limit starts workers.items
+        → IsFinished r.world (steps_of r.schedule) limit) }
     ensures verdict { IfOk result (λ r. IsVerdict r.world r.verdict) }
 {
     if kernel.count() != workers.len() {
@@ -161,12 +168,14 @@ fn run_starts<R: Threads + Wait + Sync, G: Gate>(
     gate: &G,
 ) -> Result<Report, RunFault>
     requires runs { All Runs starts.items }
-    requires profile { HaveOneProfile (map seen starts.items) }
+    requires profile { HaveOneProfile (map process_view starts.items) }
     requires some { 1 ≤ length starts.items }
-    requires few { length starts.items ≤ 64 }
-    ensures course { IfOk result (λ r. IsCourse (initial_world starts.items) (steps_of r.schedule) r.world r.history.items) }
-    ensures legal { IfOk result (λ r. IsLegal (empty_kernel (length starts.items)) r.history.items) }
-    ensures kernel { IfOk result (λ r. r.world.kernel ≡ replay (empty_kernel (length starts.items)) r.history.items) }
+    requires few { length starts.items ≤ process_max }
+    ensures course { IfOk result (λ r. IsReportFrom (initial_world starts.items) r) }
+    ensures legal { IfOk result
+        (λ r. IsLegal (empty_kernel (length starts.items)) r.history.items) }
+    ensures kernel { IfOk result
+        (λ r. r.world.kernel ≡ replay (empty_kernel (length starts.items)) r.history.items) }
     ensures finished { IfOk result (λ r. IsFinished r.world (steps_of r.schedule) limit) }
     ensures verdict { IfOk result (λ r. IsVerdict r.world r.verdict) }
 {
@@ -177,9 +186,9 @@ fn run_starts<R: Threads + Wait + Sync, G: Gate>(
 }
 
 /// Runs each process of a laboratory on a thread of its own, for at most `limit` steps, over one
-/// kernel under a lock, and reports one interleaving that leads to its end: each step of the schedule is
-/// effective, they lead from the laboratory's start to the world with the history's entries, and no
-/// process could go on but those that have taken `limit` steps.
+/// kernel under a lock, and reports one interleaving that leads to its end: each step of the
+/// schedule is effective, they lead from the laboratory's start to the world with the history's
+/// entries, and no process could go on but those that have taken `limit` steps.
 pub fn run_threads<R: Threads + Wait + Sync, G: Gate>(
     rt: &R,
     alloc: Global,
@@ -188,12 +197,14 @@ pub fn run_threads<R: Threads + Wait + Sync, G: Gate>(
     gate: &G,
 ) -> Result<Report, RunFault>
     requires at_least { 1 ≤ limit }
-    requires at_most { limit ≤ 10000000 }
+    requires at_most { limit ≤ most_steps_each }
     ensures effective { IfOk result (λ r. AreEffective fresh (steps_of r.schedule)) }
     ensures world { IfOk result (λ r. run fresh (steps_of r.schedule) ≡ r.world) }
     ensures history { IfOk result (λ r. entries fresh (steps_of r.schedule) ≡ r.history.items) }
-    ensures legal { IfOk result (λ r. IsLegal (empty_kernel (length fresh.processes)) r.history.items) }
-    ensures kernel { IfOk result (λ r. r.world.kernel ≡ replay (empty_kernel (length fresh.processes)) r.history.items) }
+    ensures legal { IfOk result
+        (λ r. IsLegal (empty_kernel (length fresh.processes)) r.history.items) }
+    ensures kernel { IfOk result
+        (λ r. r.world.kernel ≡ replay (empty_kernel (length fresh.processes)) r.history.items) }
     ensures finished { IfOk result (λ r. IsFinished r.world (steps_of r.schedule) limit) }
     ensures verdict { IfOk result (λ r. IsVerdict r.world r.verdict) }
 {

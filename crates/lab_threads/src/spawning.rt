@@ -1,8 +1,8 @@
 //! How the workers are started, each on a thread of its own, and joined.
-ghost use Rattle.std.specs.Prelude.{◌≡◌, ℕ, List, map, IfOk};
+ghost use Rattle.std.specs.Prelude.{ℕ, List, IfOk};
 ghost use Rattle.lab_sched.specs.declared.process.Process.{Process as ProcessValue};
-ghost use Rattle.lab_threads.specs.Promised.{promised, due};
-ghost use Rattle.lab_threads.specs.WorkerResults.{AreWorkerResults};
+ghost use Rattle.lab_threads.specs.Private.Promised.{ArePromised};
+ghost use Rattle.lab_threads.specs.Private.WorkerResults.{AreWorkerResults};
 
 use crate::monitor::Monitor;
 use crate::worker::work;
@@ -26,7 +26,7 @@ fn spawn_all<'s, E, R: Threads + Wait + Sync, G: Gate>(
     starts: Vec<Process>,
     limit: u32,
 ) -> Result<Vec<PromisedHandle<WorkerResult, WorkerPromise>>, RunFault>
-    ensures { IfOk result (λ hs. map promised hs.items ≡ map (due limit) starts.items) }
+    ensures promised { IfOk result (λ hs. ArePromised limit starts.items hs.items) }
 {
     let count = starts.len();
     let mut starts = starts;
@@ -63,7 +63,8 @@ fn joined<R: Threads>(
     rt: &R,
     handles: Vec<PromisedHandle<WorkerResult, WorkerPromise>>,
 ) -> Result<Vec<WorkerResult>, RunFault>
-    ensures { IfOk result (λ ws. (starts : List ProcessValue) (limit : ℕ) → map promised handles.items ≡ map (due limit) starts → AreWorkerResults limit starts ws.items) }
+    ensures results { IfOk result (λ ws. (starts : List ProcessValue) (limit : ℕ)
+        → ArePromised limit starts handles.items → AreWorkerResults limit starts ws.items) }
 {
     match thread::join_promised(rt, handles) {
         Ok(workers) => Ok(workers),
@@ -80,13 +81,13 @@ pub(crate) fn run_workers<R: Threads + Wait + Sync, G: Gate>(
     starts: Vec<Process>,
     limit: u32,
 ) -> Result<Vec<WorkerResult>, RunFault>
-    ensures { IfOk result (λ ws. AreWorkerResults limit starts.items ws.items) }
+    ensures results { IfOk result (λ ws. AreWorkerResults limit starts.items ws.items) }
 {
     thread::scope(
         thread::scope_env(),
         rt,
         |scope| -> Result<Vec<WorkerResult>, RunFault>
-            ensures { IfOk result (λ ws. AreWorkerResults limit starts.items ws.items) }
+            ensures results { IfOk result (λ ws. AreWorkerResults limit starts.items ws.items) }
         {
             let handles = spawn_all(scope, rt, alloc, monitor, gate, starts, limit)?;
             joined(rt, handles)

@@ -1,15 +1,15 @@
 //! Workers, which step one process each.
 ghost use Rattle.std.specs.Prelude.{◌≡◌, ◌≤◌, ◌<◌, ◌+◌, ◌^◌, IsTrue, IfOk, vec_len, vec_capacity};
 ghost use Rattle.lc3_machine.specs.declared.want.Want.TheVariants.{Trap, End};
-ghost use Rattle.lab_sched.specs.Held.{seen, IsHeld};
-ghost use Rattle.lab_sched.specs.Alone.{AreLocal};
+ghost use Rattle.lab_sched.specs.Held.{process_view, IsHeld};
+ghost use Rattle.lab_sched.specs.LocalRun.{AreLocal};
 ghost use Rattle.lab_sched.specs.Worlds.{Process as Seen};
 ghost use Rattle.lab_sched.specs.Settling.{AsksFor};
-ghost use Rattle.lab_sched.specs.Stepping.{IsWaiting, StandsBefore, before_wait};
-ghost use Rattle.lab_sched.specs.Verdicts.{IsRunning};
-ghost use Rattle.lab_threads.specs.CallOutcome.{IsCallOutcome};
-ghost use Rattle.lab_threads.specs.WorkerLogs.{LeadsOn, allowed};
-ghost use Rattle.lab_threads.specs.WorkerResults.{IsWorkerResult};
+ghost use Rattle.lab_sched.specs.Stepping.{StandsBefore, before_wait};
+ghost use Rattle.lab_sched.specs.Verdicts.{IsRunning, IsWaiting};
+ghost use Rattle.lab_threads.specs.Private.CallOutcome.{IsCallOutcome};
+ghost use Rattle.lab_threads.specs.Private.WorkerLogs.{LeadsOn, allowance};
+ghost use Rattle.lab_threads.specs.Private.WorkerResults.{IsWorkerResult};
 
 use crate::Gate;
 use crate::context::WorkerContext;
@@ -38,9 +38,9 @@ enum Continuation {
 /// Writes down local steps of a process. The gate is passed after the first one since a call.
 fn write_local<G: Gate>(context: &WorkerContext<'_, G>, log: &mut WorkerLog, count: u32)
     requires left { count ≤ log.old.left }
-    requires few { allowed log.old < 2 ^ 32 }
+    requires few { allowance log.old < 2 ^ 32 }
     ensures alone { (x y : Seen) → AreLocal count x y → LeadsOn log.old x log.new y }
-    ensures allowed { allowed log.new ≡ allowed log.old }
+    ensures allowed { allowance log.new ≡ allowance log.old }
 {
     let is_first = log.is_at_call();
     log.add_local(count);
@@ -57,12 +57,12 @@ fn advance<R: Wait, G: Gate>(
     process: &mut Process,
     log: &mut WorkerLog,
 ) -> Continuation
-    requires runs { IsRunning (seen process.old) }
+    requires runs { IsRunning (process_view process.old) }
     requires some { 0 < log.old.left }
-    requires few { allowed log.old < 2 ^ 32 }
-    ensures alone { LeadsOn log.old (seen process.old) log.new (seen process.new) }
+    requires few { allowance log.old < 2 ^ 32 }
+    ensures alone { LeadsOn log.old (process_view process.old) log.new (process_view process.new) }
     ensures held { IsHeld process.new }
-    ensures allowed { allowed log.new ≡ allowed log.old }
+    ensures allowed { allowance log.new ≡ allowance log.old }
 {
     let most = if log.is_at_call() { 1 } else { log.left };
     let (taken, progress) = local_steps(process, most);
@@ -85,12 +85,12 @@ fn step_end<R: Wait, G: Gate>(
     how: How,
     log: &mut WorkerLog,
 ) -> Continuation
-    requires stands { StandsBefore (seen process.old) (End how) }
+    requires stands { StandsBefore (process_view process.old) (End how) }
     requires held { IsHeld process.old }
     requires some { 0 < log.old.left }
-    ensures alone { LeadsOn log.old (seen process.old) log.new (seen process.new) }
+    ensures alone { LeadsOn log.old (process_view process.old) log.new (process_view process.new) }
     ensures held { IsHeld process.new }
-    ensures allowed { allowed log.new ≡ allowed log.old }
+    ensures allowed { allowance log.new ≡ allowance log.old }
 {
     if log.reserve().is_err() {
         return Continuation::Stops;
@@ -115,13 +115,13 @@ fn step_trap<R: Wait, G: Gate>(
     vector: u8,
     log: &mut WorkerLog,
 ) -> Continuation
-    requires stands { StandsBefore (seen process.old) (Trap vector) }
+    requires stands { StandsBefore (process_view process.old) (Trap vector) }
     requires held { IsHeld process.old }
     requires some { 0 < log.old.left }
-    requires few { allowed log.old < 2 ^ 32 }
-    ensures alone { LeadsOn log.old (seen process.old) log.new (seen process.new) }
+    requires few { allowance log.old < 2 ^ 32 }
+    ensures alone { LeadsOn log.old (process_view process.old) log.new (process_view process.new) }
     ensures held { IsHeld process.new }
-    ensures allowed { allowed log.new ≡ allowed log.old }
+    ensures allowed { allowance log.new ≡ allowance log.old }
 {
     if log.reserve().is_err() {
         return Continuation::Stops;
@@ -144,12 +144,13 @@ fn make_call<R: Wait, G: Gate>(
     log: &mut WorkerLog,
 ) -> Continuation
     requires held { IsHeld process.old }
-    requires waits { IsWaiting (seen process.old) }
+    requires waits { IsWaiting (process_view process.old) }
     requires some { 0 < log.old.left }
     requires room { vec_len log.old.trace.calls + 2 ≤ vec_capacity log.old.trace.calls }
-    ensures alone { LeadsOn log.old (before_wait (seen process.old)) log.new (seen process.new) }
+    ensures alone { LeadsOn log.old (before_wait (process_view process.old)) log.new
+        (process_view process.new) }
     ensures held { IsHeld process.new }
-    ensures allowed { allowed log.new ≡ allowed log.old }
+    ensures allowed { allowance log.new ≡ allowance log.old }
 {
     let may_wait = log.left > 1;
     match outcome_of(rt, context, process, may_wait, &mut log.calls) {
@@ -161,7 +162,7 @@ fn make_call<R: Wait, G: Gate>(
 /// Lets a process run again whose call wasn't made.
 fn run_again(process: &mut Process, continuation: Continuation) -> Continuation
     requires held { IsHeld process.old }
-    ensures process { seen process.new ≡ before_wait (seen process.old) }
+    ensures process { process_view process.new ≡ before_wait (process_view process.old) }
     ensures held { IsHeld process.new }
 {
     take_back(process);
@@ -176,8 +177,8 @@ fn outcome_of<R: Wait, G: Gate>(
     may_wait: bool,
     calls: &mut u32,
 ) -> Result<(Call, CallOutcome), AllocError>
-    requires waits { IsWaiting (seen process.now) }
-    ensures call { IfOk result (λ r. AsksFor (seen process.now) r.0) }
+    requires waits { IsWaiting (process_view process.now) }
+    ensures call { IfOk result (λ r. AsksFor (process_view process.now) r.0) }
     ensures outcome { IfOk result (λ r. IsCallOutcome r.0 may_wait r.1) }
 {
     match process {
@@ -207,15 +208,16 @@ fn write_down(
     log: &mut WorkerLog,
 ) -> Continuation
     requires held { IsHeld process.old }
-    requires waits { IsWaiting (seen process.old) }
-    requires call { AsksFor (seen process.old) call }
+    requires waits { IsWaiting (process_view process.old) }
+    requires call { AsksFor (process_view process.old) call }
     requires outcome { IsCallOutcome call may_wait outcome }
     requires some { 0 < log.old.left }
     requires two { IsTrue may_wait → 1 < log.old.left }
     requires room { vec_len log.old.trace.calls + 2 ≤ vec_capacity log.old.trace.calls }
-    ensures alone { LeadsOn log.old (before_wait (seen process.old)) log.new (seen process.new) }
+    ensures alone { LeadsOn log.old (before_wait (process_view process.old)) log.new
+        (process_view process.new) }
     ensures held { IsHeld process.new }
-    ensures allowed { allowed log.new ≡ allowed log.old }
+    ensures allowed { allowance log.new ≡ allowance log.old }
 {
     match outcome {
         CallOutcome::NoMemory => run_again(process, Continuation::Stops),

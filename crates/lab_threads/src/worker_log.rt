@@ -1,8 +1,8 @@
 //! What a worker writes down.
 ghost use Rattle.std.specs.Prelude.{◌≡◌, ◌+◌, ◌<◌, ◌≤◌, ◌^◌, OnOk, vec_len, vec_capacity};
 ghost use Rattle.lab_sched.specs.Worlds.{Process};
-ghost use Rattle.lab_sched.specs.Alone.{AreLocal, IsTold};
-ghost use Rattle.lab_threads.specs.WorkerLogs.{LeadsOn, allowed};
+ghost use Rattle.lab_sched.specs.LocalRun.{AreLocal, TakesAnswer};
+ghost use Rattle.lab_threads.specs.Private.WorkerLogs.{LeadsOn, allowance};
 
 use ipc_kernel::{Answer, Call};
 use lab_sched::Trace;
@@ -23,7 +23,7 @@ impl WorkerLog {
         ensures room { OnOk result
             (vec_len self.new.trace.calls + 2 ≤ vec_capacity self.new.trace.calls) }
         ensures alone { (x : Process) → LeadsOn self.old x self.new x }
-        ensures allowed { allowed self.new ≡ allowed self.old }
+        ensures allowed { allowance self.new ≡ allowance self.old }
         ensures left { self.new.left ≡ self.old.left }
     {
         self.trace.reserve()
@@ -37,9 +37,9 @@ impl WorkerLog {
     /// Writes down so many local steps.
     pub(crate) fn add_local(&mut self, count: u32)
         requires left { count ≤ self.old.left }
-        requires few { allowed self.old < 2 ^ 32 }
+        requires few { allowance self.old < 2 ^ 32 }
         ensures alone { (x y : Process) → AreLocal count x y → LeadsOn self.old x self.new y }
-        ensures allowed { allowed self.new ≡ allowed self.old }
+        ensures allowed { allowance self.new ≡ allowance self.old }
     {
         self.trace.add_local(count);
         self.left -= count;
@@ -49,8 +49,9 @@ impl WorkerLog {
     pub(crate) fn add_call(&mut self, call: Call, answer: Answer)
         requires left { 0 < self.old.left }
         requires room { vec_len self.old.trace.calls < vec_capacity self.old.trace.calls }
-        ensures alone { (x y : Process) → IsTold x call answer y → LeadsOn self.old x self.new y }
-        ensures allowed { allowed self.new ≡ allowed self.old }
+        ensures alone { (x y : Process) → TakesAnswer x call answer y
+            → LeadsOn self.old x self.new y }
+        ensures allowed { allowance self.new ≡ allowance self.old }
         ensures left { self.new.left + 1 ≡ self.old.left }
         ensures len { vec_len self.new.trace.calls ≡ vec_len self.old.trace.calls + 1 }
         ensures room { vec_capacity self.new.trace.calls ≡ vec_capacity self.old.trace.calls }

@@ -1,5 +1,5 @@
 //! What a worker brings back.
-ghost use Rattle.lab_threads.specs.WorkerResults.{IsWorkerResult};
+ghost use Rattle.lab_threads.specs.Private.WorkerResults.{IsWorkerResult};
 
 use lab_sched::{Process, Trace};
 use std::snapshot::Snapshot;

@@ -4,8 +4,8 @@ use Rattle.std.proofs.lemmas.List.{length-set, length-replicate, replicate-appen
 use Rattle.std.proofs.lemmas.List.Elements.{All-nil}
 use Rattle.ipc_kernel.specs.declared.call.Answer.TheVariants.{Done, Wait}
 use Rattle.ipc_kernel.specs.Kernel.{KernelState}
-use Rattle.lab_sched.specs.Worlds.{Process, WorldState, Turn, nothing, local_step, kernel_step, turn_in, after, step, run}
-use Rattle.lab_sched.specs.Held.{told_of}
+use Rattle.lab_sched.specs.Worlds.{Process, WorldState, StepEffect, nothing, local_step, kernel_step, step_effect_in, after, step, run}
+use Rattle.lab_sched.specs.Held.{stepped_of}
 use Rattle.lab_sched.specs.declared.stepped.Stepped.{Stepped}
 use Rattle.lab_sched.specs.declared.stepped.Stepped.TheVariants as stepped
 use Rattle.lab_sched.proofs.Runs.{run-one, length-run}
@@ -14,7 +14,7 @@ use Rattle.lab_trace.specs.Questions.{Before}
 use Rattle.lab_trace.specs.Tallies.{TallyState, new_account, account_in, account_of, account_after, tally_after, AreBelow}
 use Rattle.lab_trace.specs.Units.{AreFew, IsFew}
 use Rattle.lab_trace.proofs.UnitLemmas.{few-more, after-few}
-use Rattle.lab_trace.specs.Scenes.{Scene, first_scene, has_effect, line_by, tally_by, before_at, line, tallied, next, events, scene_after, IsKept}
+use Rattle.lab_trace.specs.Scenes.{Scene, first_scene, has_effect, line_by, tally_by, before_at, line, next_tally, next, events, scene_after, IsKept}
 use Rattle.lab_trace.specs.declared.lines.Widths.{Widths}
 use Rattle.lab_trace.specs.declared.tally.Account.{Account}
 
@@ -57,25 +57,25 @@ abbrev pub renumbered : Scene → ℕ → Scene
 renumbered s n = record { number = n; world = s.world; tally = s.tally }
 
 -- a step without effect has no line, and changes nothing but the number
-line-still : (v : Widths) (s : Scene) (p : ℕ) → turn_in s.world p ≡ nothing → line v s p ≡ []
+line-still : (v : Widths) (s : Scene) (p : ℕ) → step_effect_in s.world p ≡ nothing → line v s p ≡ []
 unfolding line
 line-still v s p e =
     ap (λ (b : Bool). if b then line_by v s.number (step s.world p).kernel s.tally p (before_at s p) (slice_get (step s.world p).processes p) else [])
-    (ap (λ t. has_effect (told_of t)) e)
+    (ap (λ t. has_effect (stepped_of t)) e)
 
-tallied-still : (s : Scene) (p : ℕ) → turn_in s.world p ≡ nothing → tallied s p ≡ s.tally
-unfolding tallied
+tallied-still : (s : Scene) (p : ℕ) → step_effect_in s.world p ≡ nothing → next_tally s p ≡ s.tally
+unfolding next_tally
 tallied-still s p e =
     ap (λ (b : Bool). if b then tally_by s.number (step s.world p).kernel s.tally p (before_at s p) (slice_get (step s.world p).processes p) else s.tally)
-    (ap (λ t. has_effect (told_of t)) e)
+    (ap (λ t. has_effect (stepped_of t)) e)
 
-pub next-still : (s : Scene) (p : ℕ) → turn_in s.world p ≡ nothing → next s p ≡ renumbered s (s.number + 1)
+pub next-still : (s : Scene) (p : ℕ) → step_effect_in s.world p ≡ nothing → next s p ≡ renumbered s (s.number + 1)
 next-still s p e =
     let as_scene : WorldState → TallyState → Scene = λ w t. record { number = s.number + 1; world = w; tally = t } in
-    ap (λ w. as_scene w (tallied s p)) (ap (λ t. after s.world p t) e) ∙ ap (λ t. as_scene s.world t) (tallied-still s p e)
+    ap (λ w. as_scene w (next_tally s p)) (ap (λ t. after s.world p t) e) ∙ ap (λ t. as_scene s.world t) (tallied-still s p e)
 
 -- so do n of them
-events-still : (n : ℕ) (v : Widths) (s : Scene) (p : ℕ) → turn_in s.world p ≡ nothing → events v s (replicate n p) ≡ []
+events-still : (n : ℕ) (v : Widths) (s : Scene) (p : ℕ) → step_effect_in s.world p ≡ nothing → events v s (replicate n p) ≡ []
 unfolding events
 events-still zero v s p e = refl
 events-still (suc n) v s p e =
@@ -83,7 +83,7 @@ events-still (suc n) v s p e =
     ∙ ap (λ x. events v x (replicate n p)) (next-still s p e)
     ∙ events-still n v (renumbered s (s.number + 1)) p e
 
-scene-still : (n : ℕ) (s : Scene) (p : ℕ) → turn_in s.world p ≡ nothing → scene_after s (replicate n p) ≡ renumbered s (s.number + n)
+scene-still : (n : ℕ) (s : Scene) (p : ℕ) → step_effect_in s.world p ≡ nothing → scene_after s (replicate n p) ≡ renumbered s (s.number + n)
 unfolding scene_after
 scene-still zero s p e = let same : s.number ≡ s.number + 0 = omega arith in ap (λ n. renumbered s n) same
 scene-still (suc n) s p e =
@@ -99,19 +99,19 @@ stands-one : (v : Widths) (s : Scene) (p k : ℕ) → k ≡ 1 → Stands v s p k
 stands-one v s p k one =
     subst (λ n. Stands v s p n) (sym one) (record { lines = events-one v s p; scene = scene-one s p })
 
-stands-still : (v : Widths) (s : Scene) (p k : ℕ) → turn_in s.world p ≡ nothing → Stands v s p k
+stands-still : (v : Widths) (s : Scene) (p k : ℕ) → step_effect_in s.world p ≡ nothing → Stands v s p k
 stands-still v s p k e = record {
   lines = events-still k v s p e ∙ sym (line-still v s p e);
   scene = scene-still k s p e ∙ sym (ap (λ x. renumbered x (s.number + k)) (next-still s p e));
 }
 
-pub stands : (v : Widths) (s : Scene) (p k : ℕ) (t : Stepped) → t ≡ told_of (turn_in s.world p) → ((t ≡ stepped.Same → ⊥) → k ≡ 1) → Stands v s p k
-stands v s p k t is one = by (turn_in s.world p) refl
+pub stands : (v : Widths) (s : Scene) (p k : ℕ) (t : Stepped) → t ≡ stepped_of (step_effect_in s.world p) → ((t ≡ stepped.Same → ⊥) → k ≡ 1) → Stands v s p k
+stands v s p k t is one = by (step_effect_in s.world p) refl
   where
-    other : (u : Turn) → turn_in s.world p ≡ u → (told_of u ≡ stepped.Same → ⊥) → Stands v s p k
-    other u at ne = stands-one v s p k (one (λ e. ne (ap told_of (sym at) ∙ sym is ∙ e)))
+    other : (u : StepEffect) → step_effect_in s.world p ≡ u → (stepped_of u ≡ stepped.Same → ⊥) → Stands v s p k
+    other u at ne = stands-one v s p k (one (λ e. ne (ap stepped_of (sym at) ∙ sym is ∙ e)))
 
-    by : (u : Turn) → turn_in s.world p ≡ u → Stands v s p k
+    by : (u : StepEffect) → step_effect_in s.world p ≡ u → Stands v s p k
     by nothing at = stands-still v s p k at
     by (local_step m) at = other (local_step m) at (λ e. cc)
     by (kernel_step m c (Done r)) at = other (kernel_step m c (Done r)) at (λ e. cc)
@@ -187,10 +187,10 @@ kept-if : (n count : ℕ) (effect : Bool) (t u : TallyState) → IsKeptTally n c
 kept-if n count true t u still moved = moved
 kept-if n count false t u still moved = still
 
-kept-tallied : (s : Scene) (p : ℕ) → IsKept s → IsKeptTally s.number (length s.world.processes) (tallied s p)
-unfolding tallied
+kept-tallied : (s : Scene) (p : ℕ) → IsKept s → IsKeptTally s.number (length s.world.processes) (next_tally s p)
+unfolding next_tally
 kept-tallied s p kept =
-    kept-if s.number (length s.world.processes) (has_effect (told_of (turn_in s.world p)))
+    kept-if s.number (length s.world.processes) (has_effect (stepped_of (step_effect_in s.world p)))
     (tally_by s.number (step s.world p).kernel s.tally p (before_at s p) (slice_get (step s.world p).processes p)) s.tally
     (kept-still s.number (length s.world.processes) s.tally kept.accounts kept.below kept.few)
     (kept-by s.number (length s.world.processes) (step s.world p).kernel s.tally p (before_at s p) (slice_get (step s.world p).processes p) kept.accounts kept.below kept.few)

@@ -9,7 +9,7 @@ use Rattle.lab_trace.specs.Answers.{result_of}
 use Rattle.lab_trace.specs.Events.{Event, local, calls, writes, ends}
 use Rattle.lab_trace.specs.Questions.{Question}
 use Rattle.lab_trace.specs.Tallies.{units_after}
-use Rattle.lab_trace.specs.Units.{is_of, no_units, units_of, put, counted, is_there, remaining, one_taken, one_given, taken_in, given_in, moved, moved_by, IsFew, AreFew, HasRoom}
+use Rattle.lab_trace.specs.Units.{most_units, is_of, no_units, units_of, with_count_at, with_count, is_there, remaining, one_taken, one_given, taken_in, given_in, units_after_call, moved_by, IsFew, AreFew, HasRoom}
 use Rattle.lab_trace.specs.declared.units.UnitCount.{UnitCount}
 use Rattle.lab_trace.specs.declared.service.Service.{Service}
 use Rattle.lab_trace.specs.declared.service.Service.TheVariants.{MqOpen, MqClose, MqUnlink, MqSend, MqReceive, MqGetattr, MqSetattr, SemOpen, SemClose, SemUnlink, SemWait, SemTrywait, SemPost, SemGetvalue}
@@ -51,19 +51,19 @@ few-within : (n m : ℕ) (c : UnitCount) → n ≤ m → IsFew n c → IsFew m c
 few-within n m c le h = (omega (arith, h.0), omega (arith, h.1))
 
 -- 32 bits count what is fewer than steps were taken or begin
-pub has_room : (n p : ℕ) (cs : List UnitCount) → 0 < n → n ≤ 0xffffffff → AreFew n cs → HasRoom p cs
-has_room n p cs some most hs place = few-within n 0xffffffff (units_of place p cs) most (units-few n place p cs some hs)
+pub has_room : (n p : ℕ) (cs : List UnitCount) → 0 < n → n ≤ most_units → AreFew n cs → HasRoom p cs
+has_room n p cs some most hs place = few-within n most_units (units_of place p cs) most (units-few n place p cs some hs)
 
 -- fewer than one step more
 pub few-more : (n : ℕ) (cs : List UnitCount) → AreFew n cs → AreFew (n + 1) cs
 few-more n cs hs i d h = let x = hs i d h in (omega (arith, x.0), omega (arith, x.1))
 
-put-few : (n : ℕ) (c : UnitCount) (cs : List UnitCount) (at : Option ℕ) → IsFew n c → AreFew n cs → AreFew n (put c cs at)
+put-few : (n : ℕ) (c : UnitCount) (cs : List UnitCount) (at : Option ℕ) → IsFew n c → AreFew n cs → AreFew n (with_count_at c cs at)
 put-few n c cs None h hs = All-append (IsFew n) cs (c ∷ []) hs (All-cons (IsFew n) c [] h (All-nil (IsFew n)))
 put-few n c cs (Some i) h hs = All-set (IsFew n) cs i c h hs
 
-counted-few : (n : ℕ) (c : UnitCount) (cs : List UnitCount) → IsFew n c → AreFew n cs → AreFew n (counted c cs)
-unfolding counted
+counted-few : (n : ℕ) (c : UnitCount) (cs : List UnitCount) → IsFew n c → AreFew n cs → AreFew n (with_count c cs)
+unfolding with_count
 counted-few n c cs h hs = put-few n c cs (position (is_of c.place c.pid) cs) h hs
 
 taken-few : (n p : ℕ) (place : Option ℕ) (cs : List UnitCount) → 0 < n → AreFew n cs → AreFew (n + 1) (taken_in p place cs)
@@ -78,7 +78,7 @@ given-few n p (Some place) cs some hs =
     let x = units-few n place p cs some hs in
     counted-few (n + 1) (one_given (units_of place p cs)) cs (omega (arith, x.0), omega (arith, x.1)) (few-more n cs hs)
 
-moved-few : (n p : ℕ) (place : Option ℕ) (s : Service) (cs : List UnitCount) → 0 < n → AreFew n cs → AreFew (n + 1) (moved p place s cs)
+moved-few : (n p : ℕ) (place : Option ℕ) (s : Service) (cs : List UnitCount) → 0 < n → AreFew n cs → AreFew (n + 1) (units_after_call p place s cs)
 moved-few n p place SemWait cs some hs = taken-few n p place cs some hs
 moved-few n p place SemTrywait cs some hs = taken-few n p place cs some hs
 moved-few n p place SemPost cs some hs = given-few n p place cs some hs

@@ -9,7 +9,7 @@ use Rattle.lab_sched.specs.Worlds.{WorldState, step}
 use Rattle.lab_sched.specs.Schedules.{steps_of}
 use Rattle.lab_sched.specs.declared.schedule.block.Block.{Block}
 use Rattle.lab_sched.proofs.ScheduleRuns.{steps-more, steps-split}
-use Rattle.lab_trace.specs.Scenes.{Scene, first_scene, line, tallied, next, events, scene_after}
+use Rattle.lab_trace.specs.Scenes.{Scene, scene_at, first_scene, line, next_tally, next, events, scene_after}
 use Rattle.lab_trace.specs.Lines.{widths_for}
 use Rattle.lab_trace.specs.Tallies.{TallyState, new_tally}
 use Rattle.lab_trace.specs.Traces.{ending, trace_with, trace_text}
@@ -20,9 +20,6 @@ use Rattle.lab_trace.proofs.SceneLemmas.{Stands, events-append, scene-append, ev
 pub on_err : {T E : Type 0} (r : Result T E) (P : Type 0) → P → OnErr r P
 on_err (Ok x) P p = tt
 on_err (Err e) P p = p
-
-abbrev pub scene : ℕ → WorldState → TallyState → Scene
-scene n w t = record { number = n; world = w; tally = t }
 
 -- the lines of a block up to step number k were written
 pub prefix-from : (v : Widths) (s : Scene) (n k p : ℕ) (a b : Option (List ℕ)) → k ≤ n → Appends a b (events v s (replicate k p)) → AppendsPrefix a b (events v s (replicate n p))
@@ -48,12 +45,12 @@ written-more v s u done k p a b c text is stand shown sent more =
     subst (λ (l : List ℕ). Appends a c l) (ap (λ (l : List ℕ). events v s (replicate done p) ++ l) shown ∙ sym (events-more v s u done k p is stand)) both
 
 -- the scene after a step of a block, or after its other steps where they have no effect
-pub scene-told : (v : Widths) (s : Scene) (first done k p : ℕ) (w x : WorldState) (t r : TallyState) → scene (first + done) w t ≡ scene_after s (replicate done p)
-    → Stands v (scene (first + done) w t) p k → x ≡ step w p → r ≡ tallied (scene (first + done) w t) p → scene (first + (done + k)) x r ≡ scene_after s (replicate (done + k) p)
+pub scene-told : (v : Widths) (s : Scene) (first done k p : ℕ) (w x : WorldState) (t r : TallyState) → scene_at (first + done) w t ≡ scene_after s (replicate done p)
+    → Stands v (scene_at (first + done) w t) p k → x ≡ step w p → r ≡ next_tally (scene_at (first + done) w t) p → scene_at (first + (done + k)) x r ≡ scene_after s (replicate (done + k) p)
 scene-told v s first done k p w x t r is stand w-is t-is =
     let e : first + (done + k) ≡ (first + done) + k = omega arith in
-    ap (λ n. scene n x r) e ∙ ap (λ y. scene ((first + done) + k) y r) w-is ∙ ap (λ y. scene ((first + done) + k) (step w p) y) t-is
-    ∙ scene-more v s (scene (first + done) w t) done k p is stand
+    ap (λ n. scene_at n x r) e ∙ ap (λ y. scene_at ((first + done) + k) y r) w-is ∙ ap (λ y. scene_at ((first + done) + k) (step w p) y) t-is
+    ∙ scene-more v s (scene_at (first + done) w t) done k p is stand
 
 -- the scene after a block more
 pub scene-block : (s u x : Scene) (bs : List Block) (i : ℕ) (d : Block) → i < length bs → u ≡ scene_after s (steps_of (take i bs))
@@ -98,29 +95,29 @@ on_ok-map (Err e) P Q f p = tt
 
 -- a whole trace, by its parts
 pub trace-parts : (w : WorldState) (ps : List ℕ) (v : Widths) (t : TallyState) → v ≡ widths_for (length ps) (length w.processes) → t ≡ new_tally (length w.processes)
-    → trace_text w ps ≡ trace_with v (scene 1 w t) ps
+    → trace_text w ps ≡ trace_with v (scene_at 1 w t) ps
 unfolding trace_text
 trace-parts w ps v t v-is t-is =
-    ap (λ x. trace_with x (first_scene w) ps) (sym v-is) ∙ ap (λ x. trace_with v (scene 1 w x) ps) (sym t-is)
+    ap (λ x. trace_with x (first_scene w) ps) (sym v-is) ∙ ap (λ x. trace_with v (scene_at 1 w x) ps) (sym t-is)
 
 -- what stands behind the lines, by the world and the tally that the steps led to
 pub trace-whole : (w u : WorldState) (ps : List ℕ) (v : Widths) (t r : TallyState) (n : ℕ) → v ≡ widths_for (length ps) (length w.processes) → t ≡ new_tally (length w.processes)
-    → scene n u r ≡ scene_after (scene 1 w t) ps → trace_text w ps ≡ events v (scene 1 w t) ps ++ ending v u r
+    → scene_at n u r ≡ scene_after (scene_at 1 w t) ps → trace_text w ps ≡ events v (scene_at 1 w t) ps ++ ending v u r
 trace-whole w u ps v t r n v-is t-is led =
-    trace-parts w ps v t v-is t-is ∙ ap (λ (x : Scene). events v (scene 1 w t) ps ++ ending v x.world x.tally) (sym led)
+    trace-parts w ps v t v-is t-is ∙ ap (λ (x : Scene). events v (scene_at 1 w t) ps ++ ending v x.world x.tally) (sym led)
 
 -- all the lines are a beginning of the trace
 pub lines-prefix : (w : WorldState) (ps : List ℕ) (v : Widths) (t : TallyState) (a b : Option (List ℕ)) → v ≡ widths_for (length ps) (length w.processes)
-    → t ≡ new_tally (length w.processes) → Appends a b (events v (scene 1 w t) ps) → AppendsPrefix a b (trace_text w ps)
+    → t ≡ new_tally (length w.processes) → Appends a b (events v (scene_at 1 w t) ps) → AppendsPrefix a b (trace_text w ps)
 lines-prefix w ps v t a b v-is t-is sent =
-    let last : Scene = scene_after (scene 1 w t) ps in
-    record { sent = events v (scene 1 w t) ps; unsent = ending v last.world last.tally; whole = trace-parts w ps v t v-is t-is; appended = sent }
+    let last : Scene = scene_after (scene_at 1 w t) ps in
+    record { sent = events v (scene_at 1 w t) ps; unsent = ending v last.world last.tally; whole = trace-parts w ps v t v-is t-is; appended = sent }
 
 -- a beginning of the lines is one of the trace
 pub prefix-lines : (w : WorldState) (ps : List ℕ) (v : Widths) (t : TallyState) (a b : Option (List ℕ)) → v ≡ widths_for (length ps) (length w.processes)
-    → t ≡ new_tally (length w.processes) → AppendsPrefix a b (events v (scene 1 w t) ps) → AppendsPrefix a b (trace_text w ps)
+    → t ≡ new_tally (length w.processes) → AppendsPrefix a b (events v (scene_at 1 w t) ps) → AppendsPrefix a b (trace_text w ps)
 prefix-lines w ps v t a b v-is t-is part =
-    subst (λ (l : List ℕ). AppendsPrefix a b l) (sym (trace-parts w ps v t v-is t-is)) (AppendsPrefix-longer a b (events v (scene 1 w t) ps) _ part)
+    subst (λ (l : List ℕ). AppendsPrefix a b l) (sym (trace-parts w ps v t v-is t-is)) (AppendsPrefix-longer a b (events v (scene_at 1 w t) ps) _ part)
 
 -- the widths, by the schedule and the world
 pub widths-are : (v : Widths) (total count : ℕ) (ps : List ℕ) (w : WorldState) → v ≡ widths_for total count → total ≡ length ps → count ≡ length w.processes

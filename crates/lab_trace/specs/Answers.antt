@@ -40,6 +40,7 @@ errors = NoEntry ∷ BadDescriptor ∷ Again ∷ Fault ∷ Exists ∷ Invalid �
 unfoldable pub error_in : ℕ → Option Errno
 error_in result = find (λ e. result == 65536 - number_of e) errors
 
+-- whether a result tells an error
 abbrev pub is_refusal : ℕ → Bool
 is_refusal result = is_some (error_in result)
 
@@ -48,14 +49,17 @@ abbrev pub received_text : List Message → List ℕ
 received_text [] = []
 received_text (m ∷ rest) = codes " " ++ message_text m.words ++ codes " prio " ++ decimal m.priority
 
+-- the message that is received through a descriptor, where one is open
 abbrev pub received_of : Option (Descriptor × QueueState) → List ℕ
 received_of None = []
 received_of (Some held) = received_text held.1.messages
 
+-- the attributes of an open descriptor and its queue, where one is open
 abbrev pub attributes_of : Option (Descriptor × QueueState) → List ℕ
 attributes_of None = []
 attributes_of (Some held) = attributes_text held.0 held.1
 
+-- the value of the semaphore behind a slot, where one is open
 abbrev pub value_of : Option (Slot × ℕ) → List ℕ
 value_of None = []
 value_of (Some held) = codes " value " ++ decimal held.1
@@ -80,10 +84,11 @@ answer_text (Waiting m c) reply = codes " waits"
 answer_text (Ended e) reply = []
 
 -- the result of a call that was answered and not refused
-abbrev pub unrefused : ℕ → Option ℕ
-unrefused result = if is_refusal result then None else Some result
+abbrev pub unrefused_result : ℕ → Option ℕ
+unrefused_result result = if is_refusal result then None else Some result
 
+-- the result of a call that was answered and not refused, by the process after it
 abbrev pub result_of : Process → Option ℕ
-result_of (Running m) = unrefused (reg m 0)
+result_of (Running m) = unrefused_result (reg m 0)
 result_of (Waiting m c) = None
 result_of (Ended e) = None

@@ -6,15 +6,19 @@ use Rattle.ipc_objects.specs.Queue.{QueueState}
 use Rattle.ipc_kernel.specs.declared.process.Descriptor.{Descriptor}
 use Rattle.lab_trace.specs.Flags.{flag_word}
 
+-- the flags, by their name
 unfoldable pub flags_field : ℕ → List ℕ
 flags_field w = codes "mq_flags=" ++ flag_word w
 
+-- the greatest number of messages, by its name
 unfoldable pub most_field : ℕ → List ℕ
 most_field n = codes "mq_maxmsg=" ++ decimal n
 
+-- the greatest length of a message, by its name
 unfoldable pub size_field : ℕ → List ℕ
 size_field n = codes ", mq_msgsize=" ++ decimal n
 
+-- the number of messages, by its name
 unfoldable pub count_field : ℕ → List ℕ
 count_field n = codes ", mq_curmsgs=" ++ decimal n
 

@@ -14,6 +14,7 @@ use Rattle.lab_trace.specs.Services.{service_name}
 use Rattle.lab_trace.specs.declared.service.Service.{Service}
 use Rattle.lab_trace.specs.declared.service.Service.TheVariants.{MqOpen, MqUnlink, MqSend, MqReceive, MqGetattr, MqSetattr, SemOpen, SemUnlink, SemGetvalue}
 
+-- what stands between two arguments
 abbrev pub comma : List ℕ
 comma = codes ", "
 

@@ -76,6 +76,7 @@ ended_text (Some (Ended e)) = codes "(ended)"
 unfoldable pub taker_of : ℕ → ℕ → Option Process → List ℕ
 taker_of p n s = if n == 0 then [] else codes " " ++ process_text p ++ times_text n ++ ended_text s
 
+-- process p, where it took more units of the semaphore in a place than it gave
 abbrev pub taker_text : WorldState → List UnitCount → ℕ → ℕ → List ℕ
 taker_text w cs place p = taker_of p (balance (units_of place p cs)) (slice_get w.processes p)
 
@@ -83,6 +84,7 @@ taker_text w cs place p = taker_of p (balance (units_of place p cs)) (slice_get 
 unfoldable pub takers_text : WorldState → List UnitCount → ℕ → List ℕ
 takers_text w cs place = or_nobody (each (length w.processes) (taker_text w cs place))
 
+-- who took units of the object that a call waits for; a queue has none
 abbrev pub takers_part : WorldState → List UnitCount → ℕ → Service → List ℕ
 takers_part w cs place MqReceive = []
 takers_part w cs place MqSend = []
@@ -94,6 +96,7 @@ object_part w cs p s None = []
 object_part w cs p s (Some place) =
     level_text w.kernel place ++ takers_part w cs place s ++ others_title s ++ others_text w p place s
 
+-- since when a process waits, where that is known
 abbrev pub since_part : Option ℕ → List ℕ
 since_part None = []
 since_part (Some n) = codes " since " ++ decimal n

@@ -12,16 +12,17 @@ pub data Event : Type 0 where
   ends : How → Event
 
 -- bytes of output, where there are any
-abbrev pub written : List ℕ → Event
-written [] = local
-written (b ∷ bs) = writes (b ∷ bs)
+abbrev pub output_event : List ℕ → Event
+output_event [] = local
+output_event (b ∷ bs) = writes (b ∷ bs)
 
 -- a step that is no call, by the process after it
 abbrev pub own_event : ℕ → Process → Event
-own_event count (Running m) = written (drop count m.output)
-own_event count (Waiting m c) = written (drop count m.output)
+own_event count (Running m) = output_event (drop count m.output)
+own_event count (Waiting m c) = output_event (drop count m.output)
 own_event count (Ended e) = ends e.how
 
+-- a step by the call that it makes, if it makes one, and the process after it
 abbrev pub event_by : Option Question → ℕ → Process → Event
 event_by (Some q) count after = calls q
 event_by None count after = own_event count after

@@ -44,6 +44,7 @@ abbrev pub opened_place : KernelState → ℕ → Service → Option ℕ → Opt
 opened_place k p s None = None
 opened_place k p s (Some result) = held_place k p s result
 
+-- the place of the object whose level is told behind a call, if one is: that of an open, or of a call that can change a level
 unfoldable pub told_place : KernelState → ℕ → Question → Process → Option ℕ
 told_place k p q after =
     if is_open q.service then opened_place k p q.service (result_of after) else
@@ -59,6 +60,7 @@ abbrev pub level_note : KernelState → Option ℕ → List ℕ
 level_note k None = []
 level_note k (Some place) = separator false ++ level_text k place
 
+-- that a process waited, from which step on
 unfoldable pub waited_text : ℕ → List ℕ
 waited_text since = codes "waited since " ++ decimal since
 
@@ -71,6 +73,7 @@ wait_note begun (Some n) = separator begun ++ waited_text n
 unfoldable pub origin_text : Origin → List ℕ
 origin_text o = codes "from P" ++ decimal o.pid ++ codes " at " ++ decimal o.step
 
+-- where a message comes from; `begun` says whether another note stands before it
 abbrev pub origin_note : Bool → Option Origin → List ℕ
 origin_note begun None = []
 origin_note begun (Some o) = separator begun ++ origin_text o
@@ -87,6 +90,7 @@ call_line k a os p q after = q.call ++ answer_text after q.reply ++ notes k a (o
 unfoldable pub output_text : ℕ → List ℕ → List ℕ
 output_text word bytes = word_text word ++ codes " " ++ bytes_text bytes
 
+-- how a process ended
 abbrev pub end_text : How → List ℕ
 end_text how = codes "ends " ++ how_text how
 

@@ -2,7 +2,7 @@
 use Rattle.std.specs.Prelude.{ℕ, ◌==◌, ◌&&◌, nat_lt, not, Bool, if◌then◌else◌, Option, Some, None, List, length}
 use Rattle.std.specs.List.{find, filter, insert, remove, position_or_len}
 use Rattle.ipc_kernel.specs.Kernel.{KernelState}
-use Rattle.ipc_kernel.specs.Decisions.{queue_at}
+use Rattle.ipc_kernel.specs.Outcomes.{queue_at}
 use Rattle.lab_sched.specs.Worlds.{Process}
 use Rattle.lab_trace.specs.Answers.{result_of}
 use Rattle.lab_trace.specs.Objects.{held_place}
@@ -20,49 +20,54 @@ abbrev pub is_below : ℕ → ℕ → Origin → Bool
 is_below place priority o = (o.place == place) && nat_lt o.priority priority
 
 -- a message goes before those of its queue that have a lesser priority
-unfoldable pub sent : Origin → List Origin → List Origin
-sent o os = insert os (position_or_len (is_below o.place o.priority) os) o
+unfoldable pub origins_after_send : Origin → List Origin → List Origin
+origins_after_send o os = insert os (position_or_len (is_below o.place o.priority) os) o
 
 -- the message of the queue in a place that is received first
 unfoldable pub first : ℕ → List Origin → Option Origin
 first place os = find (is_in place) os
 
--- the others
-unfoldable pub received : ℕ → List Origin → List Origin
-received place os = remove os (position_or_len (is_in place) os)
+-- the origins without that of the message which is received first from the queue in a place
+unfoldable pub origins_after_receive : ℕ → List Origin → List Origin
+origins_after_receive place os = remove os (position_or_len (is_in place) os)
 
--- those of other queues
-unfoldable pub cleared : ℕ → List Origin → List Origin
-cleared place os = filter (λ o. not (is_in place o)) os
+-- the origins of messages in other queues
+unfoldable pub origins_without_queue : ℕ → List Origin → List Origin
+origins_without_queue place os = filter (λ o. not (is_in place o)) os
 
 -- an open found a queue without messages: it may be a new one
-abbrev pub opened : KernelState → Option ℕ → List Origin → List Origin
-opened k None os = os
-opened k (Some place) os = if length (queue_at k place).messages == 0 then cleared place os else os
+abbrev pub origins_after_open : KernelState → Option ℕ → List Origin → List Origin
+origins_after_open k None os = os
+origins_after_open k (Some place) os = if length (queue_at k place).messages == 0 then origins_without_queue place os else os
 
+-- after process p sent a message in step n to the queue in a place, where there is one
 abbrev pub sent_to : ℕ → ℕ → ℕ → Option ℕ → List Origin → List Origin
 sent_to n p priority None os = os
-sent_to n p priority (Some place) os = sent (record { place = place; priority = priority; step = n; pid = p }) os
+sent_to n p priority (Some place) os = origins_after_send (record { place = place; priority = priority; step = n; pid = p }) os
 
+-- after a message was received from the queue in a place, where there is one
 abbrev pub received_in : Option ℕ → List Origin → List Origin
 received_in None os = os
-received_in (Some place) os = received place os
+received_in (Some place) os = origins_after_receive place os
 
 -- after a call of process p in step n that was answered and not refused; k is the kernel after it
-abbrev pub changed : KernelState → ℕ → ℕ → Question → Service → ℕ → List Origin → List Origin
-changed k n p q MqOpen result os = opened k (held_place k p MqOpen result) os
-changed k n p q MqSend result os = sent_to n p q.priority q.place os
-changed k n p q MqReceive result os = received_in q.place os
-changed k n p q other result os = os
+abbrev pub origins_after_call : KernelState → ℕ → ℕ → Question → Service → ℕ → List Origin → List Origin
+origins_after_call k n p q MqOpen result os = origins_after_open k (held_place k p MqOpen result) os
+origins_after_call k n p q MqSend result os = sent_to n p q.priority q.place os
+origins_after_call k n p q MqReceive result os = received_in q.place os
+origins_after_call k n p q other result os = os
 
+-- after a call of process p in step n; one that waits or was refused changes nothing
 abbrev pub changed_by : KernelState → ℕ → ℕ → Question → Option ℕ → List Origin → List Origin
 changed_by k n p q None os = os
-changed_by k n p q (Some result) os = changed k n p q q.service result os
+changed_by k n p q (Some result) os = origins_after_call k n p q q.service result os
 
+-- the message that is received first from the queue in a place, where there is one
 abbrev pub first_in : Option ℕ → List Origin → Option Origin
 first_in None os = None
 first_in (Some place) os = first place os
 
+-- the message that a call receives from the queue in a place; another call than mq_receive receives none
 abbrev pub origin_in : Service → Option ℕ → List Origin → Option Origin
 origin_in MqReceive place os = first_in place os
 origin_in other place os = None

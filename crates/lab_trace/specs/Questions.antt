@@ -32,13 +32,15 @@ pub record Before : Type 0 where
   pub written : ℕ
   pub asking : Option Question
 
+-- process p before its step, by its machine
 abbrev pub before : KernelState → ℕ → Machine → Before
 before k p m =
     record { pc = m.pc; word = slice_index m.memory m.pc; written = length m.output; asking = option_map (question k p m) (service_at m) }
 
--- the question that is kept as texts
+-- the call that is kept as texts
 abbrev pub question_of : Asking → Question
 question_of a = record { service = a.service; call = string_bytes a.call; reply = string_bytes a.reply; place = a.place; priority = a.priority }
 
+-- what is kept of a process before its step, with the texts as bytes
 abbrev pub before_of : Observed → Before
 before_of o = record { pc = o.pc; word = o.word; written = o.written; asking = option_map question_of o.asking }

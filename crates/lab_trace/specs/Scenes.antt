@@ -1,11 +1,10 @@
 -- The steps of a schedule, one after another, as a trace goes through them.
 use Rattle.std.specs.Prelude.{◌≡◌, ℕ, ◌+◌, Bool, true, false, if◌then◌else◌, Option, Some, None, List, [], ◌∷◌, ◌++◌, length, slice_get}
 use Rattle.ipc_kernel.specs.Kernel.{KernelState}
-use Rattle.lab_sched.specs.Worlds.{Process, WorldState, turn_in, step}
-use Rattle.lab_sched.specs.Held.{told_of}
+use Rattle.lab_sched.specs.Worlds.{Process, WorldState, step_effect_in, step, machine_of}
+use Rattle.lab_sched.specs.Held.{stepped_of}
 use Rattle.lab_sched.specs.declared.stepped.Stepped.{Stepped}
 use Rattle.lab_sched.specs.declared.stepped.Stepped.TheVariants.{Same}
-use Rattle.lab_debug.specs.Texts.{machine_of}
 use Rattle.lab_trace.specs.Questions.{Before, before}
 use Rattle.lab_trace.specs.Events.{event_of}
 use Rattle.lab_trace.specs.Tallies.{TallyState, new_tally, account_of, tally_after, AreBelow}
@@ -19,9 +18,13 @@ pub record Scene : Type 0 where
   pub world : WorldState
   pub tally : TallyState
 
+-- before step number n of a world, with this tally
+abbrev pub scene_at : ℕ → WorldState → TallyState → Scene
+scene_at n w t = record { number = n; world = w; tally = t }
+
 -- before the first step
 abbrev pub first_scene : WorldState → Scene
-first_scene w = record { number = 1; world = w; tally = new_tally (length w.processes) }
+first_scene w = scene_at 1 w (new_tally (length w.processes))
 
 -- whether a step has an effect
 abbrev pub has_effect : Stepped → Bool
@@ -33,33 +36,37 @@ abbrev pub before_in : KernelState → ℕ → Option Process → Before
 before_in k p None = record { pc = 0; word = 0; written = 0; asking = None }
 before_in k p (Some s) = before k p (machine_of s)
 
+-- the line of step n of process p, by the process after it; k is the kernel after it
 abbrev pub line_by : Widths → ℕ → KernelState → TallyState → ℕ → Before → Option Process → List ℕ
 line_by v n k t p b None = []
 line_by v n k t p b (Some after) = event_line v n k (account_of t p) t.origins p b after (event_of b after)
 
+-- the tally after step n of process p, by the process after it; k is the kernel after it
 abbrev pub tally_by : ℕ → KernelState → TallyState → ℕ → Before → Option Process → TallyState
 tally_by n k t p b None = t
 tally_by n k t p b (Some after) = tally_after k n p after (event_of b after) t
 
+-- process p before the next step of a scene
 abbrev pub before_at : Scene → ℕ → Before
 before_at s p = before_in s.world.kernel p (slice_get s.world.processes p)
 
 -- the line of the next step, of process p, or nothing
 unfoldable pub line : Widths → Scene → ℕ → List ℕ
 line v s p =
-    if has_effect (told_of (turn_in s.world p))
+    if has_effect (stepped_of (step_effect_in s.world p))
     then line_by v s.number (step s.world p).kernel s.tally p (before_at s p) (slice_get (step s.world p).processes p)
     else []
 
 -- the tally after the next step, of process p
-unfoldable pub tallied : Scene → ℕ → TallyState
-tallied s p =
-    if has_effect (told_of (turn_in s.world p))
+unfoldable pub next_tally : Scene → ℕ → TallyState
+next_tally s p =
+    if has_effect (stepped_of (step_effect_in s.world p))
     then tally_by s.number (step s.world p).kernel s.tally p (before_at s p) (slice_get (step s.world p).processes p)
     else s.tally
 
+-- the scene after the next step, of process p
 abbrev pub next : Scene → ℕ → Scene
-next s p = record { number = s.number + 1; world = step s.world p; tally = tallied s p }
+next s p = scene_at (s.number + 1) (step s.world p) (next_tally s p)
 
 -- the lines of steps
 unfoldable pub events : Widths → Scene → List ℕ → List ℕ

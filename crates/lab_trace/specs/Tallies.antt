@@ -1,5 +1,4 @@
--- What a trace keeps beside the world: of each process its counted steps since its last line, and since when it waits; of each
--- message in a queue where it comes from; of each process and semaphore how many units it took and gave.
+-- What a trace keeps beside the world.
 use Rattle.std.specs.Prelude.{ℕ, ◌+◌, ◌<◌, replicate, slice_set, Option, Some, None, List, [], slice_get, unwrap_or}
 use Rattle.lab_sched.specs.Worlds.{Process, Running, Waiting, Ended}
 use Rattle.ipc_kernel.specs.Kernel.{KernelState}
@@ -11,6 +10,8 @@ use Rattle.lab_trace.specs.declared.units.UnitCount.{UnitCount}
 use Rattle.lab_trace.specs.Events.{Event, local, calls, writes, ends}
 use Rattle.lab_trace.specs.declared.tally.Account.{Account}
 
+-- of each process its counted steps since its last line, and since when it waits; of each message in
+-- a queue where it comes from; of each process and semaphore how many units it took and gave
 pub record TallyState : Type 0 where
   pub accounts : List Account
   pub origins : List Origin
@@ -28,6 +29,7 @@ new_tally count = record { accounts = replicate count new_account; origins = [];
 abbrev pub account_in : List Account → ℕ → Account
 account_in t p = unwrap_or (slice_get t p) new_account
 
+-- the account of process p in a tally
 abbrev pub account_of : TallyState → ℕ → Account
 account_of t p = account_in t.accounts p
 

@@ -16,6 +16,7 @@ use Rattle.lab_trace.specs.declared.fault.TraceFault.TheVariants.{NoProcess, Wri
 abbrev pub ending : Widths → WorldState → TallyState → List ℕ
 ending v w t = end_lines v w t ++ report_text w
 
+-- the trace of steps from a scene on, in columns of these widths
 abbrev pub trace_with : Widths → Scene → List ℕ → List ℕ
 trace_with v s ps = events v s ps ++ ending v (scene_after s ps).world (scene_after s ps).tally
 

@@ -24,13 +24,14 @@ units_of place p cs = unwrap_or (find (is_of place p) cs) (no_units place p)
 abbrev pub balance : UnitCount → ℕ
 balance c = c.taken - c.given
 
-abbrev pub put : UnitCount → List UnitCount → Option ℕ → List UnitCount
-put c cs None = cs ++ c ∷ []
-put c cs (Some i) = slice_set cs i c
+-- a count in the place of the one that stands at this position, or behind the others where there is none
+abbrev pub with_count_at : UnitCount → List UnitCount → Option ℕ → List UnitCount
+with_count_at c cs None = cs ++ c ∷ []
+with_count_at c cs (Some i) = slice_set cs i c
 
 -- another count of the same process for the same semaphore
-unfoldable pub counted : UnitCount → List UnitCount → List UnitCount
-counted c cs = put c cs (position (is_of c.place c.pid) cs)
+unfoldable pub with_count : UnitCount → List UnitCount → List UnitCount
+with_count c cs = with_count_at c cs (position (is_of c.place c.pid) cs)
 
 -- whether the semaphore of a count is there
 abbrev pub is_there : KernelState → UnitCount → Bool
@@ -40,38 +41,48 @@ is_there k c = is_some (semaphore_value (place_at k.places c.place))
 unfoldable pub remaining : KernelState → List UnitCount → List UnitCount
 remaining k cs = filter (is_there k) cs
 
+-- the count after a unit more that the process took
 abbrev pub one_taken : UnitCount → UnitCount
 one_taken c = record c { taken = c.taken + 1 }
 
+-- the count after a unit more that the process gave
 abbrev pub one_given : UnitCount → UnitCount
 one_given c = record c { given = c.given + 1 }
 
+-- the counts after process p took a unit of the semaphore in a place, where there is one
 abbrev pub taken_in : ℕ → Option ℕ → List UnitCount → List UnitCount
 taken_in p None cs = cs
-taken_in p (Some place) cs = counted (one_taken (units_of place p cs)) cs
+taken_in p (Some place) cs = with_count (one_taken (units_of place p cs)) cs
 
+-- the counts after process p gave a unit to the semaphore in a place, where there is one
 abbrev pub given_in : ℕ → Option ℕ → List UnitCount → List UnitCount
 given_in p None cs = cs
-given_in p (Some place) cs = counted (one_given (units_of place p cs)) cs
+given_in p (Some place) cs = with_count (one_given (units_of place p cs)) cs
 
 -- after a call of process p that was answered and not refused
-abbrev pub moved : ℕ → Option ℕ → Service → List UnitCount → List UnitCount
-moved p place SemWait cs = taken_in p place cs
-moved p place SemTrywait cs = taken_in p place cs
-moved p place SemPost cs = given_in p place cs
-moved p place other cs = cs
+abbrev pub units_after_call : ℕ → Option ℕ → Service → List UnitCount → List UnitCount
+units_after_call p place SemWait cs = taken_in p place cs
+units_after_call p place SemTrywait cs = taken_in p place cs
+units_after_call p place SemPost cs = given_in p place cs
+units_after_call p place other cs = cs
 
+-- after a call of process p; one that waits or was refused moves no unit
 abbrev pub moved_by : ℕ → Question → Option ℕ → List UnitCount → List UnitCount
 moved_by p q None cs = cs
-moved_by p q (Some result) cs = moved p q.place q.service cs
+moved_by p q (Some result) cs = units_after_call p q.place q.service cs
+
+-- the most units that a count tells of a process: it has 32 bits
+abbrev pub most_units : ℕ
+most_units = 0xffffffff
 
 -- before step number n: a process took and gave fewer units
 abbrev pub IsFew : ℕ → UnitCount → Type 0
 IsFew n c = (c.taken < n) × (c.given < n)
 
+-- before step number n: each process took and gave fewer units of each semaphore
 abbrev pub AreFew : ℕ → List UnitCount → Type 0
 AreFew n cs = All (IsFew n) cs
 
--- whether 32 bits count one unit more that process p takes or gives
+-- whether the counts of process p have room for one unit more that it takes or gives
 abbrev pub HasRoom : ℕ → List UnitCount → Type 0
-HasRoom p cs = (place : ℕ) → IsFew 0xffffffff (units_of place p cs)
+HasRoom p cs = (place : ℕ) → IsFew most_units (units_of place p cs)

@@ -71,6 +71,7 @@ glyphs_text ws = if list_any is_printable ws then codes " \"" ++ flat_map glyph 
 abbrev pub shown_words : ℕ
 shown_words = 16
 
+-- what stands behind the shown words of a longer message
 abbrev pub more_text : Bool → List ℕ
 more_text more = if more then codes " ..." else []
 

@@ -1,8 +1,8 @@
 //! What a call is answered.
 ghost use Rattle.std.specs.Prelude.{◌≡◌, ◌<◌, ◌++◌, OnOk, IfSome, length, string_bytes};
 ghost use Rattle.std.specs.Option.{option_map};
-ghost use Rattle.lab_sched.specs.Held.{seen};
-ghost use Rattle.lab_debug.specs.Texts.{machine_of};
+ghost use Rattle.lab_sched.specs.Held.{process_view};
+ghost use Rattle.lab_sched.specs.Worlds.{machine_of};
 ghost use Rattle.ipc_kernel.specs.Limits.{object_places};
 ghost use Rattle.ipc_kernel.specs.Outcomes.{open_queue, open_semaphore};
 ghost use Rattle.lab_trace.specs.Answers.{error_name, error_in, received_text, received_of, attributes_of, value_of, reply_text, result_text, answer_text, result_of};
@@ -79,7 +79,8 @@ fn open_value(kernel: &Kernel, pid: usize, slot: u16) -> Option<u16>
 
 /// Adds the words and the priority of the first message of a queue, if it has one.
 fn push_first(text: &mut String, queue: &Queue) -> Result<(), AllocError>
-    ensures { OnOk result (string_bytes text.new ≡ string_bytes text.old ++ received_text queue.now.messages) }
+    ensures text { OnOk result (string_bytes text.new ≡ string_bytes text.old
+        ++ received_text queue.now.messages) }
 {
     let Some((priority, words)) = queue.entry(0) else {
         return Ok(());
@@ -102,7 +103,8 @@ pub fn push_reply(
     service: Service,
 ) -> Result<(), AllocError>
     requires process { pid < length kernel.now.processes }
-    ensures { OnOk result (string_bytes text.new ≡ string_bytes text.old ++ reply_text kernel.now pid (machine_of (seen process.now)) service) }
+    ensures text { OnOk result (string_bytes text.new ≡ string_bytes text.old
+        ++ reply_text kernel.now pid (machine_of (process_view process.now)) service) }
 {
     let number = register(process, 0);
     match service {
@@ -128,7 +130,8 @@ pub fn push_reply(
 
 /// Adds an error, or a result and what stands behind it.
 fn push_result(text: &mut String, word: u16, reply: &str) -> Result<(), AllocError>
-    ensures { OnOk result (string_bytes text.new ≡ string_bytes text.old ++ result_text word (error_in word) reply.now) }
+    ensures text { OnOk result (string_bytes text.new ≡ string_bytes text.old
+        ++ result_text word (error_in word) reply.now) }
 {
     match error_in(word) {
         Some(error) => text.push_str(error_name(error)),
@@ -142,7 +145,8 @@ fn push_result(text: &mut String, word: u16, reply: &str) -> Result<(), AllocErr
 /// Adds the answer, by the process after its call.
 #[tactic(auto, unfolding(crate::specs::Answers::answer_text))]
 pub fn push_answer(text: &mut String, after: &Process, reply: &str) -> Result<(), AllocError>
-    ensures { OnOk result (string_bytes text.new ≡ string_bytes text.old ++ answer_text (seen after.now) reply.now) }
+    ensures text { OnOk result (string_bytes text.new ≡ string_bytes text.old
+        ++ answer_text (process_view after.now) reply.now) }
 {
     match after {
         Process::Running(_) => {
@@ -156,7 +160,7 @@ pub fn push_answer(text: &mut String, after: &Process, reply: &str) -> Result<()
 
 /// The result of a call that was answered and not refused, by the process after it.
 pub fn result_of(after: &Process) -> Option<u16>
-    ensures value { result ≡ result_of (seen after.now) }
+    ensures value { result ≡ result_of (process_view after.now) }
 {
     match after {
         Process::Running(_) => {

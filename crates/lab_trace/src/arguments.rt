@@ -1,7 +1,7 @@
 //! A call with its arguments.
 ghost use Rattle.std.specs.Prelude.{◌≡◌, ◌<◌, ◌++◌, OnOk, length, string_bytes};
-ghost use Rattle.lab_sched.specs.Held.{seen};
-ghost use Rattle.lab_debug.specs.Texts.{machine_of};
+ghost use Rattle.lab_sched.specs.Held.{process_view};
+ghost use Rattle.lab_sched.specs.Worlds.{machine_of};
 ghost use Rattle.lab_trace.specs.declared.service.Service.TheVariants.{MqSend, MqReceive};
 ghost use Rattle.lab_trace.specs.Calls.{attributes_asked, mq_open_arguments, sem_open_arguments, flags_asked, further_arguments, arguments, call_text};
 
@@ -20,7 +20,8 @@ use std::alloc::{AllocError, Global};
 /// Adds the attributes for mq_open at an address.
 #[tactic(auto, unfolding(crate::specs::Calls::attributes_asked))]
 fn push_sizes_at(text: &mut String, process: &Process, at: u16) -> Result<(), AllocError>
-    ensures { OnOk result (string_bytes text.new ≡ string_bytes text.old ++ attributes_asked (machine_of (seen process.now)) at) }
+    ensures text { OnOk result (string_bytes text.new ≡ string_bytes text.old
+        ++ attributes_asked (machine_of (process_view process.now)) at) }
 {
     if at == 0 || !is_in_memory(at, 4) {
         return push_pointer(text, at);
@@ -35,7 +36,8 @@ fn push_sizes_at(text: &mut String, process: &Process, at: u16) -> Result<(), Al
 /// Adds the arguments of mq_open.
 #[tactic(auto, unfolding(crate::specs::Calls::mq_open_arguments))]
 fn push_mq_open(alloc: Global, text: &mut String, process: &Process) -> Result<(), AllocError>
-    ensures { OnOk result (string_bytes text.new ≡ string_bytes text.old ++ mq_open_arguments (machine_of (seen process.now))) }
+    ensures text { OnOk result (string_bytes text.new ≡ string_bytes text.old
+        ++ mq_open_arguments (machine_of (process_view process.now))) }
 {
     let flags = register(process, 1);
     push_name(alloc, text, process, register(process, 0))?;
@@ -51,7 +53,8 @@ fn push_mq_open(alloc: Global, text: &mut String, process: &Process) -> Result<(
 /// Adds the arguments of sem_open.
 #[tactic(auto, unfolding(crate::specs::Calls::sem_open_arguments))]
 fn push_sem_open(alloc: Global, text: &mut String, process: &Process) -> Result<(), AllocError>
-    ensures { OnOk result (string_bytes text.new ≡ string_bytes text.old ++ sem_open_arguments (machine_of (seen process.now))) }
+    ensures text { OnOk result (string_bytes text.new ≡ string_bytes text.old
+        ++ sem_open_arguments (machine_of (process_view process.now))) }
 {
     let flags = register(process, 1);
     push_name(alloc, text, process, register(process, 0))?;
@@ -70,7 +73,8 @@ fn push_sem_open(alloc: Global, text: &mut String, process: &Process) -> Result<
 /// Adds the new mq_flags at an address.
 #[tactic(auto, unfolding(crate::specs::Calls::flags_asked))]
 fn push_flags_asked(text: &mut String, process: &Process, at: u16) -> Result<(), AllocError>
-    ensures { OnOk result (string_bytes text.new ≡ string_bytes text.old ++ flags_asked (machine_of (seen process.now)) at) }
+    ensures text { OnOk result (string_bytes text.new ≡ string_bytes text.old
+        ++ flags_asked (machine_of (process_view process.now)) at) }
 {
     if !is_in_memory(at, 4) {
         return push_address(text, at);
@@ -81,7 +85,8 @@ fn push_flags_asked(text: &mut String, process: &Process, at: u16) -> Result<(),
 /// Adds what stands behind the descriptor of mq_send.
 #[tactic(auto, unfolding(crate::specs::Calls::further_arguments))]
 fn push_sent(alloc: Global, text: &mut String, process: &Process) -> Result<(), AllocError>
-    ensures { OnOk result (string_bytes text.new ≡ string_bytes text.old ++ further_arguments (machine_of (seen process.now)) MqSend) }
+    ensures text { OnOk result (string_bytes text.new ≡ string_bytes text.old
+        ++ further_arguments (machine_of (process_view process.now)) MqSend) }
 {
     let len = register(process, 2);
     let priority = register(process, 3);
@@ -96,7 +101,8 @@ fn push_sent(alloc: Global, text: &mut String, process: &Process) -> Result<(), 
 /// Adds what stands behind the descriptor of mq_receive.
 #[tactic(auto, unfolding(crate::specs::Calls::further_arguments))]
 fn push_received(text: &mut String, process: &Process) -> Result<(), AllocError>
-    ensures { OnOk result (string_bytes text.new ≡ string_bytes text.old ++ further_arguments (machine_of (seen process.now)) MqReceive) }
+    ensures text { OnOk result (string_bytes text.new ≡ string_bytes text.old
+        ++ further_arguments (machine_of (process_view process.now)) MqReceive) }
 {
     let len = register(process, 2);
     text.push_str(", ")?;
@@ -113,7 +119,8 @@ fn push_further(
     process: &Process,
     service: Service,
 ) -> Result<(), AllocError>
-    ensures { OnOk result (string_bytes text.new ≡ string_bytes text.old ++ further_arguments (machine_of (seen process.now)) service) }
+    ensures text { OnOk result (string_bytes text.new ≡ string_bytes text.old
+        ++ further_arguments (machine_of (process_view process.now)) service) }
 {
     match service {
         Service::MqSend => push_sent(alloc, text, process),
@@ -142,7 +149,8 @@ fn push_arguments(
     service: Service,
 ) -> Result<(), AllocError>
     requires process { pid < length kernel.now.processes }
-    ensures { OnOk result (string_bytes text.new ≡ string_bytes text.old ++ arguments kernel.now pid (machine_of (seen process.now)) service) }
+    ensures text { OnOk result (string_bytes text.new ≡ string_bytes text.old
+        ++ arguments kernel.now pid (machine_of (process_view process.now)) service) }
 {
     match service {
         Service::MqOpen => push_mq_open(alloc, text, process),
@@ -171,7 +179,8 @@ pub fn push_call(
     service: Service,
 ) -> Result<(), AllocError>
     requires process { pid < length kernel.now.processes }
-    ensures { OnOk result (string_bytes text.new ≡ string_bytes text.old ++ call_text kernel.now pid (machine_of (seen process.now)) service) }
+    ensures text { OnOk result (string_bytes text.new ≡ string_bytes text.old
+        ++ call_text kernel.now pid (machine_of (process_view process.now)) service) }
 {
     text.push_str(service.name())?;
     text.push_str("(")?;

@@ -1,7 +1,7 @@
 //! What a trace looks at before a step.
 ghost use Rattle.std.specs.Prelude.{◌≡◌, ◌<◌, IfOk, length, slice_get};
-ghost use Rattle.lab_sched.specs.Held.{seen};
-ghost use Rattle.lab_debug.specs.Texts.{machine_of};
+ghost use Rattle.lab_sched.specs.Held.{process_view};
+ghost use Rattle.lab_sched.specs.Worlds.{machine_of};
 ghost use Rattle.lab_trace.specs.Questions.{question, before, question_of, before_of};
 ghost use Rattle.lab_trace.specs.Scenes.{before_in};
 
@@ -50,7 +50,8 @@ fn asking_of(
     service: Service,
 ) -> Result<Asking, AllocError>
     requires process { pid < length kernel.now.processes }
-    ensures question { IfOk result (λ a. question_of a ≡ question kernel.now pid (machine_of (seen process.now)) service) }
+    ensures question { IfOk result (λ a. question_of a
+        ≡ question kernel.now pid (machine_of (process_view process.now)) service) }
 {
     let mut call = String::new(alloc);
     push_call(alloc, &mut call, kernel, pid, process, service)?;
@@ -74,7 +75,8 @@ fn observed_of(
     process: &Process,
 ) -> Result<Observed, AllocError>
     requires process { pid < length kernel.now.processes }
-    ensures before { IfOk result (λ o. before_of o ≡ before kernel.now pid (machine_of (seen process.now))) }
+    ensures before { IfOk result (λ o. before_of o
+        ≡ before kernel.now pid (machine_of (process_view process.now))) }
 {
     let asking = match service_at(process) {
         Some(service) => Some(asking_of(alloc, kernel, pid, process, service)?),
@@ -92,7 +94,8 @@ fn observed_of(
 /// Process `pid` of a world before its step.
 pub fn observe(alloc: Global, world: &World, pid: usize) -> Result<Observed, AllocError>
     requires process { pid < length world.now.processes }
-    ensures before { IfOk result (λ o. before_of o ≡ before_in world.now.kernel pid (slice_get world.now.processes pid)) }
+    ensures before { IfOk result (λ o. before_of o
+        ≡ before_in world.now.kernel pid (slice_get world.now.processes pid)) }
 {
     let kernel = world.kernel();
     match world.process(pid) {

@@ -11,7 +11,7 @@ use std::alloc::AllocError;
 /// Adds mq_flags.
 #[tactic(auto, unfolding(crate::specs::Attributes::flags_field))]
 fn push_flags_field(text: &mut String, word: u16) -> Result<(), AllocError>
-    ensures { OnOk result (string_bytes text.new ≡ string_bytes text.old ++ flags_field word) }
+    ensures text { OnOk result (string_bytes text.new ≡ string_bytes text.old ++ flags_field word) }
 {
     text.push_str("mq_flags=")?;
     push_flag_word(text, word)
@@ -20,7 +20,8 @@ fn push_flags_field(text: &mut String, word: u16) -> Result<(), AllocError>
 /// Adds mq_maxmsg.
 #[tactic(auto, unfolding(crate::specs::Attributes::most_field))]
 fn push_most(text: &mut String, number: u16) -> Result<(), AllocError>
-    ensures { OnOk result (string_bytes text.new ≡ string_bytes text.old ++ most_field number) }
+    ensures text { OnOk result (string_bytes text.new ≡ string_bytes text.old
+        ++ most_field number) }
 {
     match write!(text, "mq_maxmsg={number}") {
         Ok(()) => Ok(()),
@@ -31,7 +32,8 @@ fn push_most(text: &mut String, number: u16) -> Result<(), AllocError>
 /// Adds mq_msgsize.
 #[tactic(auto, unfolding(crate::specs::Attributes::size_field))]
 fn push_size(text: &mut String, number: u16) -> Result<(), AllocError>
-    ensures { OnOk result (string_bytes text.new ≡ string_bytes text.old ++ size_field number) }
+    ensures text { OnOk result (string_bytes text.new ≡ string_bytes text.old
+        ++ size_field number) }
 {
     match write!(text, ", mq_msgsize={number}") {
         Ok(()) => Ok(()),
@@ -42,7 +44,8 @@ fn push_size(text: &mut String, number: u16) -> Result<(), AllocError>
 /// Adds mq_curmsgs.
 #[tactic(auto, unfolding(crate::specs::Attributes::count_field))]
 fn push_count(text: &mut String, number: u16) -> Result<(), AllocError>
-    ensures { OnOk result (string_bytes text.new ≡ string_bytes text.old ++ count_field number) }
+    ensures text { OnOk result (string_bytes text.new ≡ string_bytes text.old
+        ++ count_field number) }
 {
     match write!(text, ", mq_curmsgs={number}") {
         Ok(()) => Ok(()),
@@ -52,7 +55,8 @@ fn push_count(text: &mut String, number: u16) -> Result<(), AllocError>
 
 /// Adds the attributes that mq_open asks for.
 pub fn push_sizes(text: &mut String, most: u16, size: u16) -> Result<(), AllocError>
-    ensures { OnOk result (string_bytes text.new ≡ string_bytes text.old ++ sizes_text most size) }
+    ensures text { OnOk result (string_bytes text.new ≡ string_bytes text.old
+        ++ sizes_text most size) }
 {
     text.push_str("{")?;
     push_most(text, most)?;
@@ -62,7 +66,7 @@ pub fn push_sizes(text: &mut String, most: u16, size: u16) -> Result<(), AllocEr
 
 /// Adds the attribute that mq_setattr sets.
 pub fn push_flags(text: &mut String, word: u16) -> Result<(), AllocError>
-    ensures { OnOk result (string_bytes text.new ≡ string_bytes text.old ++ flags_text word) }
+    ensures text { OnOk result (string_bytes text.new ≡ string_bytes text.old ++ flags_text word) }
 {
     text.push_str("{")?;
     push_flags_field(text, word)?;
@@ -71,7 +75,8 @@ pub fn push_flags(text: &mut String, word: u16) -> Result<(), AllocError>
 
 /// Adds the flags of a descriptor.
 fn push_descriptor(text: &mut String, held: Descriptor) -> Result<(), AllocError>
-    ensures { OnOk result (string_bytes text.new ≡ string_bytes text.old ++ descriptor_field held) }
+    ensures text { OnOk result (string_bytes text.new ≡ string_bytes text.old
+        ++ descriptor_field held) }
 {
     if held.nonblock {
         push_flags_field(text, O_NONBLOCK)
@@ -82,7 +87,8 @@ fn push_descriptor(text: &mut String, held: Descriptor) -> Result<(), AllocError
 
 /// Adds the limits of a queue, and how many messages it has.
 fn push_queue(text: &mut String, queue: &Queue) -> Result<(), AllocError>
-    ensures { OnOk result (string_bytes text.new ≡ string_bytes text.old ++ queue_fields queue.now) }
+    ensures text { OnOk result (string_bytes text.new ≡ string_bytes text.old
+        ++ queue_fields queue.now) }
 {
     let (most, size, count) = queue.attr();
     push_most(text, most)?;
@@ -92,7 +98,8 @@ fn push_queue(text: &mut String, queue: &Queue) -> Result<(), AllocError>
 
 /// Adds the attributes of a queue and a descriptor.
 pub fn push_attributes(text: &mut String, held: Descriptor, queue: &Queue) -> Result<(), AllocError>
-    ensures { OnOk result (string_bytes text.new ≡ string_bytes text.old ++ attributes_text held queue.now) }
+    ensures text { OnOk result (string_bytes text.new ≡ string_bytes text.old
+        ++ attributes_text held queue.now) }
 {
     text.push_str(" {")?;
     push_descriptor(text, held)?;

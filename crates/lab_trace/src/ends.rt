@@ -1,7 +1,7 @@
 //! Where the processes stand that haven't ended.
 ghost use Rattle.std.specs.Prelude.{◌≡◌, ◌<◌, ◌++◌, OnOk, IfOk, length, string_bytes, slice_get};
-ghost use Rattle.lab_sched.specs.Held.{seen};
-ghost use Rattle.lab_debug.specs.Texts.{machine_of};
+ghost use Rattle.lab_sched.specs.Held.{process_view};
+ghost use Rattle.lab_sched.specs.Worlds.{machine_of};
 ghost use Rattle.lab_trace.specs.Services.{service_at};
 ghost use Rattle.lab_trace.specs.Ends.{object_part, since_part, wait_text, stand, stand_line, end_lines};
 
@@ -63,8 +63,8 @@ fn push_wait(
 ) -> Result<(), AllocError>
     requires process { pid < length world.now.processes }
     ensures text { OnOk result (string_bytes text.new ≡ string_bytes text.old
-        ++ wait_text world.now tally.now pid (machine_of (seen process.now))
-        (service_at (machine_of (seen process.now)))) }
+        ++ wait_text world.now tally.now pid (machine_of (process_view process.now))
+        (service_at (machine_of (process_view process.now)))) }
 {
     let Some(service) = service_at(process) else {
         return Ok(());
@@ -91,7 +91,7 @@ fn push_stand(
 ) -> Result<(), AllocError>
     requires process { pid < length world.now.processes }
     ensures text { OnOk result (string_bytes text.new ≡ string_bytes text.old
-        ++ stand widths world.now tally.now pid (seen process.now)) }
+        ++ stand widths world.now tally.now pid (process_view process.now)) }
 {
     let pc = machine::pc(process);
     let local = tally.account(pid).local;

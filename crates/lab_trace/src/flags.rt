@@ -25,7 +25,7 @@ pub fn has_flag(flag: u16, word: u16) -> bool
 
 /// Adds what stands between two flags.
 fn push_bar(text: &mut String, begun: bool) -> Result<(), AllocError>
-    ensures { OnOk result (string_bytes text.new ≡ string_bytes text.old ++ bar begun) }
+    ensures text { OnOk result (string_bytes text.new ≡ string_bytes text.old ++ bar begun) }
 {
     if begun { text.push_str("|") } else { Ok(()) }
 }
@@ -39,7 +39,8 @@ fn push_flag(
     name: &str,
     word: u16,
 ) -> Result<(), AllocError>
-    ensures { OnOk result (string_bytes text.new ≡ string_bytes text.old ++ flag_part begun flag name.now word) }
+    ensures text { OnOk result (string_bytes text.new ≡ string_bytes text.old
+        ++ flag_part begun flag name.now word) }
 {
     if !has_flag(flag, word) {
         return Ok(());
@@ -51,7 +52,8 @@ fn push_flag(
 /// Adds the bits of a word that have no name, where there are any.
 #[tactic(auto, unfolding(crate::specs::Flags::rest_part))]
 fn push_rest(text: &mut String, begun: bool, unnamed: u16, word: u16) -> Result<(), AllocError>
-    ensures { OnOk result (string_bytes text.new ≡ string_bytes text.old ++ rest_part begun unnamed word) }
+    ensures text { OnOk result (string_bytes text.new ≡ string_bytes text.old
+        ++ rest_part begun unnamed word) }
 {
     if !has_flag(unnamed, word) {
         return Ok(());
@@ -75,7 +77,7 @@ fn access_name(access: u16) -> &'static str
 /// Adds the flags of mq_open.
 #[tactic(auto, unfolding(crate::specs::Flags::mq_flags))]
 pub fn push_mq_flags(text: &mut String, word: u16) -> Result<(), AllocError>
-    ensures { OnOk result (string_bytes text.new ≡ string_bytes text.old ++ mq_flags word) }
+    ensures text { OnOk result (string_bytes text.new ≡ string_bytes text.old ++ mq_flags word) }
 {
     text.push_str(access_name(word & O_ACCMODE))?;
     push_flag(text, true, O_CREAT, "O_CREAT", word)?;
@@ -87,7 +89,7 @@ pub fn push_mq_flags(text: &mut String, word: u16) -> Result<(), AllocError>
 /// Adds the flags of sem_open.
 #[tactic(auto, unfolding(crate::specs::Flags::sem_flags))]
 pub fn push_sem_flags(text: &mut String, word: u16) -> Result<(), AllocError>
-    ensures { OnOk result (string_bytes text.new ≡ string_bytes text.old ++ sem_flags word) }
+    ensures text { OnOk result (string_bytes text.new ≡ string_bytes text.old ++ sem_flags word) }
 {
     if word == 0 {
         return text.push_str("0");
@@ -105,7 +107,7 @@ pub fn push_sem_flags(text: &mut String, word: u16) -> Result<(), AllocError>
 /// Adds mq_flags of the attributes of a queue.
 #[tactic(auto, unfolding(crate::specs::Flags::flag_word))]
 pub fn push_flag_word(text: &mut String, word: u16) -> Result<(), AllocError>
-    ensures { OnOk result (string_bytes text.new ≡ string_bytes text.old ++ flag_word word) }
+    ensures text { OnOk result (string_bytes text.new ≡ string_bytes text.old ++ flag_word word) }
 {
     if word == 0 {
         return text.push_str("0");

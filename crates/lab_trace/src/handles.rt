@@ -35,7 +35,8 @@ pub fn held_place(kernel: &Kernel, pid: usize, service: Service, number: u16) ->
 
 /// Adds the name of an object, or its place once it is unlinked.
 fn push_named(text: &mut String, place: u8, name: Option<&Name>) -> Result<(), AllocError>
-    ensures { OnOk result (string_bytes text.new ≡ string_bytes text.old ++ named_text place (option_copied name.entry)) }
+    ensures text { OnOk result (string_bytes text.new ≡ string_bytes text.old
+        ++ named_text place (option_copied name.entry)) }
 {
     match name {
         Some(name) => text.push_str(name.text()),
@@ -48,7 +49,8 @@ fn push_named(text: &mut String, place: u8, name: Option<&Name>) -> Result<(), A
 
 /// Adds the object in a place.
 fn push_object(text: &mut String, kernel: &Kernel, place: u8) -> Result<(), AllocError>
-    ensures { OnOk result (string_bytes text.new ≡ string_bytes text.old ++ object_text place (place_at kernel.now.places place)) }
+    ensures text { OnOk result (string_bytes text.new ≡ string_bytes text.old
+        ++ object_text place (place_at kernel.now.places place)) }
 {
     if let Some((name, _)) = kernel.queue_at(place) {
         return push_named(text, place, name);
@@ -61,7 +63,8 @@ fn push_object(text: &mut String, kernel: &Kernel, place: u8) -> Result<(), Allo
 
 /// Adds the object behind a number that is open.
 fn push_behind(text: &mut String, kernel: &Kernel, place: Option<u8>) -> Result<(), AllocError>
-    ensures { OnOk result (string_bytes text.new ≡ string_bytes text.old ++ behind_text kernel.now place) }
+    ensures text { OnOk result (string_bytes text.new ≡ string_bytes text.old
+        ++ behind_text kernel.now place) }
 {
     let Some(place) = place else {
         return Ok(());
@@ -81,7 +84,8 @@ pub fn push_handle(
     number: u16,
 ) -> Result<(), AllocError>
     requires process { pid < length kernel.now.processes }
-    ensures { OnOk result (string_bytes text.new ≡ string_bytes text.old ++ handle_text kernel.now pid service number) }
+    ensures text { OnOk result (string_bytes text.new ≡ string_bytes text.old
+        ++ handle_text kernel.now pid service number) }
 {
     push_signed(text, number)?;
     push_behind(text, kernel, held_place(kernel, pid, service, number))
@@ -89,7 +93,8 @@ pub fn push_handle(
 
 /// Adds how many messages a queue has, of how many.
 fn push_fill(text: &mut String, queue: &Queue) -> Result<(), AllocError>
-    ensures { OnOk result (string_bytes text.new ≡ string_bytes text.old ++ fill_text queue.now) }
+    ensures text { OnOk result (string_bytes text.new ≡ string_bytes text.old
+        ++ fill_text queue.now) }
 {
     let (most, _, count) = queue.attr();
     match write!(text, "{count} of {most}") {
@@ -101,7 +106,8 @@ fn push_fill(text: &mut String, queue: &Queue) -> Result<(), AllocError>
 /// Adds the messages of the queue or the value of the semaphore in a place.
 #[tactic(auto, unfolding(crate::specs::Objects::level_text))]
 pub fn push_level(text: &mut String, kernel: &Kernel, place: u8) -> Result<(), AllocError>
-    ensures { OnOk result (string_bytes text.new ≡ string_bytes text.old ++ level_text kernel.now place) }
+    ensures text { OnOk result (string_bytes text.new ≡ string_bytes text.old
+        ++ level_text kernel.now place) }
 {
     if let Some((_, queue)) = kernel.queue_at(place) {
         return push_fill(text, queue);

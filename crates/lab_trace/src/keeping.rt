@@ -1,13 +1,13 @@
 //! What a trace keeps after a step, of messages and of units of semaphores.
 ghost use Rattle.std.specs.Prelude.{◌≡◌, ◌<◌, ◌==◌, OnOk, length};
-ghost use Rattle.ipc_kernel.specs.Decisions.{queue_at};
-ghost use Rattle.lab_sched.specs.Held.{seen};
+ghost use Rattle.ipc_kernel.specs.Outcomes.{queue_at};
+ghost use Rattle.lab_sched.specs.Held.{process_view};
 ghost use Rattle.lab_trace.specs.Answers.{result_of};
 ghost use Rattle.lab_trace.specs.Questions.{question_of, before_of};
 ghost use Rattle.lab_trace.specs.Events.{event_of};
 ghost use Rattle.lab_trace.specs.Tallies.{origins_after, units_after};
-ghost use Rattle.lab_trace.specs.Origins.{opened, sent_to, received_in, changed};
-ghost use Rattle.lab_trace.specs.Units.{HasRoom, taken_in, given_in, moved, moved_by};
+ghost use Rattle.lab_trace.specs.Origins.{origins_after_open, sent_to, received_in, origins_after_call};
+ghost use Rattle.lab_trace.specs.Units.{HasRoom, taken_in, given_in, units_after_call, moved_by};
 
 use crate::answers::result_of;
 use crate::asking::{Asking, Observed};
@@ -35,7 +35,7 @@ fn is_unused(kernel: &Kernel, place: u8) -> bool
 /// Keeps that a queue was opened.
 fn keep_opened(tally: &mut Tally, kernel: &Kernel, place: Option<u8>) -> Result<(), AllocError>
     ensures kept { OnOk result (tally.new ≡ record tally.old {
-      origins = opened kernel.now place tally.old.origins;
+      origins = origins_after_open kernel.now place tally.old.origins;
     }) }
 {
     let Some(place) = place else {
@@ -91,7 +91,8 @@ fn keep_messages(
 ) -> Result<(), AllocError>
     requires process { pid < length kernel.now.processes }
     ensures kept { OnOk result (tally.new ≡ record tally.old {
-      origins = changed kernel.now number pid (question_of asking.now) asking.now.service word
+      origins = origins_after_call kernel.now number pid
+          (question_of asking.now) asking.now.service word
           tally.old.origins;
     }) }
 {
@@ -123,8 +124,8 @@ pub fn keep_origins(
 ) -> Result<(), AllocError>
     requires process { pid < length kernel.now.processes }
     ensures kept { OnOk result (tally.new ≡ record tally.old {
-      origins = origins_after kernel.now number pid (seen after.now)
-          (event_of (before_of before.now) (seen after.now)) tally.old.origins;
+      origins = origins_after kernel.now number pid (process_view after.now)
+          (event_of (before_of before.now) (process_view after.now)) tally.old.origins;
     }) }
 {
     match (&before.asking, result_of(after)) {
@@ -163,7 +164,7 @@ fn keep_given(tally: &mut Tally, pid: usize, place: Option<u8>) -> Result<(), Al
 fn keep_moved(tally: &mut Tally, pid: usize, asking: &Asking) -> Result<(), AllocError>
     requires room { HasRoom pid tally.old.units }
     ensures kept { OnOk result (tally.new ≡ record tally.old {
-      units = moved pid asking.now.place asking.now.service tally.old.units;
+      units = units_after_call pid asking.now.place asking.now.service tally.old.units;
     }) }
 {
     match asking.service {
@@ -182,7 +183,8 @@ fn keep_answered(
 ) -> Result<(), AllocError>
     requires room { HasRoom pid tally.old.units }
     ensures kept { OnOk result (tally.new ≡ record tally.old {
-      units = moved_by pid (question_of asking.now) (result_of (seen after.now)) tally.old.units;
+      units = moved_by pid (question_of asking.now)
+          (result_of (process_view after.now)) tally.old.units;
     }) }
 {
     match result_of(after) {
@@ -201,8 +203,8 @@ pub fn keep_units(
 ) -> Result<(), AllocError>
     requires room { HasRoom pid tally.old.units }
     ensures kept { OnOk result (tally.new ≡ record tally.old {
-      units = units_after kernel.now pid (seen after.now)
-          (event_of (before_of before.now) (seen after.now)) tally.old.units;
+      units = units_after kernel.now pid (process_view after.now)
+          (event_of (before_of before.now) (process_view after.now)) tally.old.units;
     }) }
 {
     match (&before.asking, after) {

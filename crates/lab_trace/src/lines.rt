@@ -1,8 +1,8 @@
 //! The line of a step.
 ghost use Rattle.std.specs.Prelude.{◌≡◌, ◌≤◌, ◌<◌, ◌^◌, ◌++◌, OnOk, IfOk, length, string_bytes, drop};
 ghost use Rattle.std.specs.Fmt.{decimal};
-ghost use Rattle.lab_sched.specs.Held.{seen};
-ghost use Rattle.lab_debug.specs.Texts.{machine_of};
+ghost use Rattle.lab_sched.specs.Held.{process_view};
+ghost use Rattle.lab_sched.specs.Worlds.{machine_of};
 ghost use Rattle.lab_trace.specs.Answers.{result_of};
 ghost use Rattle.lab_trace.specs.Questions.{question_of};
 ghost use Rattle.lab_trace.specs.Origins.{first_in, origin_by};
@@ -125,7 +125,8 @@ fn opened_place(
 #[tactic(auto, unfolding(crate::specs::Lines::told_place))]
 fn told_place(kernel: &Kernel, pid: usize, asking: &Asking, after: &Process) -> Option<u8>
     requires process { pid < length kernel.now.processes }
-    ensures place { result ≡ told_place kernel.now pid (question_of asking.now) (seen after.now) }
+    ensures place { result
+        ≡ told_place kernel.now pid (question_of asking.now) (process_view after.now) }
 {
     if asking.service.is_open() {
         return opened_place(kernel, pid, asking.service, result_of(after));
@@ -222,7 +223,7 @@ fn first_in(tally: &Tally, place: Option<u8>) -> Option<Origin>
 
 /// Where the message comes from that a call received.
 fn origin_of(tally: &Tally, asking: &Asking, after: &Process) -> Option<Origin>
-    ensures value { result ≡ origin_by (question_of asking.now) (result_of (seen after.now))
+    ensures value { result ≡ origin_by (question_of asking.now) (result_of (process_view after.now))
         tally.now.origins }
 {
     match (result_of(after), asking.service) {
@@ -260,7 +261,7 @@ pub fn push_call_line(
     requires process { pid < length kernel.now.processes }
     ensures text { OnOk result (string_bytes text.new ≡ string_bytes text.old
         ++ call_line kernel.now (account_of tally.now pid) tally.now.origins pid
-        (question_of asking.now) (seen after.now)) }
+        (question_of asking.now) (process_view after.now)) }
 {
     text.push_str(&asking.call)?;
     push_answer(text, after, &asking.reply)?;
@@ -290,7 +291,8 @@ pub fn push_end(text: &mut String, how: How) -> Result<(), AllocError>
 
 /// The bytes that a process wrote in its step.
 pub fn new_output<'a>(before: &Observed, after: &'a Process) -> &'a [u8]
-    ensures bytes { result.now ≡ drop before.now.written (machine_of (seen after.now)).output }
+    ensures bytes { result.now
+        ≡ drop before.now.written (machine_of (process_view after.now)).output }
 {
     let output = machine::output(after);
     &output[before.written.min(output.len())..]

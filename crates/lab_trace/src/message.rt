@@ -1,8 +1,8 @@
 //! The words of messages.
 ghost use Rattle.std.specs.Prelude.{◌≡◌, ◌++◌, OnOk, string_bytes, flat_map};
 ghost use Rattle.std.specs.List.{list_any};
-ghost use Rattle.lab_sched.specs.Held.{seen};
-ghost use Rattle.lab_debug.specs.Texts.{machine_of};
+ghost use Rattle.lab_sched.specs.Held.{process_view};
+ghost use Rattle.lab_sched.specs.Worlds.{machine_of};
 ghost use Rattle.lab_trace.specs.Words.{further_word, words_text, is_printable, glyph, glyphs_text, more_text, shown_text, message_text};
 ghost use Rattle.lab_trace.specs.Calls.{buffer_text};
 
@@ -16,7 +16,8 @@ const SHOWN: usize = 16;
 
 /// Adds words, each behind a blank.
 fn push_further(text: &mut String, words: &[u16]) -> Result<(), AllocError>
-    ensures { OnOk result (string_bytes text.new ≡ string_bytes text.old ++ flat_map further_word words.now) }
+    ensures text { OnOk result (string_bytes text.new ≡ string_bytes text.old
+        ++ flat_map further_word words.now) }
 {
     for word in words {
         let word = Hex(*word);
@@ -27,7 +28,8 @@ fn push_further(text: &mut String, words: &[u16]) -> Result<(), AllocError>
 
 /// Adds words with a blank between each two.
 fn push_words(text: &mut String, words: &[u16]) -> Result<(), AllocError>
-    ensures { OnOk result (string_bytes text.new ≡ string_bytes text.old ++ words_text words.now) }
+    ensures text { OnOk result (string_bytes text.new ≡ string_bytes text.old
+        ++ words_text words.now) }
 {
     let Some((first, rest)) = words.split_first() else {
         return Ok(());
@@ -46,7 +48,7 @@ fn is_printable(word: u16) -> bool
 
 /// Adds the character of a word, or a point.
 fn push_glyph(text: &mut String, word: u16) -> Result<(), AllocError>
-    ensures { OnOk result (string_bytes text.new ≡ string_bytes text.old ++ glyph word) }
+    ensures text { OnOk result (string_bytes text.new ≡ string_bytes text.old ++ glyph word) }
 {
     if is_quotable(word) {
         text.push(char::from(word as u8))
@@ -57,7 +59,8 @@ fn push_glyph(text: &mut String, word: u16) -> Result<(), AllocError>
 
 /// Adds the characters of words.
 fn push_each_glyph(text: &mut String, words: &[u16]) -> Result<(), AllocError>
-    ensures { OnOk result (string_bytes text.new ≡ string_bytes text.old ++ flat_map glyph words.now) }
+    ensures text { OnOk result (string_bytes text.new ≡ string_bytes text.old
+        ++ flat_map glyph words.now) }
 {
     for word in words {
         push_glyph(text, *word)?;
@@ -75,7 +78,8 @@ fn any_printable(words: &[u16]) -> bool
 /// Adds a blank and the characters of words, where one of them can be printed.
 #[tactic(auto, unfolding(crate::specs::Words::glyphs_text))]
 fn push_glyphs(text: &mut String, words: &[u16]) -> Result<(), AllocError>
-    ensures { OnOk result (string_bytes text.new ≡ string_bytes text.old ++ glyphs_text words.now) }
+    ensures text { OnOk result (string_bytes text.new ≡ string_bytes text.old
+        ++ glyphs_text words.now) }
 {
     if !any_printable(words) {
         return Ok(());
@@ -87,7 +91,7 @@ fn push_glyphs(text: &mut String, words: &[u16]) -> Result<(), AllocError>
 
 /// Adds that there are more words, where there are.
 fn push_more(text: &mut String, more: bool) -> Result<(), AllocError>
-    ensures { OnOk result (string_bytes text.new ≡ string_bytes text.old ++ more_text more) }
+    ensures text { OnOk result (string_bytes text.new ≡ string_bytes text.old ++ more_text more) }
 {
     if more { text.push_str(" ...") } else { Ok(()) }
 }
@@ -95,7 +99,8 @@ fn push_more(text: &mut String, more: bool) -> Result<(), AllocError>
 /// Adds the words of a message that are shown.
 #[tactic(auto, unfolding(crate::specs::Words::shown_text))]
 fn push_shown(text: &mut String, shown: &[u16], more: bool) -> Result<(), AllocError>
-    ensures { OnOk result (string_bytes text.new ≡ string_bytes text.old ++ shown_text shown.now more) }
+    ensures text { OnOk result (string_bytes text.new ≡ string_bytes text.old
+        ++ shown_text shown.now more) }
 {
     text.push_str("[")?;
     push_words(text, shown)?;
@@ -106,7 +111,8 @@ fn push_shown(text: &mut String, shown: &[u16], more: bool) -> Result<(), AllocE
 
 /// Adds the words of a message.
 pub fn push_message(text: &mut String, words: &[u16]) -> Result<(), AllocError>
-    ensures { OnOk result (string_bytes text.new ≡ string_bytes text.old ++ message_text words.now) }
+    ensures text { OnOk result (string_bytes text.new ≡ string_bytes text.old
+        ++ message_text words.now) }
 {
     let count = words.len();
     push_shown(text, &words[..SHOWN.min(count)], SHOWN < count)
@@ -121,7 +127,8 @@ pub fn push_buffer(
     at: u16,
     len: u16,
 ) -> Result<(), AllocError>
-    ensures { OnOk result (string_bytes text.new ≡ string_bytes text.old ++ buffer_text (machine_of (seen process.now)) at len) }
+    ensures text { OnOk result (string_bytes text.new ≡ string_bytes text.old
+        ++ buffer_text (machine_of (process_view process.now)) at len) }
 {
     if !is_in_memory(at, len) {
         return push_address(text, at);

@@ -1,7 +1,7 @@
 //! Where the messages in queues come from.
 ghost use Rattle.std.specs.Prelude.{◌≡◌, ◌≤◌, OnOk, IfOk, length, []};
 ghost use Rattle.std.specs.List.{position_or_len};
-ghost use Rattle.lab_trace.specs.Origins.{is_in, is_below, sent, first, received, cleared};
+ghost use Rattle.lab_trace.specs.Origins.{is_in, is_below, origins_after_send, first, origins_after_receive, origins_without_queue};
 
 use std::alloc::{AllocError, Global};
 use std::marker::Model;
@@ -69,7 +69,7 @@ fn index_in(origins: &[Origin], place: u8) -> usize
 
 /// The messages that aren't in the queue in a place.
 fn others(alloc: Global, list: &[Origin], place: u8) -> Result<Vec<Origin>, AllocError>
-    ensures kept { IfOk result (λ v. v.items ≡ cleared place list.now) }
+    ensures kept { IfOk result (λ v. v.items ≡ origins_without_queue place list.now) }
 {
     let mut kept = Vec::new(alloc);
     for origin in list {
@@ -102,9 +102,9 @@ impl Origins {
     }
 
     /// Keeps where a message comes from that was sent.
-    #[tactic(auto, unfolding(crate::specs::Origins::sent))]
+    #[tactic(auto, unfolding(crate::specs::Origins::origins_after_send))]
     pub fn send(&mut self, origin: Origin) -> Result<(), AllocError>
-        ensures ok { OnOk result (self.new ≡ sent origin self.old) }
+        ensures ok { OnOk result (self.new ≡ origins_after_send origin self.old) }
     {
         let index = index_below(&self.list, origin.place, origin.priority);
         match self.list.insert(index, origin) {
@@ -114,9 +114,9 @@ impl Origins {
     }
 
     /// Lets go of the message that was received from the queue in a place.
-    #[tactic(auto, unfolding(crate::specs::Origins::received))]
+    #[tactic(auto, unfolding(crate::specs::Origins::origins_after_receive))]
     pub fn receive(&mut self, place: u8)
-        ensures kept { self.new ≡ received place self.old }
+        ensures kept { self.new ≡ origins_after_receive place self.old }
     {
         let index = index_in(&self.list, place);
         if index < self.list.len() {
@@ -126,7 +126,7 @@ impl Origins {
 
     /// Lets go of the messages of the queue in a place.
     pub fn clear(&mut self, place: u8) -> Result<(), AllocError>
-        ensures kept { OnOk result (self.new ≡ cleared place self.old) }
+        ensures kept { OnOk result (self.new ≡ origins_without_queue place self.old) }
     {
         let alloc = *self.list.allocator();
         let kept = others(alloc, &self.list, place)?;

@@ -1,7 +1,7 @@
 //! The calls of the kernel, by the vectors of their traps and by their names.
 ghost use Rattle.std.specs.Prelude.{◌≡◌};
-ghost use Rattle.lab_sched.specs.Held.{seen};
-ghost use Rattle.lab_debug.specs.Texts.{machine_of};
+ghost use Rattle.lab_sched.specs.Held.{process_view};
+ghost use Rattle.lab_sched.specs.Worlds.{machine_of};
 ghost use Rattle.lab_trace.specs.Services.{service_in, service_of, service_at, service_name, is_on_queues, is_open, is_on_level};
 
 use lab_debug::machine;
@@ -65,7 +65,7 @@ fn service_of(instruction: Option<Instr>) -> Option<Service>
 /// The call that a process stands before.
 #[tactic(auto, unfolding(crate::specs::Services::service_at))]
 pub fn service_at(process: &Process) -> Option<Service>
-    ensures service { result ≡ service_at (machine_of (seen process.now)) }
+    ensures service { result ≡ service_at (machine_of (process_view process.now)) }
 {
     let pc = machine::pc(process);
     if pc < FIRST_DEVICE {

@@ -1,14 +1,14 @@
 //! One step of a trace.
 ghost use Rattle.std.specs.Prelude.{◌≡◌, ◌<◌, ◌==◌, ◌++◌, IfOk, OnOk, length, string_bytes, slice_get};
 ghost use Rattle.std.specs.Fmt.{decimal};
-ghost use Rattle.lab_sched.specs.Worlds.{step, turn_in};
-ghost use Rattle.lab_sched.specs.Held.{seen, told_of};
+ghost use Rattle.lab_sched.specs.Worlds.{step, step_effect_in};
+ghost use Rattle.lab_sched.specs.Held.{process_view, stepped_of};
 ghost use Rattle.lab_trace.specs.Questions.{before_of};
 ghost use Rattle.lab_trace.specs.Events.{event_of, has_line};
 ghost use Rattle.lab_trace.specs.Tallies.{account_of, account_after, waits_from};
 ghost use Rattle.lab_trace.specs.Units.{AreFew};
 ghost use Rattle.lab_trace.specs.Lines.{what, event_line};
-ghost use Rattle.lab_trace.specs.Scenes.{has_effect, line_by, tally_by, line, tallied};
+ghost use Rattle.lab_trace.specs.Scenes.{scene_at, has_effect, line_by, tally_by, line, next_tally};
 
 use crate::asking::{Observed, observe};
 use crate::keeping::{keep_origins, keep_units};
@@ -37,7 +37,7 @@ fn has_effect(stepped: Stepped) -> bool
 
 /// Whether a step with an effect has a line.
 fn has_line(before: &Observed, after: &Process) -> bool
-    ensures value { result ≡ has_line (event_of (before_of before.now) (seen after.now)) }
+    ensures value { result ≡ has_line (event_of (before_of before.now) (process_view after.now)) }
 {
     match (&before.asking, after) {
         (Some(_), _) => true,
@@ -58,7 +58,7 @@ fn push_what(
     requires process { pid < length kernel.now.processes }
     ensures text { OnOk result (string_bytes text.new ≡ string_bytes text.old
         ++ what kernel.now (account_of tally.now pid) tally.now.origins pid (before_of before.now)
-        (seen after.now) (event_of (before_of before.now) (seen after.now))) }
+        (process_view after.now) (event_of (before_of before.now) (process_view after.now))) }
 {
     match (&before.asking, after) {
         (Some(asking), _) => push_call_line(text, kernel, tally, pid, asking, after),
@@ -88,8 +88,8 @@ fn line_of(
     requires process { pid < length kernel.now.processes }
     ensures line { IfOk result (λ s. string_bytes s
         ≡ event_line widths number kernel.now (account_of tally.now pid) tally.now.origins pid
-        (before_of before.now) (seen after.now)
-        (event_of (before_of before.now) (seen after.now))) }
+        (before_of before.now) (process_view after.now)
+        (event_of (before_of before.now) (process_view after.now))) }
 {
     let mut line = String::new(alloc);
     if !has_line(before, after) {
@@ -127,7 +127,7 @@ fn shown(
 
 /// The step since which a process waits, where it waits after step `number`.
 fn waits_from(number: u32, after: &Process) -> Option<u32>
-    ensures value { result ≡ waits_from number (seen after.now) }
+    ensures value { result ≡ waits_from number (process_view after.now) }
 {
     match after {
         Process::Waiting(_, _) => Some(number),
@@ -138,8 +138,8 @@ fn waits_from(number: u32, after: &Process) -> Option<u32>
 /// The account of a process after step `number`, which had an effect.
 fn account_after(number: u32, before: &Observed, after: &Process, account: Account) -> Account
     requires room { account.local < number }
-    ensures account { result ≡ account_after number (seen after.now)
-        (event_of (before_of before.now) (seen after.now)) account }
+    ensures account { result ≡ account_after number (process_view after.now)
+        (event_of (before_of before.now) (process_view after.now)) account }
 {
     if has_line(before, after) {
         Account {
@@ -181,7 +181,7 @@ fn keep(
 }
 
 /// Takes step number `number`, of process `pid`, and tells its line; the tally keeps it.
-#[tactic(auto, unfolding(crate::specs::Scenes::line, crate::specs::Scenes::tallied))]
+#[tactic(auto, unfolding(crate::specs::Scenes::line, crate::specs::Scenes::next_tally))]
 pub fn trace_step(
     alloc: Global,
     world: &mut World,
@@ -195,11 +195,11 @@ pub fn trace_step(
     requires room { (account_of tally.old pid).local < number }
     requires few { AreFew number tally.old.units }
     ensures line { IfOk result (λ r. string_bytes r.line
-        ≡ line widths (record { number = number; world = world.old; tally = tally.old }) pid) }
+        ≡ line widths (scene_at number world.old tally.old) pid) }
     ensures world { OnOk result (world.new ≡ step world.old pid) }
     ensures tally { OnOk result (tally.new
-        ≡ tallied (record { number = number; world = world.old; tally = tally.old }) pid) }
-    ensures told { IfOk result (λ r. r.stepped ≡ told_of (turn_in world.old pid)) }
+        ≡ next_tally (scene_at number world.old tally.old) pid) }
+    ensures told { IfOk result (λ r. r.stepped ≡ stepped_of (step_effect_in world.old pid)) }
 {
     let before = observe(alloc, world, pid)?;
     let Ok(stepped) = world.step(pid) else {

@@ -1,7 +1,7 @@
 //! Who took units of a semaphore and didn't give them back.
 ghost use Rattle.std.specs.Prelude.{◌≡◌, ◌++◌, OnOk, IfOk, length, string_bytes, slice_get};
 ghost use Rattle.std.specs.Option.{option_map, option_copied};
-ghost use Rattle.lab_sched.specs.Held.{seen};
+ghost use Rattle.lab_sched.specs.Held.{process_view};
 ghost use Rattle.lab_debug.specs.Rows.{each};
 ghost use Rattle.lab_trace.specs.Ends.{times_text, ended_text, taker_of, taker_text, takers_text, takers_part};
 
@@ -28,7 +28,7 @@ fn push_times(text: &mut String, count: u32) -> Result<(), AllocError>
 
 /// That a process has ended, or no text.
 fn ended_text(process: Option<&Process>) -> &'static str
-    ensures text { result.now ≡ ended_text (option_map seen (option_copied process.entry)) }
+    ensures text { result.now ≡ ended_text (option_map process_view (option_copied process.entry)) }
 {
     match process {
         Some(Process::Ended(_)) => "(ended)",
@@ -45,7 +45,7 @@ fn push_taker(
     process: Option<&Process>,
 ) -> Result<(), AllocError>
     ensures text { OnOk result (string_bytes text.new ≡ string_bytes text.old
-        ++ taker_of pid count (option_map seen (option_copied process.entry))) }
+        ++ taker_of pid count (option_map process_view (option_copied process.entry))) }
 {
     if count == 0 {
         return Ok(());

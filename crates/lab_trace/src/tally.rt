@@ -1,7 +1,7 @@
 //! What a trace keeps of each process beside the world.
 ghost use Rattle.std.specs.Prelude.{◌≡◌, ◌<◌, IfOk, OnOk, length, slice_set};
-ghost use Rattle.lab_trace.specs.Origins.{sent, first, received, cleared};
-ghost use Rattle.lab_trace.specs.Units.{units_of, balance, counted, remaining, one_taken, one_given};
+ghost use Rattle.lab_trace.specs.Origins.{origins_after_send, first, origins_after_receive, origins_without_queue};
+ghost use Rattle.lab_trace.specs.Units.{most_units, units_of, balance, with_count, remaining, one_taken, one_given};
 ghost use Rattle.lab_trace.specs.Tallies.{new_tally, account_of};
 
 use crate::origins::{Origin, Origins};
@@ -32,7 +32,11 @@ impl Model for Tally {
 
     ghost Value = { TallyState };
 
-    ghost view = { λ t. record { accounts = t.accounts.items; origins = t.origins; units = t.units } };
+    ghost view = { λ t. record {
+      accounts = t.accounts.items;
+      origins = t.origins;
+      units = t.units;
+    } };
 }
 
 /// An account before the first step.
@@ -86,14 +90,15 @@ impl Tally {
     /// Keeps where a message comes from that was sent.
     pub fn send(&mut self, origin: Origin) -> Result<(), AllocError>
         ensures ok { OnOk result (self.new
-            ≡ record self.old { origins = sent origin self.old.origins }) }
+            ≡ record self.old { origins = origins_after_send origin self.old.origins }) }
     {
         self.origins.send(origin)
     }
 
     /// Lets go of the message that was received from the queue in a place.
     pub fn receive(&mut self, place: u8)
-        ensures kept { self.new ≡ record self.old { origins = received place self.old.origins } }
+        ensures kept { self.new
+            ≡ record self.old { origins = origins_after_receive place self.old.origins } }
     {
         self.origins.receive(place);
     }
@@ -101,7 +106,7 @@ impl Tally {
     /// Lets go of the messages of the queue in a place.
     pub fn clear(&mut self, place: u8) -> Result<(), AllocError>
         ensures kept { OnOk result (self.new
-            ≡ record self.old { origins = cleared place self.old.origins }) }
+            ≡ record self.old { origins = origins_without_queue place self.old.origins }) }
     {
         self.origins.clear(place)
     }
@@ -115,9 +120,9 @@ impl Tally {
 
     /// Counts a unit that process `pid` took of the semaphore in a place.
     pub fn take(&mut self, place: u8, pid: usize) -> Result<(), AllocError>
-        requires room { (units_of place pid self.old.units).taken < 4_294_967_295 }
+        requires room { (units_of place pid self.old.units).taken < most_units }
         ensures kept { OnOk result (self.new ≡ record self.old {
-          units = counted (one_taken (units_of place pid self.old.units)) self.old.units;
+          units = with_count (one_taken (units_of place pid self.old.units)) self.old.units;
         }) }
     {
         self.units.take(place, pid)
@@ -125,9 +130,9 @@ impl Tally {
 
     /// Counts a unit that process `pid` gave to the semaphore in a place.
     pub fn give(&mut self, place: u8, pid: usize) -> Result<(), AllocError>
-        requires room { (units_of place pid self.old.units).given < 4_294_967_295 }
+        requires room { (units_of place pid self.old.units).given < most_units }
         ensures kept { OnOk result (self.new ≡ record self.old {
-          units = counted (one_given (units_of place pid self.old.units)) self.old.units;
+          units = with_count (one_given (units_of place pid self.old.units)) self.old.units;
         }) }
     {
         self.units.give(place, pid)

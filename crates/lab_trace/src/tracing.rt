@@ -5,7 +5,7 @@ ghost use Rattle.lab_io.specs.Device.{AppendsPrefix};
 ghost use Rattle.lab_sched.specs.Worlds.{run};
 ghost use Rattle.lab_sched.specs.Schedules.{steps_of, total_of, most_steps};
 ghost use Rattle.lab_sched.specs.declared.stepped.Stepped.TheVariants.{Same};
-ghost use Rattle.lab_trace.specs.Scenes.{events, scene_after, IsKept};
+ghost use Rattle.lab_trace.specs.Scenes.{scene_at, events, scene_after, IsKept};
 ghost use Rattle.lab_trace.specs.Traces.{ending, trace_text, missing_after, AreThere, Explains, IsFault};
 ghost use Rattle.lab_trace.specs.declared.fault.TraceFault.TheVariants.{NoProcess, Write};
 
@@ -37,8 +37,10 @@ pub fn missing_after(world: &World, schedule: &Schedule) -> Option<u64>
 
 /// Writes a text.
 fn write_text<W: Write>(text: &str, output: &mut Output<W>) -> Result<(), TraceFault>
-    ensures written { OnOk result (Appends (W.contents output.old.device) (W.contents output.new.device) text.now) }
-    ensures prefix { OnErr result (AppendsPrefix (W.contents output.old.device) (W.contents output.new.device) text.now) }
+    ensures written { OnOk result
+        (Appends (W.contents output.old.device) (W.contents output.new.device) text.now) }
+    ensures prefix { OnErr result
+        (AppendsPrefix (W.contents output.old.device) (W.contents output.new.device) text.now) }
     ensures failed { OnErr result (IsTrue output.new.failed) }
     ensures fault { IfErr result (λ e. e ≡ Write) }
 {
@@ -72,14 +74,16 @@ fn trace_block<W: Write>(
     output: &mut Output<W>,
 ) -> Result<(), TraceFault>
     requires process { block.pid < length world.old.processes }
-    requires room { first + block.count ≤ 1_000_000_000 }
-    requires kept { IsKept (record { number = first; world = world.old; tally = tally.old }) }
-    ensures scene { OnOk result (record { number = first + block.count; world = world.new; tally = tally.new }
-        ≡ scene_after (record { number = first; world = world.old; tally = tally.old }) (replicate block.count block.pid)) }
-    ensures written { OnOk result (Appends (W.contents output.old.device) (W.contents output.new.device)
-        (events widths (record { number = first; world = world.old; tally = tally.old }) (replicate block.count block.pid))) }
-    ensures prefix { OnErr result (AppendsPrefix (W.contents output.old.device) (W.contents output.new.device)
-        (events widths (record { number = first; world = world.old; tally = tally.old }) (replicate block.count block.pid))) }
+    requires room { first + block.count ≤ most_steps + 1 }
+    requires kept { IsKept (scene_at first world.old tally.old) }
+    ensures scene { OnOk result (scene_at (first + block.count) world.new tally.new
+        ≡ scene_after (scene_at first world.old tally.old) (replicate block.count block.pid)) }
+    ensures written { OnOk result
+        (Appends (W.contents output.old.device) (W.contents output.new.device)
+        (events widths (scene_at first world.old tally.old) (replicate block.count block.pid))) }
+    ensures prefix { OnErr result
+        (AppendsPrefix (W.contents output.old.device) (W.contents output.new.device)
+        (events widths (scene_at first world.old tally.old) (replicate block.count block.pid))) }
     ensures fault { IfErr result (λ e. IsFault e output.new.failed) }
 {
     let mut done = 0;
@@ -100,15 +104,17 @@ fn trace_blocks<W: Write>(
     blocks: &[Block],
     output: &mut Output<W>,
 ) -> Result<(), TraceFault>
-    requires kept { IsKept (record { number = 1; world = world.old; tally = tally.old }) }
+    requires kept { IsKept (scene_at 1 world.old tally.old) }
     requires room { total_of blocks.now ≤ most_steps }
     requires there { AreThere world.old blocks.now }
-    ensures scene { OnOk result ((number : ℕ) × (record { number = number; world = world.new; tally = tally.new }
-        ≡ scene_after (record { number = 1; world = world.old; tally = tally.old }) (steps_of blocks.now))) }
-    ensures written { OnOk result (Appends (W.contents output.old.device) (W.contents output.new.device)
-        (events widths (record { number = 1; world = world.old; tally = tally.old }) (steps_of blocks.now))) }
-    ensures prefix { OnErr result (AppendsPrefix (W.contents output.old.device) (W.contents output.new.device)
-        (events widths (record { number = 1; world = world.old; tally = tally.old }) (steps_of blocks.now))) }
+    ensures scene { OnOk result ((number : ℕ) × (scene_at number world.new tally.new
+        ≡ scene_after (scene_at 1 world.old tally.old) (steps_of blocks.now))) }
+    ensures written { OnOk result
+        (Appends (W.contents output.old.device) (W.contents output.new.device)
+        (events widths (scene_at 1 world.old tally.old) (steps_of blocks.now))) }
+    ensures prefix { OnErr result
+        (AppendsPrefix (W.contents output.old.device) (W.contents output.new.device)
+        (events widths (scene_at 1 world.old tally.old) (steps_of blocks.now))) }
     ensures fault { IfErr result (λ e. IsFault e output.new.failed) }
 {
     let mut number = 1;
@@ -145,12 +151,17 @@ pub fn trace<W: Write>(
     output: &mut Output<W>,
 ) -> Result<(), TraceFault>
     ensures written { OnOk result
-        (Appends (W.contents output.old.device) (W.contents output.new.device) (trace_text world.old (steps_of schedule.now))) }
+        (Appends (W.contents output.old.device) (W.contents output.new.device)
+        (trace_text world.old (steps_of schedule.now))) }
     ensures world { OnOk result (world.new ≡ run world.old (steps_of schedule.now)) }
     ensures prefix { OnErr result
-        (AppendsPrefix (W.contents output.old.device) (W.contents output.new.device) (trace_text world.old (steps_of schedule.now))) }
-    ensures fault { IfErr result (λ e. Explains e world.old (steps_of schedule.now) output.new.failed) }
-    ensures no_process { (done : ℕ) → missing_after world.old (steps_of schedule.now) ≡ Some done → result ≡ Err (NoProcess done) }
+        (AppendsPrefix (W.contents output.old.device) (W.contents output.new.device)
+        (trace_text world.old (steps_of schedule.now))) }
+    ensures fault { IfErr result
+        (λ e. Explains e world.old (steps_of schedule.now) output.new.failed) }
+    ensures no_process { (done : ℕ)
+        → missing_after world.old (steps_of schedule.now) ≡ Some done
+        → result ≡ Err (NoProcess done) }
     ensures nothing { (done : ℕ) → result ≡ Err (NoProcess done)
         → Keeps (W.contents output.old.device) (W.contents output.new.device) }
 {

@@ -1,7 +1,7 @@
 //! Who took the units of semaphores, and who gave units.
 ghost use Rattle.std.specs.Prelude.{◌≡◌, ℕ, ◌<◌, OnOk, IfOk, IfSome, length, position, []};
 ghost use Rattle.std.specs.List.{find};
-ghost use Rattle.lab_trace.specs.Units.{is_of, is_there, units_of, balance, counted, remaining, one_taken, one_given};
+ghost use Rattle.lab_trace.specs.Units.{most_units, is_of, is_there, units_of, balance, with_count, remaining, one_taken, one_given};
 
 use ipc_kernel::Kernel;
 use std::alloc::{AllocError, Global};
@@ -120,9 +120,9 @@ impl Units {
     }
 
     /// Keeps another count of the same process for the same semaphore.
-    #[tactic(auto, unfolding(crate::specs::Units::counted))]
+    #[tactic(auto, unfolding(crate::specs::Units::with_count))]
     fn keep(&mut self, count: UnitCount) -> Result<(), AllocError>
-        ensures kept { OnOk result (self.new ≡ counted count self.old) }
+        ensures kept { OnOk result (self.new ≡ with_count count self.old) }
     {
         match index_of(&self.list, count.place, count.pid) {
             Some(index) => {
@@ -138,9 +138,9 @@ impl Units {
 
     /// Counts a unit that process `pid` took of the semaphore in a place.
     pub fn take(&mut self, place: u8, pid: usize) -> Result<(), AllocError>
-        requires room { (units_of place pid self.old).taken < 4_294_967_295 }
+        requires room { (units_of place pid self.old).taken < most_units }
         ensures kept { OnOk result (self.new
-            ≡ counted (one_taken (units_of place pid self.old)) self.old) }
+            ≡ with_count (one_taken (units_of place pid self.old)) self.old) }
     {
         let count = self.of(place, pid);
         self.keep(UnitCount {
@@ -153,9 +153,9 @@ impl Units {
 
     /// Counts a unit that process `pid` gave to the semaphore in a place.
     pub fn give(&mut self, place: u8, pid: usize) -> Result<(), AllocError>
-        requires room { (units_of place pid self.old).given < 4_294_967_295 }
+        requires room { (units_of place pid self.old).given < most_units }
         ensures kept { OnOk result (self.new
-            ≡ counted (one_given (units_of place pid self.old)) self.old) }
+            ≡ with_count (one_given (units_of place pid self.old)) self.old) }
     {
         let count = self.of(place, pid);
         self.keep(UnitCount {

@@ -1,7 +1,8 @@
 //! Words, names and bytes, as a trace shows them.
 ghost use Rattle.std.specs.Prelude.{◌≡◌, ◌<◌, ◌++◌, true, IfOk, IfSome, OnOk, IsTrue, string_bytes, flat_map};
-ghost use Rattle.lab_sched.specs.Held.{seen};
-ghost use Rattle.lab_debug.specs.Texts.{machine_of, address_text};
+ghost use Rattle.lab_sched.specs.Held.{process_view};
+ghost use Rattle.lab_sched.specs.Worlds.{machine_of};
+ghost use Rattle.lab_debug.specs.Texts.{address_text};
 ghost use Rattle.lc3_machine.specs.Process.{reg};
 ghost use Rattle.ipc_traps.specs.Names.{is_in_memory, words_at};
 ghost use Rattle.lab_trace.specs.Words.{pointer_text, signed_text, is_quotable, character_text, string_text, byte_text, bytes_text, name_end, name_text, blanks, at_left, at_right};
@@ -16,8 +17,8 @@ const NAME_WINDOW: u16 = 256;
 
 /// What a register of a process holds.
 pub fn register(process: &Process, number: u16) -> u16
-    requires { number < 8 }
-    ensures value { result ≡ reg (machine_of (seen process.now)) number }
+    requires register { number < 8 }
+    ensures value { result ≡ reg (machine_of (process_view process.now)) number }
 {
     machine::reg(process, Reg::of_low_bits(number))
 }
@@ -31,7 +32,8 @@ pub fn is_in_memory(at: u16, len: u16) -> bool
 
 /// Adds an address.
 pub fn push_address(text: &mut String, address: u16) -> Result<(), AllocError>
-    ensures { OnOk result (string_bytes text.new ≡ string_bytes text.old ++ address_text address) }
+    ensures text { OnOk result (string_bytes text.new ≡ string_bytes text.old
+        ++ address_text address) }
 {
     let address = Hex(address);
     match write!(text, "{address}") {
@@ -42,7 +44,8 @@ pub fn push_address(text: &mut String, address: u16) -> Result<(), AllocError>
 
 /// Adds an address, of which 0 stands for none.
 pub fn push_pointer(text: &mut String, address: u16) -> Result<(), AllocError>
-    ensures { OnOk result (string_bytes text.new ≡ string_bytes text.old ++ pointer_text address) }
+    ensures text { OnOk result (string_bytes text.new ≡ string_bytes text.old
+        ++ pointer_text address) }
 {
     if address == 0 {
         text.push_str("NULL")
@@ -54,7 +57,7 @@ pub fn push_pointer(text: &mut String, address: u16) -> Result<(), AllocError>
 /// Adds a word as a signed number.
 #[tactic(auto, unfolding(crate::specs::Words::signed_text))]
 pub fn push_signed(text: &mut String, word: u16) -> Result<(), AllocError>
-    ensures { OnOk result (string_bytes text.new ≡ string_bytes text.old ++ signed_text word) }
+    ensures text { OnOk result (string_bytes text.new ≡ string_bytes text.old ++ signed_text word) }
 {
     let written = if word < 0x8000 {
         write!(text, "{word}")
@@ -80,7 +83,8 @@ pub fn is_quotable(word: u16) -> bool
 /// Adds a word between quotation marks.
 #[tactic(auto, unfolding(crate::specs::Words::character_text))]
 fn push_character(text: &mut String, word: u16) -> Result<(), AllocError>
-    ensures { OnOk result (string_bytes text.new ≡ string_bytes text.old ++ character_text word) }
+    ensures text { OnOk result (string_bytes text.new ≡ string_bytes text.old
+        ++ character_text word) }
 {
     if is_quotable(word) {
         text.push(char::from(word as u8))
@@ -93,7 +97,7 @@ fn push_character(text: &mut String, word: u16) -> Result<(), AllocError>
 /// Adds a byte between quotation marks.
 #[tactic(auto, unfolding(crate::specs::Words::byte_text))]
 fn push_byte(text: &mut String, byte: u8) -> Result<(), AllocError>
-    ensures { OnOk result (string_bytes text.new ≡ string_bytes text.old ++ byte_text byte) }
+    ensures text { OnOk result (string_bytes text.new ≡ string_bytes text.old ++ byte_text byte) }
 {
     if is_quotable(u16::from(byte)) {
         return text.push(char::from(byte));
@@ -107,7 +111,8 @@ fn push_byte(text: &mut String, byte: u8) -> Result<(), AllocError>
 
 /// Adds bytes, each as it stands between quotation marks.
 fn push_each_byte(text: &mut String, bytes: &[u8]) -> Result<(), AllocError>
-    ensures { OnOk result (string_bytes text.new ≡ string_bytes text.old ++ flat_map byte_text bytes.now) }
+    ensures text { OnOk result (string_bytes text.new ≡ string_bytes text.old
+        ++ flat_map byte_text bytes.now) }
 {
     for byte in bytes {
         push_byte(text, *byte)?;
@@ -118,7 +123,8 @@ fn push_each_byte(text: &mut String, bytes: &[u8]) -> Result<(), AllocError>
 /// Adds bytes between quotation marks.
 #[tactic(auto, unfolding(crate::specs::Words::bytes_text))]
 pub fn push_bytes(text: &mut String, bytes: &[u8]) -> Result<(), AllocError>
-    ensures { OnOk result (string_bytes text.new ≡ string_bytes text.old ++ bytes_text bytes.now) }
+    ensures text { OnOk result (string_bytes text.new ≡ string_bytes text.old
+        ++ bytes_text bytes.now) }
 {
     text.push_str("\"")?;
     push_each_byte(text, bytes)?;
@@ -133,7 +139,8 @@ pub fn read_words(
     len: u16,
 ) -> Result<Vec<u16>, AllocError>
     requires inside { is_in_memory at len ≡ true }
-    ensures words { IfOk result (λ v. v.items ≡ words_at (machine_of (seen process.now)).memory at len) }
+    ensures words { IfOk result (λ v. v.items
+        ≡ words_at (machine_of (process_view process.now)).memory at len) }
 {
     let mut words = Vec::with_capacity(alloc, len as usize)?;
     for k in 0..len {
@@ -144,7 +151,7 @@ pub fn read_words(
 
 /// How many words of a process stand before the zero word that ends a name, where there is one.
 fn name_end(process: &Process, at: u16) -> Option<u16>
-    ensures length { result ≡ name_end (machine_of (seen process.now)).memory at }
+    ensures length { result ≡ name_end (machine_of (process_view process.now)).memory at }
     ensures inside { IfSome result (λ n. is_in_memory at n ≡ true) }
 {
     // A look at memory, whose contract says that there are 65,536 words.
@@ -163,7 +170,8 @@ fn name_end(process: &Process, at: u16) -> Option<u16>
 /// Adds words between quotation marks.
 #[tactic(auto, unfolding(crate::specs::Words::string_text))]
 fn push_string(text: &mut String, words: &[u16]) -> Result<(), AllocError>
-    ensures { OnOk result (string_bytes text.new ≡ string_bytes text.old ++ string_text words.now) }
+    ensures text { OnOk result (string_bytes text.new ≡ string_bytes text.old
+        ++ string_text words.now) }
 {
     text.push_str("\"")?;
     push_characters(text, words)?;
@@ -172,7 +180,8 @@ fn push_string(text: &mut String, words: &[u16]) -> Result<(), AllocError>
 
 /// Adds words, each as it stands between quotation marks.
 fn push_characters(text: &mut String, words: &[u16]) -> Result<(), AllocError>
-    ensures { OnOk result (string_bytes text.new ≡ string_bytes text.old ++ flat_map character_text words.now) }
+    ensures text { OnOk result (string_bytes text.new ≡ string_bytes text.old
+        ++ flat_map character_text words.now) }
 {
     for word in words {
         push_character(text, *word)?;
@@ -187,7 +196,8 @@ pub fn push_name(
     process: &Process,
     at: u16,
 ) -> Result<(), AllocError>
-    ensures { OnOk result (string_bytes text.new ≡ string_bytes text.old ++ name_text (machine_of (seen process.now)).memory at) }
+    ensures text { OnOk result (string_bytes text.new ≡ string_bytes text.old
+        ++ name_text (machine_of (process_view process.now)).memory at) }
 {
     let Some(len) = name_end(process, at) else {
         return push_address(text, at);
@@ -198,7 +208,7 @@ pub fn push_name(
 
 /// Adds so many blanks.
 fn push_blanks(text: &mut String, count: usize) -> Result<(), AllocError>
-    ensures { OnOk result (string_bytes text.new ≡ string_bytes text.old ++ blanks count) }
+    ensures text { OnOk result (string_bytes text.new ≡ string_bytes text.old ++ blanks count) }
 {
     for _ in 0..count {
         text.push_str(" ")?;
@@ -209,7 +219,8 @@ fn push_blanks(text: &mut String, count: usize) -> Result<(), AllocError>
 /// Adds a text with blanks before it up to a width.
 #[tactic(auto, unfolding(crate::specs::Words::at_right))]
 pub fn push_at_right(text: &mut String, width: usize, part: &str) -> Result<(), AllocError>
-    ensures { OnOk result (string_bytes text.new ≡ string_bytes text.old ++ at_right width part.now) }
+    ensures text { OnOk result (string_bytes text.new ≡ string_bytes text.old
+        ++ at_right width part.now) }
 {
     push_blanks(text, width.saturating_sub(part.len()))?;
     text.push_str(part)
@@ -218,7 +229,8 @@ pub fn push_at_right(text: &mut String, width: usize, part: &str) -> Result<(), 
 /// Adds a text with blanks behind it up to a width.
 #[tactic(auto, unfolding(crate::specs::Words::at_left))]
 pub fn push_at_left(text: &mut String, width: usize, part: &str) -> Result<(), AllocError>
-    ensures { OnOk result (string_bytes text.new ≡ string_bytes text.old ++ at_left width part.now) }
+    ensures text { OnOk result (string_bytes text.new ≡ string_bytes text.old
+        ++ at_left width part.now) }
 {
     text.push_str(part)?;
     push_blanks(text, width.saturating_sub(part.len()))

@@ -69,7 +69,7 @@ fn steps_of_a_process_that_waits(rt: HostRuntime) -> Result<(), Fail> {
     assert_eq!(rt; world.verdict(), Verdict::Stuck);
     match world.process(0) {
         Some(Process::Waiting(waiting, call)) => {
-            assert_eq!(rt; waiting.pc(), 0x3004);
+            assert_eq!(rt; waiting.machine().pc(), 0x3004);
             assert!(rt; matches!(call, Call::SemWait { slot: 0 }));
         }
         _ => panic!(rt; "waiting"),

@@ -3,12 +3,12 @@ use Rattle.std.proofs.Common.{◌≡◌, ℕ, ◌+◌, ◌<◌, ◌≤◌, min, 
 use Rattle.std.proofs.lemmas.List.{drop_more, drop_all}
 use Rattle.std.proofs.lemmas.Bool.{cases_lt}
 use Rattle.lc3_table.specs.Statements.{◌>>=◌}
-use Rattle.lc3_table.specs.Meaning.{resolved, all_resolved}
+use Rattle.lc3_table.specs.Meaning.{resolved_field, all_resolved}
 use Rattle.lc3_table.specs.declared.fields.Field.{Field}
 use Rattle.lc3_table.specs.declared.operation.Fault.{Fault}
 use Rattle.lc3_table.specs.declared.operation.Form.{Form}
 use Rattle.lc3_table.specs.declared.operation.Form.TheVariants as form
-use Rattle.lc3_asm.specs.Views.{seen_operand}
+use Rattle.lc3_asm.specs.Private.Views.{seen_operand}
 use Rattle.lc3_asm.specs.declared.statement.Operand.{Operand as Read}
 use Rattle.lc3_asm.proofs.OperandSteps.{with_front}
 
@@ -18,11 +18,11 @@ front-append front new y (Err k) e = refl
 
 module _ (values : List ℕ → Option ℕ) (address : ℕ) (fs : List Form) (xs : List Read) (i : ℕ) where
   pub resolved-more : (x d : Read) (y : Field) (found new : List Field) → i < length fs → i < length xs → x ≡ get_or xs i d
-      → Ok y ≡ resolved values address (get_or fs i form.Register) (seen_operand x) → new ≡ found ++ y ∷ []
+      → Ok y ≡ resolved_field values address (get_or fs i form.Register) (seen_operand x) → new ≡ found ++ y ∷ []
       → with_front new (all_resolved values address (drop (i + 1) fs) (map seen_operand (drop (i + 1) xs)))
       ≡ with_front found (all_resolved values address (drop i fs) (map seen_operand (drop i xs)))
   resolved-more x d y found new h k at e n =
-      let here : Ok y ≡ resolved values address (get_or fs i form.Register) (seen_operand (get_or xs i d)) = rw at at e in
+      let here : Ok y ≡ resolved_field values address (get_or fs i form.Register) (seen_operand (get_or xs i d)) = rw at at e in
       rw (drop_more fs i form.Register h, drop_more xs i d k, ← here)
       (front-append found new y (all_resolved values address (drop (i + 1) fs) (map seen_operand (drop (i + 1) xs))) n)
 

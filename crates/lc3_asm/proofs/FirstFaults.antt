@@ -1,12 +1,12 @@
 -- The fault of a text is the first of the first line that has one.
 use Rattle.std.proofs.Common.{◌≡◌, ℕ, ◌+◌, Bool, true, false, List, [], ◌∷◌, ◌++◌, length, refl, ap, sym, ◌∙◌, subst, append_assoc, append-nil, arith, length-append}
-use Rattle.std.specs.Prelude.{◌↔◌, Result, Ok, Err, IsOk, if◌then◌else◌}
+use Rattle.std.specs.Prelude.{Result, Ok, Err, IsOk, if◌then◌else◌}
 use Rattle.std.specs.List.{list_any}
 use Rattle.lc3_table.specs.Statements.{Line, Operand, ◌>>=◌}
 use Rattle.lc3_table.specs.Meaning.{words}
 use Rattle.lc3_table.specs.declared.operation.Fault.{Fault}
 use Rattle.lc3_table.specs.declared.operation.Fault.TheVariants as fault
-use Rattle.lc3_asm.specs.Texts.{At, LineWords, Program, at_line, lines, is_origin, is_end, labels, value, address_after, line_after, read_after, lines_read, words_after, laid_out, program_of, assembled, program}
+use Rattle.lc3_asm.specs.Texts.{At, at_line, lines, is_origin, is_end, labels, value, address_after, line_after, read_after, lines_read, words_after, laid_out, program_of, program_of_lines, program}
 use Rattle.lc3_asm.specs.Laws.{AreReadAs, HaveWords, IsFirstUnread, LacksOrigin, IsFirstWithoutWords, HasFirstFault, Unread, Unstarted, WithoutWords, FaultIsFirst}
 
 -- a fault at a line
@@ -191,7 +191,7 @@ found-started text ls n k true read e h =
     })
 
 found : (text : List ℕ) (n : ℕ) (k : Fault) (r : Result (List (Line Operand)) At) → lines_read text ≡ r
-    → (r >>= λ ls. assembled (length (lines text)) ls) ≡ Err (at n k) → HasFirstFault text n k
+    → (r >>= λ ls. program_of_lines (length (lines text)) ls) ≡ Err (at n k) → HasFirstFault text n k
 found text n k (Ok ls) read e = found-started text ls n k (list_any is_origin ls) read refl e
 found text n k (Err f) read e =
     let same = err-same f (at n k) e in

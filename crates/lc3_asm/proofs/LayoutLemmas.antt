@@ -5,7 +5,7 @@ use Rattle.std.proofs.lemmas.List.{drop_more, take_more, drop_all, take_all, map
 use Rattle.std.proofs.lemmas.List.Sums.{sum_by-append}
 use Rattle.std.proofs.lemmas.List.{length-append, length-replicate}
 use Rattle.lc3_table.specs.Statements.{Line, Blank, LabelAlone, Operates, Operand, Register, Number, Label, Characters, forms, ◌>>=◌}
-use Rattle.lc3_table.specs.Meaning.{words, size, operation_size, encoded, instruction, instruction_words, all_resolved}
+use Rattle.lc3_table.specs.Meaning.{words, size, operation_size, words_of_fields, instruction, instruction_words, all_resolved}
 use Rattle.lc3_table.specs.declared.fields.Field.{Field}
 use Rattle.lc3_table.specs.declared.fields.Field.TheVariants as field
 use Rattle.lc3_table.specs.declared.instr.Instr.{Instr}
@@ -13,9 +13,9 @@ use Rattle.lc3_table.specs.declared.operation.Operation.{Operation}
 use Rattle.lc3_table.specs.declared.operation.Operation.TheVariants as op
 use Rattle.lc3_table.specs.declared.operation.Fault.{Fault}
 use Rattle.lc3_asm.specs.Texts.{LineWords, At, row, words_after, value, address_after, words_of, rows_of}
-use Rattle.lc3_asm.specs.Symbols.{addresses_after}
-use Rattle.lc3_asm.specs.Views.{seen_line}
-use Rattle.lc3_asm.specs.Layouts.{joined}
+use Rattle.lc3_asm.specs.Private.Addresses.{addresses_after}
+use Rattle.lc3_asm.specs.Private.Views.{seen_line}
+use Rattle.lc3_asm.specs.Private.Layouts.{words_and_rows}
 use Rattle.lc3_asm.specs.declared.assembled.Row.{Row}
 use Rattle.lc3_asm.specs.declared.line.Line.{Line as Read}
 
@@ -24,7 +24,7 @@ at_most_one : (i : Option Instr) → length (instruction_words i) ≤ 1
 at_most_one (Some i) = lit≤ tt
 at_most_one None = lit≤ tt
 
-encoded-size : (o : Operation) (xs : List Operand) (ys : List Field) → length (encoded o xs ys) ≤ operation_size o xs
+encoded-size : (o : Operation) (xs : List Operand) (ys : List Field) → length (words_of_fields o xs ys) ≤ operation_size o xs
 unfolding instruction
 encoded-size op.Origin xs ys = lit≤ tt
 encoded-size op.End xs ys = lit≤ tt
@@ -52,24 +52,24 @@ words-size values address Blank made e = let same : made ≡ [] = cc in rw same 
 words-size values address (LabelAlone n) made e = let same : made ≡ [] = cc in rw same (lit≤ tt)
 words-size values address (Operates n o xs) made e = by (all_resolved values address (forms o) xs) e
   where
-    by : (r : Result (List Field) Fault) → Ok made ≡ (r >>= λ ys. Ok (encoded o xs ys)) → length made ≤ operation_size o xs
-    by (Ok ys) f = let same : made ≡ encoded o xs ys = cc in rw same (encoded-size o xs ys)
+    by : (r : Result (List Field) Fault) → Ok made ≡ (r >>= λ ys. Ok (words_of_fields o xs ys)) → length made ≤ operation_size o xs
+    by (Ok ys) f = let same : made ≡ words_of_fields o xs ys = cc in rw same (encoded-size o xs ys)
     by (Err k) f = cc
 
 joined-more : (ws : List ℕ) (rs : List Row) (m : LineWords) (r : Result (List LineWords) At)
-    → joined (ws ++ m.words) (rs ++ row m.line m.address (length m.words)) r ≡ joined ws rs (r >>= λ ms. Ok (m ∷ ms))
+    → words_and_rows (ws ++ m.words) (rs ++ row m.line m.address (length m.words)) r ≡ words_and_rows ws rs (r >>= λ ms. Ok (m ∷ ms))
 joined-more ws rs m (Ok ms) = rw (append_assoc ws m.words (words_of ms), append_assoc rs (row m.line m.address (length m.words)) (rows_of ms)) refl
 joined-more ws rs m (Err e) = refl
 
 -- one line with its words, and the lines after it
 joined-line : (known : List (List ℕ × ℕ)) (before ls : List (Line Operand)) (l : Line Operand) (made : List ℕ) (ws : List ℕ) (rs : List Row)
     → Ok made ≡ words (value known) (address_after before) l
-    → joined (ws ++ made) (rs ++ row (length before + 1) (address_after before) (length made)) (words_after known (before ++ l ∷ []) ls) ≡ joined ws rs (words_after known before (l ∷ ls))
+    → words_and_rows (ws ++ made) (rs ++ row (length before + 1) (address_after before) (length made)) (words_after known (before ++ l ∷ []) ls) ≡ words_and_rows ws rs (words_after known before (l ∷ ls))
 joined-line known before ls l made ws rs e =
     rw (← e) (joined-more ws rs (record { line = length before + 1; address = address_after before; words = made }) (words_after known (before ++ l ∷ []) ls))
 
 joined-fault : (known : List (List ℕ × ℕ)) (before ls : List (Line Operand)) (l : Line Operand) (k : Fault) (ws : List ℕ) (rs : List Row)
-    → words (value known) (address_after before) l ≡ Err k → joined ws rs (words_after known before (l ∷ ls)) ≡ Err (record { line = length before + 1; kind = k })
+    → words (value known) (address_after before) l ≡ Err k → words_and_rows ws rs (words_after known before (l ∷ ls)) ≡ Err (record { line = length before + 1; kind = k })
 joined-fault known before ls l k ws rs e = rw e refl
 
 front-length : (xs : List Read) (i : ℕ) → i ≤ length xs → length (map seen_line (take i xs)) ≡ i
@@ -99,15 +99,15 @@ module _ (known : List (List ℕ × ℕ)) (lines : List Read) (i : ℕ) (d x : R
   number = ap (λ n. n + 1) (front-length lines i (omega (arith, h)))
 
   pub laid-more : (made ws ws' : List ℕ) (rs rs' : List Row) → Ok made ≡ words (value known) address (seen_line x) → ws' ≡ ws ++ made → rs' ≡ rs ++ row (i + 1) address (length made)
-      → joined ws' rs' (words_after known (map seen_line (take (i + 1) lines)) (map seen_line (drop (i + 1) lines))) ≡ joined ws rs (words_after known (map seen_line (take i lines)) (map seen_line (drop i lines)))
+      → words_and_rows ws' rs' (words_after known (map seen_line (take (i + 1) lines)) (map seen_line (drop (i + 1) lines))) ≡ words_and_rows ws rs (words_after known (map seen_line (take i lines)) (map seen_line (drop i lines)))
   laid-more made ws ws' rs rs' e f g =
       rw (f, g, front, here)
-      (ap (λ n. joined (ws ++ made) (rs ++ row n address (length made)) (words_after known (map seen_line (take i lines) ++ seen_line x ∷ []) (map seen_line (drop (i + 1) lines)))) (sym number)
-      ∙ ap (λ a. joined (ws ++ made) (rs ++ row (length (map seen_line (take i lines)) + 1) a (length made)) (words_after known (map seen_line (take i lines) ++ seen_line x ∷ []) (map seen_line (drop (i + 1) lines)))) at
+      (ap (λ n. words_and_rows (ws ++ made) (rs ++ row n address (length made)) (words_after known (map seen_line (take i lines) ++ seen_line x ∷ []) (map seen_line (drop (i + 1) lines)))) (sym number)
+      ∙ ap (λ a. words_and_rows (ws ++ made) (rs ++ row (length (map seen_line (take i lines)) + 1) a (length made)) (words_after known (map seen_line (take i lines) ++ seen_line x ∷ []) (map seen_line (drop (i + 1) lines)))) at
       ∙ joined-line known (map seen_line (take i lines)) (map seen_line (drop (i + 1) lines)) (seen_line x) made ws rs (rw at at e))
 
   pub laid-fault : (k : Fault) (ws : List ℕ) (rs : List Row) → words (value known) address (seen_line x) ≡ Err k
-      → joined ws rs (words_after known (map seen_line (take i lines)) (map seen_line (drop i lines))) ≡ Err (record { line = i + 1; kind = k })
+      → words_and_rows ws rs (words_after known (map seen_line (take i lines)) (map seen_line (drop i lines))) ≡ Err (record { line = i + 1; kind = k })
   laid-fault k ws rs e =
       rw here (joined-fault known (map seen_line (take i lines)) (map seen_line (drop (i + 1) lines)) (seen_line x) k ws rs (rw at at e)
       ∙ ap (λ n. Err (record { line = n; kind = k })) number)
@@ -117,7 +117,7 @@ module _ (known : List (List ℕ × ℕ)) (lines : List Read) (i : ℕ) (d x : R
       rw (f, front) (omega (arith, words-size (value known) address (seen_line x) made e, k, length-append ws made, sum_by-append size (map seen_line (take i lines)) (seen_line x ∷ [])))
 
 pub laid-all : (known : List (List ℕ × ℕ)) (lines : List Read) (i : ℕ) (ws : List ℕ) (rs : List Row) → length lines ≤ i
-    → joined ws rs (words_after known (map seen_line (take i lines)) (map seen_line (drop i lines))) ≡ Ok (ws, rs)
+    → words_and_rows ws rs (words_after known (map seen_line (take i lines)) (map seen_line (drop i lines))) ≡ Ok (ws, rs)
 laid-all known lines i ws rs h = rw (drop_all i lines h, append-nil) (ap (λ u. Ok (ws, u)) (append-nil rs))
 
 pub small-all : (lines : List Read) (i n : ℕ) → length lines ≤ i → n ≤ sum_by size (map seen_line (take i lines)) → n ≤ sum_by size (map seen_line lines)

@@ -8,7 +8,7 @@ use lib.IntN.{ℤ}
 use Rattle.lc3_word.specs.Numbers.{number}
 use Rattle.lc3_table.specs.Tokens.{Token, Word, Quoted, Unclosed, tokens}
 use Rattle.lc3_table.specs.Words.{register, upper, is_label}
-use Rattle.lc3_table.specs.Statements.{Line, Blank, LabelAlone, Operates, Operand, Register, Number, Label, Characters, unless, or_fault, token_fault, parts, order_fault, with_operands, all_operands, operands, operand, placed, counted, named, characters, accepts, takes_register, takes_label, forms, line, ◌>>=◌}
+use Rattle.lc3_table.specs.Statements.{Line, Blank, LabelAlone, Operates, Operand, Register, Number, Label, Characters, unless, or_fault, token_fault, parts, order_fault, with_operands, all_operands, operands, operand, operand_by_register, operand_by_number, operand_by_name, characters, accepts, takes_register, takes_label, forms, line, ◌>>=◌}
 use Rattle.lc3_table.specs.declared.operation.Form.{Form}
 use Rattle.lc3_table.specs.declared.operation.Form.TheVariants as form
 use Rattle.lc3_table.specs.declared.operation.Fault.TheVariants as fault
@@ -76,13 +76,13 @@ register-below (a ∷ d ∷ []) r e = by (to_ascii_uppercase a == 82 && nat_le 4
     by false t h = cc
 register-below (a ∷ d ∷ c ∷ cs) r e = cc
 
-named-fits : (f : Form) (w : List ℕ) (x : Operand) → ((n : List ℕ) → fits f (Label n) ≡ takes_label f) → named f w ≡ Ok x → fits f x ≡ true
+named-fits : (f : Form) (w : List ℕ) (x : Operand) → ((n : List ℕ) → fits f (Label n) ≡ takes_label f) → operand_by_name f w ≡ Ok x → fits f x ≡ true
 named-fits f w x label e =
     let taken = if-ok (takes_label f && is_label w) (Ok (Label (upper w))) x fault.BadNumber e in
     let same : Label (upper w) ≡ x = ok-same (Label (upper w)) x taken.1 in
     rw (← same) (label (upper w) ∙ (and_parts (takes_label f) (is_label w) taken.0).0)
 
-counted-fits : (f : Form) (w : List ℕ) (o : Option ℤ) (x : Operand) → ((z : ℤ) → fits f (Number z) ≡ true) → ((n : List ℕ) → fits f (Label n) ≡ takes_label f) → counted f w o ≡ Ok x → fits f x ≡ true
+counted-fits : (f : Form) (w : List ℕ) (o : Option ℤ) (x : Operand) → ((z : ℤ) → fits f (Number z) ≡ true) → ((n : List ℕ) → fits f (Label n) ≡ takes_label f) → operand_by_number f w o ≡ Ok x → fits f x ≡ true
 counted-fits f w (Some z) x count label e =
     let taken = if-ok (accepts f z) (Ok (Number z)) x fault.Range e in
     let same : Number z ≡ x = ok-same (Number z) x taken.1 in
@@ -98,11 +98,11 @@ registered-fits f w r x is fit e =
     let both : (takes_register f && nat_lt r 8) ≡ true = rw (taken.0, below) refl in
     rw (← same) (fit r ∙ both)
 
-no_characters : (w : List ℕ) (o : Option ℤ) (x : Operand) → counted form.Characters w o ≡ Ok x → fits form.Characters x ≡ true
+no_characters : (w : List ℕ) (o : Option ℤ) (x : Operand) → operand_by_number form.Characters w o ≡ Ok x → fits form.Characters x ≡ true
 no_characters w (Some z) x e = cc
 no_characters w None x e = cc
 
-word-fits : (f : Form) (w : List ℕ) (o : Option ℕ) (x : Operand) → register w ≡ o → placed f w o ≡ Ok x → fits f x ≡ true
+word-fits : (f : Form) (w : List ℕ) (o : Option ℕ) (x : Operand) → register w ≡ o → operand_by_register f w o ≡ Ok x → fits f x ≡ true
 word-fits form.Characters w (Some r) x e h = cc
 word-fits form.Characters w None x e h = no_characters w (number w) x h
 word-fits form.Register w (Some r) x e h = registered-fits form.Register w r x e (λ s. refl) h

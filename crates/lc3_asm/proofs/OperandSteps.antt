@@ -5,10 +5,10 @@ use Rattle.std.specs.Prelude.{◌<ℤ◌}
 use Rattle.std.specs.Prelude.{option_map, int_le, ◌-ℤ◌, neg_ℤ, Result, Ok, ◌&&◌}
 use lib.IntN.{ℤ, pos, negsuc}
 use Rattle.std.proofs.lemmas.Bool.{cases_lt}
-use Rattle.lc3_word.specs.Numbers.{capped}
+use Rattle.lc3_word.specs.Numbers.{capped_number}
 use Rattle.lc3_word.specs.Segment.{first_device}
 use Rattle.lc3_table.specs.Statements.{fits_field, is_between}
-use Rattle.lc3_table.specs.Statements.{onto, accepts, counted, ◌>>=◌}
+use Rattle.lc3_table.specs.Statements.{onto, accepts, operand_by_number, ◌>>=◌}
 use Rattle.lc3_table.specs.declared.operation.Fault.{Fault}
 use Rattle.lc3_table.specs.declared.operation.Form.{Form}
 use Rattle.lc3_table.specs.declared.operation.Form.TheVariants as form
@@ -70,8 +70,8 @@ accepts-small f n h = refl
 
 -- the numbers that an operand accepts are read as they are
 data IsRead (f : Form) (z : ℤ) : Type 0 where
-  exact : capped z ≡ z → IsRead f z
-  refused : accepts f z ≡ false → accepts f (capped z) ≡ false → IsRead f z
+  exact : capped_number z ≡ z → IsRead f z
+  refused : accepts f z ≡ false → accepts f (capped_number z) ≡ false → IsRead f z
 
 is_read : (f : Form) (z : ℤ) → IsRead f z
 is_read f (pos n) = elim (cases_lt n 1_000_000_000) [
@@ -84,11 +84,11 @@ is_read f (negsuc n) = elim (cases_lt n 999_999_999) [
 ]
 
 -- a word that is the number z, as it is read
-pub counted-read : (f : Form) (w : List ℕ) (z : ℤ) → counted f w (Some z) ≡ counted f w (Some (capped z))
+pub counted-read : (f : Form) (w : List ℕ) (z : ℤ) → operand_by_number f w (Some z) ≡ operand_by_number f w (Some (capped_number z))
 counted-read f w z = by (is_read f z)
   where
-    by : IsRead f z → counted f w (Some z) ≡ counted f w (Some (capped z))
-    by (exact e) = ap (λ y. counted f w (Some y)) (sym e)
+    by : IsRead f z → operand_by_number f w (Some z) ≡ operand_by_number f w (Some (capped_number z))
+    by (exact e) = ap (λ y. operand_by_number f w (Some y)) (sym e)
     by (refused a b) = rw (a, b) refl
 
 -- these before the others

@@ -19,10 +19,10 @@ use Rattle.lc3_table.specs.declared.operation.Fault.TheVariants as fault
 use Rattle.lc3_table.specs.Instructions.{word_of, IsInstruction}
 use Rattle.lc3_table.specs.Decoding.{instruction_at}
 use Rattle.lc3_table.specs.Statements.{Line, Operates, Operand, Register, Label, forms, operation_order, is_between, or_fault, ◌>>=◌}
-use Rattle.lc3_table.specs.Meaning.{within, reached, resolved, all_resolved, encoded, instruction}
+use Rattle.lc3_table.specs.Meaning.{within, label_number, resolved_field, all_resolved, words_of_fields, instruction}
 use Rattle.lc3_table.proofs.Reading.{instruction_at-word_of}
 use Rattle.lc3_asm.specs.Texts.{Program, program, value, labels, origin, words_of, address_after, is_origin}
-use Rattle.lc3_asm.specs.Laws.{HasLine, Reaches, word_at, pc_offset, target_named, numbered}
+use Rattle.lc3_asm.specs.Laws.{HasLine, Reaches, word_at, pc_offset, target_named, field_with_offset}
 use Rattle.lc3_asm.proofs.Outcomes.{then-ok, or_fault-ok, if-ok, ok-same}
 use Rattle.lc3_asm.proofs.LineLemmas.{all_fit, line_fitting, line_ordered}
 use Rattle.lc3_asm.proofs.ReadLemmas.{meant, lines-read, read-at}
@@ -53,11 +53,11 @@ signed11 z h =
     record { low = omega (arith, ints, low); high = omega (arith, ints, high) }
 
 near : (values : List ℕ → Option ℕ) (address bits : ℕ) (f : Form) (low high : ℤ) (name : List ℕ) (y : Field)
-    → ((t : ℕ) → reached f address t ≡ within low high (pos t -ℤ pos (address + 1))) → ((z : ℤ) → is_between low high z ≡ true → IsSigned bits z)
-    → resolved values address f (Label name) ≡ Ok y → Near values address bits name y
+    → ((t : ℕ) → label_number f address t ≡ within low high (pos t -ℤ pos (address + 1))) → ((z : ℤ) → is_between low high z ≡ true → IsSigned bits z)
+    → resolved_field values address f (Label name) ≡ Ok y → Near values address bits name y
 near values address bits f low high name y is signed e =
-    let target = then-ok (or_fault (values name) fault.Undefined) (λ t. reached f address t >>= λ z. Ok (field.Number z)) y e in
-    let number = then-ok (reached f address target.0) (λ z. Ok (field.Number z)) y target.2 in
+    let target = then-ok (or_fault (values name) fault.Undefined) (λ t. label_number f address t >>= λ z. Ok (field.Number z)) y e in
+    let number = then-ok (label_number f address target.0) (λ z. Ok (field.Number z)) y target.2 in
     let inside = if-ok (is_between low high (pos target.0 -ℤ pos (address + 1))) (Ok (pos target.0 -ℤ pos (address + 1))) number.0 fault.OffsetRange (sym (is target.0) ∙ number.1) in
     let same : pos target.0 -ℤ pos (address + 1) ≡ number.0 = ok-same (pos target.0 -ℤ pos (address + 1)) number.0 inside.1 in
     record {
@@ -69,21 +69,21 @@ near values address bits f low high name y is signed e =
       reaches = omega (arith, ints, same);
     }
 
-near9 : (values : List ℕ → Option ℕ) (address : ℕ) (name : List ℕ) (y : Field) → resolved values address form.Target (Label name) ≡ Ok y → Near values address 9 name y
+near9 : (values : List ℕ → Option ℕ) (address : ℕ) (name : List ℕ) (y : Field) → resolved_field values address form.Target (Label name) ≡ Ok y → Near values address 9 name y
 near9 values address name y e = near values address 9 form.Target (neg_ℤ (pos 256)) (pos 255) name y (λ t. refl) signed9 e
 
-near11 : (values : List ℕ → Option ℕ) (address : ℕ) (name : List ℕ) (y : Field) → resolved values address form.FarTarget (Label name) ≡ Ok y → Near values address 11 name y
+near11 : (values : List ℕ → Option ℕ) (address : ℕ) (name : List ℕ) (y : Field) → resolved_field values address form.FarTarget (Label name) ≡ Ok y → Near values address 11 name y
 near11 values address name y e = near values address 11 form.FarTarget (neg_ℤ (pos 1024)) (pos 1023) name y (λ t. refl) signed11 e
 
 -- the fields of a label alone, and of a register and a label
 one-field : (values : List ℕ → Option ℕ) (address : ℕ) (f : Form) (name : List ℕ) (ys : List Field) → all_resolved values address (f ∷ []) (Label name ∷ []) ≡ Ok ys
-    → (y : Field) × (resolved values address f (Label name) ≡ Ok y) × (ys ≡ y ∷ [])
+    → (y : Field) × (resolved_field values address f (Label name) ≡ Ok y) × (ys ≡ y ∷ [])
 one-field values address f name ys e =
-    let first = then-ok (resolved values address f (Label name)) (λ y. all_resolved values address [] [] >>= λ zs. Ok (y ∷ zs)) ys e in
+    let first = then-ok (resolved_field values address f (Label name)) (λ y. all_resolved values address [] [] >>= λ zs. Ok (y ∷ zs)) ys e in
     (first.0, first.1, sym (ok-same (first.0 ∷ []) ys first.2))
 
 two-fields : (values : List ℕ → Option ℕ) (address r : ℕ) (f : Form) (name : List ℕ) (ys : List Field) → all_resolved values address (form.Register ∷ f ∷ []) (Register r ∷ Label name ∷ []) ≡ Ok ys
-    → (y : Field) × (resolved values address f (Label name) ≡ Ok y) × (ys ≡ field.Register r ∷ y ∷ [])
+    → (y : Field) × (resolved_field values address f (Label name) ≡ Ok y) × (ys ≡ field.Register r ∷ y ∷ [])
 two-fields values address r f name ys e =
     let rest = then-ok (all_resolved values address (f ∷ []) (Label name ∷ [])) (λ zs. Ok (field.Register r ∷ zs)) ys e in
     let last = one-field values address f name rest.0 rest.1 in
@@ -94,7 +94,7 @@ record Written (values : List ℕ → Option ℕ) (address : ℕ) (o : Operation
   written : Instr
   offset : ℤ
   target : ℕ
-  written_is : instruction o (map (numbered offset) xs) ≡ Some written
+  written_is : instruction o (map (field_with_offset offset) xs) ≡ Some written
   offset_is : pc_offset written ≡ Some offset
   target_is : values name ≡ Some target
   is_instruction : IsInstruction written
@@ -105,14 +105,14 @@ register-fits : (r : ℕ) (b : Bool) → ((true && nat_lt r 8) && b) ≡ true �
 register-fits r b h = ltb-true r 8 (and_parts (nat_lt r 8) b h).0
 
 written : (values : List ℕ → Option ℕ) (address : ℕ) (o : Operation) (xs : List Operand) (name ws : List ℕ) → all_fit (forms o) xs ≡ true → target_named o xs ≡ Some name
-    → (all_resolved values address (forms o) xs >>= λ ys. Ok (encoded o xs ys)) ≡ Ok ws → Written values address o xs name ws
+    → (all_resolved values address (forms o) xs >>= λ ys. Ok (words_of_fields o xs ys)) ≡ Ok ws → Written values address o xs name ws
 unfolding instruction
 written values address (op.Branch n z p) (Label m ∷ []) name ws h t e =
     let same : m ≡ name = cc in
-    let ys = then-ok (all_resolved values address (form.Target ∷ []) (Label m ∷ [])) (λ ys. Ok (encoded (op.Branch n z p) (Label m ∷ []) ys)) ws e in
+    let ys = then-ok (all_resolved values address (form.Target ∷ []) (Label m ∷ [])) (λ ys. Ok (words_of_fields (op.Branch n z p) (Label m ∷ []) ys)) ws e in
     let y = one-field values address form.Target m ys.0 ys.1 in
     let near = near9 values address m y.0 y.1 in
-    let word : encoded (op.Branch n z p) (Label m ∷ []) ys.0 ≡ ws = ok-same _ ws ys.2 in
+    let word : words_of_fields (op.Branch n z p) (Label m ∷ []) ys.0 ≡ ws = ok-same _ ws ys.2 in
     rw (← same) (record {
       written = Br n z p near.offset;
       offset = near.offset;
@@ -121,15 +121,15 @@ written values address (op.Branch n z p) (Label m ∷ []) name ws h t e =
       offset_is = refl;
       target_is = near.target_is;
       is_instruction = near.signed;
-      word_is = sym word ∙ ap (encoded (op.Branch n z p) (Label m ∷ [])) (y.2 ∙ ap (λ x. x ∷ []) near.field_is);
+      word_is = sym word ∙ ap (words_of_fields (op.Branch n z p) (Label m ∷ [])) (y.2 ∙ ap (λ x. x ∷ []) near.field_is);
       reaches = near.reaches;
     })
 written values address op.JumpSubroutine (Label m ∷ []) name ws h t e =
     let same : m ≡ name = cc in
-    let ys = then-ok (all_resolved values address (form.FarTarget ∷ []) (Label m ∷ [])) (λ ys. Ok (encoded op.JumpSubroutine (Label m ∷ []) ys)) ws e in
+    let ys = then-ok (all_resolved values address (form.FarTarget ∷ []) (Label m ∷ [])) (λ ys. Ok (words_of_fields op.JumpSubroutine (Label m ∷ []) ys)) ws e in
     let y = one-field values address form.FarTarget m ys.0 ys.1 in
     let near = near11 values address m y.0 y.1 in
-    let word : encoded op.JumpSubroutine (Label m ∷ []) ys.0 ≡ ws = ok-same _ ws ys.2 in
+    let word : words_of_fields op.JumpSubroutine (Label m ∷ []) ys.0 ≡ ws = ok-same _ ws ys.2 in
     rw (← same) (record {
       written = Jsr near.offset;
       offset = near.offset;
@@ -138,15 +138,15 @@ written values address op.JumpSubroutine (Label m ∷ []) name ws h t e =
       offset_is = refl;
       target_is = near.target_is;
       is_instruction = near.signed;
-      word_is = sym word ∙ ap (encoded op.JumpSubroutine (Label m ∷ [])) (y.2 ∙ ap (λ x. x ∷ []) near.field_is);
+      word_is = sym word ∙ ap (words_of_fields op.JumpSubroutine (Label m ∷ [])) (y.2 ∙ ap (λ x. x ∷ []) near.field_is);
       reaches = near.reaches;
     })
 written values address op.Load (Register r ∷ Label m ∷ []) name ws h t e =
     let same : m ≡ name = cc in
-    let ys = then-ok (all_resolved values address (form.Register ∷ form.Target ∷ []) (Register r ∷ Label m ∷ [])) (λ ys. Ok (encoded op.Load (Register r ∷ Label m ∷ []) ys)) ws e in
+    let ys = then-ok (all_resolved values address (form.Register ∷ form.Target ∷ []) (Register r ∷ Label m ∷ [])) (λ ys. Ok (words_of_fields op.Load (Register r ∷ Label m ∷ []) ys)) ws e in
     let y = two-fields values address r form.Target m ys.0 ys.1 in
     let near = near9 values address m y.0 y.1 in
-    let word : encoded op.Load (Register r ∷ Label m ∷ []) ys.0 ≡ ws = ok-same _ ws ys.2 in
+    let word : words_of_fields op.Load (Register r ∷ Label m ∷ []) ys.0 ≡ ws = ok-same _ ws ys.2 in
     rw (← same) (record {
       written = Ld r near.offset;
       offset = near.offset;
@@ -155,15 +155,15 @@ written values address op.Load (Register r ∷ Label m ∷ []) name ws h t e =
       offset_is = refl;
       target_is = near.target_is;
       is_instruction = (register-fits r (true && true) h, near.signed);
-      word_is = sym word ∙ ap (encoded op.Load (Register r ∷ Label m ∷ [])) (y.2 ∙ ap (λ x. field.Register r ∷ x ∷ []) near.field_is);
+      word_is = sym word ∙ ap (words_of_fields op.Load (Register r ∷ Label m ∷ [])) (y.2 ∙ ap (λ x. field.Register r ∷ x ∷ []) near.field_is);
       reaches = near.reaches;
     })
 written values address op.LoadIndirect (Register r ∷ Label m ∷ []) name ws h t e =
     let same : m ≡ name = cc in
-    let ys = then-ok (all_resolved values address (form.Register ∷ form.Target ∷ []) (Register r ∷ Label m ∷ [])) (λ ys. Ok (encoded op.LoadIndirect (Register r ∷ Label m ∷ []) ys)) ws e in
+    let ys = then-ok (all_resolved values address (form.Register ∷ form.Target ∷ []) (Register r ∷ Label m ∷ [])) (λ ys. Ok (words_of_fields op.LoadIndirect (Register r ∷ Label m ∷ []) ys)) ws e in
     let y = two-fields values address r form.Target m ys.0 ys.1 in
     let near = near9 values address m y.0 y.1 in
-    let word : encoded op.LoadIndirect (Register r ∷ Label m ∷ []) ys.0 ≡ ws = ok-same _ ws ys.2 in
+    let word : words_of_fields op.LoadIndirect (Register r ∷ Label m ∷ []) ys.0 ≡ ws = ok-same _ ws ys.2 in
     rw (← same) (record {
       written = Ldi r near.offset;
       offset = near.offset;
@@ -172,15 +172,15 @@ written values address op.LoadIndirect (Register r ∷ Label m ∷ []) name ws h
       offset_is = refl;
       target_is = near.target_is;
       is_instruction = (register-fits r (true && true) h, near.signed);
-      word_is = sym word ∙ ap (encoded op.LoadIndirect (Register r ∷ Label m ∷ [])) (y.2 ∙ ap (λ x. field.Register r ∷ x ∷ []) near.field_is);
+      word_is = sym word ∙ ap (words_of_fields op.LoadIndirect (Register r ∷ Label m ∷ [])) (y.2 ∙ ap (λ x. field.Register r ∷ x ∷ []) near.field_is);
       reaches = near.reaches;
     })
 written values address op.LoadAddress (Register r ∷ Label m ∷ []) name ws h t e =
     let same : m ≡ name = cc in
-    let ys = then-ok (all_resolved values address (form.Register ∷ form.Target ∷ []) (Register r ∷ Label m ∷ [])) (λ ys. Ok (encoded op.LoadAddress (Register r ∷ Label m ∷ []) ys)) ws e in
+    let ys = then-ok (all_resolved values address (form.Register ∷ form.Target ∷ []) (Register r ∷ Label m ∷ [])) (λ ys. Ok (words_of_fields op.LoadAddress (Register r ∷ Label m ∷ []) ys)) ws e in
     let y = two-fields values address r form.Target m ys.0 ys.1 in
     let near = near9 values address m y.0 y.1 in
-    let word : encoded op.LoadAddress (Register r ∷ Label m ∷ []) ys.0 ≡ ws = ok-same _ ws ys.2 in
+    let word : words_of_fields op.LoadAddress (Register r ∷ Label m ∷ []) ys.0 ≡ ws = ok-same _ ws ys.2 in
     rw (← same) (record {
       written = Lea r near.offset;
       offset = near.offset;
@@ -189,15 +189,15 @@ written values address op.LoadAddress (Register r ∷ Label m ∷ []) name ws h 
       offset_is = refl;
       target_is = near.target_is;
       is_instruction = (register-fits r (true && true) h, near.signed);
-      word_is = sym word ∙ ap (encoded op.LoadAddress (Register r ∷ Label m ∷ [])) (y.2 ∙ ap (λ x. field.Register r ∷ x ∷ []) near.field_is);
+      word_is = sym word ∙ ap (words_of_fields op.LoadAddress (Register r ∷ Label m ∷ [])) (y.2 ∙ ap (λ x. field.Register r ∷ x ∷ []) near.field_is);
       reaches = near.reaches;
     })
 written values address op.Store (Register r ∷ Label m ∷ []) name ws h t e =
     let same : m ≡ name = cc in
-    let ys = then-ok (all_resolved values address (form.Register ∷ form.Target ∷ []) (Register r ∷ Label m ∷ [])) (λ ys. Ok (encoded op.Store (Register r ∷ Label m ∷ []) ys)) ws e in
+    let ys = then-ok (all_resolved values address (form.Register ∷ form.Target ∷ []) (Register r ∷ Label m ∷ [])) (λ ys. Ok (words_of_fields op.Store (Register r ∷ Label m ∷ []) ys)) ws e in
     let y = two-fields values address r form.Target m ys.0 ys.1 in
     let near = near9 values address m y.0 y.1 in
-    let word : encoded op.Store (Register r ∷ Label m ∷ []) ys.0 ≡ ws = ok-same _ ws ys.2 in
+    let word : words_of_fields op.Store (Register r ∷ Label m ∷ []) ys.0 ≡ ws = ok-same _ ws ys.2 in
     rw (← same) (record {
       written = St r near.offset;
       offset = near.offset;
@@ -206,15 +206,15 @@ written values address op.Store (Register r ∷ Label m ∷ []) name ws h t e =
       offset_is = refl;
       target_is = near.target_is;
       is_instruction = (register-fits r (true && true) h, near.signed);
-      word_is = sym word ∙ ap (encoded op.Store (Register r ∷ Label m ∷ [])) (y.2 ∙ ap (λ x. field.Register r ∷ x ∷ []) near.field_is);
+      word_is = sym word ∙ ap (words_of_fields op.Store (Register r ∷ Label m ∷ [])) (y.2 ∙ ap (λ x. field.Register r ∷ x ∷ []) near.field_is);
       reaches = near.reaches;
     })
 written values address op.StoreIndirect (Register r ∷ Label m ∷ []) name ws h t e =
     let same : m ≡ name = cc in
-    let ys = then-ok (all_resolved values address (form.Register ∷ form.Target ∷ []) (Register r ∷ Label m ∷ [])) (λ ys. Ok (encoded op.StoreIndirect (Register r ∷ Label m ∷ []) ys)) ws e in
+    let ys = then-ok (all_resolved values address (form.Register ∷ form.Target ∷ []) (Register r ∷ Label m ∷ [])) (λ ys. Ok (words_of_fields op.StoreIndirect (Register r ∷ Label m ∷ []) ys)) ws e in
     let y = two-fields values address r form.Target m ys.0 ys.1 in
     let near = near9 values address m y.0 y.1 in
-    let word : encoded op.StoreIndirect (Register r ∷ Label m ∷ []) ys.0 ≡ ws = ok-same _ ws ys.2 in
+    let word : words_of_fields op.StoreIndirect (Register r ∷ Label m ∷ []) ys.0 ≡ ws = ok-same _ ws ys.2 in
     rw (← same) (record {
       written = Sti r near.offset;
       offset = near.offset;
@@ -223,7 +223,7 @@ written values address op.StoreIndirect (Register r ∷ Label m ∷ []) name ws 
       offset_is = refl;
       target_is = near.target_is;
       is_instruction = (register-fits r (true && true) h, near.signed);
-      word_is = sym word ∙ ap (encoded op.StoreIndirect (Register r ∷ Label m ∷ [])) (y.2 ∙ ap (λ x. field.Register r ∷ x ∷ []) near.field_is);
+      word_is = sym word ∙ ap (words_of_fields op.StoreIndirect (Register r ∷ Label m ∷ [])) (y.2 ∙ ap (λ x. field.Register r ∷ x ∷ []) near.field_is);
       reaches = near.reaches;
     })
 written values address o xs name ws h t e = cc
@@ -260,15 +260,15 @@ reaches_label text p before label o xs name accepted has named =
     })
 
 -- the word of a `.FILL` of a label
-filled : (values : List ℕ → Option ℕ) (address : ℕ) (name ws : List ℕ) → (all_resolved values address (form.Value ∷ []) (Label name ∷ []) >>= λ ys. Ok (encoded op.Fill (Label name ∷ []) ys)) ≡ Ok ws
+filled : (values : List ℕ → Option ℕ) (address : ℕ) (name ws : List ℕ) → (all_resolved values address (form.Value ∷ []) (Label name ∷ []) >>= λ ys. Ok (words_of_fields op.Fill (Label name ∷ []) ys)) ≡ Ok ws
     → (target : ℕ) × (values name ≡ Some target) × (ws ≡ low_bits 16 (pos target) ∷ [])
 filled values address name ws e =
-    let ys = then-ok (all_resolved values address (form.Value ∷ []) (Label name ∷ [])) (λ ys. Ok (encoded op.Fill (Label name ∷ []) ys)) ws e in
+    let ys = then-ok (all_resolved values address (form.Value ∷ []) (Label name ∷ [])) (λ ys. Ok (words_of_fields op.Fill (Label name ∷ []) ys)) ws e in
     let y = one-field values address form.Value name ys.0 ys.1 in
-    let target = then-ok (or_fault (values name) fault.Undefined) (λ t. reached form.Value address t >>= λ z. Ok (field.Number z)) y.0 y.1 in
+    let target = then-ok (or_fault (values name) fault.Undefined) (λ t. label_number form.Value address t >>= λ z. Ok (field.Number z)) y.0 y.1 in
     let field_is : field.Number (pos target.0) ≡ y.0 = ok-same (field.Number (pos target.0)) y.0 target.2 in
-    let word : encoded op.Fill (Label name ∷ []) ys.0 ≡ ws = ok-same _ ws ys.2 in
-    (target.0, or_fault-ok (values name) fault.Undefined target.0 target.1, sym word ∙ ap (encoded op.Fill (Label name ∷ [])) (y.2 ∙ ap (λ x. x ∷ []) (sym field_is)))
+    let word : words_of_fields op.Fill (Label name ∷ []) ys.0 ≡ ws = ok-same _ ws ys.2 in
+    (target.0, or_fault-ok (values name) fault.Undefined target.0 target.1, sym word ∙ ap (words_of_fields op.Fill (Label name ∷ [])) (y.2 ∙ ap (λ x. x ∷ []) (sym field_is)))
 
 fill-started : (s : Bool) → operation_order s op.Fill ≡ None → s ≡ true
 fill-started true e = refl

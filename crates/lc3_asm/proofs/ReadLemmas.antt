@@ -5,7 +5,7 @@ use Rattle.std.specs.List.{list_any}
 use Rattle.lc3_table.specs.Statements.{Line, Operand, line, unless, ◌>>=◌}
 use Rattle.lc3_table.specs.declared.operation.Fault.{Fault}
 use Rattle.lc3_table.specs.declared.operation.Fault.TheVariants as fault
-use Rattle.lc3_asm.specs.Texts.{LineWords, Program, at_line, lines, is_origin, is_end, label_of, labels, line_after, read_after, lines_read, words_after, place_fault, is_duplicate, address_after, laid_out, program_of, assembled, program}
+use Rattle.lc3_asm.specs.Texts.{LineWords, Program, at_line, lines, is_origin, is_end, label_of, labels, line_after, read_after, lines_read, words_after, place_fault, is_duplicate, address_after, laid_out, program_of, program_of_lines, program}
 use Rattle.lc3_asm.proofs.Outcomes.{then-ok, unless-ok, ok-same}
 use Rattle.lc3_asm.proofs.DraftLemmas.{fits_from_test}
 use Rattle.lc3_word.specs.Segment.{first_device}
@@ -78,9 +78,9 @@ meant-started p ls n false e = cc
 
 pub meant : (text : List ℕ) (p : Program) (ls : List (Line Operand)) → program text ≡ Ok p → lines_read text ≡ Ok ls → Meant p ls
 meant text p ls e r =
-    let read = then-ok (lines_read text) (λ ks. assembled (length (lines text)) ks) p e in
+    let read = then-ok (lines_read text) (λ ks. program_of_lines (length (lines text)) ks) p e in
     let same : read.0 ≡ ls = ok-same read.0 ls (sym read.1 ∙ r) in
-    meant-started p ls (length (lines text)) (list_any is_origin ls) (ap (assembled (length (lines text))) (sym same) ∙ read.2)
+    meant-started p ls (length (lines text)) (list_any is_origin ls) (ap (program_of_lines (length (lines text))) (sym same) ∙ read.2)
 
 -- the lines of any accepted text
 pub record HasLines (text : List ℕ) (p : Program) : Type 0 where
@@ -88,4 +88,4 @@ pub record HasLines (text : List ℕ) (p : Program) : Type 0 where
   pub read : lines_read text ≡ Ok lines
 
 pub has-lines : (text : List ℕ) (p : Program) → program text ≡ Ok p → HasLines text p
-has-lines text p e = let read = then-ok (lines_read text) (λ ks. assembled (length (lines text)) ks) p e in record { lines = read.0; read = read.1 }
+has-lines text p e = let read = then-ok (lines_read text) (λ ks. program_of_lines (length (lines text)) ks) p e in record { lines = read.0; read = read.1 }

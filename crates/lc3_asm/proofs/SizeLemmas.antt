@@ -4,7 +4,7 @@ use Rattle.std.specs.Prelude.{Ok, is_some, ◌&&◌, nat_abs}
 use Rattle.std.proofs.lemmas.List.{length-append, length-replicate}
 use lib.IntN.{ℤ}
 use Rattle.lc3_table.specs.Statements.{Line, Blank, LabelAlone, Operates, Operand, Register, Number, Label, Characters, or_fault, forms, ◌>>=◌}
-use Rattle.lc3_table.specs.Meaning.{words, size, operation_size, encoded, instruction, instruction_words, resolved, reached, all_resolved}
+use Rattle.lc3_table.specs.Meaning.{words, size, operation_size, words_of_fields, instruction, instruction_words, resolved_field, label_number, all_resolved}
 use Rattle.lc3_table.specs.declared.fields.Field.{Field}
 use Rattle.lc3_table.specs.declared.fields.Field.TheVariants as field
 use Rattle.lc3_table.specs.declared.instr.Instr.{Instr}
@@ -52,13 +52,13 @@ characters-field : (f : Form) (cs : List ℕ) → fits f (Characters cs) ≡ tru
 characters-field form.Characters cs h = refl
 characters-field f cs h = cc
 
-resolved-fits : (values : List ℕ → Option ℕ) (address : ℕ) (f : Form) (x : Operand) (y : Field) → fits f x ≡ true → resolved values address f x ≡ Ok y → field_fits f y ≡ true
+resolved-fits : (values : List ℕ → Option ℕ) (address : ℕ) (f : Form) (x : Operand) (y : Field) → fits f x ≡ true → resolved_field values address f x ≡ Ok y → field_fits f y ≡ true
 resolved-fits values address f (Register r) y h e = let same : field.Register r ≡ y = ok-same (field.Register r) y e in rw (← same) (register-field f r h)
 resolved-fits values address f (Number z) y h e = let same : field.Number z ≡ y = ok-same (field.Number z) y e in rw (← same) (number-field f z h)
 resolved-fits values address f (Characters cs) y h e = let same : field.Nothing ≡ y = ok-same field.Nothing y e in rw (← same) (characters-field f cs h)
 resolved-fits values address f (Label n) y h e =
-    let target = then-ok (or_fault (values n) fault.Undefined) (λ t. reached f address t >>= λ z. Ok (field.Number z)) y e in
-    let number = then-ok (reached f address target.0) (λ z. Ok (field.Number z)) y target.2 in
+    let target = then-ok (or_fault (values n) fault.Undefined) (λ t. label_number f address t >>= λ z. Ok (field.Number z)) y e in
+    let number = then-ok (label_number f address target.0) (λ z. Ok (field.Number z)) y target.2 in
     let same : field.Number number.0 ≡ y = ok-same (field.Number number.0) y number.2 in
     rw (← same) (label-field f n number.0 h)
 
@@ -67,7 +67,7 @@ all_resolved-fits values address [] [] ys h e = let same : [] ≡ ys = ok-same [
 all_resolved-fits values address [] (x ∷ xs) ys h e = cc
 all_resolved-fits values address (f ∷ fs) [] ys h e = cc
 all_resolved-fits values address (f ∷ fs) (x ∷ xs) ys h e =
-    let first = then-ok (resolved values address f x) (λ y. all_resolved values address fs xs >>= λ zs. Ok (y ∷ zs)) ys e in
+    let first = then-ok (resolved_field values address f x) (λ y. all_resolved values address fs xs >>= λ zs. Ok (y ∷ zs)) ys e in
     let rest = then-ok (all_resolved values address fs xs) (λ zs. Ok (first.0 ∷ zs)) ys first.2 in
     let same : first.0 ∷ rest.0 ≡ ys = ok-same (first.0 ∷ rest.0) ys rest.2 in
     let fit = and_parts (fits f x) (all_fit fs xs) h in
@@ -97,13 +97,13 @@ instruction-found op.JumpSubroutine (field.Number o ∷ []) i h = refl
 instruction-found op.JumpSubroutineRegister (field.Register b ∷ []) i h = refl
 instruction-found op.Load (field.Register d ∷ field.Number o ∷ []) i h = refl
 instruction-found op.LoadIndirect (field.Register d ∷ field.Number o ∷ []) i h = refl
-instruction-found op.LoadRegister (field.Register d ∷ field.Register b ∷ field.Number o ∷ []) i h = refl
+instruction-found op.LoadBaseOffset (field.Register d ∷ field.Register b ∷ field.Number o ∷ []) i h = refl
 instruction-found op.LoadAddress (field.Register d ∷ field.Number o ∷ []) i h = refl
 instruction-found op.Return [] i h = refl
 instruction-found op.ReturnInterrupt [] i h = refl
 instruction-found op.Store (field.Register s ∷ field.Number o ∷ []) i h = refl
 instruction-found op.StoreIndirect (field.Register s ∷ field.Number o ∷ []) i h = refl
-instruction-found op.StoreRegister (field.Register s ∷ field.Register b ∷ field.Number o ∷ []) i h = refl
+instruction-found op.StoreBaseOffset (field.Register s ∷ field.Register b ∷ field.Number o ∷ []) i h = refl
 instruction-found op.Trap (field.Number z ∷ []) i h = refl
 instruction-found op.Getc [] i h = refl
 instruction-found op.Out [] i h = refl
@@ -118,7 +118,7 @@ one_word : (i : Option Instr) → is_some i ≡ true → length (instruction_wor
 one_word (Some i) h = refl
 one_word None h = cc
 
-encoded-exact : (o : Operation) (xs : List Operand) (ys : List Field) → all_fit (forms o) xs ≡ true → fields_fit (forms o) ys ≡ true → length (encoded o xs ys) ≡ operation_size o xs
+encoded-exact : (o : Operation) (xs : List Operand) (ys : List Field) → all_fit (forms o) xs ≡ true → fields_fit (forms o) ys ≡ true → length (words_of_fields o xs ys) ≡ operation_size o xs
 unfolding instruction
 encoded-exact op.Origin xs ys h k = refl
 encoded-exact op.End xs ys h k = refl
@@ -134,6 +134,6 @@ pub words-exact : (values : List ℕ → Option ℕ) (address : ℕ) (l : Line O
 words-exact values address Blank ws h e = let same : [] ≡ ws = ok-same [] ws e in rw (← same) refl
 words-exact values address (LabelAlone n) ws h e = let same : [] ≡ ws = ok-same [] ws e in rw (← same) refl
 words-exact values address (Operates n o xs) ws h e =
-    let fields = then-ok (all_resolved values address (forms o) xs) (λ ys. Ok (encoded o xs ys)) ws e in
-    let same : encoded o xs fields.0 ≡ ws = ok-same (encoded o xs fields.0) ws fields.2 in
+    let fields = then-ok (all_resolved values address (forms o) xs) (λ ys. Ok (words_of_fields o xs ys)) ws e in
+    let same : words_of_fields o xs fields.0 ≡ ws = ok-same (words_of_fields o xs fields.0) ws fields.2 in
     rw (← same) (encoded-exact o xs fields.0 h (all_resolved-fits values address (forms o) xs fields.0 h fields.1))

@@ -58,9 +58,9 @@ target_named op.StoreIndirect (Register sr ∷ Label name ∷ []) = Some name
 target_named _ _ = None
 
 -- an operand as a field, with a number in the place of a label
-abbrev pub numbered : ℤ → Operand → Field
-numbered offset (Label name) = field.Number offset
-numbered offset x = field_of x
+abbrev pub field_with_offset : ℤ → Operand → Field
+field_with_offset offset (Label name) = field.Number offset
+field_with_offset offset x = field_of x
 
 -- at this address of the image stands the instruction of this operation and these operands, with an offset
 -- for the label, and this offset, added to the address plus 1, is the label's value
@@ -68,7 +68,7 @@ pub record Reaches (p : Program) (address : ℕ) (o : Operation) (xs : List Oper
   pub written : Instr
   pub offset : ℤ
   pub target : ℕ
-  pub written_is : instruction o (map (numbered offset) xs) ≡ Some written
+  pub written_is : instruction o (map (field_with_offset offset) xs) ≡ Some written
   pub offset_is : pc_offset written ≡ Some offset
   pub target_is : value p.symbols name ≡ Some target
   pub stands : instruction_in p.image address ≡ Some written

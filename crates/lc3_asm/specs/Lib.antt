@@ -1,7 +1,5 @@
-pub mod Drafts
 pub mod Laws
-pub mod Layouts
 pub mod Listings
 pub mod Symbols
 pub mod Texts
-pub mod Views
+pub mod Private

@@ -24,9 +24,11 @@ rows_text (r ∷ rs) ws = words_text r.address r.line (take r.count ws) ++ rows_
 unfoldable pub symbol_line : List ℕ → ℕ → List ℕ
 symbol_line name address = name ++ codes " x" ++ hex_text address ++ codes "\n"
 
+-- the lines of the labels
 abbrev pub symbols_text : List (List ℕ × ℕ) → List ℕ
 symbols_text [] = []
 symbols_text (e ∷ es) = symbol_line e.0 e.1 ++ symbols_text es
 
+-- the whole listing: the lines of the rows, and then those of the labels
 abbrev pub listing_text : Program → List ℕ
 listing_text p = rows_text p.rows p.image.words ++ symbols_text p.symbols

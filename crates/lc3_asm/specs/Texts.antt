@@ -1,5 +1,5 @@
 -- A source text: its lines, the addresses of its labels, its words, or its first fault.
-use Rattle.std.specs.Prelude.{ℕ, ◌+◌, nat_abs, Bool, true, false, ◌==◌, nat_le, bytes_eq, sum_by, Option, Some, None, is_some, unwrap_or, option_map, find, Result, Ok, Err, List, [], ◌∷◌, ◌++◌, length, if◌then◌else◌}
+use Rattle.std.specs.Prelude.{ℕ, ◌≡◌, ◌+◌, nat_abs, Bool, true, false, ◌==◌, nat_le, bytes_eq, sum_by, Option, Some, None, is_some, unwrap_or, option_map, find, Result, Ok, Err, List, [], ◌∷◌, ◌++◌, length, if◌then◌else◌}
 use Rattle.std.specs.List.{list_any, slice_split}
 use Rattle.lc3_table.specs.Statements.{Line, Blank, LabelAlone, Operates, Operand, Number, line, unless, option_or, ◌>>=◌}
 use Rattle.lc3_word.specs.Segment.{Segment, first_device}
@@ -8,6 +8,8 @@ use Rattle.lc3_asm.specs.declared.assembled.Row.{Row}
 use Rattle.lc3_table.specs.declared.operation.Operation.TheVariants as op
 use Rattle.lc3_table.specs.declared.operation.Fault.{Fault}
 use Rattle.lc3_table.specs.declared.operation.Fault.TheVariants as fault
+use Rattle.lc3_asm.specs.declared.fault.AsmFault.{AsmFault}
+use Rattle.lc3_asm.specs.declared.fault.AsmFault.TheVariants as faults
 
 -- the lines of a text, which end at line feeds
 abbrev pub lines : List ℕ → List (List ℕ)
@@ -137,8 +139,8 @@ abbrev pub program_of : List (Line Operand) → Result Program At
 program_of ls = words_after (labels ls) [] ls >>= λ made. Ok (laid_out ls made)
 
 -- the same for a text of this many lines; without a `.ORIG` the fault is the last line's
-abbrev pub assembled : ℕ → List (Line Operand) → Result Program At
-assembled count ls = if list_any is_origin ls then program_of ls else Err (record { line = count; kind = fault.NoOrig })
+abbrev pub program_of_lines : ℕ → List (Line Operand) → Result Program At
+program_of_lines count ls = if list_any is_origin ls then program_of ls else Err (record { line = count; kind = fault.NoOrig })
 
 -- the lines of a text up to `.END`; or the least line that can't be read, and its first fault
 abbrev pub lines_read : List ℕ → Result (List (Line Operand)) At
@@ -146,4 +148,9 @@ lines_read text = read_after [] (lines text)
 
 -- What a source text says, or its fault.
 abbrev pub program : List ℕ → Result Program At
-program text = lines_read text >>= λ ls. assembled (length (lines text)) ls
+program text = lines_read text >>= λ ls. program_of_lines (length (lines text)) ls
+
+-- the fault that the definition gives; of want of memory nothing is said
+abbrev pub IsFault : {A : Type 0} → AsmFault → Result A At → Type 0
+IsFault faults.NoMemory read = Unit {0}
+IsFault (faults.At n k) read = read ≡ Err (record { line = n; kind = k })

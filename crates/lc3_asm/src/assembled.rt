@@ -38,7 +38,7 @@ impl Model for Assembled {
 
 impl Assembled {
     pub(crate) fn new(image: Image, symbols: Symbols, rows: Vec<Row>) -> Self
-        ensures { result ≡ record { image = image; symbols = symbols; rows = rows.items } }
+        ensures value { result ≡ record { image = image; symbols = symbols; rows = rows.items } }
     {
         Assembled {
             image,
@@ -72,7 +72,8 @@ impl Assembled {
 /// Appends the line of a word.
 #[tactic(auto, unfolding(crate::specs::Listings::word_line))]
 fn push_word(listing: &mut String, address: u16, word: u16, line: usize) -> Result<(), AllocError>
-    ensures { OnOk result (string_bytes listing.new ≡ string_bytes listing.old ++ word_line address word line) }
+    ensures text { OnOk result (string_bytes listing.new
+        ≡ string_bytes listing.old ++ word_line address word line) }
 {
     let place = Hex(address);
     let content = Hex(word);
@@ -90,7 +91,8 @@ fn push_words(
     words: &[u16],
     line: usize,
 ) -> Result<(), AllocError>
-    ensures { OnOk result (string_bytes listing.new ≡ string_bytes listing.old ++ words_text address line words.now) }
+    ensures text { OnOk result (string_bytes listing.new
+        ≡ string_bytes listing.old ++ words_text address line words.now) }
 {
     let mut address = address;
     for word in words {
@@ -102,7 +104,8 @@ fn push_words(
 
 /// Appends the lines of the words of all rows.
 fn push_rows(listing: &mut String, rows: &[Row], words: &[u16]) -> Result<(), AllocError>
-    ensures { OnOk result (string_bytes listing.new ≡ string_bytes listing.old ++ rows_text rows.now words.now) }
+    ensures text { OnOk result (string_bytes listing.new
+        ≡ string_bytes listing.old ++ rows_text rows.now words.now) }
 {
     let mut rest = words;
     for row in rows {

@@ -5,10 +5,10 @@ ghost use Rattle.std.specs.List.{list_any};
 ghost use Rattle.lc3_word.specs.Segment.{first_device};
 ghost use Rattle.lc3_asm.specs.Texts.{is_origin, origin, labels, address_after, place_fault};
 ghost use Rattle.lc3_table.specs.Statements.{Line, Operand, order_fault};
-ghost use Rattle.lc3_asm.specs.Views.{seen_line};
-ghost use Rattle.lc3_asm.specs.Symbols.{AreKept, addresses};
+ghost use Rattle.lc3_asm.specs.Private.Views.{seen_line};
+ghost use Rattle.lc3_asm.specs.Private.Addresses.{AreKept, addresses};
 ghost use Rattle.lc3_table.specs.Meaning.{size};
-ghost use Rattle.lc3_asm.specs.Drafts.{AddsLine};
+ghost use Rattle.lc3_asm.specs.Private.Drafts.{AddsLine};
 
 use crate::fault::LineError;
 use crate::line::{Line, read_line};
@@ -39,13 +39,14 @@ impl Model for Draft {
 
     ghost view = { λ d. map seen_line d.lines.items };
 
-    ghost invariant = { λ d. AreKept d.symbols d.places.items d.started d.first d.address (map seen_line d.lines.items) };
+    ghost invariant = { λ d. AreKept d.symbols d.places.items d.started d.first d.address
+        (map seen_line d.lines.items) };
 }
 
 impl Draft {
     /// No lines.
     pub fn new(alloc: Global) -> Self
-        ensures { result ≡ [] }
+        ensures empty { result ≡ [] }
     {
         Draft {
             lines: Vec::new(alloc),
@@ -59,8 +60,8 @@ impl Draft {
 
     /// The address after this line.
     fn address_with(&self, line: &Line) -> u64
-        requires { order_fault (list_any is_origin self.now) (seen_line line.now) ≡ None }
-        ensures { result ≡ address_after (self.now ++ seen_line line.now ∷ []) }
+        requires ordered { order_fault (list_any is_origin self.now) (seen_line line.now) ≡ None }
+        ensures value { result ≡ address_after (self.now ++ seen_line line.now ∷ []) }
     {
         match line.origin() {
             Some(origin) => origin,
@@ -70,8 +71,8 @@ impl Draft {
 
     /// What is wrong with the place or the label of a line after these.
     fn place_fault(&self, line: &Line) -> Option<Fault>
-        requires { order_fault (list_any is_origin self.now) (seen_line line.now) ≡ None }
-        ensures { result ≡ place_fault self.now (seen_line line.now) }
+        requires ordered { order_fault (list_any is_origin self.now) (seen_line line.now) ≡ None }
+        ensures value { result ≡ place_fault self.now (seen_line line.now) }
     {
         if let Some(label) = line.label() {
             if self.symbols.contains(label) {
@@ -88,7 +89,7 @@ impl Draft {
     fn with(self, alloc: Global, line: Line) -> Result<Self, AllocError>
         requires ordered { order_fault (list_any is_origin self) (seen_line line) ≡ None }
         requires placed { place_fault self (seen_line line) ≡ None }
-        ensures { IfOk result (λ draft. draft ≡ self ++ seen_line line ∷ []) }
+        ensures lines { IfOk result (λ draft. draft ≡ self ++ seen_line line ∷ []) }
     {
         let next = self.address_with(&line);
         let Draft {
@@ -126,7 +127,7 @@ impl Draft {
 
     /// The lines with the next one, and whether that is the `.END` line. After an error the draft is given up.
     pub fn with_line(self, alloc: Global, bytes: &[u8]) -> Result<(Self, bool), LineError>
-        ensures { AddsLine self bytes.now result }
+        ensures adds { AddsLine self bytes.now result }
     {
         let line = read_line(alloc, self.started, bytes)?;
         if let Some(fault) = self.place_fault(&line) {
@@ -138,7 +139,7 @@ impl Draft {
 
     /// The lines.
     pub fn lines(&self) -> &[Line]
-        ensures { map seen_line result.now ≡ self.now }
+        ensures lines { map seen_line result.now ≡ self.now }
     {
         self.lines.as_slice()
     }
@@ -154,21 +155,21 @@ impl Draft {
 
     /// The labels, with the addresses of their lines.
     pub fn symbols(&self) -> &Symbols
-        ensures { result.now ≡ labels self.now }
+        ensures value { result.now ≡ labels self.now }
     {
         &self.symbols
     }
 
     /// The labels, where the lines are no longer needed.
     pub fn into_symbols(self) -> Symbols
-        ensures { result ≡ labels self }
+        ensures value { result ≡ labels self }
     {
         self.symbols
     }
 
     /// Whether a `.ORIG` was read.
     pub fn started(&self) -> bool
-        ensures { result ≡ list_any is_origin self.now }
+        ensures value { result ≡ list_any is_origin self.now }
     {
         self.started
     }

@@ -1,9 +1,9 @@
 //! The words of a line.
 
 ghost use Rattle.std.specs.Prelude.{◌≡◌, ◌+◌, ◌-ℤ◌, pos, IfOk, map, [], ◌∷◌, ◌++◌};
-ghost use Rattle.lc3_table.specs.Meaning.{within, reached, resolved, all_resolved, encoded, words};
+ghost use Rattle.lc3_table.specs.Meaning.{within, label_number, resolved_field, all_resolved, words_of_fields, words};
 ghost use Rattle.lc3_asm.specs.Texts.{value};
-ghost use Rattle.lc3_asm.specs.Views.{Gives, seen_operand, seen_line};
+ghost use Rattle.lc3_asm.specs.Private.Views.{Gives, seen_operand, seen_line};
 
 use crate::fault::LineError;
 use crate::line::Line;
@@ -14,7 +14,7 @@ use std::alloc::{AllocError, Global};
 
 /// The offset from the line at an address to a target, where the field has room for it.
 fn offset(low: i64, high: i64, address: u16, target: u16) -> Result<i64, Fault>
-    ensures { result ≡ within low high (pos target -ℤ pos (address + 1)) }
+    ensures value { result ≡ within low high (pos target -ℤ pos (address + 1)) }
 {
     let offset = i64::from(target) - (i64::from(address) + 1);
     if low <= offset && offset <= high {
@@ -26,7 +26,7 @@ fn offset(low: i64, high: i64, address: u16, target: u16) -> Result<i64, Fault>
 
 /// What a label with this value stands for.
 fn reached(form: Form, address: u16, target: u16) -> Result<i64, Fault>
-    ensures { result ≡ reached form address target }
+    ensures value { result ≡ label_number form address target }
 {
     match form {
         Form::Target => offset(-256, 255, address, target),
@@ -37,7 +37,8 @@ fn reached(form: Form, address: u16, target: u16) -> Result<i64, Fault>
 
 /// An operand of the line at this address, with what a label stands for in its place.
 fn resolved(symbols: &Symbols, address: u16, form: Form, operand: &Operand) -> Result<Field, Fault>
-    ensures { result ≡ (resolved (value symbols.now) address form (seen_operand operand.now)) }
+    ensures exact { result
+        ≡ resolved_field (value symbols.now) address form (seen_operand operand.now) }
 {
     match operand {
         Operand::Register(register) => Ok(Field::Register(*register)),
@@ -61,7 +62,8 @@ fn all_resolved(
     forms: &[Form],
     operands: &[Operand],
 ) -> Result<Vec<Field>, LineError>
-    ensures { Gives (λ v. v.items) result (all_resolved (value symbols.now) address forms.now (map seen_operand operands.now)) }
+    ensures exact { Gives (λ v. v.items) result
+        (all_resolved (value symbols.now) address forms.now (map seen_operand operands.now)) }
 {
     let mut found = Vec::new(alloc);
     for i in 0..forms.len().min(operands.len()) {
@@ -75,7 +77,7 @@ fn all_resolved(
 
 /// The characters of a string, a word each, and x0000.
 fn text_words(alloc: Global, characters: &[u8]) -> Result<Vec<u16>, AllocError>
-    ensures { IfOk result (λ v. v.items ≡ characters.now ++ 0 ∷ []) }
+    ensures words { IfOk result (λ v. v.items ≡ characters.now ++ 0 ∷ []) }
 {
     let mut words = Vec::new(alloc);
     for character in characters {
@@ -92,7 +94,8 @@ fn encoded(
     operands: &[Operand],
     fields: &[Field],
 ) -> Result<Vec<u16>, AllocError>
-    ensures { IfOk result (λ v. v.items ≡ encoded operation (map seen_operand operands.now) fields.now) }
+    ensures words { IfOk result
+        (λ v. v.items ≡ words_of_fields operation (map seen_operand operands.now) fields.now) }
 {
     match (operation, operands, fields) {
         (Operation::Text, [Operand::Characters(characters)], _) => text_words(alloc, characters),
@@ -113,7 +116,8 @@ pub fn line_words(
     address: u16,
     line: &Line,
 ) -> Result<Vec<u16>, LineError>
-    ensures { Gives (λ v. v.items) result (words (value symbols.now) address (seen_line line.now)) }
+    ensures exact { Gives (λ v. v.items) result
+        (words (value symbols.now) address (seen_line line.now)) }
 {
     let Line::Operates {
         operation,

@@ -3,9 +3,9 @@
 ghost use Rattle.std.specs.Prelude.{◌≡◌, ◌≤◌, ◌++◌, [], length, map, sum_by, OnOk, IfOk};
 ghost use Rattle.lc3_table.specs.Meaning.{size};
 ghost use Rattle.lc3_asm.specs.Texts.{row, words_after};
-ghost use Rattle.lc3_asm.specs.Views.{seen_line};
-ghost use Rattle.lc3_asm.specs.Symbols.{addresses};
-ghost use Rattle.lc3_asm.specs.Layouts.{Lays, joined};
+ghost use Rattle.lc3_asm.specs.Private.Views.{seen_line};
+ghost use Rattle.lc3_asm.specs.Private.Addresses.{addresses};
+ghost use Rattle.lc3_asm.specs.Private.Layouts.{Lays, words_and_rows};
 
 use crate::assembled::Row;
 use crate::encoding::line_words;
@@ -16,7 +16,7 @@ use std::alloc::{AllocError, Global};
 
 /// Adds the row of a line, if it has words.
 fn push_row(rows: &mut Vec<Row>, line: usize, address: u16, count: usize) -> Result<(), AllocError>
-    ensures { OnOk result (rows.new.items ≡ rows.old.items ++ row line address count) }
+    ensures added { OnOk result (rows.new.items ≡ rows.old.items ++ row line address count) }
 {
     if count > 0 {
         rows.push(Row {
@@ -37,8 +37,10 @@ pub fn layout(
 ) -> Result<(Vec<u16>, Vec<Row>), AsmFault>
     requires places { places.now ≡ addresses (map seen_line lines.now) }
     requires count { length places.now ≡ length lines.now }
-    ensures exact { Lays result (joined [] [] (words_after symbols.now [] (map seen_line lines.now))) }
-    ensures small { IfOk result (λ laid. length laid.0.items ≤ sum_by size (map seen_line lines.now)) }
+    ensures exact { Lays result
+        (words_and_rows [] [] (words_after symbols.now [] (map seen_line lines.now))) }
+    ensures small { IfOk result
+        (λ laid. length laid.0.items ≤ sum_by size (map seen_line lines.now)) }
 {
     let mut words = Vec::new(alloc);
     let mut rows = Vec::new(alloc);

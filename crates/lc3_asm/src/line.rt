@@ -1,7 +1,7 @@
 //! A line of a source text.
 
 ghost use Rattle.std.specs.Prelude.{◌≡◌, option_map, string_bytes, map, IsTrue, true, ◌≤◌, ◌^◌, IfOk, None};
-ghost use Rattle.lc3_asm.specs.Views.{seen, Gives, seen_line};
+ghost use Rattle.lc3_asm.specs.Private.Views.{token_of, Gives, seen_line};
 ghost use Rattle.lc3_table.specs.Statements.{label_defined, begins_with_dot, operation_order, order_fault, with_operands, unless, Operates, line_of, line};
 
 use crate::fault::LineError;
@@ -28,14 +28,14 @@ pub enum Line {
 
 /// Whether a word is written as a directive.
 pub fn begins_with_dot(word: &[u8]) -> bool
-    ensures { result ≡ begins_with_dot word.now }
+    ensures value { result ≡ begins_with_dot word.now }
 {
     matches!(word, [b'.', ..])
 }
 
 /// The label that a token defines, in upper case.
 fn label_defined(alloc: Global, token: Token<'_>) -> Result<String, LineError>
-    ensures { Gives string_bytes result (label_defined (seen token.entry)) }
+    ensures exact { Gives string_bytes result (label_defined (token_of token.entry)) }
 {
     let Token::Word(word) = token else {
         return Err(LineError::Fault(Fault::BadOperation));
@@ -53,7 +53,7 @@ fn label_defined(alloc: Global, token: Token<'_>) -> Result<String, LineError>
 
 /// What is wrong with the place of an operation, behind a `.ORIG` or before any.
 fn operation_order(started: bool, operation: Operation) -> Option<Fault>
-    ensures { result ≡ operation_order started operation }
+    ensures value { result ≡ operation_order started operation }
 {
     match operation {
         Operation::Origin => if started {
@@ -73,7 +73,9 @@ fn operates(
     operation: Operation,
     tokens: &[Token<'_>],
 ) -> Result<Line, LineError>
-    ensures { Gives seen_line result (unless (operation_order started operation) (with_operands (Operates (option_map string_bytes label) operation (map seen tokens.now)))) }
+    ensures exact { Gives seen_line result
+        (unless (operation_order started operation) (with_operands
+        (Operates (option_map string_bytes label) operation (map token_of tokens.now)))) }
 {
     if let Some(fault) = operation_order(started, operation) {
         return Err(LineError::Fault(fault));
@@ -88,7 +90,7 @@ fn operates(
 
 /// What the tokens of a line say, where a `.ORIG` stands before the line or not.
 fn line_of(alloc: Global, started: bool, tokens: &[Token<'_>]) -> Result<Line, LineError>
-    ensures { Gives seen_line result (line_of started (map seen tokens.now)) }
+    ensures exact { Gives seen_line result (line_of started (map token_of tokens.now)) }
 {
     if let Some(fault) = token_fault(tokens) {
         return Err(LineError::Fault(fault));
@@ -154,7 +156,7 @@ impl Line {
 
     /// The label that the line defines.
     pub fn label(&self) -> Option<&str>
-        ensures { option_map (λ name. name.now) result ≡ label_of (seen_line self.now) }
+        ensures label { option_map (λ name. name.now) result ≡ label_of (seen_line self.now) }
     {
         match self {
             Line::Blank => None,
@@ -169,7 +171,7 @@ impl Line {
 
     /// The number that a `.ORIG` names.
     pub fn origin(&self) -> Option<u64>
-        ensures { result ≡ origin_named (seen_line self.now) }
+        ensures value { result ≡ origin_named (seen_line self.now) }
     {
         match self {
             Line::Operates {
@@ -186,7 +188,7 @@ impl Line {
 
     /// Whether the line is `.END`.
     pub fn is_end(&self) -> bool
-        ensures { result ≡ is_end (seen_line self.now) }
+        ensures value { result ≡ is_end (seen_line self.now) }
     {
         matches!(
             self,

@@ -34,7 +34,8 @@ fn without_forms(number: usize) -> Faulty {
 
 /// The token with this number, from 0, as a mark.
 fn mark_at(line: &[u8], faulty: Faulty) -> Option<Mark>
-    ensures within { IfSome result (λ mark. (mark.start < mark.end) × (mark.end ≤ length line.now)) }
+    ensures within { IfSome result
+        (λ mark. (mark.start < mark.end) × (mark.end ≤ length line.now)) }
 {
     let mut rest = without_separators(line);
     for _ in 0..faulty.number {

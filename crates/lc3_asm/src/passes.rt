@@ -2,8 +2,8 @@
 
 ghost use Rattle.std.specs.Prelude.{◌≡◌, ◌<◌, ◌∷◌, [], Ok, IfOk, IfErr, IfSome, length, ◌≤◌, ◌==◌};
 ghost use Rattle.std.specs.List.{position_or_len};
-ghost use Rattle.lc3_asm.specs.Texts.{lines, lines_read, program_of, program};
-ghost use Rattle.lc3_asm.specs.Drafts.{lines_if, IsFault};
+ghost use Rattle.lc3_asm.specs.Texts.{lines, lines_read, program_of, program, IsFault};
+ghost use Rattle.lc3_asm.specs.Private.Drafts.{lines_if};
 
 use crate::assembled::Assembled;
 use crate::draft::Draft;
@@ -58,7 +58,7 @@ fn first_pass(alloc: Global, source: &str) -> Result<Draft, AsmFault>
 /// How many lines a text has.
 #[tactic(auto, using(crate::proofs::TextLemmas::count_lines))]
 fn line_count(text: &[u8]) -> usize
-    ensures { result ≡ length (lines text.now) }
+    ensures count { result ≡ length (lines text.now) }
 {
     text.iter().filter(|byte| **byte == b'\n').count() + 1
 }

@@ -1,10 +1,10 @@
 //! Operands of a statement.
 
 ghost use Rattle.std.specs.Prelude.{◌≡◌, ◌<◌, ◌≤◌, ℕ, IfOk, string_bytes, map, IsAscii, is_some, option_map, List, Option, Some, None, IfSome, IfNone, nat_abs, true, nat_le, ◌&&◌, length, ◌||◌, ◌-ℤ◌, pos};
-ghost use Rattle.lc3_asm.specs.Views.{seen, seen_operand, Gives};
+ghost use Rattle.lc3_asm.specs.Private.Views.{token_of, seen_operand, Gives};
 ghost use Rattle.lc3_table.specs.Words.{upper, register};
 ghost use Rattle.std.specs.List.{list_all};
-ghost use Rattle.lc3_table.specs.Statements.{is_between, characters, onto, fault_in, token_fault, placed, counted, operand, operands, all_operands, escape, is_string_byte, takes_register, takes_label, accepts, forms, token_operation, without_colon};
+ghost use Rattle.lc3_table.specs.Statements.{is_between, characters, onto, fault_in, token_fault, operand_by_register, operand_by_number, operand, operands, all_operands, escape, is_string_byte, takes_register, takes_label, accepts, forms, token_operation, without_colon};
 ghost use Rattle.lc3_word.specs.Numbers.{number};
 ghost use Rattle.lc3_table.specs.Tokens.{Word};
 
@@ -28,7 +28,7 @@ pub enum Operand {
 
 /// What an escape writes, by the character after its backslash.
 fn escape(byte: u8) -> Option<u8>
-    ensures { result ≡ escape byte }
+    ensures value { result ≡ escape byte }
 {
     match byte {
         b'n' => Some(b'\n'),
@@ -47,14 +47,14 @@ fn escape(byte: u8) -> Option<u8>
 
 /// Whether a string may hold the byte: x20 to x7E and tab.
 fn is_string_byte(byte: u8) -> bool
-    ensures { result ≡ is_string_byte byte }
+    ensures value { result ≡ is_string_byte byte }
 {
     matches!(byte, 0x20..=0x7E | b'\t')
 }
 
 /// The operation or directive that a token names.
 pub fn token_operation(token: Token<'_>) -> Option<Operation>
-    ensures { result ≡ token_operation (seen token.entry) }
+    ensures value { result ≡ token_operation (token_of token.entry) }
 {
     match token {
         Token::Word(word) => operation(word),
@@ -64,7 +64,7 @@ pub fn token_operation(token: Token<'_>) -> Option<Operation>
 
 /// Without the `:` that may end a label where it is defined.
 pub fn without_colon(word: &[u8]) -> &[u8]
-    ensures { result.now ≡ without_colon word.now }
+    ensures value { result.now ≡ without_colon word.now }
 {
     match word {
         [name @ .., b':'] => name,
@@ -74,8 +74,8 @@ pub fn without_colon(word: &[u8]) -> &[u8]
 
 /// The word in upper case.
 pub fn upper(alloc: Global, word: &[u8]) -> Result<String, AllocError>
-    requires { IsAscii word.now }
-    ensures { IfOk result (λ name. string_bytes name ≡ upper word.now) }
+    requires ascii { IsAscii word.now }
+    ensures value { IfOk result (λ name. string_bytes name ≡ upper word.now) }
 {
     let mut name = String::new(alloc);
     for byte in word {
@@ -86,9 +86,10 @@ pub fn upper(alloc: Global, word: &[u8]) -> Result<String, AllocError>
 
 /// The first character that a string writes, and what follows it.
 fn first_character(text: &[u8]) -> Option<(u8, &[u8])>
-    requires { 0 < length text.now }
+    requires nonempty { 0 < length text.now }
     ensures none { IfNone result (characters text.now ≡ None) }
-    ensures first { IfSome result (λ found. characters text.now ≡ onto (Some found.0) (characters found.1.now)) }
+    ensures first { IfSome result
+        (λ found. characters text.now ≡ onto (Some found.0) (characters found.1.now)) }
     ensures shorter { IfSome result (λ found. length found.1.now < length text.now) }
 {
     match text {
@@ -100,7 +101,7 @@ fn first_character(text: &[u8]) -> Option<(u8, &[u8])>
 
 /// Whether a string has no bad character and no bad escape.
 fn is_string(text: &[u8]) -> bool
-    ensures { result ≡ is_some (characters text.now) }
+    ensures value { result ≡ is_some (characters text.now) }
 {
     let mut rest = text;
     while !rest.is_empty() {
@@ -114,7 +115,7 @@ fn is_string(text: &[u8]) -> bool
 
 /// The characters that a string writes.
 fn characters(alloc: Global, text: &[u8]) -> Result<Option<Vec<u8>>, AllocError>
-    ensures { IfOk result (λ read. option_map (λ v. v.items) read ≡ characters text.now) }
+    ensures value { IfOk result (λ read. option_map (λ v. v.items) read ≡ characters text.now) }
 {
     let mut found = Vec::new(alloc);
     let mut rest = text;
@@ -130,14 +131,14 @@ fn characters(alloc: Global, text: &[u8]) -> Result<Option<Vec<u8>>, AllocError>
 
 /// Whether a word has characters of x21 to x7E alone.
 fn is_printable(word: &[u8]) -> bool
-    ensures { result ≡ list_all (λ c. nat_le 33 c && nat_le c 126) word.now }
+    ensures value { result ≡ list_all (λ c. nat_le 33 c && nat_le c 126) word.now }
 {
     word.iter().all(|byte| 33 <= *byte && *byte <= 126)
 }
 
 /// What is wrong with a token.
 pub fn fault_in(token: Token<'_>) -> Option<Fault>
-    ensures { result ≡ fault_in (seen token.entry) }
+    ensures value { result ≡ fault_in (token_of token.entry) }
 {
     match token {
         Token::Word(word) => if is_printable(word) {
@@ -156,7 +157,7 @@ pub fn fault_in(token: Token<'_>) -> Option<Fault>
 
 /// The leftmost faulty token's fault.
 pub fn token_fault(tokens: &[Token<'_>]) -> Option<Fault>
-    ensures { result ≡ token_fault (map seen tokens.now) }
+    ensures value { result ≡ token_fault (map token_of tokens.now) }
 {
     for token in tokens {
         if let Some(fault) = fault_in(*token) {
@@ -168,15 +169,16 @@ pub fn token_fault(tokens: &[Token<'_>]) -> Option<Fault>
 
 /// low ≤ number ≤ high
 fn is_between(low: i64, high: i64, number: i64) -> bool
-    ensures { result ≡ is_between low high number }
+    ensures value { result ≡ is_between low high number }
 {
     low <= number && number <= high
 }
 
 /// Whether a number, or the number less 65,536, lies within the bounds of a field.
 fn is_in_field(low: i64, high: i64, number: i64) -> bool
-    requires { nat_abs number ≤ 1_000_000_000 }
-    ensures { result ≡ (is_between low high number || is_between low high (number -ℤ pos 65536)) }
+    requires small { nat_abs number ≤ 1_000_000_000 }
+    ensures value { result
+        ≡ (is_between low high number || is_between low high (number -ℤ pos 65536)) }
 {
     let is_signed = is_between(low, high, number);
     let is_unsigned = is_between(low, high, number - 65_536);
@@ -185,8 +187,8 @@ fn is_in_field(low: i64, high: i64, number: i64) -> bool
 
 /// Whether a number may stand there.
 fn accepts(form: Form, number: i64) -> bool
-    requires { nat_abs number ≤ 1_000_000_000 }
-    ensures { result ≡ accepts form number }
+    requires small { nat_abs number ≤ 1_000_000_000 }
+    ensures value { result ≡ accepts form number }
 {
     match form {
         Form::RegisterOrImmediate => is_in_field(-16, 31, number),
@@ -203,7 +205,7 @@ fn accepts(form: Form, number: i64) -> bool
 
 /// A word that is no register, as an operand of this form.
 fn number_or_label(alloc: Global, form: Form, word: &[u8]) -> Result<Operand, LineError>
-    ensures { Gives seen_operand result (counted form word.now (number word.now)) }
+    ensures exact { Gives seen_operand result (operand_by_number form word.now (number word.now)) }
 {
     match number_of(word) {
         Some(number) if accepts(form, number) => Ok(Operand::Number(number)),
@@ -215,7 +217,8 @@ fn number_or_label(alloc: Global, form: Form, word: &[u8]) -> Result<Operand, Li
 
 /// A word as an operand of this form.
 fn word_operand(alloc: Global, form: Form, word: &[u8]) -> Result<Operand, LineError>
-    ensures { Gives seen_operand result (placed form word.now (register word.now)) }
+    ensures exact { Gives seen_operand result
+        (operand_by_register form word.now (register word.now)) }
 {
     match register(word) {
         Some(register) if form.takes_register() => Ok(Operand::Register(register)),
@@ -227,7 +230,7 @@ fn word_operand(alloc: Global, form: Form, word: &[u8]) -> Result<Operand, LineE
 
 /// The token as an operand of this form.
 pub fn token_operand(alloc: Global, form: Form, token: Token<'_>) -> Result<Operand, LineError>
-    ensures { Gives seen_operand result (operand form (seen token.entry)) }
+    ensures exact { Gives seen_operand result (operand form (token_of token.entry)) }
 {
     match (form, token) {
         (Form::Characters, Token::Quoted(text)) => match characters(alloc, text)? {
@@ -242,8 +245,9 @@ pub fn token_operand(alloc: Global, form: Form, token: Token<'_>) -> Result<Oper
 
 /// The operands, or the leftmost fault among them.
 fn operands(alloc: Global, forms: &[Form], tokens: &[Token<'_>]) -> Result<Vec<Operand>, LineError>
-    requires { length forms.now ≡ length tokens.now }
-    ensures { Gives (λ v. map seen_operand v.items) result (operands forms.now (map seen tokens.now)) }
+    requires count { length forms.now ≡ length tokens.now }
+    ensures exact { Gives (λ v. map seen_operand v.items) result
+        (operands forms.now (map token_of tokens.now)) }
 {
     let mut found = Vec::new(alloc);
     for (i, token) in tokens.iter().enumerate() {
@@ -259,7 +263,8 @@ pub fn all_operands(
     forms: &[Form],
     tokens: &[Token<'_>],
 ) -> Result<Vec<Operand>, LineError>
-    ensures { Gives (λ v. map seen_operand v.items) result (all_operands forms.now (map seen tokens.now)) }
+    ensures exact { Gives (λ v. map seen_operand v.items) result
+        (all_operands forms.now (map token_of tokens.now)) }
 {
     if forms.len() == tokens.len() {
         operands(alloc, forms, tokens)

@@ -2,7 +2,8 @@
 
 ghost use Rattle.std.specs.Prelude.{◌≡◌, ℕ, List, [], ◌∷◌, ◌++◌, OnOk, OnErr, string_bytes, false, length, option_map, slice_get};
 ghost use Rattle.lc3_asm.specs.Texts.{value};
-ghost use Rattle.lc3_asm.specs.Symbols.{listed, is_defined};
+ghost use Rattle.lc3_asm.specs.Symbols.{symbol_list};
+ghost use Rattle.lc3_asm.specs.Private.Addresses.{is_defined};
 ghost use Rattle.lc3_asm.specs.Listings.{symbol_line, symbols_text};
 
 use indexmap::IndexMap;
@@ -20,12 +21,12 @@ pub struct Symbols {
 impl Model for Symbols {
     ghost Value = { List (List ℕ × ℕ) };
 
-    ghost view = { λ s. listed s.addresses.entries };
+    ghost view = { λ s. symbol_list s.addresses.entries };
 }
 
 impl Symbols {
     pub(crate) fn new(alloc: Global) -> Self
-        ensures { result ≡ [] }
+        ensures empty { result ≡ [] }
     {
         Symbols {
             addresses: IndexMap::new(alloc),
@@ -56,14 +57,14 @@ impl Symbols {
 
     /// Whether the label is there.
     pub(crate) fn contains(&self, name: &str) -> bool
-        ensures { result ≡ is_defined self.now name.now }
+        ensures value { result ≡ is_defined self.now name.now }
     {
         self.addresses.contains_key(name)
     }
 
     /// Adds a label at the end.
     pub(crate) fn define(&mut self, name: String, address: u16) -> Result<(), AllocError>
-        requires { is_defined self.old (string_bytes name) ≡ false }
+        requires undefined { is_defined self.old (string_bytes name) ≡ false }
         ensures ok { OnOk result (self.new ≡ self.old ++ (string_bytes name, address) ∷ []) }
         ensures err { OnErr result (self.new ≡ self.old) }
     {
@@ -73,7 +74,8 @@ impl Symbols {
 
     /// Appends a line for each label: its name and its address.
     pub(crate) fn push_lines(&self, text: &mut String) -> Result<(), AllocError>
-        ensures { OnOk result (string_bytes text.new ≡ string_bytes text.old ++ symbols_text self.now) }
+        ensures text { OnOk result (string_bytes text.new
+            ≡ string_bytes text.old ++ symbols_text self.now) }
     {
         push_lines(text, &self.addresses)
     }
@@ -81,7 +83,8 @@ impl Symbols {
 
 /// Appends a line for each label.
 fn push_lines(text: &mut String, addresses: &IndexMap<String, u16>) -> Result<(), AllocError>
-    ensures { OnOk result (string_bytes text.new ≡ string_bytes text.old ++ symbols_text (listed addresses.now.entries)) }
+    ensures text { OnOk result (string_bytes text.new
+        ≡ string_bytes text.old ++ symbols_text (symbol_list addresses.now.entries)) }
 {
     for i in 0..addresses.len() {
         let Some((name, address)) = addresses.get_index(i) else {
@@ -95,7 +98,8 @@ fn push_lines(text: &mut String, addresses: &IndexMap<String, u16>) -> Result<()
 /// Appends the line of a label.
 #[tactic(auto, unfolding(crate::specs::Listings::symbol_line))]
 fn push_line(text: &mut String, name: &str, address: u16) -> Result<(), AllocError>
-    ensures { OnOk result (string_bytes text.new ≡ string_bytes text.old ++ symbol_line name.now address) }
+    ensures text { OnOk result (string_bytes text.new
+        ≡ string_bytes text.old ++ symbol_line name.now address) }
 {
     let place = Hex(address);
     match write!(text, "{name} {place}\n") {

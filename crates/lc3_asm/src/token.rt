@@ -3,7 +3,7 @@
 ghost use Rattle.std.specs.Prelude.{◌≡◌, ◌↔◌, ◌<◌, ◌≤◌, IsTrue, true, false, slice_index, IfNone, IfSome, IfOk, MatchOption, List, [], ◌∷◌, length, map};
 ghost use Rattle.std.specs.List.{prefix_len};
 ghost use Rattle.lc3_table.specs.Tokens.{is_separator, is_word_byte, starts_with_word, tokens, tokens_from, Inside};
-ghost use Rattle.lc3_asm.specs.Views.{seen};
+ghost use Rattle.lc3_asm.specs.Private.Views.{token_of};
 
 use std::alloc::{AllocError, Global};
 
@@ -22,21 +22,21 @@ const SEPARATORS: &[u8] = b" \t,\r";
 
 /// Whether a byte separates words.
 fn is_separator(byte: u8) -> bool
-    ensures { result ≡ is_separator byte }
+    ensures value { result ≡ is_separator byte }
 {
     SEPARATORS.contains(&byte)
 }
 
 /// Whether a word goes on with this byte: no separator, `;` or `"`.
 fn is_word_byte(byte: u8) -> bool
-    ensures { result ≡ is_word_byte byte }
+    ensures value { result ≡ is_word_byte byte }
 {
     !is_separator(byte) && byte != b';' && byte != b'"'
 }
 
 /// The string whose opening quote stands before the text, and what follows it.
 fn quoted(text: &[u8]) -> (Token<'_>, &[u8])
-    ensures first { tokens_from (Inside []) text.now ≡ seen result.0 ∷ tokens result.1.now }
+    ensures first { tokens_from (Inside []) text.now ≡ token_of result.0 ∷ tokens result.1.now }
     ensures shorter { length result.1.now ≤ length text.now }
 {
     let mut escaped = false;
@@ -79,8 +79,8 @@ pub fn without_separators(line: &[u8]) -> &[u8]
 
 /// The word at the front, and what follows it.
 fn word(line: &[u8]) -> (Token<'_>, &[u8])
-    requires { IsTrue (starts_with_word line.now) }
-    ensures first { tokens line.now ≡ seen result.0 ∷ tokens result.1.now }
+    requires begins { IsTrue (starts_with_word line.now) }
+    ensures first { tokens line.now ≡ token_of result.0 ∷ tokens result.1.now }
     ensures shorter { length result.1.now < length line.now }
 {
     let (word, rest) = line.split_at(word_len(line));
@@ -90,7 +90,8 @@ fn word(line: &[u8]) -> (Token<'_>, &[u8])
 /// The first token of a line, and what follows it.
 pub fn first_token(line: &[u8]) -> Option<(Token<'_>, &[u8])>
     ensures none { IfNone result (tokens line.now ≡ []) }
-    ensures first { IfSome result (λ found. tokens line.now ≡ seen found.0 ∷ tokens found.1.now) }
+    ensures first { IfSome result
+        (λ found. tokens line.now ≡ token_of found.0 ∷ tokens found.1.now) }
     ensures shorter { IfSome result (λ found. length found.1.now < length line.now) }
 {
     let line = without_separators(line);
@@ -104,7 +105,7 @@ pub fn first_token(line: &[u8]) -> Option<(Token<'_>, &[u8])>
 
 /// The tokens of a line, in order.
 pub fn tokens(alloc: Global, line: &[u8]) -> Result<Vec<Token<'_>>, AllocError>
-    ensures { IfOk result (λ found. map seen found.items ≡ tokens line.now) }
+    ensures value { IfOk result (λ found. map token_of found.items ≡ tokens line.now) }
 {
     let mut found = Vec::new(alloc);
     let mut rest = line;

@@ -10,7 +10,7 @@ use lc3_word::{Reg, number_of};
 /// The register that a word names, in either case.
 #[tactic(auto, unfolding(lc3_table::specs::Words::register))]
 pub fn register(word: &[u8]) -> Option<Reg>
-    ensures { result ≡ register word.now }
+    ensures value { result ≡ register word.now }
 {
     match word {
         [b'R' | b'r', digit @ b'0'..=b'7'] => Reg::new(*digit - b'0'),
@@ -21,14 +21,14 @@ pub fn register(word: &[u8]) -> Option<Reg>
 /// Whether a word is this name, in either case.
 #[tactic(auto, unfolding(lc3_table::specs::Words::same_name))]
 fn is_name(name: &str, word: &[u8]) -> bool
-    ensures { result ≡ same_name name.now word.now }
+    ensures value { result ≡ same_name name.now word.now }
 {
     name.as_bytes().eq_ignore_ascii_case(word)
 }
 
 /// The operation that is shown by this name.
 fn operation_shown(word: &[u8]) -> Option<Operation>
-    ensures { result ≡ find (λ o. same_name (name o) word.now) operations }
+    ensures value { result ≡ find (λ o. same_name (name o) word.now) operations }
 {
     operations()
         .iter()
@@ -39,7 +39,7 @@ fn operation_shown(word: &[u8]) -> Option<Operation>
 /// The operation or directive that a word names, in either case. `BR` alone is `BRnzp`.
 #[tactic(auto, unfolding(lc3_table::specs::Words::operation))]
 pub fn operation(word: &[u8]) -> Option<Operation>
-    ensures { result ≡ operation word.now }
+    ensures value { result ≡ operation word.now }
 {
     if is_name("BR", word) {
         return Some(Operation::Branch {
@@ -54,7 +54,7 @@ pub fn operation(word: &[u8]) -> Option<Operation>
 /// A letter, a digit or `_`.
 #[tactic(auto, unfolding(lc3_table::specs::Words::is_label_byte))]
 fn is_label_byte(byte: u8) -> bool
-    ensures { result ≡ is_label_byte byte }
+    ensures value { result ≡ is_label_byte byte }
 {
     byte.is_ascii_alphanumeric() || byte == b'_'
 }
@@ -65,7 +65,7 @@ pub const LABEL_LENGTH: usize = 80;
 /// Whether the first character is a digit.
 #[tactic(auto, unfolding(lc3_table::specs::Words::begins_with_digit))]
 fn begins_with_digit(word: &[u8]) -> bool
-    ensures { result ≡ begins_with_digit word.now }
+    ensures value { result ≡ begins_with_digit word.now }
 {
     match word.first() {
         Some(byte) => byte.is_ascii_digit(),
@@ -75,7 +75,7 @@ fn begins_with_digit(word: &[u8]) -> bool
 
 /// Letters, digits and `_` alone.
 fn is_label_bytes(word: &[u8]) -> bool
-    ensures { result ≡ list_all is_label_byte word.now }
+    ensures value { result ≡ list_all is_label_byte word.now }
 {
     word.iter().all(|byte| is_label_byte(*byte))
 }
@@ -83,7 +83,7 @@ fn is_label_bytes(word: &[u8]) -> bool
 /// 1 to 80 letters, digits or `_`, no digit first.
 #[tactic(auto, unfolding(lc3_table::specs::Words::has_label_form))]
 fn has_label_form(word: &[u8]) -> bool
-    ensures { result ≡ has_label_form word.now }
+    ensures value { result ≡ has_label_form word.now }
 {
     let fits = !word.is_empty() && word.len() <= LABEL_LENGTH;
     fits && is_label_bytes(word) && !begins_with_digit(word)
@@ -92,7 +92,7 @@ fn has_label_form(word: &[u8]) -> bool
 /// Whether a word is a number, a register or an operation.
 #[tactic(auto, unfolding(lc3_table::specs::Words::is_taken))]
 fn is_taken(word: &[u8]) -> bool
-    ensures { result ≡ is_taken word.now }
+    ensures value { result ≡ is_taken word.now }
 {
     let is_operand = number_of(word).is_some() || register(word).is_some();
     is_operand || operation(word).is_some()

@@ -5,7 +5,7 @@ use Rattle.std.proofs.lemmas.Bool.Decides.{nat_tests}
 use Rattle.std.proofs.lemmas.List.{ext_get_or, get_or-drop, get_or-set_same, get_or-set_other, get_or-map, get_or-replicate, get_or_append_left, get_or-append-add, take_all, length-drop, length-map, length-replicate, length-set, map-set}
 use Rattle.std.proofs.lemmas.List.Elements.{All-replicate, All-same, All-set}
 use Rattle.lc3_machine.specs.Process.{zeros}
-use Rattle.lc3_machine.specs.Pages.{PageWords, AreWhole, ArePages, IsStart, absent, page_at, pages_at, page_made, page_written}
+use Rattle.lc3_machine.specs.Private.Pages.{PageWords, AreWhole, ArePages, IsStart, absent, page_at, pages_at, page_made, page_written}
 use Rattle.lc3_machine.proofs.MemoryLemmas.{length-zeros}
 
 -- a word of a page

@@ -6,10 +6,10 @@ use Rattle.lc3_table.specs.declared.instr.Instr.TheVariants as instr
 use Rattle.lc3_table.specs.Decoding.{instruction_at}
 use Rattle.lc3_machine.specs.declared.want.How.{How}
 use Rattle.lc3_machine.specs.declared.want.How.TheVariants as how
-use Rattle.lc3_machine.specs.Process.{Process, Outcome, GoesOn, Stops, at_word, stored, target, reg, word_sum, signed_word, advanced, jumped, with_result}
-use Rattle.lc3_machine.specs.Console.{getc, prompted, wrote, low_byte, packed_bytes, string_at}
-use Rattle.lc3_machine.specs.Effects.{effect, effect_of_word, trapped, next_step, is_among, is_kernel_trap}
-use Rattle.lc3_machine.specs.Reply.{ended}
+use Rattle.lc3_machine.specs.Process.{Process, Outcome, GoesOn, Stops, at_word, outcome_of_store, target, reg, word_sum, signed_word, at_next_instruction, at_address, with_result}
+use Rattle.lc3_machine.specs.Console.{getc, outcome_of_in, wrote, low_byte, packed_bytes, string_at}
+use Rattle.lc3_machine.specs.Effects.{effect, effect_of_word, outcome_of_trap, next_step, is_among, is_kernel_trap}
+use Rattle.lc3_machine.specs.Reply.{process_after_end}
 use Rattle.lc3_word.specs.Segment.{first_device}
 
 -- what goes on has this profile
@@ -24,17 +24,17 @@ keeps_if profile false o o' h h' = h'
 keeps_at : (p : Process) (address : ℕ) (continued : ℕ → Outcome) → ((word : ℕ) → Keeps p.profile (continued word)) → Keeps p.profile (at_word p address continued)
 keeps_at p address continued h = keeps_if p.profile (nat_lt address first_device) _ _ (h (slice_index p.memory address)) tt
 
-keeps_load : (p : Process) (r address : ℕ) → Keeps p.profile (at_word p address (λ word. GoesOn (advanced (with_result p r word))))
+keeps_load : (p : Process) (r address : ℕ) → Keeps p.profile (at_word p address (λ word. GoesOn (at_next_instruction (with_result p r word))))
 keeps_load p r address = keeps_if p.profile (nat_lt address first_device) _ _ refl tt
 
-keeps_stored : (p : Process) (address word : ℕ) → Keeps p.profile (stored p address word)
+keeps_stored : (p : Process) (address word : ℕ) → Keeps p.profile (outcome_of_store p address word)
 keeps_stored p address word = keeps_if p.profile (nat_lt address first_device) _ _ refl tt
 
 keeps_getc : (p : Process) (input : List ℕ) → Keeps p.profile (getc p input)
 keeps_getc p [] = tt
 keeps_getc p (byte ∷ left) = refl
 
-keeps_prompted : (p : Process) (input : List ℕ) → Keeps p.profile (prompted p input)
+keeps_prompted : (p : Process) (input : List ℕ) → Keeps p.profile (outcome_of_in p input)
 keeps_prompted p [] = tt
 keeps_prompted p (byte ∷ left) = refl
 
@@ -42,8 +42,8 @@ keeps_wrote : (p : Process) (bytes : List ℕ → List ℕ) (words : Option (Lis
 keeps_wrote p bytes None = tt
 keeps_wrote p bytes (Some words) = refl
 
-keeps_trapped : (v : ℕ) (p : Process) → Keeps p.profile (trapped v p)
-unfolding trapped
+keeps_trapped : (v : ℕ) (p : Process) → Keeps p.profile (outcome_of_trap v p)
+unfolding outcome_of_trap
 keeps_trapped v p =
     keeps_if p.profile (v == 0x20) _ _ (keeps_getc p p.input)
     (keeps_if p.profile (v == 0x21) _ _ refl
@@ -62,7 +62,7 @@ unfolding effect
 keeps_effect (instr.Add dr sr1 operand) p = refl
 keeps_effect (instr.And dr sr1 operand) p = refl
 keeps_effect (instr.Not dr sr) p = refl
-keeps_effect (instr.Br n z p' offset) p = profile_if (is_among p.cc n z p') (advanced p) (jumped p (target p offset)) refl
+keeps_effect (instr.Br n z p' offset) p = profile_if (is_among p.cc n z p') (at_next_instruction p) (at_address p (target p offset)) refl
 keeps_effect (instr.Jmp base) p = refl
 keeps_effect (instr.Jsr offset) p = refl
 keeps_effect (instr.Jsrr base) p = refl
@@ -89,6 +89,6 @@ pub next_profile : (p q : Process) → next_step p ≡ GoesOn q → q.profile �
 next_profile p q goes = subst (Keeps p.profile) goes (keeps_step p)
 
 -- so does an end
-pub ended_profile : (p : Process) (h : How) → (ended p h).profile ≡ p.profile
+pub ended_profile : (p : Process) (h : How) → (process_after_end p h).profile ≡ p.profile
 ended_profile p how.Halt = refl
 ended_profile p h = refl

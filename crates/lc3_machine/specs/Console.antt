@@ -5,17 +5,17 @@ use Rattle.lc3_machine.specs.declared.want.Want.TheVariants.{End}
 use Rattle.lc3_machine.specs.declared.want.How.TheVariants.{Device, NoInput}
 use Rattle.lc3_table.specs.declared.profile.Profile.{Profile}
 use Rattle.lc3_table.specs.declared.profile.Profile.TheVariants as profile
-use Rattle.lc3_machine.specs.Process.{Process, Outcome, GoesOn, Stops, reg, next_pc, with_reg, advanced, with_output}
+use Rattle.lc3_machine.specs.Process.{Process, Outcome, GoesOn, Stops, reg, next_pc, with_reg, at_next_instruction, with_output}
 use Rattle.lc3_word.specs.Segment.{first_device}
 
 -- the registers after a trap that goes on at an address: it stands in R7 in profile A, and in profile B R7 is as it was
-abbrev pub linked : Profile → List ℕ → ℕ → List ℕ
-linked profile.A regs address = slice_set regs 7 address
-linked profile.B regs address = regs
+abbrev pub registers_after_trap : Profile → List ℕ → ℕ → List ℕ
+registers_after_trap profile.A regs address = slice_set regs 7 address
+registers_after_trap profile.B regs address = regs
 
 -- the process after a trap
-abbrev pub returned : Process → Process
-returned p = advanced (record p { regs = linked p.profile p.regs (next_pc p) })
+abbrev pub after_trap : Process → Process
+after_trap p = at_next_instruction (record p { regs = registers_after_trap p.profile p.regs (next_pc p) })
 
 -- the words from an address on, up to the device registers
 unfoldable pub words_from : List ℕ → ℕ → List ℕ
@@ -37,26 +37,26 @@ packed_bytes w = if w / 256 == 0 then w % 256 ∷ [] else w % 256 ∷ w / 256 �
 -- GETC: the next byte of the input into R0
 abbrev pub getc : Process → List ℕ → Outcome
 getc p [] = Stops (End NoInput)
-getc p (byte ∷ left) = GoesOn (returned (record (with_reg p 0 byte) { input = left }))
+getc p (byte ∷ left) = GoesOn (after_trap (record (with_reg p 0 byte) { input = left }))
 
 -- OUT: the low byte of R0 to the output
 abbrev pub out : Process → Outcome
-out p = GoesOn (returned (with_output p (low_byte (reg p 0) ∷ [])))
+out p = GoesOn (after_trap (with_output p (low_byte (reg p 0) ∷ [])))
 
 -- what IN writes before it reads
 abbrev pub prompt : List ℕ
 prompt = codes "Input a character> "
 
 -- IN: the prompt to the output, the next byte of the input into R0, that byte and a line feed to the output
-abbrev pub prompted : Process → List ℕ → Outcome
-prompted p [] = Stops (End NoInput)
-prompted p (byte ∷ left) =
-    GoesOn (returned (with_output (record (with_reg p 0 byte) { input = left }) (prompt ++ byte ∷ 10 ∷ [])))
+abbrev pub outcome_of_in : Process → List ℕ → Outcome
+outcome_of_in p [] = Stops (End NoInput)
+outcome_of_in p (byte ∷ left) =
+    GoesOn (after_trap (with_output (record (with_reg p 0 byte) { input = left }) (prompt ++ byte ∷ 10 ∷ [])))
 
 -- what a trap writes of a string; one that reaches the device registers ends the process
 abbrev pub wrote : Process → (List ℕ → List ℕ) → Option (List ℕ) → Outcome
 wrote p bytes None = Stops (End Device)
-wrote p bytes (Some words) = GoesOn (returned (with_output p (bytes words)))
+wrote p bytes (Some words) = GoesOn (after_trap (with_output p (bytes words)))
 
 -- PUTS: the low byte of each word of the string whose address is in R0
 abbrev pub puts : Process → Outcome

@@ -11,8 +11,8 @@ use Rattle.lc3_table.specs.declared.profile.Profile.{Profile}
 use Rattle.lc3_table.specs.declared.profile.Profile.TheVariants as profile
 use Rattle.lc3_machine.specs.declared.want.Want.TheVariants.{Trap, End}
 use Rattle.lc3_machine.specs.declared.want.How.TheVariants.{Halt, Illegal, BadTrap}
-use Rattle.lc3_machine.specs.Process.{Process, Outcome, GoesOn, Stops, word_sum, signed_word, cc_of, reg, next_pc, target, advanced, jumped, with_reg, with_result, at_word, stored}
-use Rattle.lc3_machine.specs.Console.{getc, out, puts, prompted, putsp}
+use Rattle.lc3_machine.specs.Process.{Process, Outcome, GoesOn, Stops, word_sum, signed_word, cc_of, reg, target, at_next_instruction, at_address, with_reg, with_result, at_routine, at_word, outcome_of_load, outcome_of_store}
+use Rattle.lc3_machine.specs.Console.{getc, out, puts, outcome_of_in, putsp}
 
 -- whether the condition code that is set is among the three flags of a branch (A.3: BR)
 abbrev pub is_among : Cc → Bool → Bool → Bool → Bool
@@ -20,17 +20,21 @@ is_among N n z p = n
 is_among Z n z p = z
 is_among P n z p = p
 
+-- the process that goes on elsewhere if the code that is set is among the flags, and else at the next instruction
+abbrev pub process_after_branch : Process → Bool → Bool → Bool → ℕ → Process
+process_after_branch p n z p' address = if is_among p.cc n z p' then at_address p address else at_next_instruction p
+
 -- whether a trap vector is a call of the kernel: x40 to x46 for queues, x50 to x56 for semaphores
 abbrev pub is_kernel_trap : ℕ → Bool
 is_kernel_trap v = (nat_le 0x40 v && nat_le v 0x46) || (nat_le 0x50 v && nat_le v 0x56)
 
 -- the effect of a trap, by its vector (table A.2 for x20 to x25)
-unfoldable pub trapped : ℕ → Process → Outcome
-trapped v p =
+unfoldable pub outcome_of_trap : ℕ → Process → Outcome
+outcome_of_trap v p =
     if v == 0x20 then getc p p.input
     else (if v == 0x21 then out p
     else (if v == 0x22 then puts p
-    else (if v == 0x23 then prompted p p.input
+    else (if v == 0x23 then outcome_of_in p p.input
     else (if v == 0x24 then putsp p
     else (if v == 0x25 then Stops (End Halt)
     else (if is_kernel_trap v then Stops (Trap v)
@@ -52,24 +56,22 @@ with_address p r address = record (with_reg p r address) { cc = code_after_lea p
 
 -- the effect of an instruction (A.3); JSRR reads its base register before it writes R7
 unfoldable pub effect : Instr → Process → Outcome
-effect (instr.Add dr sr1 operand) p = GoesOn (advanced (with_result p dr (word_sum (reg p sr1) (operand_value p operand))))
-effect (instr.And dr sr1 operand) p = GoesOn (advanced (with_result p dr (bit_and (reg p sr1) (operand_value p operand))))
-effect (instr.Not dr sr) p = GoesOn (advanced (with_result p dr (0xFFFF - reg p sr)))
-effect (instr.Br n z p' offset) p = GoesOn (if is_among p.cc n z p' then jumped p (target p offset) else advanced p)
-effect (instr.Jmp base) p = GoesOn (jumped p (reg p base))
-effect (instr.Jsr offset) p = GoesOn (jumped (with_reg p 7 (next_pc p)) (target p offset))
-effect (instr.Jsrr base) p = GoesOn (jumped (with_reg p 7 (next_pc p)) (reg p base))
-effect (instr.Ld dr offset) p = at_word p (target p offset) (λ word. GoesOn (advanced (with_result p dr word)))
-effect (instr.Ldi dr offset) p =
-    at_word p (target p offset) (λ pointer. at_word p pointer (λ word. GoesOn (advanced (with_result p dr word))))
-effect (instr.Ldr dr base offset) p =
-    at_word p (word_sum (reg p base) (signed_word offset)) (λ word. GoesOn (advanced (with_result p dr word)))
-effect (instr.Lea dr offset) p = GoesOn (advanced (with_address p dr (target p offset)))
-effect (instr.St sr offset) p = stored p (target p offset) (reg p sr)
-effect (instr.Sti sr offset) p = at_word p (target p offset) (λ pointer. stored p pointer (reg p sr))
-effect (instr.Str sr base offset) p = stored p (word_sum (reg p base) (signed_word offset)) (reg p sr)
+effect (instr.Add dr sr1 operand) p = GoesOn (at_next_instruction (with_result p dr (word_sum (reg p sr1) (operand_value p operand))))
+effect (instr.And dr sr1 operand) p = GoesOn (at_next_instruction (with_result p dr (bit_and (reg p sr1) (operand_value p operand))))
+effect (instr.Not dr sr) p = GoesOn (at_next_instruction (with_result p dr (0xFFFF - reg p sr)))
+effect (instr.Br n z p' offset) p = GoesOn (process_after_branch p n z p' (target p offset))
+effect (instr.Jmp base) p = GoesOn (at_address p (reg p base))
+effect (instr.Jsr offset) p = GoesOn (at_routine p (target p offset))
+effect (instr.Jsrr base) p = GoesOn (at_routine p (reg p base))
+effect (instr.Ld dr offset) p = outcome_of_load p dr (target p offset)
+effect (instr.Ldi dr offset) p = at_word p (target p offset) (λ pointer. outcome_of_load p dr pointer)
+effect (instr.Ldr dr base offset) p = outcome_of_load p dr (word_sum (reg p base) (signed_word offset))
+effect (instr.Lea dr offset) p = GoesOn (at_next_instruction (with_address p dr (target p offset)))
+effect (instr.St sr offset) p = outcome_of_store p (target p offset) (reg p sr)
+effect (instr.Sti sr offset) p = at_word p (target p offset) (λ pointer. outcome_of_store p pointer (reg p sr))
+effect (instr.Str sr base offset) p = outcome_of_store p (word_sum (reg p base) (signed_word offset)) (reg p sr)
 effect instr.Rti p = Stops (End Illegal)
-effect (instr.Trap vector) p = trapped vector p
+effect (instr.Trap vector) p = outcome_of_trap vector p
 
 -- the effect of a word; one that is no instruction is an illegal opcode
 abbrev pub effect_of_word : Option Instr → Process → Outcome

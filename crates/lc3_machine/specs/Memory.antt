@@ -20,5 +20,5 @@ abbrev pub StaysReady : List Bool → List Bool → Type 0
 StaysReady old new = (address : ℕ) → IsReadyAt old address → IsReadyAt new address
 
 -- memory with words written from an address on
-unfoldable pub written : List ℕ → ℕ → List ℕ → List ℕ
-written memory at words = take at memory ++ words ++ drop (at + length words) memory
+unfoldable pub with_words : List ℕ → ℕ → List ℕ → List ℕ
+with_words memory at words = take at memory ++ words ++ drop (at + length words) memory

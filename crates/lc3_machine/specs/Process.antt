@@ -84,16 +84,20 @@ abbrev pub target : Process → ℤ → ℕ
 target p offset = word_sum (next_pc p) (signed_word offset)
 
 -- the process that goes on at the next instruction
-abbrev pub advanced : Process → Process
-advanced p = record p { pc = next_pc p }
+abbrev pub at_next_instruction : Process → Process
+at_next_instruction p = record p { pc = next_pc p }
 
 -- the process that goes on elsewhere
-abbrev pub jumped : Process → ℕ → Process
-jumped p address = record p { pc = address }
+abbrev pub at_address : Process → ℕ → Process
+at_address p address = record p { pc = address }
 
 -- the process with a register set
 abbrev pub with_reg : Process → ℕ → ℕ → Process
 with_reg p r value = record p { regs = slice_set p.regs r value }
+
+-- the process that goes on at a routine, with the address of its next instruction in R7
+abbrev pub at_routine : Process → ℕ → Process
+at_routine p routine = at_address (with_reg p 7 (next_pc p)) routine
 
 -- the process with a result in a register, and the condition code of that result
 abbrev pub with_result : Process → ℕ → ℕ → Process
@@ -112,9 +116,13 @@ abbrev pub at_word : Process → ℕ → (ℕ → Outcome) → Outcome
 at_word p address continued =
     if nat_lt address first_device then continued (slice_index p.memory address) else Stops (End Device)
 
+-- what happens once the word at an address is loaded into a register
+abbrev pub outcome_of_load : Process → ℕ → ℕ → Outcome
+outcome_of_load p r address = at_word p address (λ word. GoesOn (at_next_instruction (with_result p r word)))
+
 -- what happens once a word is stored; the device registers end the process
-abbrev pub stored : Process → ℕ → ℕ → Outcome
-stored p address word = if nat_lt address first_device then GoesOn (advanced (with_word p address word)) else Stops (End Device)
+abbrev pub outcome_of_store : Process → ℕ → ℕ → Outcome
+outcome_of_store p address word = if nat_lt address first_device then GoesOn (at_next_instruction (with_word p address word)) else Stops (End Device)
 
 -- whether an outcome is that the process goes on
 abbrev pub goes_on : Outcome → Bool

@@ -5,8 +5,8 @@ use Rattle.lc3_machine.specs.declared.effect.Effect.TheVariants.{Plain, Message,
 use Rattle.lc3_machine.specs.declared.want.How.{How}
 use Rattle.lc3_machine.specs.declared.want.How.TheVariants.{Halt}
 use Rattle.lc3_machine.specs.Process.{Process, with_reg}
-use Rattle.lc3_machine.specs.Console.{returned}
-use Rattle.lc3_machine.specs.Memory.{IsWritable, written}
+use Rattle.lc3_machine.specs.Console.{after_trap}
+use Rattle.lc3_machine.specs.Memory.{IsWritable, with_words}
 
 -- what R0 becomes
 abbrev pub result_of : Effect → ℕ
@@ -18,18 +18,18 @@ result_of (One at word) = 0
 -- memory with words written where an address is given
 abbrev pub written_if : List ℕ → Option ℕ → List ℕ → List ℕ
 written_if memory None words = memory
-written_if memory (Some at) words = written memory at words
+written_if memory (Some at) words = with_words memory at words
 
 -- the memory after an effect; the words of a message come before its priority
 abbrev pub memory_after : Effect → List ℕ → List ℕ
 memory_after (Plain r) memory = memory
-memory_after (Message at words prio_at prio) memory = written_if (written memory at words.now) prio_at (prio ∷ [])
+memory_after (Message at words prio_at prio) memory = written_if (with_words memory at words.now) prio_at (prio ∷ [])
 memory_after (Four at words) memory = written_if memory at words
-memory_after (One at word) memory = written memory at (word ∷ [])
+memory_after (One at word) memory = with_words memory at (word ∷ [])
 
 -- the process after its call is answered
-abbrev pub answered : Process → Effect → Process
-answered p effect = returned (record (with_reg p 0 (result_of effect)) { memory = memory_after effect p.memory })
+abbrev pub process_after_effect : Process → Effect → Process
+process_after_effect p effect = after_trap (record (with_reg p 0 (result_of effect)) { memory = memory_after effect p.memory })
 
 -- a range can be written where an address is given
 abbrev pub IsWritableIf : List Bool → Option ℕ → ℕ → Type 0
@@ -45,6 +45,6 @@ CanTake ready (Four at words) = IsWritableIf ready at 4
 CanTake ready (One at word) = IsWritable ready at 1
 
 -- the process after its end: HALT is a trap, after which it stands at the next address; another end changes nothing
-abbrev pub ended : Process → How → Process
-ended p Halt = returned p
-ended p how = p
+abbrev pub process_after_end : Process → How → Process
+process_after_end p Halt = after_trap p
+process_after_end p how = p

@@ -38,7 +38,8 @@ impl Input {
 
     /// Takes the next byte, if there is one.
     pub(crate) fn next(&mut self) -> Option<u8>
-        ensures first { MatchOption result ((self.old ≡ []) × (self.new ≡ [])) (λ byte. self.old ≡ byte ∷ self.new) }
+        ensures first { MatchOption result ((self.old ≡ []) × (self.new ≡ []))
+            (λ byte. self.old ≡ byte ∷ self.new) }
     {
         if self.taken == self.bytes.len() {
             return None;

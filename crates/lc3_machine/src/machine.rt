@@ -1,9 +1,9 @@
 ghost use Rattle.std.specs.Prelude.{◌≡◌, ◌↔◌, ℕ, ◌+◌, ◌<◌, ◌≤◌, IsTrue, OnOk, IfOk, length, slice_index};
 ghost use Rattle.lc3_word.specs.Segment.{first_device};
-ghost use Rattle.lc3_machine.specs.Process.{start, reg, next_pc, word_sum, advanced};
-ghost use Rattle.lc3_machine.specs.Console.{returned};
+ghost use Rattle.lc3_machine.specs.Process.{start, reg, next_pc, word_sum, at_next_instruction};
+ghost use Rattle.lc3_machine.specs.Console.{after_trap};
 ghost use Rattle.lc3_machine.specs.Memory.{IsWritable, StaysReady};
-ghost use Rattle.lc3_machine.specs.Reply.{CanTake, answered, ended};
+ghost use Rattle.lc3_machine.specs.Reply.{CanTake, process_after_effect, process_after_end};
 
 mod console;
 mod copies;
@@ -19,9 +19,9 @@ use lc3_word::{Cc, Reg, add, cc_of};
 use std::alloc::{AllocError, Global};
 use std::marker::Model;
 
-/// The parts of a process, whatever its state.
+/// The machine of a process, whatever the state of that: the states show it by their `machine`.
 #[derive(Drop)]
-pub(crate) struct Machine {
+pub struct Machine {
     profile: Profile,
     regs: Registers,
     pc: u16,
@@ -37,9 +37,9 @@ impl Model for Machine {
 
     ghost Value = { Held };
 
-    ghost use Rattle.lc3_machine.specs.Machine.{held};
+    ghost use Rattle.lc3_machine.specs.Machine.{held_of_parts};
 
-    ghost view = { held };
+    ghost view = { held_of_parts };
 }
 
 /// What local steps came to.
@@ -78,53 +78,54 @@ impl Machine {
     }
 
     /// The profile of the machine.
-    pub(crate) fn profile(&self) -> Profile
+    pub fn profile(&self) -> Profile
         ensures value { result ≡ self.now.process.profile }
     {
         self.profile
     }
 
-    /// What a register holds.
+    /// What a register holds, 0 to xFFFF.
     #[inline(always)]
-    pub(crate) fn reg(&self, r: Reg) -> u16
+    pub fn reg(&self, r: Reg) -> u16
         ensures value { result ≡ reg self.now.process r }
     {
         self.regs.get(r.number())
     }
 
-    /// The program counter.
-    pub(crate) fn pc(&self) -> u16
+    /// The program counter, 0 to xFFFF: the address of the next instruction.
+    pub fn pc(&self) -> u16
         ensures value { result ≡ self.now.process.pc }
     {
         self.pc
     }
 
-    /// The condition code that is set.
+    /// The condition code that is set, one of the three.
     #[inline(always)]
     #[tactic(auto, unfolding(crate::specs::Process::cc_of))]
-    pub(crate) fn cc(&self) -> Cc
+    pub fn cc(&self) -> Cc
         ensures value { result ≡ self.now.process.cc }
     {
         cc_of(self.result)
     }
 
-    /// The word at an address.
-    pub(crate) fn word(&self, address: u16) -> u16
+    /// The word at an address. A word that was never written is 0, and so are the device registers,
+    /// xFE00 and above.
+    pub fn word(&self, address: u16) -> u16
         ensures word { result ≡ slice_index self.now.process.memory address }
         ensures whole { length self.now.process.memory ≡ 65536 }
     {
         self.memory.get(address)
     }
 
-    /// The bytes of input that are left.
-    pub(crate) fn input_left(&self) -> &[u8]
+    /// The bytes of console input that were not read yet.
+    pub fn input_left(&self) -> &[u8]
         ensures value { result.now ≡ self.now.process.input }
     {
         self.input.left()
     }
 
-    /// The bytes of output so far.
-    pub(crate) fn output(&self) -> &[u8]
+    /// The bytes written to the console so far, the oldest first.
+    pub fn output(&self) -> &[u8]
         ensures value { result.now ≡ self.now.process.output }
     {
         self.output.as_slice()
@@ -151,7 +152,7 @@ impl Machine {
     #[inline(always)]
     pub(crate) fn answer(&mut self, effect: Effect<'_>)
         requires room { CanTake self.old.ready effect }
-        ensures answered { self.new.process ≡ answered self.old.process effect.entry }
+        ensures answered { self.new.process ≡ process_after_effect self.old.process effect.entry }
     {
         let result = match effect {
             Effect::Plain(result) => result,
@@ -185,7 +186,7 @@ impl Machine {
 
     /// Ends the process.
     pub(crate) fn end(&mut self, how: How)
-        ensures ended { self.new.process ≡ ended self.old.process how }
+        ensures ended { self.new.process ≡ process_after_end self.old.process how }
     {
         if how == How::Halt {
             self.return_from_trap();
@@ -219,7 +220,7 @@ impl Machine {
     /// Goes on at the next instruction.
     #[inline(always)]
     fn advance(&mut self)
-        ensures { self.new.process ≡ advanced self.old.process }
+        ensures { self.new.process ≡ at_next_instruction self.old.process }
     {
         self.pc = self.next_pc();
     }
@@ -227,7 +228,7 @@ impl Machine {
     /// Goes on after a trap; in profile A the address where it goes on stands in R7.
     #[inline(always)]
     fn return_from_trap(&mut self)
-        ensures { self.new.process ≡ returned self.old.process }
+        ensures { self.new.process ≡ after_trap self.old.process }
     {
         let next = self.next_pc();
         match self.profile {

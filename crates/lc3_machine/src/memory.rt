@@ -1,7 +1,7 @@
 ghost use Rattle.std.specs.Prelude.{◌≡◌, ℕ, ◌+◌, ◌<◌, ◌≤◌, ◌↔◌, MatchOption, IfSome, IfOk, IsOk, IsTrue, List, OnErr, OnOk, Option, length, slice_index, slice_set, take};
 ghost use Rattle.lc3_word.specs.Segment.{first_device};
 ghost use Rattle.lc3_machine.specs.Process.{memory_of, zeros};
-ghost use Rattle.lc3_machine.specs.Memory.{IsReadyAt, IsWritable, StaysReady, written};
+ghost use Rattle.lc3_machine.specs.Memory.{IsReadyAt, IsWritable, StaysReady, with_words};
 ghost use Rattle.lc3_machine.specs.Console.{words_from, string_at};
 
 use crate::pages::{PAGE, PAGES, Pages};
@@ -18,11 +18,11 @@ pub(crate) struct Memory {
 
 impl Model for Memory {
     ghost use Rattle.lc3_machine.specs.Memory.{Store};
-    ghost use Rattle.lc3_machine.specs.Pages.{joined};
+    ghost use Rattle.lc3_machine.specs.Private.Pages.{memory_of_pages};
 
     ghost Value = { Store };
 
-    ghost view = { λ m. joined m.pages };
+    ghost view = { λ m. memory_of_pages m.pages };
 }
 
 impl Memory {
@@ -105,7 +105,7 @@ impl Memory {
     /// Writes words from an address on.
     pub(crate) fn put(&mut self, at: u16, words: &[u16])
         requires writable { IsWritable self.old.ready at (length words.now) }
-        ensures words { self.new.words ≡ written self.old.words at words.now }
+        ensures words { self.new.words ≡ with_words self.old.words at words.now }
         ensures ready { StaysReady self.old.ready self.new.ready }
     {
         // A look at memory, whose contract says that there are 65,536 words.
@@ -119,7 +119,8 @@ impl Memory {
     /// registers.
     pub(crate) fn string_len(&self, address: u16) -> Option<u16>
         ensures string { MatchOption result (string_at self.now.words address ≡ None)
-            (λ n. string_at self.now.words address ≡ Some (take n (words_from self.now.words address))) }
+            (λ n. string_at self.now.words address
+            ≡ Some (take n (words_from self.now.words address))) }
         ensures in_memory { IfSome result (λ n. address + n < first_device) }
     {
         for at in address..FIRST_DEVICE {

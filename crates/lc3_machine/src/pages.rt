@@ -1,7 +1,7 @@
 //! The pages of a memory.
 
-ghost use Rattle.std.specs.Prelude.{◌≡◌, ◌↔◌, ◌<◌, true, false, length, replicate, slice_index, slice_index_or, slice_set, IfOk, IsOk, IsTrue, OnErr, OnOk};
-ghost use Rattle.lc3_machine.specs.Pages.{PageWords, AreWhole, absent, joined, page_made, page_written};
+ghost use Rattle.std.specs.Prelude.{◌≡◌, ◌↔◌, ◌<◌, true, false, length, replicate, slice_index, IfOk, IsOk, IsTrue, OnErr, OnOk};
+ghost use Rattle.lc3_machine.specs.Private.Pages.{PageWords, AreWhole, absent, memory_of_pages, words_in, is_made_in, with_made, with_written};
 ghost use Rattle.lc3_machine.specs.Process.{zeros};
 
 use std::alloc::{AllocError, Global};
@@ -25,7 +25,7 @@ pub(crate) struct Pages {
 
 impl Model for Pages {
     ghost use Rattle.std.specs.Prelude.{List};
-    ghost use Rattle.lc3_machine.specs.Pages.{PageWords, ArePages, pages_at};
+    ghost use Rattle.lc3_machine.specs.Private.Pages.{PageWords, ArePages, pages_at};
 
     ghost Value = { List PageWords };
 
@@ -70,7 +70,7 @@ impl Pages {
     pub(crate) fn get(&self, page: usize, place: usize) -> u16
         requires page { page < 256 }
         requires place { place < 256 }
-        ensures word { (d : PageWords) → result ≡ slice_index (slice_index_or self.now page d).words place }
+        ensures word { (d : PageWords) → result ≡ slice_index (words_in self.now page d) place }
         ensures count { length self.now ≡ 256 }
         ensures whole { AreWhole self.now }
     {
@@ -81,7 +81,7 @@ impl Pages {
     #[inline(always)]
     pub(crate) fn is_made(&self, page: usize) -> bool
         requires page { page < 256 }
-        ensures made { (d : PageWords) → result ≡ (slice_index_or self.now page d).made }
+        ensures made { (d : PageWords) → result ≡ is_made_in self.now page d }
         ensures count { length self.now ≡ 256 }
         ensures whole { AreWhole self.now }
     {
@@ -91,7 +91,7 @@ impl Pages {
     /// Makes a page, so that it can be written; what it holds stays the same. Where memory is refused nothing has changed.
     pub(crate) fn make(&mut self, page: usize) -> Result<(), AllocError>
         requires page { page < 256 }
-        ensures ok { (d : PageWords) → OnOk result (self.new ≡ slice_set self.old page (page_made (slice_index_or self.old page d))) }
+        ensures ok { (d : PageWords) → OnOk result (self.new ≡ with_made self.old page d) }
         ensures err { OnErr result (self.new ≡ self.old) }
         ensures count { length self.old ≡ 256 }
     {
@@ -104,8 +104,8 @@ impl Pages {
     /// Makes a page that isn't made.
     fn add(&mut self, page: usize) -> Result<(), AllocError>
         requires page { page < 256 }
-        requires absent { (d : PageWords) → (slice_index_or self.old page d).made ≡ false }
-        ensures ok { (d : PageWords) → OnOk result (self.new ≡ slice_set self.old page (page_made (slice_index_or self.old page d))) }
+        requires absent { (d : PageWords) → is_made_in self.old page d ≡ false }
+        ensures ok { (d : PageWords) → OnOk result (self.new ≡ with_made self.old page d) }
         ensures err { OnErr result (self.new ≡ self.old) }
         ensures count { length self.old ≡ 256 }
     {
@@ -120,8 +120,8 @@ impl Pages {
     fn write(&mut self, page: usize, place: usize, word: u16)
         requires page { page < 256 }
         requires place { place < 256 }
-        requires made { (d : PageWords) → (slice_index_or self.old page d).made ≡ true }
-        ensures written { (d : PageWords) → self.new ≡ slice_set self.old page (page_written (slice_index_or self.old page d) place word) }
+        requires made { (d : PageWords) → is_made_in self.old page d ≡ true }
+        ensures written { (d : PageWords) → self.new ≡ with_written self.old page d place word }
     {
         let start = self.starts[page];
         self.words[start + place] = word;
@@ -132,9 +132,10 @@ impl Pages {
     pub(crate) fn set(&mut self, page: usize, place: usize, word: u16) -> Result<(), AllocError>
         requires page { page < 256 }
         requires place { place < 256 }
-        ensures ok { (d : PageWords) → OnOk result (self.new ≡ slice_set self.old page (page_written (slice_index_or self.old page d) place word)) }
+        ensures ok { (d : PageWords)
+            → OnOk result (self.new ≡ with_written self.old page d place word) }
         ensures err { OnErr result (self.new ≡ self.old) }
-        ensures succeeds { (d : PageWords) → (slice_index_or self.old page d).made ≡ true → IsOk result }
+        ensures succeeds { (d : PageWords) → is_made_in self.old page d ≡ true → IsOk result }
         ensures count { length self.old ≡ 256 }
         ensures whole { AreWhole self.old }
     {
@@ -150,8 +151,9 @@ impl Pages {
     fn write_first(&mut self, page: usize, place: usize, word: u16) -> Result<(), AllocError>
         requires page { page < 256 }
         requires place { place < 256 }
-        requires absent { (d : PageWords) → (slice_index_or self.old page d).made ≡ false }
-        ensures ok { (d : PageWords) → OnOk result (self.new ≡ slice_set self.old page (page_written (slice_index_or self.old page d) place word)) }
+        requires absent { (d : PageWords) → is_made_in self.old page d ≡ false }
+        ensures ok { (d : PageWords)
+            → OnOk result (self.new ≡ with_written self.old page d place word) }
         ensures err { OnErr result (self.new ≡ self.old) }
     {
         self.add(page)?;
@@ -162,7 +164,7 @@ impl Pages {
     /// The words of a page.
     fn words_of(&self, page: usize) -> &[u16]
         requires page { page < 256 }
-        ensures words { (d : PageWords) → result.now ≡ (slice_index_or self.now page d).words }
+        ensures words { (d : PageWords) → result.now ≡ words_in self.now page d }
     {
         let start = self.starts[page];
         &self.words[start..start + PAGE]
@@ -182,7 +184,8 @@ impl Pages {
     /// Whether a page has the same words here and there.
     fn has_same_page(&self, other: &Pages, page: usize) -> bool
         requires page { page < 256 }
-        ensures same { (d : PageWords) → IsTrue result ↔ ((slice_index_or self.now page d).words ≡ (slice_index_or other.now page d).words) }
+        ensures same { (d : PageWords) → IsTrue result
+            ↔ (words_in self.now page d ≡ words_in other.now page d) }
     {
         // What is known of the pages is known where a field is named.
         let _ = &self.words;
@@ -195,7 +198,8 @@ impl Pages {
 
     /// Whether all words are the same here and there.
     pub(crate) fn has_same_words(&self, other: &Pages) -> bool
-        ensures same { IsTrue result ↔ ((joined self.now).words ≡ (joined other.now).words) }
+        ensures same { IsTrue result ↔
+            ((memory_of_pages self.now).words ≡ (memory_of_pages other.now).words) }
     {
         // What is known of the pages is known where a field is named.
         let _ = &self.words;

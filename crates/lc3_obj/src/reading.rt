@@ -45,7 +45,8 @@ pub fn read_image(alloc: Global, bytes: &[u8]) -> Result<Image, ObjFault>
 /// The word whose bytes stand at an index.
 fn word_at(bytes: &[u8], index: usize) -> u16
     requires within { index + 1 < length bytes.now }
-    ensures bytes { word_bytes result ≡ slice_index bytes.now index ∷ slice_index bytes.now (index + 1) ∷ [] }
+    ensures bytes { word_bytes result
+        ≡ slice_index bytes.now index ∷ slice_index bytes.now (index + 1) ∷ [] }
     ensures value { result ≡ 256 * slice_index bytes.now index + slice_index bytes.now (index + 1) }
 {
     u16::from_be_bytes([bytes[index], bytes[index + 1]])

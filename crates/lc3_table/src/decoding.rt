@@ -39,7 +39,7 @@ fn operand(word: u16) -> Option<Operand>
 
 #[inline(always)]
 fn branch(word: u16) -> Instr
-    requires { word / 4096 ≡ 0 }
+    requires opcode { word / 4096 ≡ 0 }
     ensures found { word_of result ≡ word }
     ensures in_range { IsInstruction result }
 {
@@ -54,7 +54,7 @@ fn branch(word: u16) -> Instr
 /// JSR or JSRR.
 #[inline(always)]
 fn subroutine(word: u16) -> Option<Instr>
-    requires { word / 4096 ≡ 4 }
+    requires opcode { word / 4096 ≡ 4 }
     ensures found { IfSome result (λ i. word_of i ≡ word) }
     ensures in_range { IfSome result (λ i. IsInstruction i) }
     ensures none { IfNone result ((i : Instr) → IsInstruction i → word_of i ≢ word) }
@@ -72,7 +72,7 @@ fn subroutine(word: u16) -> Option<Instr>
 
 #[inline(always)]
 fn return_from_interrupt(word: u16) -> Option<Instr>
-    requires { word / 4096 ≡ 8 }
+    requires opcode { word / 4096 ≡ 8 }
     ensures found { IfSome result (λ i. word_of i ≡ word) }
     ensures in_range { IfSome result (λ i. IsInstruction i) }
     ensures none { IfNone result ((i : Instr) → IsInstruction i → word_of i ≢ word) }
@@ -86,7 +86,7 @@ fn return_from_interrupt(word: u16) -> Option<Instr>
 
 #[inline(always)]
 fn complement(word: u16) -> Option<Instr>
-    requires { word / 4096 ≡ 9 }
+    requires opcode { word / 4096 ≡ 9 }
     ensures found { IfSome result (λ i. word_of i ≡ word) }
     ensures in_range { IfSome result (λ i. IsInstruction i) }
     ensures none { IfNone result ((i : Instr) → IsInstruction i → word_of i ≢ word) }
@@ -102,7 +102,7 @@ fn complement(word: u16) -> Option<Instr>
 
 #[inline(always)]
 fn jump(word: u16) -> Option<Instr>
-    requires { word / 4096 ≡ 12 }
+    requires opcode { word / 4096 ≡ 12 }
     ensures found { IfSome result (λ i. word_of i ≡ word) }
     ensures in_range { IfSome result (λ i. IsInstruction i) }
     ensures none { IfNone result ((i : Instr) → IsInstruction i → word_of i ≢ word) }
@@ -117,7 +117,7 @@ fn jump(word: u16) -> Option<Instr>
 
 #[inline(always)]
 fn trap(word: u16) -> Option<Instr>
-    requires { word / 4096 ≡ 15 }
+    requires opcode { word / 4096 ≡ 15 }
     ensures found { IfSome result (λ i. word_of i ≡ word) }
     ensures in_range { IfSome result (λ i. IsInstruction i) }
     ensures none { IfNone result ((i : Instr) → IsInstruction i → word_of i ≢ word) }

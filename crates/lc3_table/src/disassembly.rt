@@ -170,7 +170,8 @@ pub fn text(alloc: Global, word: u16) -> Result<String, AllocError>
 /// Adds the line of one word.
 #[tactic(auto, unfolding(crate::specs::Text::line_text))]
 fn push_line(text: &mut String, address: u16, word: u16) -> Result<(), AllocError>
-    ensures { OnOk result (string_bytes text.new ≡ string_bytes text.old ++ line_text address word) }
+    ensures text { OnOk result (string_bytes text.new
+        ≡ string_bytes text.old ++ line_text address word) }
 {
     let place = Hex(address);
     let content = Hex(word);

@@ -11,7 +11,7 @@ fn joined(field: u16, width: u32, rest: u16) -> u16
     requires width { width < 16 }
     requires rest { rest < 2 ^ width }
     requires fits { field * 2 ^ width < 65536 }
-    ensures { result ≡ field * 2 ^ width + rest }
+    ensures value { result ≡ field * 2 ^ width + rest }
 {
     field << width | rest
 }
@@ -20,14 +20,14 @@ fn joined(field: u16, width: u32, rest: u16) -> u16
 fn row(opcode: u16, rest: u16) -> u16
     requires opcode { opcode < 16 }
     requires rest { rest < 4096 }
-    ensures { result ≡ opcode * 4096 + rest }
+    ensures value { result ≡ opcode * 4096 + rest }
 {
     joined(opcode, 12, rest)
 }
 
 /// A register above nine bits.
 fn first(reg: Reg, rest: u16) -> u16
-    requires { rest < 512 }
+    requires rest { rest < 512 }
     ensures value { result ≡ reg * 512 + rest }
     ensures in_range { reg < 8 }
 {
@@ -36,7 +36,7 @@ fn first(reg: Reg, rest: u16) -> u16
 
 /// A register above six bits.
 fn second(reg: Reg, rest: u16) -> u16
-    requires { rest < 64 }
+    requires rest { rest < 64 }
     ensures value { result ≡ reg * 64 + rest }
     ensures in_range { reg < 8 }
 {
@@ -57,8 +57,8 @@ fn operand_field(operand: Operand) -> u16
 
 /// The three flags of a branch above nine bits.
 fn branch(n: bool, z: bool, p: bool, rest: u16) -> u16
-    requires { rest < 512 }
-    ensures { result ≡ bit n * 2048 + bit z * 1024 + bit p * 512 + rest }
+    requires rest { rest < 512 }
+    ensures value { result ≡ bit n * 2048 + bit z * 1024 + bit p * 512 + rest }
 {
     let rest = joined(u16::from(p), 9, rest);
     let rest = joined(u16::from(z), 10, rest);

@@ -2,8 +2,8 @@
 
 ghost use Rattle.std.specs.Prelude.{◌≡◌, ◌≤◌, [], ◌∷◌};
 ghost use Rattle.lc3_word.specs.Words.{low_bits};
-ghost use Rattle.lc3_table.specs.Meaning.{instruction, instruction_words};
-ghost use Rattle.lc3_table.specs.declared.fields.Field.TheVariants as field;
+ghost use Rattle.lc3_table.specs.Meaning.{Encodes};
+ghost use Rattle.lc3_table.specs.declared.fields.Field.TheVariants.{Register, Number};
 
 use crate::instr::{Instr, Operand};
 use crate::operation::Operation;
@@ -31,21 +31,21 @@ pub fn low_word(number: i64) -> u16
 fn low<const B: u32>(number: i64) -> Off<B>
     requires some_bits { 1 ≤ B }
     requires word { B ≤ 16 }
-    ensures { low_bits B result ≡ low_bits B number }
+    ensures value { low_bits B result ≡ low_bits B number }
 {
     Off::of_low_bits(low_word(number))
 }
 
 /// The number modulo 256.
 fn low_byte(number: i64) -> u8
-    ensures { result ≡ low_bits 8 number }
+    ensures value { result ≡ low_bits 8 number }
 {
     (low_word(number) & 255) as u8
 }
 
 #[tactic(auto, unfolding(crate::specs::Meaning::instruction))]
 fn without_operands(operation: Operation) -> Option<Instr>
-    ensures { instruction_words result ≡ instruction_words (instruction operation []) }
+    ensures words { Encodes result operation [] }
 {
     match operation {
         Operation::Return => {
@@ -71,7 +71,7 @@ fn without_operands(operation: Operation) -> Option<Instr>
 
 #[tactic(auto, unfolding(crate::specs::Meaning::instruction))]
 fn with_register(operation: Operation, base: Reg) -> Option<Instr>
-    ensures { instruction_words result ≡ instruction_words (instruction operation (field.Register base ∷ [])) }
+    ensures words { Encodes result operation (Register base ∷ []) }
 {
     match operation {
         Operation::Jump => Some(Instr::Jmp { base }),
@@ -82,7 +82,7 @@ fn with_register(operation: Operation, base: Reg) -> Option<Instr>
 
 #[tactic(auto, unfolding(crate::specs::Meaning::instruction))]
 fn with_number(operation: Operation, number: i64) -> Option<Instr>
-    ensures { instruction_words result ≡ instruction_words (instruction operation (field.Number number ∷ [])) }
+    ensures words { Encodes result operation (Number number ∷ []) }
 {
     match operation {
         Operation::Branch {
@@ -107,7 +107,7 @@ fn with_number(operation: Operation, number: i64) -> Option<Instr>
 
 #[tactic(auto, unfolding(crate::specs::Meaning::instruction))]
 fn with_registers(operation: Operation, dr: Reg, sr: Reg) -> Option<Instr>
-    ensures { instruction_words result ≡ instruction_words (instruction operation (field.Register dr ∷ field.Register sr ∷ [])) }
+    ensures words { Encodes result operation (Register dr ∷ Register sr ∷ []) }
 {
     match operation {
         Operation::Not => Some(Instr::Not { dr, sr }),
@@ -118,7 +118,7 @@ fn with_registers(operation: Operation, dr: Reg, sr: Reg) -> Option<Instr>
 /// Loads and stores by a PC offset.
 #[tactic(auto, unfolding(crate::specs::Meaning::instruction))]
 fn with_target(operation: Operation, dr: Reg, number: i64) -> Option<Instr>
-    ensures { instruction_words result ≡ instruction_words (instruction operation (field.Register dr ∷ field.Number number ∷ [])) }
+    ensures words { Encodes result operation (Register dr ∷ Number number ∷ []) }
 {
     let sr = dr;
     let offset = low(number);
@@ -134,7 +134,7 @@ fn with_target(operation: Operation, dr: Reg, number: i64) -> Option<Instr>
 
 #[tactic(auto, unfolding(crate::specs::Meaning::instruction))]
 fn with_sources(operation: Operation, dr: Reg, sr1: Reg, sr2: Reg) -> Option<Instr>
-    ensures { instruction_words result ≡ instruction_words (instruction operation (field.Register dr ∷ field.Register sr1 ∷ field.Register sr2 ∷ [])) }
+    ensures words { Encodes result operation (Register dr ∷ Register sr1 ∷ Register sr2 ∷ []) }
 {
     let operand = Operand::Register(sr2);
     match operation {
@@ -146,7 +146,7 @@ fn with_sources(operation: Operation, dr: Reg, sr1: Reg, sr2: Reg) -> Option<Ins
 
 #[tactic(auto, unfolding(crate::specs::Meaning::instruction))]
 fn with_registers_and_number(operation: Operation, dr: Reg, base: Reg, number: i64) -> Option<Instr>
-    ensures { instruction_words result ≡ instruction_words (instruction operation (field.Register dr ∷ field.Register base ∷ field.Number number ∷ [])) }
+    ensures words { Encodes result operation (Register dr ∷ Register base ∷ Number number ∷ []) }
 {
     let (sr, sr1) = (dr, base);
     let operand = Operand::Number(low(number));
@@ -154,8 +154,8 @@ fn with_registers_and_number(operation: Operation, dr: Reg, base: Reg, number: i
     match operation {
         Operation::Add => Some(Instr::Add { dr, sr1, operand }),
         Operation::And => Some(Instr::And { dr, sr1, operand }),
-        Operation::LoadRegister => Some(Instr::Ldr { dr, base, offset }),
-        Operation::StoreRegister => Some(Instr::Str { sr, base, offset }),
+        Operation::LoadBaseOffset => Some(Instr::Ldr { dr, base, offset }),
+        Operation::StoreBaseOffset => Some(Instr::Str { sr, base, offset }),
         _ => None,
     }
 }
@@ -164,7 +164,7 @@ fn with_registers_and_number(operation: Operation, dr: Reg, base: Reg, number: i
 /// directive, nor where the fields aren't those that the operation takes.
 #[tactic(auto, unfolding(crate::specs::Meaning::instruction))]
 pub fn instruction(operation: Operation, fields: &[Field]) -> Option<Instr>
-    ensures words { instruction_words result ≡ instruction_words (instruction operation fields.now) }
+    ensures words { Encodes result operation fields.now }
 {
     match fields {
         [] => without_operands(operation),

@@ -9,7 +9,8 @@ ghost use Rattle.lc3_table.specs.Text.{word_text};
 
 /// No two instructions have one word.
 pub fn one_word_each()
-    ensures injective { (i j : Instr) → IsInstruction i → IsInstruction j → word_of i ≡ word_of j → i ≡ j }
+    ensures injective { (i j : Instr) → IsInstruction i → IsInstruction j
+        → word_of i ≡ word_of j → i ≡ j }
 {}
 
 /// The text of a word, read as a source line, is that word alone.
@@ -19,5 +20,6 @@ pub fn text_reads_back()
 
 /// The instruction of a word is the one that has this word.
 pub fn decoding_is_equality()
-    ensures same { (w : ℕ) (i : Instr) → (instruction_at w ≡ Some i) ↔ (IsInstruction i × (word_of i ≡ w)) }
+    ensures same { (w : ℕ) (i : Instr)
+        → (instruction_at w ≡ Some i) ↔ (IsInstruction i × (word_of i ≡ w)) }
 {}

@@ -20,13 +20,13 @@ pub enum Operation {
     JumpSubroutineRegister,
     Load,
     LoadIndirect,
-    LoadRegister,
+    LoadBaseOffset,
     LoadAddress,
     Return,
     ReturnInterrupt,
     Store,
     StoreIndirect,
-    StoreRegister,
+    StoreBaseOffset,
     Trap,
     Getc,
     Out,
@@ -128,13 +128,13 @@ const OPERATIONS: [Operation; 35] = [
     Operation::JumpSubroutineRegister,
     Operation::Load,
     Operation::LoadIndirect,
-    Operation::LoadRegister,
+    Operation::LoadBaseOffset,
     Operation::LoadAddress,
     Operation::Return,
     Operation::ReturnInterrupt,
     Operation::Store,
     Operation::StoreIndirect,
-    Operation::StoreRegister,
+    Operation::StoreBaseOffset,
     Operation::Trap,
     Operation::NoOperation,
     Operation::Getc,
@@ -161,7 +161,7 @@ pub fn operations() -> &'static [Operation]
 /// `BR` and its letters in the order n, z, p.
 #[tactic(auto, unfolding(crate::specs::Words::name))]
 fn branch_name(negative: bool, zero: bool, positive: bool) -> &'static str
-    ensures { result.now ≡ name (op.Branch negative zero positive) }
+    ensures value { result.now ≡ name (op.Branch negative zero positive) }
 {
     match (negative, zero, positive) {
         (true, true, true) => "BRnzp",
@@ -197,13 +197,13 @@ impl Operation {
             Operation::JumpSubroutineRegister => "JSRR",
             Operation::Load => "LD",
             Operation::LoadIndirect => "LDI",
-            Operation::LoadRegister => "LDR",
+            Operation::LoadBaseOffset => "LDR",
             Operation::LoadAddress => "LEA",
             Operation::Return => "RET",
             Operation::ReturnInterrupt => "RTI",
             Operation::Store => "ST",
             Operation::StoreIndirect => "STI",
-            Operation::StoreRegister => "STR",
+            Operation::StoreBaseOffset => "STR",
             Operation::Trap => "TRAP",
             Operation::NoOperation => "NOP",
             Operation::Getc => "GETC",
@@ -237,7 +237,7 @@ impl Operation {
             | Operation::LoadAddress
             | Operation::Store
             | Operation::StoreIndirect => &[Form::Register, Form::Target],
-            Operation::LoadRegister | Operation::StoreRegister => {
+            Operation::LoadBaseOffset | Operation::StoreBaseOffset => {
                 &[Form::Register, Form::Register, Form::Offset]
             }
             Operation::Trap => &[Form::Vector],

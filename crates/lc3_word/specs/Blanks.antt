@@ -1,11 +1,16 @@
 -- Words between blanks.
-use Rattle.std.specs.Prelude.{ℕ, Bool, not, ◌==◌, nat_eq, List, length, filter}
+use Rattle.std.specs.Prelude.{ℕ, Bool, not, ◌==◌, nat_eq, List, length, filter, codes}
 use Rattle.std.specs.List.{list_any, slice_split}
+
+-- the bytes between the words of a text: blank, tab, carriage return and line feed
+abbrev pub white_space : List ℕ
+white_space = codes " \t\r\n"
 
 -- whether a byte is one of these
 abbrev pub is_among : List ℕ → ℕ → Bool
 is_among bytes c = list_any (λ b. nat_eq b c) bytes
 
+-- whether a piece between blanks has a byte
 abbrev pub is_word : List ℕ → Bool
 is_word piece = not (length piece == 0)
 

@@ -21,8 +21,8 @@ impl fmt::Display for Hex {
 }
 
 fn hex_digit(n: u16) -> u8
-    requires { n < 16 }
-    ensures { result ≡ digit_glyph true n }
+    requires digit { n < 16 }
+    ensures glyph { result ≡ digit_glyph true n }
 {
     if n < 10 {
         b'0' + n as u8

@@ -28,7 +28,8 @@ impl Model for Image {
 impl Image {
     /// The image of these words at this origin. Where they would reach [`FIRST_DEVICE`] or beyond, they are handed back.
     pub fn new(origin: u16, words: Vec<u16>) -> Result<Self, Vec<u16>>
-        ensures fits { IsOk result ↔ IsBelowDevices (record { origin = origin; words = words.items }) }
+        ensures fits { IsOk result
+            ↔ IsBelowDevices (record { origin = origin; words = words.items }) }
         ensures ok { IfOk result (λ i. i ≡ record { origin = origin; words = words.items }) }
         ensures err { IfErr result (λ v. v ≡ words) }
     {

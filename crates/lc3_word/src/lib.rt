@@ -9,7 +9,7 @@ mod number;
 mod reading;
 mod reg;
 
-pub use blanks::words_between;
+pub use blanks::{WHITE_SPACE, words_between};
 pub use code::{Cc, cc_of};
 pub use hexadecimal::{Hex, hex4};
 pub use image::{FIRST_DEVICE, Image};

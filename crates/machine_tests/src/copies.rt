@@ -54,7 +54,7 @@ fn a_copy_is_the_same_and_goes_on_alike(rt: HostRuntime) -> Result<(), Fail> {
     let other = run(&rt, other, 1);
     differ(&rt, &process, &other);
     are_same(&rt, &run(&rt, process, 1), &other);
-    assert_eq!(rt; other.output(), b"a".as_slice());
+    assert_eq!(rt; other.machine().output(), b"a".as_slice());
     Ok(())
 }
 

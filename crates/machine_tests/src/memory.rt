@@ -115,7 +115,7 @@ fn disturb(
 ) -> Result<(), AllocError> {
     for _ in 0..8 {
         let address = numbers.next();
-        assert_eq!(rt; call.word(address), plain.get(address));
+        assert_eq!(rt; call.machine().word(address), plain.get(address));
     }
     let at = numbers.address();
     let len = (numbers.next() % 600).min(FIRST_DEVICE.saturating_sub(at));
@@ -158,7 +158,11 @@ fn answer(
 /// Each word of the process is that of the plain memory.
 fn is_plain(rt: &impl Abort, process: &Running, plain: &Plain) {
     for address in 0..=0xffff {
-        assert_eq!(rt; process.word(address), plain.get(address), "at {address}");
+        assert_eq!(rt;
+            process.machine().word(address),
+            plain.get(address),
+            "at {address}"
+        );
     }
 }
 

@@ -29,8 +29,8 @@ impl Kernel {
             && self.processes.are_renamed(&other.processes, &renaming.to)
     }
 
-    /// Whether another kernel is this one, or this one with its places renamed. Then no answer tells
-    /// them apart (`laws::alike_law`).
+    /// Whether another kernel is this one, or this one with its places renamed. Then no answer
+    /// tells them apart (`laws::alike_law`).
     #[tactic(auto, using(crate::proofs::Alikes::alike_same))]
     pub fn is_alike(&self, other: &Kernel) -> bool
         ensures alike { IsTrue result ↔ IsAlike self.now other.now }

@@ -1,7 +1,7 @@
 //! How a decision is carried out, and what it would be answered.
 ghost use Rattle.std.specs.Prelude.{◌≡◌, ℕ, ◌<◌, length, IfOk, OnOk, OnErr, IsErr, IsSomeAnd, IsTrue};
-ghost use Rattle.ipc_kernel.specs.Decisions.{outcome_of, after_change, CanChange, IsPossible, change_may_grow, decision_may_grow, decision_receives, keeps_references, queue_at, reply_with_first};
-ghost use Rattle.ipc_kernel.specs.Outcomes.{completion};
+ghost use Rattle.ipc_kernel.specs.Private.Decisions.{kernel_of, outcome_of, after_change, CanChange, IsPossible, change_may_grow, decision_may_grow, decision_may_share, decision_receives, keeps_references, reply_with_first};
+ghost use Rattle.ipc_kernel.specs.Outcomes.{queue_at, completion};
 ghost use Rattle.ipc_kernel.specs.Places.{place_at, queue_in, HasMessage};
 ghost use Rattle.ipc_kernel.specs.declared.kernel.decision.Decision.TheVariants.{Receives};
 ghost use Rattle.ipc_kernel.specs.declared.call.Reply.{Reply};
@@ -14,7 +14,8 @@ use crate::processes::Processes;
 use crate::{Answer, Reply, Slot};
 use std::alloc::AllocError;
 
-/// Makes a change by a process in the places and the tables. Where memory is refused nothing has changed.
+/// Makes a change by a process in the places and the tables. Where memory is refused nothing has
+/// changed.
 #[inline(always)]
 fn apply(
     places: &mut Places,
@@ -23,9 +24,9 @@ fn apply(
     change: Change<'_>,
 ) -> Result<(), AllocError>
     requires process { pid < length processes.old }
-    requires possible { CanChange (record { places = places.old; processes = processes.old }) change }
-    ensures ok { OnOk result (record { places = places.new; processes = processes.new } ≡
-        after_change (record { places = places.old; processes = processes.old }) pid change.entry) }
+    requires possible { CanChange (kernel_of places.old processes.old) change }
+    ensures ok { OnOk result (kernel_of places.new processes.new ≡
+        after_change (kernel_of places.old processes.old) pid change.entry) }
     ensures same_places { OnErr result (places.new ≡ places.old) }
     ensures same_processes { OnErr result (processes.new ≡ processes.old) }
     ensures memory { IsErr result → IsTrue (change_may_grow change.entry) }
@@ -58,10 +59,11 @@ fn apply(
     Ok(())
 }
 
-/// Whether a change leaves each name, and what is open, as they were, so that no place is to be emptied.
+/// Whether a change leaves each name, and what is open, as they were, so that no place is to be
+/// emptied.
 #[inline(always)]
 fn keeps_references(change: Change<'_>) -> bool
-    ensures { result ≡ keeps_references change.entry }
+    ensures kept { result ≡ keeps_references change.entry }
 {
     matches!(
         change,
@@ -79,7 +81,8 @@ impl Kernel {
     ) -> Result<Answer, AllocError>
         requires process { pid < length self.old.processes }
         requires possible { IsPossible self.old decision }
-        ensures outcome { IfOk result (λ a. (a, self.new) ≡ outcome_of self.old pid decision.entry) }
+        ensures outcome { IfOk result (λ a.
+            (a, self.new) ≡ outcome_of self.old pid decision.entry) }
         ensures err { OnErr result (self.new ≡ self.old) }
         ensures memory { IsErr result → IsTrue (decision_may_grow decision.entry) }
         ensures count { length self.new.processes ≡ length self.old.processes }
@@ -90,7 +93,7 @@ impl Kernel {
             Decision::Receives(place) => Ok(Answer::Done(self.receive(place))),
             Decision::Answered(reply, change) => {
                 self.change(pid, change)?;
-                Ok(Answer::Done(reply))
+                Ok(Answer::Done(reply.reply()))
             }
         }
     }
@@ -101,7 +104,8 @@ impl Kernel {
     fn change(&mut self, pid: usize, change: Change<'_>) -> Result<(), AllocError>
         requires process { pid < length self.old.processes }
         requires possible { CanChange self.old change }
-        ensures ok { (r : Reply) → OnOk result ((Done r, self.new) ≡ completion (after_change self.old pid change.entry) r) }
+        ensures ok { (r : Reply) → OnOk result
+            ((Done r, self.new) ≡ completion (after_change self.old pid change.entry) r) }
         ensures err { OnErr result (self.new ≡ self.old) }
         ensures memory { IsErr result → IsTrue (change_may_grow change.entry) }
         ensures count { length self.new.processes ≡ length self.old.processes }
@@ -117,8 +121,9 @@ impl Kernel {
     #[tactic(auto, using(crate::proofs::AnswerLemmas::settled_received, crate::proofs::AnswerLemmas::received_first))]
     #[inline(always)]
     fn receive(&mut self, place: u8) -> Reply
-        requires { IsSomeAnd (queue_in (place_at self.old.places place)) HasMessage }
-        ensures outcome { (p : ℕ) → (Done result, self.new) ≡ outcome_of self.old p (Receives place) }
+        requires message { IsSomeAnd (queue_in (place_at self.old.places place)) HasMessage }
+        ensures outcome { (p : ℕ) →
+            (Done result, self.new) ≡ outcome_of self.old p (Receives place) }
         ensures count { length self.new.processes ≡ length self.old.processes }
     {
         let (prio, words) = self.places.receive(place);
@@ -134,9 +139,11 @@ impl Kernel {
     ) -> Result<(Answer, Answer), AllocError>
         requires process { pid < length self.old.processes }
         requires possible { IsPossible self.old decision }
-        ensures outcome { IfOk result (λ r. (r.0, self.new) ≡ outcome_of self.old pid decision.entry) }
+        ensures outcome { IfOk result (λ r.
+            (r.0, self.new) ≡ outcome_of self.old pid decision.entry) }
         ensures copy { IfOk result (λ r. r.1 ≡ r.0) }
         ensures err { OnErr result (self.new ≡ self.old) }
+        ensures memory { IsErr result → IsTrue (decision_may_share decision.entry) }
         ensures count { length self.new.processes ≡ length self.old.processes }
     {
         match decision {
@@ -148,31 +155,31 @@ impl Kernel {
                 Ok((Answer::Done(reply), Answer::Done(copy)))
             }
             Decision::Answered(reply, change) => {
-                let copy = reply.copy()?;
                 self.change(pid, change)?;
-                Ok((Answer::Done(reply), Answer::Done(copy)))
+                Ok((Answer::Done(reply.reply()), Answer::Done(reply.reply())))
             }
         }
     }
 
     /// What a decision answers. Takes no memory: the words of a message are shared.
     pub(super) fn preview(&self, decision: Decision<'_>) -> Result<Answer, AllocError>
-        requires { IsPossible self.now decision }
-        ensures outcome { (p : ℕ) → IfOk result (λ a. a ≡ (outcome_of self.now p decision.entry).0) }
+        requires possible { IsPossible self.now decision }
+        ensures outcome { (p : ℕ) →
+            IfOk result (λ a. a ≡ (outcome_of self.now p decision.entry).0) }
         ensures memory { IsErr result → IsTrue (decision_receives decision.entry) }
     {
         match decision {
             Decision::Refused(errno) => Ok(refusal(errno)),
             Decision::Waits => Ok(Answer::Wait),
             Decision::Receives(place) => Ok(Answer::Done(self.first_message(place)?)),
-            Decision::Answered(reply, _) => Ok(Answer::Done(reply)),
+            Decision::Answered(reply, _) => Ok(Answer::Done(reply.reply())),
         }
     }
 
     /// The first message of the queue in a place, with shared words.
     fn first_message(&self, place: u8) -> Result<Reply, AllocError>
-        requires { IsSomeAnd (queue_in (place_at self.now.places place)) HasMessage }
-        ensures { IfOk result (λ r. r ≡ reply_with_first (queue_at self.now place).messages) }
+        requires message { IsSomeAnd (queue_in (place_at self.now.places place)) HasMessage }
+        ensures first { IfOk result (λ r. r ≡ reply_with_first (queue_at self.now place).messages) }
     {
         let Some(queue) = self.places.queue(place) else {
             unreachable!();

@@ -24,7 +24,8 @@ impl Kernel {
         Ok(Kernel { places, processes })
     }
 
-    /// Whether two kernels hold the same: each place, and the descriptors and slots of each process.
+    /// Whether two kernels hold the same: each place, and the descriptors and slots of each
+    /// process.
     pub fn is_same(&self, other: &Kernel) -> bool
         ensures same { IsTrue result ↔ (self.now ≡ other.now) }
     {

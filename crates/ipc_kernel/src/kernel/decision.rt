@@ -1,8 +1,8 @@
 //! What a call is answered now, and what that changes.
 ghost use Rattle.std.specs.Prelude.{◌≡◌, ℕ, false};
 ghost use Rattle.ipc_kernel.specs.Kernel.{KernelState};
-ghost use Rattle.ipc_kernel.specs.Outcomes.{blocked};
-ghost use Rattle.ipc_kernel.specs.Decisions.{outcome_of, IsPossible, decision_may_grow};
+ghost use Rattle.ipc_kernel.specs.Outcomes.{wait_or_again};
+ghost use Rattle.ipc_kernel.specs.Private.Decisions.{outcome_of, reply_of, IsPossible, decision_may_grow};
 ghost use Rattle.ipc_kernel.specs.Replies.{message_length};
 
 use crate::{Descriptor, Reply, Slot};
@@ -76,8 +76,33 @@ pub(super) enum Change<'a> {
     CloseAll,
 }
 
-/// What becomes of a call.
-#[derive(Drop)]
+/// A reply that isn't a message: it is short, and can be copied.
+#[derive(Clone, Copy)]
+pub(super) enum ShortReply {
+    /// A descriptor, a slot, 0, or the negative of an error's number.
+    Plain(u16),
+    /// The four words of the attributes.
+    Attr([u16; 4]),
+    /// The value of a semaphore.
+    Value(u16),
+}
+
+impl ShortReply {
+    /// The reply itself.
+    #[inline(always)]
+    pub(super) fn reply(self) -> Reply
+        ensures value { result ≡ reply_of self }
+    {
+        match self {
+            ShortReply::Plain(word) => Reply::Plain(word),
+            ShortReply::Attr(words) => Reply::Attr(words),
+            ShortReply::Value(word) => Reply::Value(word),
+        }
+    }
+}
+
+/// What becomes of a call. A message isn't in it, so that it is short.
+#[derive(Clone, Copy)]
 pub(super) enum Decision<'a> {
     /// It is refused, and nothing changes.
     Refused(Errno),
@@ -86,13 +111,14 @@ pub(super) enum Decision<'a> {
     /// It takes the first message of the queue in a place.
     Receives(u8),
     /// It is answered, with a change.
-    Answered(Reply, Change<'a>),
+    Answered(ShortReply, Change<'a>),
 }
 
 /// What becomes of a call that finds its queue full or empty.
 #[inline(always)]
 pub(super) fn block<'a>(descriptor: Descriptor) -> Decision<'a>
-    ensures outcome { (k : KernelState) (p : ℕ) → outcome_of k p result ≡ blocked k descriptor }
+    ensures outcome { (k : KernelState) (p : ℕ) → outcome_of k p result
+        ≡ wait_or_again k descriptor }
     ensures possible { (k : KernelState) → IsPossible k result }
     ensures memory { decision_may_grow result ≡ false }
     ensures length { (k : KernelState) (p : ℕ) → message_length (outcome_of k p result).0 ≡ 0 }

@@ -3,7 +3,7 @@ ghost use Rattle.std.specs.Prelude.{◌≡◌, ℕ, ◌<◌, ◌≤◌, false, N
 ghost use Rattle.ipc_objects.specs.Limits.{mq_msgsize_max};
 ghost use Rattle.ipc_names.specs.Flags.{flags_read};
 ghost use Rattle.ipc_kernel.specs.Limits.{object_places};
-ghost use Rattle.ipc_kernel.specs.Decisions.{outcome_of, IsPossible, decision_may_grow};
+ghost use Rattle.ipc_kernel.specs.Private.Decisions.{outcome_of, IsPossible, decision_may_grow};
 ghost use Rattle.ipc_kernel.specs.Outcomes.{open_queue, unlink};
 ghost use Rattle.ipc_kernel.specs.Places.{are_sizes, queue_named};
 ghost use Rattle.ipc_kernel.specs.Processes.{descriptor_of, free_descriptor_of};
@@ -11,8 +11,8 @@ ghost use Rattle.ipc_kernel.specs.Queues.{attributes, descriptor_for, sizes_aske
 ghost use Rattle.ipc_kernel.specs.Replies.{message_length};
 
 use super::Kernel;
-use super::decision::{Change, Decision, NewQueue, block};
-use crate::{Descriptor, Reply};
+use super::decision::{Change, Decision, NewQueue, ShortReply, block};
+use crate::Descriptor;
 use ipc_names::{Errno, Flags, Name, O_NONBLOCK};
 use ipc_objects::{
     MQ_MAXMSG_DEFAULT, MQ_MAXMSG_MAX, MQ_MSGSIZE_DEFAULT, MQ_MSGSIZE_MAX, MQ_PRIO_MAX, Queue, Words,
@@ -21,7 +21,7 @@ use ipc_objects::{
 /// The greatest numbers of messages and of words of a message that mq_open asks for.
 #[inline(always)]
 fn sizes_asked(attr: Option<[u16; 4]>) -> (u16, u16)
-    ensures { result ≡ sizes_asked attr }
+    ensures sizes { result ≡ sizes_asked attr }
 {
     match attr {
         None => (MQ_MAXMSG_DEFAULT, MQ_MSGSIZE_DEFAULT),
@@ -31,7 +31,7 @@ fn sizes_asked(attr: Option<[u16; 4]>) -> (u16, u16)
 
 #[inline(always)]
 fn are_sizes(max_messages: u16, message_size: u16) -> bool
-    ensures { result ≡ are_sizes (max_messages, message_size) }
+    ensures sizes { result ≡ are_sizes (max_messages, message_size) }
 {
     max_messages >= 1
         && max_messages <= MQ_MAXMSG_MAX
@@ -42,7 +42,7 @@ fn are_sizes(max_messages: u16, message_size: u16) -> bool
 /// The attributes of an open queue.
 #[inline(always)]
 fn attributes(descriptor: Descriptor, queue: &Queue) -> [u16; 4]
-    ensures { result ≡ attributes descriptor queue.now }
+    ensures attributes { result ≡ attributes descriptor queue.now }
 {
     let (max, size, count) = queue.attr();
     let flags = if descriptor.nonblock { O_NONBLOCK } else { 0 };
@@ -51,7 +51,7 @@ fn attributes(descriptor: Descriptor, queue: &Queue) -> [u16; 4]
 
 #[inline(always)]
 fn descriptor_for(place: u8, flags: Flags) -> Descriptor
-    ensures { result ≡ descriptor_for place flags }
+    ensures descriptor { result ≡ descriptor_for place flags }
 {
     Descriptor {
         place,
@@ -71,8 +71,9 @@ impl Kernel {
         flags: u16,
         attr: Option<[u16; 4]>,
     ) -> Decision<'a>
-        requires { pid < length self.now.processes }
-        ensures outcome { outcome_of self.now pid result ≡ mq_open self.now pid name.now (sizes_asked attr) (flags_read flags) }
+        requires process { pid < length self.now.processes }
+        ensures outcome { outcome_of self.now pid result ≡
+            mq_open self.now pid name.now (sizes_asked attr) (flags_read flags) }
         ensures possible { IsPossible self.now result }
     {
         let flags = match Flags::read(flags) {
@@ -99,7 +100,8 @@ impl Kernel {
         requires process { pid < length self.now.processes }
         requires sizes { IsTrue flags.create → IsTrue (are_sizes (max_messages, message_size)) }
         ensures outcome { outcome_of self.now pid result ≡
-            mq_look_up self.now pid name.now (max_messages, message_size) flags (queue_named self.now.places name.now) }
+            mq_look_up self.now pid name.now (max_messages, message_size) flags
+            (queue_named self.now.places name.now) }
         ensures possible { IsPossible self.now result }
     {
         match self.places.find_queue(name) {
@@ -133,7 +135,8 @@ impl Kernel {
         requires sizes { IsTrue (are_sizes (max_messages, message_size)) }
         requires absent { queue_named self.now.places name.now ≡ None }
         ensures outcome { outcome_of self.now pid result ≡
-            mq_create self.now pid name.now (max_messages, message_size) flags (free_descriptor_of self.now.processes pid) }
+            mq_create self.now pid name.now (max_messages, message_size) flags
+            (free_descriptor_of self.now.processes pid) }
         ensures possible { IsPossible self.now result }
     {
         let Some(mqd) = self.processes.free_descriptor(pid) else {
@@ -149,7 +152,7 @@ impl Kernel {
             mqd,
             held: descriptor_for(place, flags),
         };
-        Decision::Answered(Reply::Plain(mqd as u16), Change::MakeQueue(new))
+        Decision::Answered(ShortReply::Plain(mqd as u16), Change::MakeQueue(new))
     }
 
     /// Opens the queue in a place on a new descriptor.
@@ -166,7 +169,7 @@ impl Kernel {
             Some(mqd) => {
                 let held = Some(descriptor_for(place, flags));
                 Decision::Answered(
-                    Reply::Plain(mqd as u16),
+                    ShortReply::Plain(mqd as u16),
                     Change::HoldDescriptor { mqd, held },
                 )
             }
@@ -175,8 +178,9 @@ impl Kernel {
 
     #[inline(always)]
     pub(super) fn decide_mq_close<'a>(&self, pid: usize, mqd: u16) -> Decision<'a>
-        requires { pid < length self.now.processes }
-        ensures outcome { outcome_of self.now pid result ≡ mq_close self.now pid mqd (descriptor_of self.now.processes pid mqd) }
+        requires process { pid < length self.now.processes }
+        ensures outcome { outcome_of self.now pid result ≡
+            mq_close self.now pid mqd (descriptor_of self.now.processes pid mqd) }
         ensures possible { IsPossible self.now result }
         ensures memory { decision_may_grow result ≡ false }
     {
@@ -184,21 +188,25 @@ impl Kernel {
             None => Decision::Refused(Errno::BadDescriptor),
             Some(_) => {
                 let mqd = mqd as usize;
-                Decision::Answered(Reply::Plain(0), Change::HoldDescriptor { mqd, held: None })
+                Decision::Answered(
+                    ShortReply::Plain(0),
+                    Change::HoldDescriptor { mqd, held: None },
+                )
             }
         }
     }
 
     #[inline(always)]
     pub(super) fn decide_mq_unlink<'a>(&self, name: &'a Name) -> Decision<'a>
-        ensures outcome { (p : ℕ) → outcome_of self.now p result ≡ unlink self.now (queue_named self.now.places name.now) }
+        ensures outcome { (p : ℕ) → outcome_of self.now p result ≡
+            unlink self.now (queue_named self.now.places name.now) }
         ensures possible { IsPossible self.now result }
         ensures memory { decision_may_grow result ≡ false }
     {
         match self.places.find_queue(name) {
             None => Decision::Refused(Errno::NoEntry),
             Some(place) => {
-                Decision::Answered(Reply::Plain(0), Change::UnnameQueue { place, name })
+                Decision::Answered(ShortReply::Plain(0), Change::UnnameQueue { place, name })
             }
         }
     }
@@ -211,8 +219,9 @@ impl Kernel {
         words: &'a Words,
         prio: u16,
     ) -> Decision<'a>
-        requires { pid < length self.now.processes }
-        ensures outcome { outcome_of self.now pid result ≡ mq_send self.now prio words.now (open_queue self.now pid mqd) }
+        requires process { pid < length self.now.processes }
+        ensures outcome { outcome_of self.now pid result ≡
+            mq_send self.now prio words.now (open_queue self.now pid mqd) }
         ensures possible { IsPossible self.now result }
     {
         let Some((descriptor, queue)) = self.open_queue(pid, mqd) else {
@@ -232,14 +241,15 @@ impl Kernel {
             return block(descriptor);
         }
         let place = descriptor.place;
-        Decision::Answered(Reply::Plain(0), Change::Send { place, words, prio })
+        Decision::Answered(ShortReply::Plain(0), Change::Send { place, words, prio })
     }
 
     #[tactic(auto, using(crate::proofs::AnswerLemmas::first_short))]
     #[inline(always)]
     pub(super) fn decide_mq_receive<'a>(&self, pid: usize, mqd: u16, len: u16) -> Decision<'a>
-        requires { pid < length self.now.processes }
-        ensures outcome { outcome_of self.now pid result ≡ mq_receive self.now len (open_queue self.now pid mqd) }
+        requires process { pid < length self.now.processes }
+        ensures outcome { outcome_of self.now pid result ≡
+            mq_receive self.now len (open_queue self.now pid mqd) }
         ensures possible { IsPossible self.now result }
         ensures memory { decision_may_grow result ≡ false }
         ensures size { message_length (outcome_of self.now pid result).0 ≤ len }
@@ -263,23 +273,28 @@ impl Kernel {
 
     #[inline(always)]
     pub(super) fn decide_mq_getattr<'a>(&self, pid: usize, mqd: u16) -> Decision<'a>
-        requires { pid < length self.now.processes }
-        ensures outcome { outcome_of self.now pid result ≡ mq_getattr self.now (open_queue self.now pid mqd) }
+        requires process { pid < length self.now.processes }
+        ensures outcome { outcome_of self.now pid result ≡
+            mq_getattr self.now (open_queue self.now pid mqd) }
         ensures possible { IsPossible self.now result }
         ensures memory { decision_may_grow result ≡ false }
     {
         match self.open_queue(pid, mqd) {
             None => Decision::Refused(Errno::BadDescriptor),
             Some((descriptor, queue)) => {
-                Decision::Answered(Reply::Attr(attributes(descriptor, queue)), Change::Nothing)
+                Decision::Answered(
+                    ShortReply::Attr(attributes(descriptor, queue)),
+                    Change::Nothing,
+                )
             }
         }
     }
 
     #[inline(always)]
     pub(super) fn decide_mq_setattr<'a>(&self, pid: usize, mqd: u16, flags: u16) -> Decision<'a>
-        requires { pid < length self.now.processes }
-        ensures outcome { outcome_of self.now pid result ≡ mq_setattr self.now pid mqd flags (open_queue self.now pid mqd) }
+        requires process { pid < length self.now.processes }
+        ensures outcome { outcome_of self.now pid result ≡
+            mq_setattr self.now pid mqd flags (open_queue self.now pid mqd) }
         ensures possible { IsPossible self.now result }
         ensures memory { decision_may_grow result ≡ false }
     {
@@ -295,7 +310,7 @@ impl Kernel {
         });
         let mqd = mqd as usize;
         Decision::Answered(
-            Reply::Attr(attributes(descriptor, queue)),
+            ShortReply::Attr(attributes(descriptor, queue)),
             Change::HoldDescriptor { mqd, held },
         )
     }

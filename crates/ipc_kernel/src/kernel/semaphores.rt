@@ -2,15 +2,15 @@
 ghost use Rattle.std.specs.Prelude.{◌≡◌, ℕ, ◌<◌, ◌≤◌, false, None, length, IsTrue};
 ghost use Rattle.ipc_objects.specs.Limits.{sem_value_max};
 ghost use Rattle.ipc_kernel.specs.Limits.{object_places, open_max};
-ghost use Rattle.ipc_kernel.specs.Decisions.{outcome_of, IsPossible, decision_may_grow};
+ghost use Rattle.ipc_kernel.specs.Private.Decisions.{outcome_of, IsPossible, decision_may_grow};
 ghost use Rattle.ipc_kernel.specs.Outcomes.{open_semaphore, unlink};
 ghost use Rattle.ipc_kernel.specs.Places.{semaphore_named};
 ghost use Rattle.ipc_kernel.specs.Processes.{slot_of, slot_for, free_slot_of};
 
 use super::Kernel;
-use super::decision::{Change, Decision, NewSemaphore};
+use super::decision::{Change, Decision, NewSemaphore, ShortReply};
+use crate::Slot;
 use crate::limits::OPENS_MAX;
-use crate::{Reply, Slot};
 use ipc_names::{Errno, Name, O_CREAT, O_EXCL};
 use ipc_objects::SEM_VALUE_MAX;
 
@@ -25,8 +25,9 @@ impl Kernel {
         flags: u16,
         value: u16,
     ) -> Decision<'a>
-        requires { pid < length self.now.processes }
-        ensures outcome { outcome_of self.now pid result ≡ sem_open self.now pid name.now flags value }
+        requires process { pid < length self.now.processes }
+        ensures outcome { outcome_of self.now pid result ≡
+            sem_open self.now pid name.now flags value }
         ensures possible { IsPossible self.now result }
     {
         let create = flags & O_CREAT != 0;
@@ -50,7 +51,8 @@ impl Kernel {
         requires process { pid < length self.now.processes }
         requires value { IsTrue create → value ≤ sem_value_max }
         ensures outcome { outcome_of self.now pid result ≡
-            sem_look_up self.now pid name.now create exclusive value (semaphore_named self.now.places name.now) }
+            sem_look_up self.now pid name.now create exclusive value
+            (semaphore_named self.now.places name.now) }
         ensures possible { IsPossible self.now result }
     {
         match self.places.find_semaphore(name) {
@@ -92,7 +94,7 @@ impl Kernel {
             slot,
             place,
         };
-        Decision::Answered(Reply::Plain(slot as u16), Change::MakeSemaphore(new))
+        Decision::Answered(ShortReply::Plain(slot as u16), Change::MakeSemaphore(new))
     }
 
     /// Opens the semaphore in a place: on the slot that the process has for it, or on a new one.
@@ -123,7 +125,10 @@ impl Kernel {
             None => Decision::Refused(Errno::TooManyOpen),
             Some(slot) => {
                 let held = Some(Slot { place, opens: 1 });
-                Decision::Answered(Reply::Plain(slot as u16), Change::HoldSlot { slot, held })
+                Decision::Answered(
+                    ShortReply::Plain(slot as u16),
+                    Change::HoldSlot { slot, held },
+                )
             }
         }
     }
@@ -150,15 +155,19 @@ impl Kernel {
                     opens: held.opens + 1,
                     ..held
                 });
-                Decision::Answered(Reply::Plain(slot as u16), Change::HoldSlot { slot, held })
+                Decision::Answered(
+                    ShortReply::Plain(slot as u16),
+                    Change::HoldSlot { slot, held },
+                )
             }
         }
     }
 
     #[inline(always)]
     pub(super) fn decide_sem_close<'a>(&self, pid: usize, slot: u16) -> Decision<'a>
-        requires { pid < length self.now.processes }
-        ensures outcome { outcome_of self.now pid result ≡ sem_close self.now pid slot (slot_of self.now.processes pid slot) }
+        requires process { pid < length self.now.processes }
+        ensures outcome { outcome_of self.now pid result ≡
+            sem_close self.now pid slot (slot_of self.now.processes pid slot) }
         ensures possible { IsPossible self.now result }
         ensures memory { decision_may_grow result ≡ false }
     {
@@ -174,29 +183,34 @@ impl Kernel {
                     None
                 };
                 let slot = slot as usize;
-                Decision::Answered(Reply::Plain(0), Change::HoldSlot { slot, held: left })
+                Decision::Answered(ShortReply::Plain(0), Change::HoldSlot { slot, held: left })
             }
         }
     }
 
     #[inline(always)]
     pub(super) fn decide_sem_unlink<'a>(&self, name: &'a Name) -> Decision<'a>
-        ensures outcome { (p : ℕ) → outcome_of self.now p result ≡ unlink self.now (semaphore_named self.now.places name.now) }
+        ensures outcome { (p : ℕ) → outcome_of self.now p result ≡
+            unlink self.now (semaphore_named self.now.places name.now) }
         ensures possible { IsPossible self.now result }
         ensures memory { decision_may_grow result ≡ false }
     {
         match self.places.find_semaphore(name) {
             None => Decision::Refused(Errno::NoEntry),
             Some(place) => {
-                Decision::Answered(Reply::Plain(0), Change::UnnameSemaphore { place, name })
+                Decision::Answered(
+                    ShortReply::Plain(0),
+                    Change::UnnameSemaphore { place, name },
+                )
             }
         }
     }
 
     #[inline(always)]
     pub(super) fn decide_sem_wait<'a>(&self, pid: usize, slot: u16) -> Decision<'a>
-        requires { pid < length self.now.processes }
-        ensures outcome { outcome_of self.now pid result ≡ sem_wait self.now (open_semaphore self.now pid slot) }
+        requires process { pid < length self.now.processes }
+        ensures outcome { outcome_of self.now pid result ≡
+            sem_wait self.now (open_semaphore self.now pid slot) }
         ensures possible { IsPossible self.now result }
         ensures memory { decision_may_grow result ≡ false }
     {
@@ -205,15 +219,16 @@ impl Kernel {
             Some((_, 0)) => Decision::Waits,
             Some((held, value)) => {
                 let place = held.place;
-                Decision::Answered(Reply::Plain(0), Change::Take { place, value })
+                Decision::Answered(ShortReply::Plain(0), Change::Take { place, value })
             }
         }
     }
 
     #[inline(always)]
     pub(super) fn decide_sem_trywait<'a>(&self, pid: usize, slot: u16) -> Decision<'a>
-        requires { pid < length self.now.processes }
-        ensures outcome { outcome_of self.now pid result ≡ sem_trywait self.now (open_semaphore self.now pid slot) }
+        requires process { pid < length self.now.processes }
+        ensures outcome { outcome_of self.now pid result ≡
+            sem_trywait self.now (open_semaphore self.now pid slot) }
         ensures possible { IsPossible self.now result }
         ensures memory { decision_may_grow result ≡ false }
     {
@@ -222,15 +237,16 @@ impl Kernel {
             Some((_, 0)) => Decision::Refused(Errno::Again),
             Some((held, value)) => {
                 let place = held.place;
-                Decision::Answered(Reply::Plain(0), Change::Take { place, value })
+                Decision::Answered(ShortReply::Plain(0), Change::Take { place, value })
             }
         }
     }
 
     #[inline(always)]
     pub(super) fn decide_sem_post<'a>(&self, pid: usize, slot: u16) -> Decision<'a>
-        requires { pid < length self.now.processes }
-        ensures outcome { outcome_of self.now pid result ≡ sem_post self.now (open_semaphore self.now pid slot) }
+        requires process { pid < length self.now.processes }
+        ensures outcome { outcome_of self.now pid result ≡
+            sem_post self.now (open_semaphore self.now pid slot) }
         ensures possible { IsPossible self.now result }
         ensures memory { decision_may_grow result ≡ false }
     {
@@ -239,21 +255,22 @@ impl Kernel {
             Some((_, SEM_VALUE_MAX)) => Decision::Refused(Errno::Overflow),
             Some((held, value)) => {
                 let place = held.place;
-                Decision::Answered(Reply::Plain(0), Change::Post { place, value })
+                Decision::Answered(ShortReply::Plain(0), Change::Post { place, value })
             }
         }
     }
 
     #[inline(always)]
     pub(super) fn decide_sem_getvalue<'a>(&self, pid: usize, slot: u16) -> Decision<'a>
-        requires { pid < length self.now.processes }
-        ensures outcome { outcome_of self.now pid result ≡ sem_getvalue self.now (open_semaphore self.now pid slot) }
+        requires process { pid < length self.now.processes }
+        ensures outcome { outcome_of self.now pid result ≡
+            sem_getvalue self.now (open_semaphore self.now pid slot) }
         ensures possible { IsPossible self.now result }
         ensures memory { decision_may_grow result ≡ false }
     {
         match self.open_semaphore(pid, slot) {
             None => Decision::Refused(Errno::Invalid),
-            Some((_, value)) => Decision::Answered(Reply::Value(value), Change::Nothing),
+            Some((_, value)) => Decision::Answered(ShortReply::Value(value), Change::Nothing),
         }
     }
 }

@@ -8,7 +8,7 @@ use std::alloc::{AllocError, Global};
 use std::hash::{FoldHasher, Hasher};
 
 fn copy_of_name(name: &Option<Name>) -> Result<Option<Name>, AllocError>
-    ensures { IfOk result (λ copy. copy ≡ name.now) }
+    ensures equal { IfOk result (λ copy. copy ≡ name.now) }
 {
     match name {
         Some(name) => Ok(Some(name.copy()?)),
@@ -17,7 +17,7 @@ fn copy_of_name(name: &Option<Name>) -> Result<Option<Name>, AllocError>
 }
 
 fn is_same_name(name: &Option<Name>, other: &Option<Name>) -> bool
-    ensures { IsTrue result ↔ (name.now ≡ other.now) }
+    ensures same { IsTrue result ↔ (name.now ≡ other.now) }
 {
     match (name, other) {
         (Some(name), Some(other)) => name.text() == other.text(),

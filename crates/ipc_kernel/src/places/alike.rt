@@ -11,7 +11,7 @@ use crate::renaming::{Renaming, renamed};
 
 /// Whether a place holds what another holds; one behind the end is empty.
 fn is_same_at(places: &[Place], at: u8, others: &[Place], other: u8) -> bool
-    ensures { IsTrue result ↔ (place_at others.now other ≡ place_at places.now at) }
+    ensures same { IsTrue result ↔ (place_at others.now other ≡ place_at places.now at) }
 {
     match (places.get(at as usize), others.get(other as usize)) {
         (Some(place), Some(other)) => other.is_same(place),
@@ -22,7 +22,7 @@ fn is_same_at(places: &[Place], at: u8, others: &[Place], other: u8) -> bool
 }
 
 fn are_renamed(places: &[Place], others: &[Place], to: &[u8]) -> bool
-    ensures { IsTrue result ↔ ((i : ℕ) → i < object_places
+    ensures renamed { IsTrue result ↔ ((i : ℕ) → i < object_places
         → place_at others.now (renamed_by to.now i) ≡ place_at places.now i) }
 {
     for at in 0..OBJECT_PLACES as u8 {

@@ -7,7 +7,7 @@ use crate::place::Place;
 use std::alloc::{AllocError, Global};
 
 fn copies_of(alloc: Global, places: &[Place]) -> Result<Vec<Place>, AllocError>
-    ensures { IfOk result (λ copies. copies.items ≡ places.now) }
+    ensures equal { IfOk result (λ copies. copies.items ≡ places.now) }
 {
     let mut copies = Vec::with_capacity(alloc, places.len())?;
     for place in places {
@@ -17,7 +17,7 @@ fn copies_of(alloc: Global, places: &[Place]) -> Result<Vec<Place>, AllocError>
 }
 
 fn are_same(places: &[Place], others: &[Place]) -> bool
-    ensures { IsTrue result ↔ (places.now ≡ others.now) }
+    ensures same { IsTrue result ↔ (places.now ≡ others.now) }
 {
     if places.len() != others.len() {
         return false;

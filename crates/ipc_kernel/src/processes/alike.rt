@@ -8,11 +8,11 @@ ghost use Rattle.ipc_kernel.specs.Alike.{IsPermutation, Permutes, Follows, renam
 ghost use Rattle.ipc_kernel.specs.Alike.{renamed_descriptor, renamed_slot, renamed_process};
 
 use super::Processes;
-use crate::process::{Descriptor, Process, Slot};
+use crate::process::{Descriptor, OpenTables, Slot};
 use crate::renaming::{Renaming, renamed};
 
 fn is_renamed_descriptor(held: &Option<Descriptor>, other: &Option<Descriptor>, to: &[u8]) -> bool
-    ensures { IsTrue result ↔ (other.now
+    ensures renamed { IsTrue result ↔ (other.now
         ≡ option_map (renamed_descriptor (renamed_by to.now)) held.now) }
 {
     match (held, other) {
@@ -27,7 +27,7 @@ fn is_renamed_descriptor(held: &Option<Descriptor>, other: &Option<Descriptor>, 
 }
 
 fn is_renamed_slot(held: &Option<Slot>, other: &Option<Slot>, to: &[u8]) -> bool
-    ensures { IsTrue result ↔ (other.now
+    ensures renamed { IsTrue result ↔ (other.now
         ≡ option_map (renamed_slot (renamed_by to.now)) held.now) }
 {
     match (held, other) {
@@ -44,7 +44,7 @@ fn are_renamed_descriptors(
     others: &[Option<Descriptor>],
     to: &[u8],
 ) -> bool
-    ensures { IsTrue result ↔ (others.now
+    ensures renamed { IsTrue result ↔ (others.now
         ≡ map (option_map (renamed_descriptor (renamed_by to.now))) helds.now) }
 {
     if helds.len() != others.len() {
@@ -59,7 +59,7 @@ fn are_renamed_descriptors(
 }
 
 fn are_renamed_slots(helds: &[Option<Slot>], others: &[Option<Slot>], to: &[u8]) -> bool
-    ensures { IsTrue result ↔ (others.now
+    ensures renamed { IsTrue result ↔ (others.now
         ≡ map (option_map (renamed_slot (renamed_by to.now))) helds.now) }
 {
     if helds.len() != others.len() {
@@ -73,15 +73,16 @@ fn are_renamed_slots(helds: &[Option<Slot>], others: &[Option<Slot>], to: &[u8])
     true
 }
 
-fn is_renamed_process(process: &Process, other: &Process, to: &[u8]) -> bool
-    ensures { IsTrue result ↔ (other.now ≡ renamed_process (renamed_by to.now) process.now) }
+fn is_renamed_process(process: &OpenTables, other: &OpenTables, to: &[u8]) -> bool
+    ensures renamed { IsTrue result ↔ (other.now
+        ≡ renamed_process (renamed_by to.now) process.now) }
 {
     are_renamed_descriptors(&process.descriptors, &other.descriptors, to)
         && are_renamed_slots(&process.slots, &other.slots, to)
 }
 
-fn are_renamed(processes: &[Process], others: &[Process], to: &[u8]) -> bool
-    ensures { IsTrue result ↔ (others.now
+fn are_renamed(processes: &[OpenTables], others: &[OpenTables], to: &[u8]) -> bool
+    ensures renamed { IsTrue result ↔ (others.now
         ≡ map (renamed_process (renamed_by to.now)) processes.now) }
 {
     if processes.len() != others.len() {
@@ -155,7 +156,7 @@ fn take_slots(helds: &[Option<Slot>], others: &[Option<Slot>], renaming: &mut Re
 }
 
 /// Takes the places of what a process has open to those of what another has open.
-fn take_process(process: &Process, other: &Process, renaming: &mut Renaming)
+fn take_process(process: &OpenTables, other: &OpenTables, renaming: &mut Renaming)
     requires permutation { Permutes renaming.old }
     ensures permutation { Permutes renaming.new }
     ensures follows { (f g : ℕ → ℕ) → IsPermutation f g
@@ -166,7 +167,7 @@ fn take_process(process: &Process, other: &Process, renaming: &mut Renaming)
     take_slots(&process.slots, &other.slots, renaming);
 }
 
-fn take_processes(processes: &[Process], others: &[Process], renaming: &mut Renaming)
+fn take_processes(processes: &[OpenTables], others: &[OpenTables], renaming: &mut Renaming)
     requires permutation { Permutes renaming.old }
     ensures permutation { Permutes renaming.new }
     ensures follows { (f g : ℕ → ℕ) → IsPermutation f g

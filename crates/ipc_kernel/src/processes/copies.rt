@@ -2,7 +2,7 @@
 ghost use Rattle.std.specs.Prelude.{◌≡◌, ◌↔◌, IfOk, IsTrue};
 
 use super::Processes;
-use crate::process::Process;
+use crate::process::OpenTables;
 use std::alloc::{AllocError, Global};
 use std::hash::{FoldHasher, Hasher};
 
@@ -14,8 +14,9 @@ fn object_at(objects: &[u64], place: u8) -> u64 {
     }
 }
 
-/// Adds the open descriptors and slots of a process to a digest, each with the number of its object.
-fn feed_process(process: &Process, objects: &[u64], hasher: &mut FoldHasher) {
+/// Adds the open descriptors and slots of a process to a digest, each with the number of its
+/// object.
+fn feed_process(process: &OpenTables, objects: &[u64], hasher: &mut FoldHasher) {
     for (i, descriptor) in process.descriptors.iter().enumerate() {
         if let Some(descriptor) = descriptor {
             hasher.write_usize(i);

@@ -43,7 +43,8 @@ impl Queue {
 
     /// Whether the messages that would be received after `i` others are the same.
     fn has_same_entry(&self, other: &Queue, i: usize) -> bool
-        ensures same { IsTrue result ↔ (slice_get self.now.messages i ≡ slice_get other.now.messages i) }
+        ensures same { IsTrue result ↔
+            (slice_get self.now.messages i ≡ slice_get other.now.messages i) }
     {
         match (self.entry(i), other.entry(i)) {
             (Some((priority, words)), Some((other_priority, other_words))) => {
@@ -54,7 +55,8 @@ impl Queue {
         }
     }
 
-    /// Whether two queues have the same attributes, and the same messages in the same order of receive.
+    /// Whether two queues have the same attributes, and the same messages in the same order of
+    /// receive.
     pub fn is_same(&self, other: &Queue) -> bool
         ensures same { IsTrue result ↔ (self.now ≡ other.now) }
     {

@@ -1,11 +1,12 @@
 //! The command `run`.
 ghost use Rattle.std.specs.Prelude.{◌≡◌, ◌≤◌, false};
+ghost use Rattle.lab_threads.specs.Limits.{most_steps_each};
 
 use crate::complaint::{Complaint, Reason};
 use crate::files::write_text;
 use crate::programs::{laboratory, read_programs};
 use crate::progress::{CallCount, Progress};
-use lab_arguments::{MOST_STEPS, Setup};
+use lab_arguments::{MOST_STEPS_EACH, Setup};
 use lab_debug::report_text;
 use lab_io::Output;
 use lab_sched::Fresh;
@@ -32,7 +33,7 @@ pub fn run_programs<'a, T: Files + Threads + Wait + Clock + Sync, W: Write, P: P
 {
     let programs = read_programs(rt, alloc, setup.programs.as_slice())?;
     let fresh = laboratory(alloc, programs.as_slice(), setup.profile)?;
-    let limit = limit.clamp(1, MOST_STEPS);
+    let limit = limit.clamp(1, MOST_STEPS_EACH);
     let outcome = match mix {
         None => report_of(rt, alloc, fresh, limit, &NoGate, progress),
         Some(seed) => report_of(
@@ -59,7 +60,7 @@ fn report_of<T: Threads + Wait + Sync, G: Gate, P: Progress>(
     progress: &P,
 ) -> Result<Report, RunFault>
     requires at_least { 1 ≤ limit }
-    requires at_most { limit ≤ 10000000 }
+    requires at_most { limit ≤ most_steps_each }
 {
     let count = CallCount::new(alloc, progress, gate);
     let outcome = run_threads(rt, alloc, fresh, limit, &count);

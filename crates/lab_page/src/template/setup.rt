@@ -3,7 +3,6 @@
 pub const SETUP: &str = r##"
 // ---- title and controls
 
-const MOST_WHOLE = '20,000';                      // the most steps of a schedule of which a page has each
 function fillTitle() {
   const title = 'lc3lab trace: ' + (N === 1 ? D.processes[0].name : N + ' processes');
   document.title = title + ', ' + D.verdict;
@@ -14,7 +13,7 @@ function fillTitle() {
   $('who').innerHTML = D.processes.map((_, p) => `<option value="${p}">P${p}</option>`).join('');
   $('short').hidden = D.whole;
   $('short').textContent = `Calls, output and ends only: the schedule has ${D.total} steps, and a page has every step of ` +
-    `${MOST_WHOLE} at most. What a process did between them is seen at its next one.`;
+    `${MOST_WHOLE.toLocaleString('en')} at most. What a process did between them is seen at its next one.`;
 }
 function fillCards() {
   $('procs').innerHTML = D.processes.map((_, p) =>

@@ -2,7 +2,7 @@
 ghost use Rattle.std.specs.Prelude.{◌≡◌, ◌+◌, ◌<◌, ◌≤◌, ◌++◌, ◌∷◌, ◌^◌, [], ℕ, List, length, replicate};
 ghost use Rattle.std.specs.List.{AllByRecursion};
 ghost use Rattle.lab_sched.specs.Schedules.{IsBlock, steps_of, total_of, most_steps};
-ghost use Rattle.lab_sched.specs.Settling.{resized};
+ghost use Rattle.lab_sched.specs.Settling.{with_count};
 ghost use Rattle.lab_sched.specs.declared.schedule.block.Block.{Block as BlockSeen};
 
 use super::{Block, Schedule};
@@ -12,7 +12,8 @@ fn resize_last(blocks: &mut Vec<Block>, n: u32)
     requires valid { AllByRecursion IsBlock blocks.old.items }
     requires some { 0 < length blocks.old.items }
     requires room { total_of blocks.old.items + n < 2 ^ 32 }
-    ensures blocks { (front : List BlockSeen) (last : BlockSeen) → blocks.old.items ≡ front ++ last ∷ [] → blocks.new.items ≡ front ++ resized last n }
+    ensures blocks { (front : List BlockSeen) (last : BlockSeen)
+        → blocks.old.items ≡ front ++ last ∷ [] → blocks.new.items ≡ front ++ with_count last n }
 {
     let last = blocks.len() - 1;
     let count = blocks[last].count - 1 + n;
@@ -28,7 +29,8 @@ impl Schedule {
     pub(crate) fn replace_last(&mut self, n: u32)
         requires some { 1 ≤ total_of self.old }
         requires room { total_of self.old + n ≤ most_steps + 1 }
-        ensures steps { (ps : List ℕ) (pid : ℕ) → steps_of self.old ≡ ps ++ pid ∷ [] → steps_of self.new ≡ ps ++ replicate n pid }
+        ensures steps { (ps : List ℕ) (pid : ℕ)
+            → steps_of self.old ≡ ps ++ pid ∷ [] → steps_of self.new ≡ ps ++ replicate n pid }
         ensures total { total_of self.new + 1 ≡ total_of self.old + n }
     {
         resize_last(&mut self.blocks, n);

@@ -1,23 +1,20 @@
 //! Reading a schedule's text.
 ghost use Rattle.std.specs.Prelude.{◌≡◌, ◌≤◌, ◌<◌, length, map, position, IfSome, IfOk};
 ghost use Rattle.std.specs.List.{All};
-ghost use Rattle.lc3_word.specs.Numbers.{unsigned};
+ghost use Rattle.lc3_word.specs.Numbers.{unsigned_number};
 ghost use Rattle.lab_sched.specs.Schedules.{IsBlock, most_steps};
-ghost use Rattle.lab_sched.specs.ScheduleTexts.{is_star, in_range, process_in, count_in, block_in, written, scheduled, reading_of_words, reading, Gives};
+ghost use Rattle.lab_sched.specs.ScheduleTexts.{is_star, in_range, process_in, count_in, block_in, blocks_of_words, schedule_of_blocks, reading_of_words, reading, Gives};
 ghost use Rattle.ipc_kernel.specs.Limits.{process_max};
 
 use crate::{Block, MOST_STEPS, SchedFault, Schedule};
 use ipc_kernel::PROCESS_MAX;
-use lc3_word::{unsigned, words_between};
+use lc3_word::{WHITE_SPACE, unsigned, words_between};
 use std::alloc::Global;
-
-/// Blank, tab, carriage return, line feed.
-const BLANKS: &[u8] = b" \t\r\n";
 
 /// The number that digits write, from low to high.
 fn in_range(low: u32, high: u32, digits: &[u8]) -> Option<u32>
     requires { high ≤ most_steps }
-    ensures value { result ≡ in_range low high (unsigned 10 digits.now) }
+    ensures value { result ≡ in_range low high (unsigned_number 10 digits.now) }
     ensures bounds { IfSome result (λ n. (low ≤ n) × (n ≤ high)) }
 {
     let value = unsigned(10, digits)?;
@@ -70,7 +67,8 @@ fn block_in(word: &[u8]) -> Option<Block>
 
 /// The blocks that words write, one each.
 fn written(alloc: Global, words: &[&[u8]]) -> Result<Vec<Block>, SchedFault>
-    ensures exact { Gives (λ v. v.items) result (written 1 (map (λ word. word.now) words.now)) }
+    ensures exact { Gives (λ v. v.items) result
+        (blocks_of_words 1 (map (λ word. word.now) words.now)) }
     ensures valid { IfOk result (λ v. All IsBlock v.items) }
 {
     let mut blocks = Vec::new(alloc);
@@ -86,7 +84,7 @@ fn written(alloc: Global, words: &[&[u8]]) -> Result<Vec<Block>, SchedFault>
 /// The schedule of blocks in a row.
 fn scheduled(alloc: Global, blocks: &[Block]) -> Result<Schedule, SchedFault>
     requires { All IsBlock blocks.now }
-    ensures { Gives (λ s. s) result (scheduled blocks.now) }
+    ensures { Gives (λ s. s) result (schedule_of_blocks blocks.now) }
 {
     let mut schedule = Schedule::new(alloc);
     for (i, block) in blocks.iter().enumerate() {
@@ -110,6 +108,6 @@ pub(crate) fn schedule_of_words(alloc: Global, words: &[&[u8]]) -> Result<Schedu
 pub(crate) fn schedule_of(alloc: Global, text: &[u8]) -> Result<Schedule, SchedFault>
     ensures { Gives (λ s. s) result (reading text.now) }
 {
-    let words = words_between(alloc, BLANKS, text)?;
+    let words = words_between(alloc, WHITE_SPACE, text)?;
     schedule_of_words(alloc, words.as_slice())
 }

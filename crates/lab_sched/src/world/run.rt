@@ -1,8 +1,8 @@
 //! Runs of worlds by schedules.
 ghost use Rattle.std.specs.Prelude.{◌≡◌, ◌<◌, ◌≤◌, ◌↔◌, length, replicate, take, slice_index, IfOk, IfErr, OnOk, OnErr};
 ghost use Rattle.lab_sched.specs.Schedules.{steps_of};
-ghost use Rattle.lab_sched.specs.Worlds.{run, step, turn_in};
-ghost use Rattle.lab_sched.specs.Held.{told_of};
+ghost use Rattle.lab_sched.specs.Worlds.{HasNoProcess, run, step, step_effect_in};
+ghost use Rattle.lab_sched.specs.Held.{stepped_of};
 ghost use Rattle.lab_sched.specs.Stepping.{StopsByIn};
 ghost use Rattle.lab_sched.specs.declared.stepped.Stepped.TheVariants.{Same};
 ghost use Rattle.lab_sched.specs.declared.world.StepFault.TheVariants.{NoProcess, NoMemory};
@@ -39,7 +39,8 @@ pub struct RunStop {
     pub fault: StepFault,
 }
 
-/// How many steps were done by one that was told so: a step without effect stands for all of `most`.
+/// How many steps were done by one that was told so: a step without effect stands for all of
+/// `most`.
 fn steps_done(stepped: Stepped, most: u32) -> u32
     requires some { 1 ≤ most }
     ensures same { stepped ≡ Same → result ≡ most }
@@ -62,7 +63,8 @@ impl World {
         ensures some { IfOk result (λ taken. 1 ≤ taken) }
         ensures within { IfOk result (λ taken. taken ≤ most) }
         ensures err { OnErr result (self.new ≡ self.old) }
-        ensures no_process { IfErr result (λ fault. (fault ≡ NoProcess) ↔ (length self.old.processes ≤ pid)) }
+        ensures no_process { IfErr result
+            (λ fault. (fault ≡ NoProcess) ↔ HasNoProcess self.old pid) }
     {
         if pid >= self.processes.len() {
             return Err(StepFault::NoProcess);
@@ -96,7 +98,7 @@ impl World {
         requires process { pid < length self.old.processes }
         requires stops { StopsByIn self.old pid progress }
         ensures world { OnOk result (self.new ≡ step self.old pid) }
-        ensures told { IfOk result (λ stepped. stepped ≡ told_of (turn_in self.old pid)) }
+        ensures told { IfOk result (λ stepped. stepped ≡ stepped_of (step_effect_in self.old pid)) }
         ensures err { OnErr result (self.new ≡ self.old) }
         ensures fault { IfErr result (λ fault. fault ≡ NoMemory) }
     {
@@ -113,7 +115,8 @@ impl World {
         ensures world { OnOk result (self.new ≡ run self.old (replicate count pid)) }
         ensures stop { IfErr result (λ stop. self.new ≡ run self.old (replicate stop.done pid)) }
         ensures within { IfErr result (λ stop. stop.done < count) }
-        ensures no_process { IfErr result (λ stop. (stop.fault ≡ NoProcess) ↔ (length self.old.processes ≤ pid)) }
+        ensures no_process { IfErr result
+            (λ stop. (stop.fault ≡ NoProcess) ↔ HasNoProcess self.old pid) }
     {
         let mut left = count;
         while left > 0 {
@@ -137,9 +140,11 @@ impl World {
     /// Takes the steps of a schedule, one after another.
     pub fn run(&mut self, schedule: &Schedule) -> Result<(), RunStop>
         ensures world { OnOk result (self.new ≡ run self.old (steps_of schedule.now)) }
-        ensures stop { IfErr result (λ stop. self.new ≡ run self.old (take stop.done (steps_of schedule.now))) }
+        ensures stop { IfErr result
+            (λ stop. self.new ≡ run self.old (take stop.done (steps_of schedule.now))) }
         ensures within { IfErr result (λ stop. stop.done < length (steps_of schedule.now)) }
-        ensures no_process { IfErr result (λ stop. (stop.fault ≡ NoProcess) ↔ (length self.old.processes ≤ slice_index (steps_of schedule.now) stop.done)) }
+        ensures no_process { IfErr result (λ stop. (stop.fault ≡ NoProcess)
+            ↔ HasNoProcess self.old (slice_index (steps_of schedule.now) stop.done)) }
     {
         self.run_watched(schedule, &mut Unwatched)
     }
@@ -151,9 +156,11 @@ impl World {
         watch: &mut W,
     ) -> Result<(), RunStop>
         ensures world { OnOk result (self.new ≡ run self.old (steps_of schedule.now)) }
-        ensures stop { IfErr result (λ stop. self.new ≡ run self.old (take stop.done (steps_of schedule.now))) }
+        ensures stop { IfErr result
+            (λ stop. self.new ≡ run self.old (take stop.done (steps_of schedule.now))) }
         ensures within { IfErr result (λ stop. stop.done < length (steps_of schedule.now)) }
-        ensures no_process { IfErr result (λ stop. (stop.fault ≡ NoProcess) ↔ (length self.old.processes ≤ slice_index (steps_of schedule.now) stop.done)) }
+        ensures no_process { IfErr result (λ stop. (stop.fault ≡ NoProcess)
+            ↔ HasNoProcess self.old (slice_index (steps_of schedule.now) stop.done)) }
     {
         let blocks = schedule.blocks();
         let mut done: u64 = 0;

@@ -1,9 +1,9 @@
 //! Settling worlds: each process goes on while it may and can.
 ghost use Rattle.std.specs.Prelude.{◌≡◌, ◌<◌, ◌≤◌, ◌+◌, ◌⊎◌, ℕ, length, replicate, IsTrue, sum, true, false};
 ghost use Rattle.std.specs.Int.{bit_at};
-ghost use Rattle.lab_sched.specs.Worlds.{nothing, turn_in, IsEffective};
+ghost use Rattle.lab_sched.specs.Worlds.{nothing, step_effect_in, IsEffective};
 ghost use Rattle.lab_sched.specs.Schedules.{steps_of, total_of, most_steps};
-ghost use Rattle.lab_sched.specs.Settled.{IsAdded, IsSettled, HasStopped, IsShort};
+ghost use Rattle.lab_sched.specs.Settled.{report, IsAdded, IsSettled, HaveStopped, IsShort};
 ghost use Rattle.lab_sched.specs.Settling.{AsksIn, IsNextIn, IsTaken};
 ghost use Rattle.ipc_kernel.specs.Limits.{process_max};
 
@@ -38,9 +38,10 @@ impl World {
     /// were taken, none where memory was refused.
     fn take_call(&mut self, pid: usize, call: Call, entries: &mut Vec<Entry>) -> u32
         requires process { pid < length self.old.processes }
-        requires effective { IsEffective (turn_in self.old pid) }
+        requires effective { IsEffective (step_effect_in self.old pid) }
         requires asks { AsksIn self.old pid call }
-        ensures taken { IsTaken self.old entries.old.items (replicate result pid) self.new entries.new.items }
+        ensures taken { IsTaken self.old entries.old.items
+            (replicate result pid) self.new entries.new.items }
         ensures within { result ≤ 1 }
     {
         let Ok(answer) = self.kernel.answer(pid, &call) else {
@@ -60,9 +61,10 @@ impl World {
     /// their entries; with how many were taken, none where memory was refused.
     fn take_steps(&mut self, pid: usize, most: u32, entries: &mut Vec<Entry>) -> u32
         requires process { pid < length self.old.processes }
-        requires effective { IsEffective (turn_in self.old pid) }
+        requires effective { IsEffective (step_effect_in self.old pid) }
         requires some { 1 ≤ most }
-        ensures taken { IsTaken self.old entries.old.items (replicate result pid) self.new entries.new.items }
+        ensures taken { IsTaken self.old entries.old.items
+            (replicate result pid) self.new entries.new.items }
         ensures within { result ≤ most }
     {
         match self.find_next(pid, most) {
@@ -84,11 +86,11 @@ impl World {
     ) -> u32
         requires process { pid < length self.old.processes }
         requires few { pid < process_max }
-        requires effective { IsEffective (turn_in self.old pid) }
+        requires effective { IsEffective (step_effect_in self.old pid) }
         requires some { 1 ≤ most }
         requires room { total_of schedule.old + most ≤ most_steps }
-        ensures added { IsAdded (record { world = self.old; steps = steps_of schedule.old; entries = entries.old.items }) (replicate result pid)
-            (record { world = self.new; steps = steps_of schedule.new; entries = entries.new.items }) }
+        ensures added { IsAdded (report self.old (steps_of schedule.old) entries.old.items)
+            (replicate result pid) (report self.new (steps_of schedule.new) entries.new.items) }
         ensures within { result ≤ most }
         ensures total { total_of schedule.new ≡ total_of schedule.old + result }
     {
@@ -112,11 +114,13 @@ impl World {
         requires process { pid < length self.old.processes }
         requires few { pid < process_max }
         requires room { total_of schedule.old + left ≤ most_steps }
-        ensures added { IsAdded (record { world = self.old; steps = steps_of schedule.old; entries = entries.old.items }) (replicate result.0 pid)
-            (record { world = self.new; steps = steps_of schedule.new; entries = entries.new.items }) }
-        ensures stops { (result.0 ≡ left) ⊎ (turn_in self.new pid ≡ nothing) ⊎ IsTrue result.1 }
+        ensures added { IsAdded (report self.old (steps_of schedule.old) entries.old.items)
+            (replicate result.0 pid) (report self.new (steps_of schedule.new) entries.new.items) }
+        ensures stops { (result.0 ≡ left) ⊎
+            (step_effect_in self.new pid ≡ nothing) ⊎ IsTrue result.1 }
         ensures within { result.0 ≤ left }
-        ensures short { IsTrue result.1 → (result.0 < left) × IsEffective (turn_in self.new pid) }
+        ensures short { IsTrue result.1 → (result.0 < left)
+            × IsEffective (step_effect_in self.new pid) }
         ensures total { total_of schedule.new ≡ total_of schedule.old + result.0 }
     {
         let mut taken = 0;
@@ -145,12 +149,13 @@ impl World {
         requires len { length left.old ≡ length self.old.processes }
         requires room { total_of schedule.old + sum left.old ≤ most_steps }
         requires bits { (p : ℕ) → bit_at refused p ≡ 1 → IsShort self.old left.old p }
-        ensures settled { IsSettled (record { world = self.old; steps = steps_of schedule.old; entries = entries.old.items })
-            (record { world = self.new; steps = steps_of schedule.new; entries = entries.new.items }) left.old left.new }
+        ensures settled { IsSettled (report self.old (steps_of schedule.old) entries.old.items)
+            (report self.new (steps_of schedule.new) entries.new.items) left.old left.new }
         ensures bits { (p : ℕ) → bit_at result.1 p ≡ 1 → IsShort self.new left.new p }
         ensures fewer { IsTrue result.0 → sum left.new < sum left.old }
-        ensures stopped { result.0 ≡ false → (p : ℕ) → p < length left.new → HasStopped self.new left.new result.1 p }
-        ensures total { total_of schedule.new + sum left.new ≡ total_of schedule.old + sum left.old }
+        ensures stopped { result.0 ≡ false → HaveStopped self.new left.new result.1 }
+        ensures total { total_of schedule.new + sum left.new
+            ≡ total_of schedule.old + sum left.old }
     {
         let mut moved = false;
         let mut bits = refused;
@@ -168,9 +173,9 @@ impl World {
     }
 
     /// Takes steps of each process in turn while it has some left and its step is effective, in
-    /// rounds until a whole round has no such step. Each step is added to the schedule and its entry
-    /// to the entries, and it is taken from what its process has left. The answer has the bit of
-    /// each process whose step was refused for want of memory; that step isn't taken.
+    /// rounds until a whole round has no such step. Each step is added to the schedule and its
+    /// entry to the entries, and it is taken from what its process has left. The answer has the
+    /// bit of each process whose step was refused for want of memory; that step isn't taken.
     pub fn settle(
         &mut self,
         left: &mut [u32],
@@ -179,9 +184,9 @@ impl World {
     ) -> u64
         requires len { length left.old ≡ length self.old.processes }
         requires room { total_of schedule.old + sum left.old ≤ most_steps }
-        ensures settled { IsSettled (record { world = self.old; steps = steps_of schedule.old; entries = entries.old.items })
-            (record { world = self.new; steps = steps_of schedule.new; entries = entries.new.items }) left.old left.new }
-        ensures stopped { (p : ℕ) → p < length left.new → HasStopped self.new left.new result p }
+        ensures settled { IsSettled (report self.old (steps_of schedule.old) entries.old.items)
+            (report self.new (steps_of schedule.new) entries.new.items) left.old left.new }
+        ensures stopped { HaveStopped self.new left.new result }
         ensures bits { (p : ℕ) → bit_at result p ≡ 1 → IsShort self.new left.new p }
     {
         let mut refused = 0;

@@ -2,8 +2,8 @@
 
 ghost use Rattle.std.specs.Prelude.{[], ◌∷◌, ◌≡◌, ◌++◌, ◌+◌, ◌*◌, ◌<◌, ◌≤◌, map, take, flat_map, vec_len, vec_capacity};
 ghost use Rattle.lc3_word.specs.Segment.{first_device};
-ghost use Rattle.lc3_machine.specs.Console.{prompt, words_from, low_byte, packed_bytes, getc, out, puts, prompted, putsp};
-ghost use Rattle.lc3_machine.specs.Effects.{trapped};
+ghost use Rattle.lc3_machine.specs.Console.{prompt, words_from, low_byte, packed_bytes, getc, out, puts, outcome_of_in, putsp};
+ghost use Rattle.lc3_machine.specs.Effects.{outcome_of_trap};
 ghost use Rattle.lc3_machine.specs.Steps.{CarriedOut};
 
 use super::{Machine, Progress};
@@ -17,7 +17,8 @@ impl Machine {
     /// GETC: the next byte of the input into R0.
     #[inline(never)]
     fn getc(&mut self) -> Progress
-        ensures { CarriedOut (getc self.old.process self.old.process.input) self.old.process result self.new.process }
+        ensures { CarriedOut (getc self.old.process self.old.process.input)
+            self.old.process result self.new.process }
     {
         match self.input.next() {
             None => Progress::Stopped(Want::End(How::NoInput)),
@@ -47,7 +48,8 @@ impl Machine {
     /// IN: the next byte of the input into R0, with a prompt before it and its echo.
     #[inline(never)]
     fn ask(&mut self) -> Progress
-        ensures { CarriedOut (prompted self.old.process self.old.process.input) self.old.process result self.new.process }
+        ensures { CarriedOut (outcome_of_in self.old.process self.old.process.input)
+            self.old.process result self.new.process }
     {
         if self.input.left().is_empty() {
             return Progress::Stopped(Want::End(How::NoInput));
@@ -101,10 +103,11 @@ impl Machine {
     }
 
     /// Does a console trap, or stands before a call or an end.
-    #[tactic(auto, unfolding(crate::specs::Effects::trapped))]
+    #[tactic(auto, unfolding(crate::specs::Effects::outcome_of_trap))]
     #[inline(always)]
     pub(super) fn trap(&mut self, vector: u8) -> Progress
-        ensures { CarriedOut (trapped vector self.old.process) self.old.process result self.new.process }
+        ensures { CarriedOut (outcome_of_trap vector self.old.process)
+            self.old.process result self.new.process }
     {
         match vector {
             0x20 => self.getc(),
@@ -132,7 +135,8 @@ fn write_echo(output: &mut Vec<u8>, byte: u8)
 fn write_low_bytes(output: &mut Vec<u8>, memory: &Memory, address: u16, count: u16)
     requires in_memory { address + count < first_device }
     requires room { vec_len output.old + count ≤ vec_capacity output.old }
-    ensures { output.new.items ≡ output.old.items ++ map low_byte (take count (words_from memory.now.words address)) }
+    ensures { output.new.items ≡ output.old.items
+        ++ map low_byte (take count (words_from memory.now.words address)) }
 {
     for k in 0..count {
         let word = memory.get(address + k);
@@ -144,7 +148,8 @@ fn write_low_bytes(output: &mut Vec<u8>, memory: &Memory, address: u16, count: u
 fn write_packed_bytes(output: &mut Vec<u8>, memory: &Memory, address: u16, count: u16)
     requires in_memory { address + count < first_device }
     requires room { vec_len output.old + 2 * count ≤ vec_capacity output.old }
-    ensures { output.new.items ≡ output.old.items ++ flat_map packed_bytes (take count (words_from memory.now.words address)) }
+    ensures { output.new.items ≡ output.old.items
+        ++ flat_map packed_bytes (take count (words_from memory.now.words address)) }
 {
     for k in 0..count {
         let word = memory.get(address + k);

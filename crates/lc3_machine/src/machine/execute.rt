@@ -1,8 +1,8 @@
 //! The effect of each instruction.
 
 ghost use Rattle.std.specs.Prelude.{◌≡◌, ◌<◌, ◌≤◌, ◌-◌, ℕ, if◌then◌else◌};
-ghost use Rattle.lc3_machine.specs.Process.{GoesOn, word_sum, next_pc, advanced, jumped, with_reg, with_result, at_word, stored};
-ghost use Rattle.lc3_machine.specs.Effects.{effect, next_step, is_among, operand_value, with_address};
+ghost use Rattle.lc3_machine.specs.Process.{GoesOn, word_sum, at_next_instruction, at_address, with_result, at_routine, at_word, outcome_of_load, outcome_of_store};
+ghost use Rattle.lc3_machine.specs.Effects.{effect, next_step, is_among, process_after_branch, operand_value, with_address};
 ghost use Rattle.lc3_machine.specs.Steps.{CarriedOut, HasRun};
 
 use super::{Machine, Progress};
@@ -14,7 +14,8 @@ impl Machine {
     /// Puts a result into a register, sets the code from it, and goes on at the next instruction.
     #[inline(always)]
     fn give(&mut self, dr: Reg, value: u16) -> Progress
-        ensures { CarriedOut (GoesOn (advanced (with_result self.old.process dr value))) self.old.process result self.new.process }
+        ensures { CarriedOut (GoesOn (at_next_instruction (with_result self.old.process dr value)))
+            self.old.process result self.new.process }
     {
         self.regs.set(dr.number(), value);
         self.result = value;
@@ -25,7 +26,9 @@ impl Machine {
     /// Puts an address into a register, and goes on at the next instruction; in profile A it sets the code from it.
     #[inline(always)]
     fn give_address(&mut self, dr: Reg, address: u16) -> Progress
-        ensures { CarriedOut (GoesOn (advanced (with_address self.old.process dr address))) self.old.process result self.new.process }
+        ensures { CarriedOut
+            (GoesOn (at_next_instruction (with_address self.old.process dr address)))
+            self.old.process result self.new.process }
     {
         self.regs.set(dr.number(), address);
         match self.profile {
@@ -39,7 +42,8 @@ impl Machine {
     /// Goes on elsewhere.
     #[inline(always)]
     fn jump(&mut self, address: u16) -> Progress
-        ensures { CarriedOut (GoesOn (jumped self.old.process address)) self.old.process result self.new.process }
+        ensures { CarriedOut (GoesOn (at_address self.old.process address))
+            self.old.process result self.new.process }
     {
         self.pc = address;
         Progress::Moved
@@ -48,7 +52,8 @@ impl Machine {
     /// Goes on elsewhere, with the address of the next instruction in R7.
     #[inline(always)]
     fn call(&mut self, routine: u16) -> Progress
-        ensures { CarriedOut (GoesOn (jumped (with_reg self.old.process 7 (next_pc self.old.process)) routine)) self.old.process result self.new.process }
+        ensures { CarriedOut (GoesOn (at_routine self.old.process routine))
+            self.old.process result self.new.process }
     {
         let link = self.next_pc();
         self.regs.set(7, link);
@@ -74,7 +79,8 @@ impl Machine {
     /// Goes on elsewhere if the code that is set is among these, and else at the next instruction.
     #[inline(always)]
     fn branch(&mut self, n: bool, z: bool, p: bool, address: u16) -> Progress
-        ensures { CarriedOut (GoesOn (if is_among self.old.process.cc n z p then jumped self.old.process address else advanced self.old.process)) self.old.process result self.new.process }
+        ensures { CarriedOut (GoesOn (process_after_branch self.old.process n z p address))
+            self.old.process result self.new.process }
     {
         self.pc = if self.is_among(n, z, p) {
             address
@@ -87,7 +93,8 @@ impl Machine {
     /// Puts the word at an address into a register.
     #[inline(always)]
     fn load_into(&mut self, dr: Reg, address: u16) -> Progress
-        ensures { CarriedOut (at_word self.old.process address (λ word. GoesOn (advanced (with_result self.old.process dr word)))) self.old.process result self.new.process }
+        ensures { CarriedOut (outcome_of_load self.old.process dr address)
+            self.old.process result self.new.process }
     {
         if address >= FIRST_DEVICE {
             return Progress::Stopped(Want::End(How::Device));
@@ -99,7 +106,10 @@ impl Machine {
     /// Puts the word at the address that stands at an address into a register.
     #[inline(always)]
     fn load_indirect(&mut self, dr: Reg, address: u16) -> Progress
-        ensures { CarriedOut (at_word self.old.process address (λ pointer. at_word self.old.process pointer (λ word. GoesOn (advanced (with_result self.old.process dr word))))) self.old.process result self.new.process }
+        ensures { CarriedOut
+            (at_word self.old.process address
+            (λ pointer. outcome_of_load self.old.process dr pointer))
+            self.old.process result self.new.process }
     {
         if address >= FIRST_DEVICE {
             return Progress::Stopped(Want::End(How::Device));
@@ -111,7 +121,8 @@ impl Machine {
     /// Stores a word at an address.
     #[inline(always)]
     fn store(&mut self, address: u16, word: u16) -> Progress
-        ensures { CarriedOut (stored self.old.process address word) self.old.process result self.new.process }
+        ensures { CarriedOut (outcome_of_store self.old.process address word)
+            self.old.process result self.new.process }
     {
         if address >= FIRST_DEVICE {
             return Progress::Stopped(Want::End(How::Device));
@@ -128,7 +139,10 @@ impl Machine {
     /// Stores a word at the address that stands at an address.
     #[inline(always)]
     fn store_indirect(&mut self, address: u16, word: u16) -> Progress
-        ensures { CarriedOut (at_word self.old.process address (λ pointer. stored self.old.process pointer word)) self.old.process result self.new.process }
+        ensures { CarriedOut
+            (at_word self.old.process address
+            (λ pointer. outcome_of_store self.old.process pointer word))
+            self.old.process result self.new.process }
     {
         if address >= FIRST_DEVICE {
             return Progress::Stopped(Want::End(How::Device));
@@ -152,7 +166,8 @@ impl Machine {
     #[tactic(auto, unfolding(crate::specs::Effects::effect))]
     #[inline(always)]
     fn execute(&mut self, instr: Instr) -> Progress
-        ensures { CarriedOut (effect instr self.old.process) self.old.process result self.new.process }
+        ensures { CarriedOut (effect instr self.old.process)
+            self.old.process result self.new.process }
     {
         match instr {
             Instr::Add { dr, sr1, operand } => {
@@ -184,7 +199,8 @@ impl Machine {
     #[tactic(auto, unfolding(crate::specs::Effects::next_step))]
     #[inline(always)]
     pub(crate) fn step(&mut self) -> Progress
-        ensures step { CarriedOut (next_step self.old.process) self.old.process result self.new.process }
+        ensures step { CarriedOut (next_step self.old.process)
+            self.old.process result self.new.process }
     {
         if self.pc >= FIRST_DEVICE {
             return Progress::Stopped(Want::End(How::Device));

@@ -1,18 +1,17 @@
 //! A process that stands before a call or its end.
 
-ghost use Rattle.std.specs.Prelude.{◌≡◌, ℕ, ◌+◌, ◌<◌, ◌↔◌, IsTrue, OnOk, length, slice_index};
+ghost use Rattle.std.specs.Prelude.{◌≡◌, ℕ, ◌+◌, ◌<◌, ◌↔◌, IsTrue, OnOk};
 ghost use Rattle.lc3_word.specs.Segment.{first_device};
-ghost use Rattle.lc3_machine.specs.Process.{reg, Stops};
+ghost use Rattle.lc3_machine.specs.Process.{Stops};
 ghost use Rattle.lc3_machine.specs.Memory.{IsWritable, StaysReady};
 ghost use Rattle.lc3_machine.specs.Effects.{next_step};
-ghost use Rattle.lc3_machine.specs.Reply.{CanTake, answered, ended};
+ghost use Rattle.lc3_machine.specs.Reply.{CanTake, process_after_effect, process_after_end};
 ghost use Rattle.lc3_machine.specs.Steps.{AsksTrap, AsksEnd};
 
 use super::{AtCall, Ended, Running, Waiting};
 use crate::effect::Effect;
+use crate::machine::Machine;
 use crate::want::Want;
-use lc3_table::Profile;
-use lc3_word::{Cc, Reg};
 use std::alloc::AllocError;
 
 impl AtCall {
@@ -56,7 +55,7 @@ impl AtCall {
     pub fn finish(self, effect: Effect<'_>) -> Running
         requires trap { AsksTrap self.process }
         requires room { CanTake self.ready effect }
-        ensures answered { result ≡ answered self.process effect.entry }
+        ensures answered { result ≡ process_after_effect self.process effect.entry }
     {
         let AtCall {
             mut machine,
@@ -79,7 +78,7 @@ impl AtCall {
     pub fn end(self) -> Ended
         requires end { AsksEnd self.process }
         ensures how { next_step self.process ≡ Stops (Want.End result.how) }
-        ensures process { result.process ≡ ended self.process result.how }
+        ensures process { result.process ≡ process_after_end self.process result.how }
     {
         let AtCall { mut machine, want } = self;
         match want {
@@ -91,54 +90,11 @@ impl AtCall {
         }
     }
 
-    /// The profile of the machine.
-    pub fn profile(&self) -> Profile
-        ensures value { result ≡ self.now.process.profile }
-    {
-        self.machine.profile()
-    }
-
-    /// What a register holds.
+    /// The machine of the process, which shows what it holds.
     #[inline(always)]
-    pub fn reg(&self, r: Reg) -> u16
-        ensures value { result ≡ reg self.now.process r }
+    pub fn machine(&self) -> &Machine
+        ensures same { result.now ≡ self.now }
     {
-        self.machine.reg(r)
-    }
-
-    /// The program counter.
-    pub fn pc(&self) -> u16
-        ensures value { result ≡ self.now.process.pc }
-    {
-        self.machine.pc()
-    }
-
-    /// The condition code that is set.
-    pub fn cc(&self) -> Cc
-        ensures value { result ≡ self.now.process.cc }
-    {
-        self.machine.cc()
-    }
-
-    /// The word at an address. A word that was never written is 0, and so are the device registers, xFE00 and above.
-    pub fn word(&self, address: u16) -> u16
-        ensures word { result ≡ slice_index self.now.process.memory address }
-        ensures whole { length self.now.process.memory ≡ 65536 }
-    {
-        self.machine.word(address)
-    }
-
-    /// The bytes of console input that were not read yet.
-    pub fn input_left(&self) -> &[u8]
-        ensures value { result.now ≡ self.now.process.input }
-    {
-        self.machine.input_left()
-    }
-
-    /// The bytes written to the console so far, the oldest first.
-    pub fn output(&self) -> &[u8]
-        ensures value { result.now ≡ self.now.process.output }
-    {
-        self.machine.output()
+        &self.machine
     }
 }

@@ -1,7 +1,7 @@
 //! A process that runs.
 
-ghost use Rattle.std.specs.Prelude.{◌≡◌, ℕ, ◌+◌, ◌<◌, ◌≤◌, IfOk, length, slice_index};
-ghost use Rattle.lc3_machine.specs.Process.{start, reg, Stops};
+ghost use Rattle.std.specs.Prelude.{◌≡◌, ℕ, ◌+◌, ◌<◌, ◌≤◌, IfOk};
+ghost use Rattle.lc3_machine.specs.Process.{start, Stops};
 ghost use Rattle.lc3_machine.specs.Effects.{next_step};
 ghost use Rattle.lc3_machine.specs.Steps.{IsStep, IsRun, HasRun};
 
@@ -9,7 +9,7 @@ use super::{AtCall, Local, Running};
 use crate::machine::{Machine, Progress};
 use crate::want::Want;
 use lc3_table::Profile;
-use lc3_word::{Cc, Image, Reg};
+use lc3_word::Image;
 use std::alloc::{AllocError, Global};
 
 impl Running {
@@ -77,53 +77,11 @@ impl Running {
         AtCall { machine, want }
     }
 
-    /// The profile of the machine.
-    pub fn profile(&self) -> Profile
-        ensures value { result ≡ self.now.profile }
+    /// The machine of the process, which shows what it holds.
+    #[inline(always)]
+    pub fn machine(&self) -> &Machine
+        ensures process { result.now.process ≡ self.now }
     {
-        self.machine.profile()
-    }
-
-    /// What a register holds.
-    pub fn reg(&self, r: Reg) -> u16
-        ensures value { result ≡ reg self.now r }
-    {
-        self.machine.reg(r)
-    }
-
-    /// The program counter.
-    pub fn pc(&self) -> u16
-        ensures value { result ≡ self.now.pc }
-    {
-        self.machine.pc()
-    }
-
-    /// The condition code that is set.
-    pub fn cc(&self) -> Cc
-        ensures value { result ≡ self.now.cc }
-    {
-        self.machine.cc()
-    }
-
-    /// The word at an address. A word that was never written is 0, and so are the device registers, xFE00 and above.
-    pub fn word(&self, address: u16) -> u16
-        ensures word { result ≡ slice_index self.now.memory address }
-        ensures whole { length self.now.memory ≡ 65536 }
-    {
-        self.machine.word(address)
-    }
-
-    /// The bytes of console input that were not read yet.
-    pub fn input_left(&self) -> &[u8]
-        ensures value { result.now ≡ self.now.input }
-    {
-        self.machine.input_left()
-    }
-
-    /// The bytes written to the console so far, the oldest first.
-    pub fn output(&self) -> &[u8]
-        ensures value { result.now ≡ self.now.output }
-    {
-        self.machine.output()
+        &self.machine
     }
 }

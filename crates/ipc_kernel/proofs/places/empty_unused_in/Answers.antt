@@ -12,7 +12,7 @@ pub loop-i-preserved : goal.loop-i-preserved
 loop-i-preserved c =
     let x : Place = get_or c.loop-i.places c.loop-i.i c.index-places-i.result in
     emptied_more _ _ _ _ _ _ c.loop-i.invariant (omega arith)
-    (c.keep_or_empty.ensures ∙ ap (λ b. if has_name x || b then x else Empty) c.is_referred-referred.ensures)
+    (c.keep_or_empty.ensures.emptied ∙ ap (λ b. if has_name x || b then x else Empty) c.is_referred-referred.ensures.referred)
 
 pub returns : goal.returns
-returns c = emptied_all _ _ _ _ c.loop-i-test.false c.loop-i.invariant
+returns c = record { emptied = emptied_all _ _ _ _ c.loop-i-test.false c.loop-i.invariant }

@@ -6,7 +6,7 @@ use Rattle.ipc_traps.proofs.memory.read_few.Goals as goal
 
 pub loop-k-preserved : goal.loop-k-preserved
 loop-k-preserved c =
-    let memory = c.args.call.now.process.memory in
+    let memory = c.args.machine.now.process.memory in
     c.push.ensures.words
     ∙ ap (λ ws. ws ++ c.word.result ∷ []) c.loop-k.invariant
     ∙ ap (λ w. take c.loop-k.k (words_from memory c.args.at) ++ w ∷ []) c.word.ensures.word

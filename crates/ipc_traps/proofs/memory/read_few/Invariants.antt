@@ -3,4 +3,4 @@ use Rattle.ipc_traps.specs.Names.{words_at}
 use Rattle.ipc_traps.proofs.memory.read_few.Given as goal
 
 abbrev pub invariant-loop-k : goal.invariant-loop-k
-invariant-loop-k l = l.words ≡ words_at l.call.process.memory l.at l.k
+invariant-loop-k l = l.words ≡ words_at l.machine.process.memory l.at l.k

@@ -8,5 +8,5 @@ pub loop-mqd-preserved : goal.loop-mqd-preserved
 loop-mqd-preserved c =
     let text : ℕ → List ℕ = λ d. descriptor_line d (descriptor_of c.args.world.now.kernel.processes c.args.pid d) in
     let held = rw c.kernel-kernel.ensures.kernel at c.mqd.ensures.held in
-    let wrote = rw held at c.in_ok-push_descriptor.ensures in
+    let wrote = rw held at c.in_ok-push_descriptor.ensures.text in
     wrote ∙ ap (λ bytes. bytes ++ text c.loop-mqd.mqd) c.loop-mqd.invariant ∙ each_more (string_bytes c.args.text.now) text c.loop-mqd.mqd

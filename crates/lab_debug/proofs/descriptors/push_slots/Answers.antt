@@ -8,5 +8,5 @@ pub loop-slot-preserved : goal.loop-slot-preserved
 loop-slot-preserved c =
     let text : ℕ → List ℕ = λ s. slot_line s (slot_of c.args.world.now.kernel.processes c.args.pid s) in
     let held = rw c.kernel-kernel.ensures.kernel at c.slot.ensures.held in
-    let wrote = rw held at c.in_ok-push_slot.ensures in
+    let wrote = rw held at c.in_ok-push_slot.ensures.text in
     wrote ∙ ap (λ bytes. bytes ++ text c.loop-slot.slot) c.loop-slot.invariant ∙ each_more (string_bytes c.args.text.now) text c.loop-slot.slot

@@ -9,5 +9,5 @@ loop-i-preserved c =
     let messages = c.args.queue.now.messages in
     let message : Message = record { priority = c.in-Some.priority; words = c.in-Some.words.now } in
     let at = sym (rw c.in-Some.is at c.entry.ensures.message) in
-    c.in_ok-push_message.ensures ∙ ap (λ bytes. bytes ++ message_line message) c.loop-i.invariant
+    c.in_ok-push_message.ensures.text ∙ ap (λ bytes. bytes ++ message_line message) c.loop-i.invariant
     ∙ flat_map-next message_line (string_bytes c.args.text.now) messages c.loop-i.i message at

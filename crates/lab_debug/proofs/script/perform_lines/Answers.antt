@@ -6,7 +6,7 @@ use Rattle.lab_debug.specs.Script.{line_count_limit}
 use Rattle.lab_debug.proofs.script.perform_lines.Goals as goal
 
 pub loop-init : goal.loop-init
-loop-init g c = ([], Appends-nil _, IsReached-start line_effect c.args.world.now _ c.new-pending.result c.new-pending.ensures)
+loop-init g c = ([], Appends-nil _, IsReached-start line_effect c.args.world.now _ c.new-pending.result c.new-pending.ensures.empty)
 
 pub loop-preserved : goal.loop-preserved
 loop-preserved g c =
@@ -15,7 +15,7 @@ loop-preserved g c =
     let room = line_count_limit - c.loop.counter in
     let took = rw c.in-Some.is at c.in_ok-line.ensures.line in
     let short = rw c.in-Some.is at c.in_ok-line.ensures.limit in
-    let is = rw c.as_slice.ensures.value at c.in_ok-reply.ensures in
+    let is = rw c.as_slice.ensures.value at c.in_ok-reply.ensures.effect in
     let next : line_count_limit - (c.loop.counter + 1) ≡ room - 1 = omega arith in (
       sent ++ text,
       Appends-trans _ _ _ sent text c.loop.invariant.1 (rw c.as_bytes.ensures.value at c.in-Ok.ensures.bytes),
@@ -28,7 +28,7 @@ returns-in_default-write_all-clause-prefix g c =
     let room = line_count_limit - c.loop.counter in
     let took = rw c.in-Some.is at c.in_ok-line.ensures.line in
     let short = rw c.in-Some.is at c.in_ok-line.ensures.limit in
-    let is = rw c.as_slice.ensures.value at c.in_ok-reply.ensures in
+    let is = rw c.as_slice.ensures.value at c.in_ok-reply.ensures.effect in
     let part = rw c.as_bytes.ensures.value at c.in_default-write_all.ensures.prefix in
     IsReached-part line_effect c.args.world.now _ _ _ _ _ _ sent room c.loop.world c.in-Some.line.items _ is (omega (arith, c.loop-test.true)) short c.loop.invariant.2 took c.loop.invariant.1 part
 
@@ -45,6 +45,6 @@ returns-then-reply-clause-written g c =
     let room = line_count_limit - c.loop.counter in
     let took = rw c.in-Some.is at c.in_ok-line.ensures.line in
     let short = rw c.in-Some.is at c.in_ok-line.ensures.limit in
-    let is = rw c.as_slice.ensures.value at c.in_ok-reply.ensures in
+    let is = rw c.as_slice.ensures.value at c.in_ok-reply.ensures.effect in
     IsReached-ends line_effect c.args.world.now _ _ _ _ _ _ sent room c.loop.world c.in-Some.line.items _ is c.if-reply.true (omega (arith, c.loop-test.true)) short c.loop.invariant.2 took
     c.loop.invariant.1 (rw c.as_bytes.ensures.value at c.in-Ok.ensures.bytes)

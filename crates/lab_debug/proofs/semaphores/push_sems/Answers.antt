@@ -1,10 +1,9 @@
 use Rattle.std.proofs.Common.{ℕ, List, ◌++◌, ap, ◌∙◌, string_bytes}
-use Rattle.ipc_kernel.specs.Places.{place_at, value_and_name}
-use Rattle.lab_debug.specs.Objects.{semaphore_line}
+use Rattle.lab_debug.specs.Objects.{semaphore_text}
 use Rattle.lab_debug.proofs.RowLemmas.{each_more}
 use Rattle.lab_debug.proofs.semaphores.push_sems.Goals as goal
 
 pub loop-place-preserved : goal.loop-place-preserved
 loop-place-preserved c =
-    let text : ℕ → List ℕ = λ place. semaphore_line place (value_and_name (place_at c.args.world.now.kernel.places place)) in
-    c.in_ok-push_place.ensures ∙ ap (λ bytes. bytes ++ text c.loop-place.place) c.loop-place.invariant ∙ each_more (string_bytes c.args.text.now) text c.loop-place.place
+    let text : ℕ → List ℕ = λ place. semaphore_text place c.args.world.now in
+    c.in_ok-push_place.ensures.text ∙ ap (λ bytes. bytes ++ text c.loop-place.place) c.loop-place.invariant ∙ each_more (string_bytes c.args.text.now) text c.loop-place.place

@@ -1,11 +1,11 @@
 use Rattle.std.proofs.Common.{◌-◌, ◌≤◌}
-use Rattle.lab_sched.specs.Held.{seen, IsHeld}
-use Rattle.lab_sched.specs.Alone.{AreLocal}
+use Rattle.lab_sched.specs.Held.{process_view, IsHeld}
+use Rattle.lab_sched.specs.LocalRun.{AreLocal}
 use Rattle.lab_explore.proofs.advance.run_on.Given as goal
 
 abbrev pub invariant-loop-taken : goal.invariant-loop-taken
 invariant-loop-taken l = record {
-  local : AreLocal l.taken (seen l.fn.process) (seen l.process);
+  local : AreLocal l.taken (process_view l.fn.process) (process_view l.process);
   held : IsHeld l.process;
   within : l.taken ≤ l.most;
 }

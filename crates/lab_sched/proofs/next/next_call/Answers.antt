@@ -1,6 +1,6 @@
 use Rattle.std.proofs.Common.{refl, ap, ◌∙◌}
 use Rattle.lc3_machine.specs.declared.machine.Progress.TheVariants.{Stopped}
-use Rattle.lab_sched.proofs.Locals.{end_asks}
+use Rattle.lab_sched.proofs.LocalSteps.{end_asks}
 use Rattle.lab_sched.proofs.next.next_call.Goals as goal
 
 pub returns-in-Stopped-End-clause-next : goal.returns-in-Stopped-End-clause-next

@@ -1,8 +1,8 @@
 use Rattle.std.proofs.Common.{◌≡◌, ◌∙◌, subst, sym}
 use Rattle.lc3_machine.specs.Process.{Held}
-use Rattle.lc3_machine.specs.Reply.{CanTake, answered}
-use Rattle.ipc_traps.specs.Reply.{HasRoom, replied}
-use Rattle.lab_sched.proofs.Locals.{reply_room, reply_told}
+use Rattle.lc3_machine.specs.Reply.{CanTake, process_after_effect}
+use Rattle.ipc_traps.specs.Reply.{HasRoom, process_after_reply}
+use Rattle.lab_sched.proofs.LocalSteps.{reply_room, reply_told}
 use Rattle.lab_sched.proofs.stepping.replied_with_call.Goals as goal
 
 pub finish-requires : goal.finish-requires
@@ -15,5 +15,5 @@ finish-requires c =
 
 pub returns-clause-told : goal.returns-clause-told
 returns-clause-told c =
-    let effect = subst (λ (h : Held). answered h.process c.effect_of-effect.result ≡ replied h.process c.args.reply.now) c.at_call.ensures.same c.effect_of-effect.ensures.effect in
+    let effect = subst (λ (h : Held). process_after_effect h.process c.effect_of-effect.result ≡ process_after_reply h.process c.args.reply.now) c.at_call.ensures.same c.effect_of-effect.ensures.effect in
     reply_told c.args.process c.in-Waiting.waiting c.in-Waiting.call c.args.reply.now c.finish.result c.in-Waiting.is c.requires.held (c.finish.ensures.answered ∙ effect)

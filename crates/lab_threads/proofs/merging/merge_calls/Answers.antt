@@ -2,7 +2,7 @@ use Rattle.std.proofs.Common.{ℕ, ◌≡◌, ◌≤◌, ◌+◌, ◌∷◌, ◌
 use Rattle.std.proofs.lemmas.List.{length-set, take_all, take_more, drop_more, drop_all}
 use Rattle.lab_sched.specs.Schedules.{steps_of}
 use Rattle.lab_sched.specs.declared.entry.Entry.{Entry}
-use Rattle.lab_threads.specs.Merged.{IsMerged}
+use Rattle.lab_threads.specs.Private.Merged.{IsMerged}
 use Rattle.lab_threads.proofs.Merges.{merged_none, counted_none, merged_step, counted_step, zeros, empty_steps}
 use Rattle.lab_threads.proofs.merging.merge_calls.Goals as goal
 

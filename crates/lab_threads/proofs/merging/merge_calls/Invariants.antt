@@ -3,8 +3,8 @@ use Rattle.ipc_kernel.specs.Kernel.{empty_kernel}
 use Rattle.lab_sched.specs.History.{IsLegal}
 use Rattle.lab_sched.specs.Schedules.{steps_of}
 use Rattle.lab_sched.specs.declared.process.Process.{Process as ProcessValue}
-use Rattle.lab_threads.specs.WorkerResults.{AreWorkerResults}
-use Rattle.lab_threads.specs.Merged.{IsMerged, AreCounted}
+use Rattle.lab_threads.specs.Private.WorkerResults.{AreWorkerResults}
+use Rattle.lab_threads.specs.Private.Merged.{IsMerged, AreCounted}
 use Rattle.lab_threads.proofs.merging.merge_calls.Given as goal
 
 abbrev pub invariant-loop-entry : goal.invariant-loop-entry

@@ -2,7 +2,7 @@ use Rattle.std.proofs.Common.{List, []}
 use Rattle.lab_sched.specs.Schedules.{steps_of}
 use Rattle.lab_sched.specs.declared.entry.Entry.{Entry}
 use Rattle.lab_sched.specs.declared.process.Process.{Process as ProcessValue}
-use Rattle.lab_threads.specs.Merged.{IsMerged, AreCounted}
+use Rattle.lab_threads.specs.Private.Merged.{IsMerged, AreCounted}
 use Rattle.lab_threads.proofs.Merges.{IsEnding, AreEnded}
 use Rattle.lab_threads.proofs.merging.merge_ends.Given as goal
 

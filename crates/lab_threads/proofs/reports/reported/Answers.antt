@@ -1,26 +1,26 @@
 use Rattle.std.proofs.Common.{◌≡◌, All, ap, sym, ◌∙◌, map, length, subst, arith}
 use Rattle.std.proofs.lemmas.List.{length-map}
 use Rattle.ipc_kernel.specs.Kernel.{empty_kernel}
-use Rattle.lab_sched.specs.Course.{IsCourse}
-use Rattle.lab_sched.specs.Held.{seen, IsHeld}
+use Rattle.lab_sched.specs.Execution.{IsExecution}
+use Rattle.lab_sched.specs.Held.{process_view, IsHeld}
 use Rattle.lab_sched.specs.Worlds.{HaveOneProfile}
 use Rattle.lab_sched.specs.History.{IsLegal, replay}
 use Rattle.lab_sched.specs.Schedules.{steps_of}
-use Rattle.lab_threads.specs.Merged.{initial_world, final_world}
-use Rattle.lab_threads.proofs.Endings.{joined_is, from_course, from_counts, worker_steps}
+use Rattle.lab_threads.specs.Private.Merged.{initial_world, final_world}
+use Rattle.lab_threads.proofs.ReportedSteps.{joined_is, from_course, from_counts, worker_steps}
 use Rattle.lab_threads.proofs.Merges.{ok_then}
 use Rattle.lab_threads.proofs.reports.reported.Goals as goal
 
 pub join-world-requires : goal.join-world-requires
 join-world-requires c =
     let ps = c.in_ok-ends.field-0.items in
-    let ended_so = c.in_ok-ends.ensures in
+    let ended_so = c.in_ok-ends.ensures.processes in
     let count : length ps ≡ length c.args.workers.items = ap length ended_so ∙ length-map c.args.workers.items (λ k. k.process) in
     record {
       world =
           record {
             held = subst (λ xs. All IsHeld xs) (sym ended_so) c.requires.held;
-            profile = subst (λ xs. HaveOneProfile (map seen xs)) (sym ended_so) c.requires.profile;
+            profile = subst (λ xs. HaveOneProfile (map process_view xs)) (sym ended_so) c.requires.profile;
             some = omega (arith, count, c.requires.some);
             few = omega (arith, count, c.requires.few);
             count = omega (arith, count, c.count.ensures.count, c.if-count-len.false, c.len.ensures, c.args.workers.ok.0);
@@ -37,10 +37,10 @@ returns-clause-course c =
     let legal : IsLegal (empty_kernel (length starts)) c.args.history.items = subst (λ n. IsLegal (empty_kernel n) c.args.history.items) same c.requires.legal in
     let joined : c.join-world.result ≡ final_world (length starts) c.args.workers.items c.args.history.items =
     joined_is c.join-world.result c.in_ok-ends.field-0.items c.args.kernel (length starts) c.args.workers.items c.args.history.items
-    c.join-world.ensures.processes c.in_ok-ends.ensures c.join-world.ensures.kernel kernel in
+    c.join-world.ensures.processes c.in_ok-ends.ensures.processes c.join-world.ensures.kernel kernel in
     let merged = from_course (steps_of c.in_ok-schedule.schedule) c.args.workers.items c.deref.result.now c.args.history.items c.deref-2.result.now
     c.deref.ensures.value c.deref-2.ensures.value c.in_ok-schedule.ensures.course starts c.args.limit are legal in
-    course (initial_world starts) (subst (λ x. IsCourse (initial_world starts) (steps_of c.in_ok-schedule.schedule) x c.args.history.items) (sym joined) merged))
+    course (initial_world starts) (subst (λ x. IsExecution (initial_world starts) (steps_of c.in_ok-schedule.schedule) x c.args.history.items) (sym joined) merged))
 
 pub returns-clause-finished : goal.returns-clause-finished
 returns-clause-finished c =

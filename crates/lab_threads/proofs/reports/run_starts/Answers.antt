@@ -1,24 +1,24 @@
-use Rattle.lab_sched.proofs.Courses.{course_kernel, course_legal}
-use Rattle.lab_threads.proofs.Endings.{workers_held, workers_profile}
+use Rattle.lab_sched.proofs.Executions.{course_kernel, course_legal}
+use Rattle.lab_threads.proofs.ReportedSteps.{workers_held, workers_profile}
 use Rattle.lab_threads.proofs.Merges.{ok_then}
 use Rattle.lab_threads.proofs.reports.run_starts.Goals as goal
 
 pub reported-requires-clause-held : goal.reported-requires-clause-held
-reported-requires-clause-held g c = workers_held c.args.limit c.args.starts.items c.in_ok-workers.workers.items c.in_ok-workers.ensures c.requires.runs
+reported-requires-clause-held g c = workers_held c.args.limit c.args.starts.items c.in_ok-workers.workers.items c.in_ok-workers.ensures.results c.requires.runs
 
 pub reported-requires-clause-profile : goal.reported-requires-clause-profile
-reported-requires-clause-profile g c = workers_profile c.args.limit c.args.starts.items c.in_ok-workers.workers.items c.in_ok-workers.ensures c.requires.profile
+reported-requires-clause-profile g c = workers_profile c.args.limit c.args.starts.items c.in_ok-workers.workers.items c.in_ok-workers.ensures.results c.requires.profile
 
 pub returns-clause-course : goal.returns-clause-course
-returns-clause-course g c = ok_then c.reported.result c.reported.ensures.course (λ r course. course c.args.starts.items c.in_ok-workers.ensures)
+returns-clause-course g c = ok_then c.reported.result c.reported.ensures.course (λ r course. course c.args.starts.items c.in_ok-workers.ensures.results)
 
 pub returns-clause-finished : goal.returns-clause-finished
-returns-clause-finished g c = ok_then c.reported.result c.reported.ensures.finished (λ r finished. finished c.args.starts.items c.in_ok-workers.ensures)
+returns-clause-finished g c = ok_then c.reported.result c.reported.ensures.finished (λ r finished. finished c.args.starts.items c.in_ok-workers.ensures.results)
 
 pub returns-clause-legal : goal.returns-clause-legal
 returns-clause-legal g c =
-    ok_then c.reported.result c.reported.ensures.course (λ r course. course_legal (course c.args.starts.items c.in_ok-workers.ensures))
+    ok_then c.reported.result c.reported.ensures.course (λ r course. course_legal (course c.args.starts.items c.in_ok-workers.ensures.results))
 
 pub returns-clause-kernel : goal.returns-clause-kernel
 returns-clause-kernel g c =
-    ok_then c.reported.result c.reported.ensures.course (λ r course. course_kernel (course c.args.starts.items c.in_ok-workers.ensures))
+    ok_then c.reported.result c.reported.ensures.course (λ r course. course_kernel (course c.args.starts.items c.in_ok-workers.ensures.results))

@@ -1,7 +1,7 @@
 use Rattle.std.proofs.Common.{ℕ, ◌≡◌, ◌+◌, ◌<◌, ap, sym, subst, ◌∙◌, get_or, length}
-use Rattle.lab_sched.specs.Course.{count}
+use Rattle.lab_sched.specs.Execution.{count}
 use Rattle.lab_sched.specs.Schedules.{steps_of}
-use Rattle.lab_threads.proofs.Endings.{settled_course, settled_finished}
+use Rattle.lab_threads.proofs.ReportedSteps.{settled_course, settled_finished}
 use Rattle.lab_threads.proofs.reports.settled.Goals as goal
 
 pub returns-clause-course : goal.returns-clause-course

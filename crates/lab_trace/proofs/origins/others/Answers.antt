@@ -1,5 +1,5 @@
 use Rattle.std.proofs.Common.{List, [], ◌∷◌, ◌++◌, take, get_or, sym, ap, ◌∙◌, append-nil}
-use Rattle.lab_trace.specs.Origins.{cleared}
+use Rattle.lab_trace.specs.Origins.{origins_without_queue}
 use Rattle.lab_trace.specs.declared.origins.Origin.{Origin}
 use Rattle.lab_trace.proofs.OriginLemmas.{cleared-none, cleared-same, cleared-other, cleared-more}
 use Rattle.lab_trace.proofs.origins.others.Goals as goal
@@ -18,7 +18,7 @@ loop-origin-preserved c =
     let more = cleared-more place list i none c.loop-origin-test.true in
     elim c.if-origin-place.branch [
       | then-origin-place+in_ok-push w ↦ rw w.kept-is (w.in_ok-push.ensures.items ∙ ap (λ (xs : List Origin). xs ++ o ∷ []) c.loop-origin.invariant
-          ∙ sym (more ∙ ap (λ (xs : List Origin). cleared place (take i list) ++ xs) (cleared-other place o w.if-origin-place.true)))
+          ∙ sym (more ∙ ap (λ (xs : List Origin). origins_without_queue place (take i list) ++ xs) (cleared-other place o w.if-origin-place.true)))
       | else-origin-place w ↦ rw w.kept-is (c.loop-origin.invariant
-          ∙ sym (more ∙ ap (λ (xs : List Origin). cleared place (take i list) ++ xs) (cleared-same place o w.if-origin-place.false) ∙ append-nil (cleared place (take i list))))
+          ∙ sym (more ∙ ap (λ (xs : List Origin). origins_without_queue place (take i list) ++ xs) (cleared-same place o w.if-origin-place.false) ∙ append-nil (origins_without_queue place (take i list))))
     ]

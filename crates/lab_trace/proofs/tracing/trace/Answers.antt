@@ -3,10 +3,10 @@ use Rattle.std.specs.Io.KnownBytes.{Appends}
 use Rattle.std.proofs.KnownBytes.{Appends-trans}
 use Rattle.lab_io.proofs.Prefixes.{AppendsPrefix-after}
 use Rattle.lab_sched.specs.Schedules.{steps_of}
-use Rattle.lab_trace.specs.Scenes.{Scene, events}
+use Rattle.lab_trace.specs.Scenes.{Scene, scene_at, events}
 use Rattle.lab_trace.specs.Tallies.{new_tally}
 use Rattle.lab_trace.proofs.SceneLemmas.{scene-world}
-use Rattle.lab_trace.proofs.WrittenLemmas.{on_err, on_ok, on_err-map, on_ok-map, scene, trace-whole, lines-prefix, prefix-lines, widths-are}
+use Rattle.lab_trace.proofs.WrittenLemmas.{on_err, on_ok, on_err-map, on_ok-map, trace-whole, lines-prefix, prefix-lines, widths-are}
 use Rattle.lab_trace.proofs.tracing.trace.Goals as goal
 
 pub returns-in_err-trace_blocks-clause-prefix : goal.returns-in_err-trace_blocks-clause-prefix
@@ -35,7 +35,7 @@ returns-clause-written g c =
     let first = c.in_ok-tally.ensures.empty ∙ ap new_tally c.count-2.ensures.count in
     let sent = rw c.blocks-2.ensures.value at c.in_ok-trace_blocks.ensures.written in
     let led = rw c.blocks-2.ensures.value at c.in_ok-trace_blocks.ensures.scene in
-    let s = scene 1 c.args.world.now c.in_ok-tally.tally in
+    let s = scene_at 1 c.args.world.now c.in_ok-tally.tally in
     let whole = trace-whole c.args.world.now c.trace_blocks.new.world ps v c.in_ok-tally.tally c.trace_blocks.new.tally led.0 wide first led.1
     ∙ ap (λ (l : List ℕ). events v s ps ++ l) (sym (c.deref.ensures ∙ c.in_ok-text.ensures.text)) in
     on_ok-map c.write_text.result _ _
@@ -47,7 +47,7 @@ pub returns-clause-world : goal.returns-clause-world
 returns-clause-world g c =
     let ps = steps_of c.args.schedule.now in
     let led = rw c.blocks-2.ensures.value at c.in_ok-trace_blocks.ensures.scene in
-    on_ok _ _ (ap (λ (x : Scene). x.world) led.1 ∙ scene-world (scene 1 c.args.world.now c.in_ok-tally.tally) ps)
+    on_ok _ _ (ap (λ (x : Scene). x.world) led.1 ∙ scene-world (scene_at 1 c.args.world.now c.in_ok-tally.tally) ps)
 
 pub returns-clause-prefix : goal.returns-clause-prefix
 returns-clause-prefix g c =
@@ -57,7 +57,7 @@ returns-clause-prefix g c =
     let first = c.in_ok-tally.ensures.empty ∙ ap new_tally c.count-2.ensures.count in
     let sent = rw c.blocks-2.ensures.value at c.in_ok-trace_blocks.ensures.written in
     let led = rw c.blocks-2.ensures.value at c.in_ok-trace_blocks.ensures.scene in
-    let s = scene 1 c.args.world.now c.in_ok-tally.tally in
+    let s = scene_at 1 c.args.world.now c.in_ok-tally.tally in
     let whole = trace-whole c.args.world.now c.trace_blocks.new.world ps v c.in_ok-tally.tally c.trace_blocks.new.tally led.0 wide first led.1
     ∙ ap (λ (l : List ℕ). events v s ps ++ l) (sym (append-nil c.deref.result.now ∙ c.deref.ensures ∙ c.in_ok-text.ensures.text)) in
     on_err-map c.write_text.result _ _

@@ -1,18 +1,18 @@
 use Rattle.std.proofs.Common.{◌≡◌, ◌+◌, length, replicate, sym, ap, subst, ◌∙◌, arith}
 use Rattle.std.proofs.KnownBytes.{Appends-nil}
 use Rattle.lab_sched.specs.Worlds.{WorldState}
-use Rattle.lab_trace.specs.Scenes.{IsKept}
+use Rattle.lab_trace.specs.Scenes.{scene_at, IsKept}
 use Rattle.lab_trace.proofs.SceneLemmas.{scene-none, events-none, stands, kept-after, length-step}
-use Rattle.lab_trace.proofs.WrittenLemmas.{on_err, scene, prefix-from, prefix-at, written-more, scene-told}
+use Rattle.lab_trace.proofs.WrittenLemmas.{on_err, prefix-from, prefix-at, written-more, scene-told}
 use Rattle.lab_trace.proofs.tracing.trace_block.Goals as goal
 
 pub loop-done-init : goal.loop-done-init
 loop-done-init g c =
-    let s = scene c.args.first c.args.world.now c.args.tally.now in
+    let s = scene_at c.args.first c.args.world.now c.args.tally.now in
     let e : c.args.first + 0 ≡ c.args.first = omega arith in
     record {
       within = omega arith;
-      scene = ap (λ n. scene n c.args.world.now c.args.tally.now) e ∙ sym (scene-none s);
+      scene = ap (λ n. scene_at n c.args.world.now c.args.tally.now) e ∙ sym (scene-none s);
       written = rw (events-none c.args.widths s) (Appends-nil _);
       kept = rw e c.requires.kept;
       there = c.requires.process;
@@ -20,20 +20,20 @@ loop-done-init g c =
 
 pub returns-in_err-traced-clause-prefix : goal.returns-in_err-traced-clause-prefix
 returns-in_err-traced-clause-prefix g c =
-    let s = scene c.args.first c.args.world.now c.args.tally.now in
+    let s = scene_at c.args.first c.args.world.now c.args.tally.now in
     on_err _ _ (prefix-from c.args.widths s c.args.block.count c.loop-done.done c.args.block.pid _ _ c.loop-done.invariant.within c.loop-done.invariant.written)
 
 pub returns-in_err-write_text-clause-prefix : goal.returns-in_err-write_text-clause-prefix
 returns-in_err-write_text-clause-prefix g c =
-    let s = scene c.args.first c.args.world.now c.args.tally.now in
-    let u = scene (c.args.first + c.loop-done.done) c.loop-done.world c.loop-done.tally in
+    let s = scene_at c.args.first c.args.world.now c.args.tally.now in
+    let u = scene_at (c.args.first + c.loop-done.done) c.loop-done.world c.loop-done.tally in
     on_err _ _ (prefix-at c.args.widths s u c.args.block.count c.loop-done.done c.args.block.pid _ _ _ c.deref.result.now c.loop-done-test.true c.loop-done.invariant.scene
     (c.deref.ensures ∙ c.in_ok-traced.ensures.line) c.loop-done.invariant.written c.in_err-write_text.ensures.prefix)
 
 pub loop-done-preserved : goal.loop-done-preserved
 loop-done-preserved g c =
-    let s = scene c.args.first c.args.world.now c.args.tally.now in
-    let u = scene (c.args.first + c.loop-done.done) c.loop-done.world c.loop-done.tally in
+    let s = scene_at c.args.first c.args.world.now c.args.tally.now in
+    let u = scene_at (c.args.first + c.loop-done.done) c.loop-done.world c.loop-done.tally in
     let k = c.steps_done-done.result in
     let stand = stands c.args.widths u c.args.block.pid k c.in_ok-traced.traced.stepped c.in_ok-traced.ensures.told c.steps_done-done.ensures.other in
     let told = scene-told c.args.widths s c.args.first c.loop-done.done k c.args.block.pid c.loop-done.world c.trace_step.new.world c.loop-done.tally c.trace_step.new.tally

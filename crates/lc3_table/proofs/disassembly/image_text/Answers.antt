@@ -5,7 +5,7 @@ use Rattle.lc3_table.proofs.disassembly.image_text.Goals as goal
 
 pub loop-i-preserved : goal.loop-i-preserved
 loop-i-preserved c =
-    ap (λ bytes. bytes ++ lines_from (c.origin-origin.result + (c.loop-i.i + 1)) (drop (c.loop-i.i + 1) c.words-word-items.result.now)) c.in_ok-push_line.ensures
+    ap (λ bytes. bytes ++ lines_from (c.origin-origin.result + (c.loop-i.i + 1)) (drop (c.loop-i.i + 1) c.words-word-items.result.now)) c.in_ok-push_line.ensures.text
     ∙ lines_from-step c.origin-origin.result c.loop-i.i c.words-word-items.result.now (string_bytes c.loop-i.text) (omega arith)
     ∙ c.loop-i.invariant
 

@@ -7,4 +7,4 @@ use Rattle.ipc_kernel.proofs.kernel.Kernel.receive.Goals as goal
 pub invariant_of-self : goal.invariant_of-self
 invariant_of-self c =
     settled_received (record { places = c.self.inside.places; processes = c.self.inside.processes }) c.args.place c.receive-prio.new.self c.self.invariant
-    (subst (λ (k : KernelState). IsSomeAnd (queue_in (place_at k.places c.args.place)) HasMessage) (sym c.self.view_is) c.requires) c.receive-prio.ensures.rest
+    (subst (λ (k : KernelState). IsSomeAnd (queue_in (place_at k.places c.args.place)) HasMessage) (sym c.self.view_is) c.requires.message) c.receive-prio.ensures.rest

@@ -6,4 +6,4 @@ pub invariant_of-self : goal.invariant_of-self
 invariant_of-self c =
     indexed_received c.self.inside.places.items _ c.self.inside.queue_names c.self.inside.semaphore_names c.args.place
     (λ q. 0 < length q.messages) (λ q. record q { messages = drop 1 q.messages })
-    c.self.invariant (rw (← c.self.view_is) at c.requires) c.receive_at.ensures.rest
+    c.self.invariant (rw (← c.self.view_is) at c.requires.message) c.receive_at.ensures.rest

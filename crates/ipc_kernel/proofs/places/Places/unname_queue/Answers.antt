@@ -11,10 +11,10 @@ returns-in_default-clause-found c = c.take-taken.ensures.place ∙ rw (← c.sel
 
 pub unname_at-requires : goal.unname_at-requires
 unname_at-requires c =
-    omega (arith, c.self.invariant.all, index_range queue_name c.self.inside.places.items c.self.inside.queue_names c.args.name.now c.in-Some.place refl c.self.invariant.queue_index c.self.invariant.all (sym c.in-Some.ensures.place))
+    record { range = omega (arith, c.self.invariant.all, index_range queue_name c.self.inside.places.items c.self.inside.queue_names c.args.name.now c.in-Some.place refl c.self.invariant.queue_index c.self.invariant.all (sym c.in-Some.ensures.place)) }
 
 pub invariant_of-self : goal.invariant_of-self
-invariant_of-self c = rw c.take-taken.ensures.removed (indexed_take_queue c.self.inside.places.items _ c.self.inside.queue_names c.self.inside.semaphore_names c.in-Some.place c.args.name.now c.self.invariant (sym c.in-Some.ensures.place) c.unname_at.ensures)
+invariant_of-self c = rw c.take-taken.ensures.removed (indexed_take_queue c.self.inside.places.items _ c.self.inside.queue_names c.self.inside.semaphore_names c.in-Some.place c.args.name.now c.self.invariant (sym c.in-Some.ensures.place) c.unname_at.ensures.unnamed)
 
 pub invariant_of-self-in_default : goal.invariant_of-self-in_default
 invariant_of-self-in_default c = indexed_no_queue c.self.inside.places.items c.self.inside.queue_names c.self.inside.semaphore_names _ c.args.name.now c.self.invariant (sym c.in_default.ensures.place) c.take-taken.ensures.removed

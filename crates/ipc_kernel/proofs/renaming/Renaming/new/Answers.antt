@@ -3,4 +3,4 @@ use Rattle.ipc_kernel.proofs.Exchanges.{identity_permutes}
 use Rattle.ipc_kernel.proofs.renaming.Renaming.new.Goals as goal
 
 pub returns : goal.returns
-returns c = identity_permutes c.loop-place.to (λ k h. c.loop-place.invariant.1 k (omega arith))
+returns c = record { permutation = identity_permutes c.loop-place.to (λ k h. c.loop-place.invariant.1 k (omega arith)) }

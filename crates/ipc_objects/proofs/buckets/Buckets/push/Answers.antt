@@ -1,7 +1,7 @@
 use Rattle.std.proofs.Common.{ap, ◌∙◌}
 use Rattle.std.proofs.lemmas.Result.{on_ok_weaker}
-use Rattle.ipc_objects.specs.Queue.{sent}
-use Rattle.ipc_objects.specs.Buckets.{joined}
+use Rattle.ipc_objects.specs.Queue.{after_send}
+use Rattle.ipc_objects.specs.Private.Buckets.{messages_of_buckets}
 use Rattle.ipc_objects.proofs.BucketLemmas.{buckets_pushed, joined_put}
 use Rattle.ipc_objects.proofs.buckets.Buckets.push.Goals as goal
 
@@ -11,4 +11,4 @@ invariant_of-self c = buckets_pushed c.put.result c.args.message c.self.inside.b
 pub returns-clause-ok : goal.returns-clause-ok
 returns-clause-ok c =
     on_ok_weaker c.put.result
-    (λ is. ap joined is ∙ joined_put c.args.message c.self.inside.by_priority.entries c.self.invariant.ordered c.self.invariant.each ∙ ap (sent c.args.message) c.self.view_is) c.put.ensures.ok
+    (λ is. ap messages_of_buckets is ∙ joined_put c.args.message c.self.inside.by_priority.entries c.self.invariant.ordered c.self.invariant.each ∙ ap (after_send c.args.message) c.self.view_is) c.put.ensures.ok

@@ -1,7 +1,7 @@
 use Rattle.std.proofs.Common.{ap, sym, subst, arith, ◌≡◌, ◌<◌, ◌∙◌, ◌++◌, Some, IfSome}
 use Rattle.std.proofs.lemmas.Result.{on_ok_weaker}
-use Rattle.ipc_objects.specs.Queue.{sent}
-use Rattle.ipc_objects.specs.Buckets.{AreBelow, after_greatest}
+use Rattle.ipc_objects.specs.Queue.{after_send}
+use Rattle.ipc_objects.specs.Private.Buckets.{AreBelow, after_greatest}
 use Rattle.ipc_objects.proofs.BucketLemmas.{below_sent, sent_beside, sent_below, sent_put}
 use Rattle.ipc_objects.proofs.messages.Messages.push.Goals as goal
 use Rattle.ipc_objects.proofs.messages.Messages.push.Goals.{in_default-via-in-Some-2+else-message-priority-2, in_default-via-in_default}
@@ -18,12 +18,12 @@ pub returns-in-Some-clause-ok : goal.returns-in-Some-clause-ok
 returns-in-Some-clause-ok c =
     let below : AreBelow (Some (c.in-Some.priority, c.in-Some.bucket)) c.self.inside.lesser = subst (λ o. AreBelow o c.self.inside.lesser) c.in-Some.is c.self.invariant in
     on_ok_weaker c.push.result
-    (λ is. ap (λ b. b ++ c.self.inside.lesser) is ∙ sent_beside c.args.message c.in-Some.priority c.in-Some.bucket c.self.inside.lesser below c.if-message-priority.true ∙ ap (sent c.args.message) (sym (ap (λ o. after_greatest o c.self.inside.lesser) c.in-Some.is) ∙ c.self.view_is)) c.push.ensures.ok
+    (λ is. ap (λ b. b ++ c.self.inside.lesser) is ∙ sent_beside c.args.message c.in-Some.priority c.in-Some.bucket c.self.inside.lesser below c.if-message-priority.true ∙ ap (after_send c.args.message) (sym (ap (λ o. after_greatest o c.self.inside.lesser) c.in-Some.is) ∙ c.self.view_is)) c.push.ensures.ok
 
 pub returns-in-Some-2-clause-ok : goal.returns-in-Some-2-clause-ok
 returns-in-Some-2-clause-ok c =
     on_ok_weaker c.push-in-Some-2.result
-    (λ is. ap (λ ms. c.in-Some.bucket ++ ms) is ∙ sent_below c.args.message c.in-Some.priority c.in-Some.bucket c.self.inside.lesser (below_greatest c) c.if-message-priority-2.true ∙ ap (sent c.args.message) (sym (ap (λ o. after_greatest o c.self.inside.lesser) c.in-Some.is) ∙ c.self.view_is)) c.push-in-Some-2.ensures.ok
+    (λ is. ap (λ ms. c.in-Some.bucket ++ ms) is ∙ sent_below c.args.message c.in-Some.priority c.in-Some.bucket c.self.inside.lesser (below_greatest c) c.if-message-priority-2.true ∙ ap (after_send c.args.message) (sym (ap (λ o. after_greatest o c.self.inside.lesser) c.in-Some.is) ∙ c.self.view_is)) c.push-in-Some-2.ensures.ok
 
 pub returns-in_default-clause-ok : goal.returns-in_default-clause-ok
 returns-in_default-clause-ok c = elim c.in_default.branch [

@@ -1,6 +1,7 @@
 use Rattle.std.proofs.Common.{subst, sym}
 use Rattle.lab_explore.specs.declared.known.Move.{Move}
-use Rattle.lab_explore.specs.Stored.{Each, IsMove}
+use Rattle.lab_explore.specs.Private.Stored.{IsMove}
+use Rattle.lab_explore.specs.Ends.{Each}
 use Rattle.lab_explore.proofs.Pushes.{each_push}
 use Rattle.lab_explore.proofs.known.Moves.keep.Goals as goal
 

@@ -1,6 +1,6 @@
 use Rattle.std.proofs.Common.{subst, sym}
-use Rattle.lab_explore.specs.Stored.{Each, Keeps}
-use Rattle.lab_explore.specs.Ends.{first_world, IsEnd}
+use Rattle.lab_explore.specs.Private.Stored.{Keeps}
+use Rattle.lab_explore.specs.Ends.{Each, first_world, IsEnd}
 use Rattle.lab_explore.proofs.Pushes.{each_push, keeps_push}
 use Rattle.lab_explore.proofs.Explorations.{end_pushed}
 use Rattle.lab_explore.proofs.search.Search.add_end.Goals as goal

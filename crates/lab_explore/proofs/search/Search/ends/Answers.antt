@@ -1,16 +1,13 @@
 use Rattle.std.proofs.Common.{below_more, arith}
-use Rattle.lab_sched.specs.Worlds.{WorldState}
-use Rattle.lab_sched.proofs.Places.{get_past}
-use Rattle.lab_explore.specs.Closed.{AreAtRest}
-use Rattle.lab_explore.specs.Stored.{IsAt}
-use Rattle.lab_explore.specs.Ends.{HasEnd}
+use Rattle.lab_sched.proofs.ListPlaces.{get_past}
+use Rattle.lab_explore.specs.Private.Walked.{HasRowEnd}
 use Rattle.lab_explore.proofs.Explorations.{end_kept}
 use Rattle.lab_explore.proofs.search.Search.ends.Goals as goal
 
 pub loop-at-preserved : goal.loop-at-preserved
 loop-at-preserved c = record {
   ends = c.in_ok-add_end.ensures.each c.loop-at.invariant.ends;
-  all = below_more (λ i. (w : WorldState) → IsAt c.args.self.now.store i w → AreAtRest w → HasEnd c.add_end.new.ends.items w) c.loop-at.at
+  all = below_more (HasRowEnd c.args.self.now.store c.add_end.new.ends.items) c.loop-at.at
       (λ i below w here rest. end_kept c.loop-at.ends.items c.add_end.new.ends.items w c.in_ok-add_end.ensures.keeps (c.loop-at.invariant.all i below w here rest))
       c.in_ok-add_end.ensures.here;
 }

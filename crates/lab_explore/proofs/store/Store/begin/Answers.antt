@@ -1,6 +1,6 @@
 use Rattle.std.proofs.Common.{arith}
 use Rattle.lab_explore.proofs.Growths.{grows_more}
-use Rattle.lab_explore.proofs.Begins.{begun_more}
+use Rattle.lab_explore.proofs.FirstWorlds.{begun_more}
 use Rattle.lab_explore.proofs.store.Store.begin.Goals as goal
 
 pub loop-process-preserved : goal.loop-process-preserved

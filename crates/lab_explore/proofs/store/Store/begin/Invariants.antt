@@ -1,11 +1,11 @@
 use Rattle.std.proofs.Common.{map, take}
-use Rattle.lab_sched.specs.Held.{seen}
-use Rattle.lab_explore.specs.Stored.{IsStore, Grows, IsBegun}
+use Rattle.lab_sched.specs.Held.{process_view}
+use Rattle.lab_explore.specs.Private.Stored.{IsStore, Grows, IsBegun}
 use Rattle.lab_explore.proofs.store.Store.begin.Given as goal
 
 abbrev pub invariant-loop-process : goal.invariant-loop-process
 invariant-loop-process l = record {
   store : IsStore l.self;
   grows : Grows l.fn.self l.self;
-  begun : IsBegun l.self l.states.items (map seen (take l.process-index l.processes));
+  begun : IsBegun l.self l.states.items (map process_view (take l.process-index l.processes));
 }

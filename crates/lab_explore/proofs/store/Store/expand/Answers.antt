@@ -1,7 +1,7 @@
 use Rattle.std.proofs.Common.{below_more}
-use Rattle.lab_explore.specs.Stored.{IsTried}
+use Rattle.lab_explore.specs.Private.Stored.{IsTried}
 use Rattle.lab_explore.proofs.Growths.{grows_more, at_grows, tried_grows}
-use Rattle.lab_explore.proofs.Nexts.{all_tried}
+use Rattle.lab_explore.proofs.StepsOfRows.{all_tried}
 use Rattle.lab_explore.proofs.store.Store.expand.Goals as goal
 
 pub loop-pid-preserved : goal.loop-pid-preserved

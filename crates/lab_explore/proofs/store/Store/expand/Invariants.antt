@@ -1,7 +1,7 @@
 use Rattle.std.proofs.Common.{ℕ, ◌<◌, IsTrue}
 use Rattle.lab_sched.specs.Worlds.{WorldState}
-use Rattle.lab_explore.specs.Known.{AreKnown}
-use Rattle.lab_explore.specs.Stored.{IsStore, Grows, IsAt, IsTried}
+use Rattle.lab_explore.specs.Private.Known.{AreKnown}
+use Rattle.lab_explore.specs.Private.Stored.{IsStore, Grows, IsAt, IsTried}
 use Rattle.lab_explore.proofs.store.Store.expand.Given as goal
 
 abbrev pub invariant-loop-pid : goal.invariant-loop-pid

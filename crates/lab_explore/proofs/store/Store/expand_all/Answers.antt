@@ -1,5 +1,5 @@
 use Rattle.std.proofs.Common.{below_more}
-use Rattle.lab_explore.specs.Stored.{IsExpanded}
+use Rattle.lab_explore.specs.Private.Stored.{IsExpanded}
 use Rattle.lab_explore.proofs.Growths.{grows_more, expanded_grows}
 use Rattle.lab_explore.proofs.store.Store.expand_all.Goals as goal
 

@@ -1,6 +1,6 @@
 use Rattle.std.proofs.Common.{ℕ, ◌<◌, IsTrue}
-use Rattle.lab_explore.specs.Known.{AreKnown}
-use Rattle.lab_explore.specs.Stored.{IsStore, Grows, IsExpanded}
+use Rattle.lab_explore.specs.Private.Known.{AreKnown}
+use Rattle.lab_explore.specs.Private.Stored.{IsStore, Grows, IsExpanded}
 use Rattle.lab_explore.proofs.store.Store.expand_all.Given as goal
 
 abbrev pub invariant-loop-at : goal.invariant-loop-at

@@ -2,7 +2,7 @@ use Rattle.std.proofs.Common.{arith, ap, refl, subst, ◌≡◌, ◌≤◌, leng
 use Rattle.ipc_kernel.specs.Alike.{IsAlike}
 use Rattle.lab_sched.specs.Worlds.{WorldState}
 use Rattle.lab_explore.specs.Calls.{Both}
-use Rattle.lab_explore.specs.Stored.{IsState}
+use Rattle.lab_explore.specs.Private.Stored.{IsState}
 use Rattle.lab_explore.proofs.Pushes.{got}
 use Rattle.lab_explore.proofs.Walks.{by_places}
 use Rattle.lab_explore.proofs.store.Store.is_row.Goals as goal

@@ -1,6 +1,6 @@
 use Rattle.std.proofs.Common.{ℕ, ◌<◌, slice_get}
 use Rattle.lab_explore.specs.Calls.{Both}
-use Rattle.lab_explore.specs.Stored.{IsState}
+use Rattle.lab_explore.specs.Private.Stored.{IsState}
 use Rattle.lab_explore.proofs.store.Store.is_row.Given as goal
 
 abbrev pub invariant-loop-pid : goal.invariant-loop-pid

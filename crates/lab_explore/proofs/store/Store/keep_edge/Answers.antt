@@ -1,7 +1,7 @@
 use Rattle.std.proofs.Common.{refl, subst, sym}
-use Rattle.lab_explore.specs.Stored.{IsAt}
+use Rattle.lab_explore.specs.Private.Stored.{IsAt}
 use Rattle.lab_explore.proofs.Growths.{edges_pushed}
-use Rattle.lab_explore.proofs.Nexts.{edge_made}
+use Rattle.lab_explore.proofs.StepsOfRows.{edge_made}
 use Rattle.lab_explore.proofs.store.Store.keep_edge.Goals as goal
 
 pub returns-clause-edge : goal.returns-clause-edge

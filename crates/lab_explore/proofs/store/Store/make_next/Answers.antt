@@ -1,5 +1,5 @@
 use Rattle.std.proofs.Common.{subst}
-use Rattle.lab_explore.specs.Stored.{IsStepped}
+use Rattle.lab_explore.specs.Private.Stored.{IsStepped}
 use Rattle.lab_explore.proofs.Growths.{state_grows}
 use Rattle.lab_explore.proofs.store.Store.make_next.Goals as goal
 

@@ -1,5 +1,5 @@
 use Rattle.lab_explore.proofs.Growths.{at_grows, known_grows}
-use Rattle.lab_explore.proofs.Nexts.{placed_grows, moved_at}
+use Rattle.lab_explore.proofs.StepsOfRows.{placed_grows, moved_at}
 use Rattle.lab_explore.proofs.store.Store.try_process.Goals as goal
 
 pub keep_edge-requires-clause-row : goal.keep_edge-requires-clause-row

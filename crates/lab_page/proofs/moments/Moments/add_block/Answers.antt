@@ -1,19 +1,21 @@
 use Rattle.std.proofs.Common.{◌≡◌, ◌+◌, ◌++◌, List, length, replicate, sym, ap, subst, ◌∙◌, arith, append-nil}
+use Rattle.std.proofs.lemmas.Result.{err_from_is_err_and}
 use Rattle.lab_sched.specs.Worlds.{WorldState}
-use Rattle.lab_trace.specs.Scenes.{IsKept}
+use Rattle.lab_trace.specs.Scenes.{scene_at, IsKept}
 use Rattle.lab_trace.proofs.SceneLemmas.{scene-none, stands, kept-after, length-step}
-use Rattle.lab_trace.proofs.WrittenLemmas.{scene, scene-told}
+use Rattle.lab_trace.proofs.WrittenLemmas.{scene-told}
 use Rattle.lab_page.specs.Moments.{Moment}
 use Rattle.lab_page.proofs.MomentLemmas.{moments-none, moments-told, moments-more}
+use Rattle.lab_page.proofs.FaultLemmas.{fault-step}
 use Rattle.lab_page.proofs.moments.Moments.add_block.Goals as goal
 
 pub loop-done-init : goal.loop-done-init
 loop-done-init c =
-    let s = scene c.args.first c.args.world.now c.args.tally.now in
+    let s = scene_at c.args.first c.args.world.now c.args.tally.now in
     let e : c.args.first + 0 ≡ c.args.first = omega arith in
     record {
       within = omega arith;
-      scene = ap (λ n. scene n c.args.world.now c.args.tally.now) e ∙ sym (scene-none s);
+      scene = ap (λ n. scene_at n c.args.world.now c.args.tally.now) e ∙ sym (scene-none s);
       moments = sym (ap (λ (l : List Moment). c.args.self.now ++ l) (moments-none c.args.widths c.args.whole s) ∙ append-nil c.args.self.now);
       kept = rw e c.requires.kept;
       there = c.requires.process;
@@ -21,8 +23,8 @@ loop-done-init c =
 
 pub loop-done-preserved : goal.loop-done-preserved
 loop-done-preserved c =
-    let s = scene c.args.first c.args.world.now c.args.tally.now in
-    let u = scene (c.args.first + c.loop-done.done) c.loop-done.world c.loop-done.tally in
+    let s = scene_at c.args.first c.args.world.now c.args.tally.now in
+    let u = scene_at (c.args.first + c.loop-done.done) c.loop-done.world c.loop-done.tally in
     let k = c.steps_done-done.result in
     let stand = stands c.args.widths u c.args.block.pid k c.in_ok-stepped.stepped c.in_ok-stepped.ensures.told c.steps_done-done.ensures.other in
     let told = scene-told c.args.widths s c.args.first c.loop-done.done k c.args.block.pid c.loop-done.world c.add_step.new.world c.loop-done.tally c.add_step.new.tally
@@ -37,3 +39,11 @@ loop-done-preserved c =
       kept = subst IsKept (sym told) (kept-after s (replicate (c.loop-done.done + k) c.args.block.pid) c.requires.kept);
       there = omega (arith, len, c.loop-done.invariant.there);
     }
+
+pub returns-in_err-stepped-clause-fault : goal.returns-in_err-stepped-clause-fault
+returns-in_err-stepped-clause-fault c =
+    let s = scene_at c.args.first c.args.world.now c.args.tally.now in
+    let u = scene_at (c.args.first + c.loop-done.done) c.loop-done.world c.loop-done.tally in
+    let p = err_from_is_err_and c.from_residual.result c.from_residual.ensures.1 in
+    rw (p.1, p.2) (fault-step c.args.widths c.args.whole s u c.args.block.count c.loop-done.done c.args.block.pid _ _ _ c.loop-done-test.true c.loop-done.invariant.scene
+    c.loop-done.invariant.moments c.in_err-stepped.ensures.fault)

@@ -1,18 +1,20 @@
 use Rattle.std.proofs.Common.{◌+◌, ◌++◌, List, length, take, get_or, refl, sym, ap, subst, ◌∙◌, arith, append-nil, length-append}
 use Rattle.std.proofs.lemmas.List.{length-replicate}
+use Rattle.std.proofs.lemmas.Result.{err_from_is_err_and}
 use Rattle.lab_sched.specs.Schedules.{block, steps_of}
 use Rattle.lab_sched.proofs.ScheduleJoins.{length-steps}
 use Rattle.lab_sched.proofs.ScheduleRuns.{steps_of-none, steps-more, steps-among}
-use Rattle.lab_trace.specs.Scenes.{Scene, scene_after, IsKept}
+use Rattle.lab_trace.specs.Scenes.{Scene, scene_at, scene_after, IsKept}
 use Rattle.lab_trace.proofs.SceneLemmas.{scene-none, kept-after, length-scene}
-use Rattle.lab_trace.proofs.WrittenLemmas.{scene, scene-block}
+use Rattle.lab_trace.proofs.WrittenLemmas.{scene-block}
 use Rattle.lab_page.specs.Moments.{Moment, moments}
 use Rattle.lab_page.proofs.MomentLemmas.{moments-none, moments-block}
+use Rattle.lab_page.proofs.FaultLemmas.{fault-block}
 use Rattle.lab_page.proofs.moments.Moments.add_blocks.Goals as goal
 
 pub loop-block-init : goal.loop-block-init
 loop-block-init c =
-    let s = scene 1 c.args.world.now c.args.tally.now in
+    let s = scene_at 1 c.args.world.now c.args.tally.now in
     let v = c.args.widths in
     record {
       number = omega (arith, ap length steps_of-none);
@@ -34,13 +36,13 @@ overflow_add-number c =
 
 pub loop-block-preserved : goal.loop-block-preserved
 loop-block-preserved c =
-    let s = scene 1 c.args.world.now c.args.tally.now in
-    let u = scene c.loop-block.number c.loop-block.world c.loop-block.tally in
+    let s = scene_at 1 c.args.world.now c.args.tally.now in
+    let u = scene_at c.loop-block.number c.loop-block.world c.loop-block.tally in
     let bs = c.args.blocks.now in
     let i = c.loop-block.block-index in
     let within = c.loop-block-test.true in
     let count = (get_or bs i (block 0 0)).count in
-    let x = scene (c.loop-block.number + count) c.add_block.new.world c.add_block.new.tally in
+    let x = scene_at (c.loop-block.number + count) c.add_block.new.world c.add_block.new.tally in
     let more = ap length (steps-more bs i (block 0 0) within) ∙ length-append (steps_of (take i bs)) _ in
     let told = scene-block s u x bs i (block 0 0) within c.loop-block.invariant.scene c.in_ok-add_block.ensures.scene in
     record {
@@ -51,3 +53,11 @@ loop-block-preserved c =
       kept = subst IsKept (sym told) (kept-after s (steps_of (take (i + 1) bs)) c.requires.kept);
       count = ap (λ (y : Scene). length y.world.processes) told ∙ length-scene s (steps_of (take (i + 1) bs));
     }
+
+pub returns-in_err-add_block-clause-fault : goal.returns-in_err-add_block-clause-fault
+returns-in_err-add_block-clause-fault c =
+    let s = scene_at 1 c.args.world.now c.args.tally.now in
+    let u = scene_at c.loop-block.number c.loop-block.world c.loop-block.tally in
+    let p = err_from_is_err_and c.from_residual.result c.from_residual.ensures.1 in
+    rw (p.1, p.2) (fault-block c.args.widths c.args.whole s u c.args.blocks.now c.loop-block.block-index (block 0 0) _ _ _ c.loop-block-test.true c.loop-block.invariant.scene
+    c.loop-block.invariant.moments c.in_err-add_block.ensures.fault)

@@ -1,5 +1,5 @@
 use Rattle.std.proofs.Common.{◌+◌, ◌++◌, ◌∷◌, [], drop, get_or, ap, sym, ◌∙◌, arith}
-use Rattle.lab_sched.specs.Schedules.{block, joined, total_of}
+use Rattle.lab_sched.specs.Schedules.{block, joined_blocks, total_of}
 use Rattle.lab_sched.specs.ScheduleTexts.{too_long}
 use Rattle.lab_sched.proofs.ScheduleSteps.{too_long-more, too_long-here, too_long-end, joined-none, joined-more, scheduled-long, scheduled-ok}
 use Rattle.lab_sched.proofs.schedule.reading.scheduled.Goals as goal
@@ -24,7 +24,7 @@ loop-i-preserved c =
     record {
       made =
           c.in_ok-push.ensures.blocks
-          ∙ ap (λ s. joined (s ++ get_or bs i (block 0 0) ∷ [])) c.loop-i.invariant.made
+          ∙ ap (λ s. joined_blocks (s ++ get_or bs i (block 0 0) ∷ [])) c.loop-i.invariant.made
           ∙ joined-more bs i (block 0 0) c.loop-i-test.true;
       rest =
           c.loop-i.invariant.rest

@@ -1,8 +1,8 @@
-use Rattle.std.proofs.Common.{◌≡◌, ◌<◌, ◌≤◌, ◌+◌, [], length, map, drop, get_or, ap, sym, ◌∙◌, arith}
+use Rattle.std.proofs.Common.{◌<◌, ◌≤◌, ◌+◌, [], length, map, drop, get_or, ap, sym, ◌∙◌, arith}
 use Rattle.std.proofs.lemmas.List.{get_or-map, length-map, drop_all, drop_more}
 use Rattle.std.proofs.lemmas.List.Elements.{All-nil, All-push}
 use Rattle.lab_sched.specs.Schedules.{IsBlock}
-use Rattle.lab_sched.specs.ScheduleTexts.{block_in, written}
+use Rattle.lab_sched.specs.ScheduleTexts.{block_in, blocks_of_words}
 use Rattle.lab_sched.proofs.ScheduleSteps.{with_front, written-start, written-more, written-bad, written-end}
 use Rattle.lab_sched.proofs.schedule.reading.written.Goals as goal
 
@@ -19,7 +19,7 @@ returns-in_default-clause-exact c =
     let at = get_or-map (λ word. word.now) c.args.words.now i (record { ref_ptr = (0, 0); now = [] }) [] c.loop-i-test.true in
     let within : i < length ws = rw length-map c.loop-i-test.true in
     c.loop-i.invariant.read
-    ∙ ap (λ rest. with_front c.loop-i.blocks.items (written (i + 1) rest)) (drop_more ws i [] within)
+    ∙ ap (λ rest. with_front c.loop-i.blocks.items (blocks_of_words (i + 1) rest)) (drop_more ws i [] within)
     ∙ written-bad c.loop-i.blocks.items (i + 1) (get_or ws i []) (drop (i + 1) ws) (c.in_default.ensures.value ∙ ap block_in (sym at))
 
 pub loop-i-preserved : goal.loop-i-preserved
@@ -33,7 +33,7 @@ loop-i-preserved c =
     record {
       read =
           rw c.in_ok-push.ensures.items (c.loop-i.invariant.read
-          ∙ ap (λ rest. with_front found (written (i + 1) rest)) (drop_more ws i [] within)
+          ∙ ap (λ rest. with_front found (blocks_of_words (i + 1) rest)) (drop_more ws i [] within)
           ∙ written-more found (i + 1) (get_or ws i []) (drop (i + 1) ws) b (c.in-Some.ensures.value ∙ ap block_in (sym at)));
       valid = rw c.in_ok-push.ensures.items (All-push IsBlock found b c.loop-i.invariant.valid c.in-Some.ensures.valid);
     }
@@ -44,5 +44,5 @@ returns-clause-exact c =
     let count = length-map c.args.words.now (λ word. word.now) in
     let past : length ws ≤ c.loop-i.i = omega (arith, count) in
     c.loop-i.invariant.read
-    ∙ ap (λ rest. with_front c.loop-i.blocks.items (written (c.loop-i.i + 1) rest)) (drop_all c.loop-i.i ws past)
+    ∙ ap (λ rest. with_front c.loop-i.blocks.items (blocks_of_words (c.loop-i.i + 1) rest)) (drop_all c.loop-i.i ws past)
     ∙ written-end c.loop-i.blocks.items (c.loop-i.i + 1)

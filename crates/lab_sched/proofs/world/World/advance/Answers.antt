@@ -1,5 +1,5 @@
 use Rattle.std.proofs.Common.{◌≡◌, ap, ◌∙◌, ◌+◌, sym, arith, length, replicate}
-use Rattle.lab_sched.specs.Worlds.{WorldState, step}
+use Rattle.lab_sched.specs.Worlds.{WorldState}
 use Rattle.lab_sched.specs.declared.world.StepFault.TheVariants.{NoMemory, NoProcess}
 use Rattle.lab_sched.proofs.WorldLemmas.{none_taken, seen_length}
 use Rattle.lab_sched.proofs.Runs.{length-run, run_on, run_told}

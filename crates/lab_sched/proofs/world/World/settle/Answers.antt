@@ -1,5 +1,5 @@
 use Rattle.std.proofs.Common.{◌∙◌, sym, arith}
-use Rattle.lab_sched.proofs.Settles.{settled_none, settled-append, added_length, no_bits}
+use Rattle.lab_sched.proofs.ReportAdditions.{settled_none, settled-append, added_length, no_bits}
 use Rattle.lab_sched.proofs.world.World.settle.Goals as goal
 
 pub loop-refused-init : goal.loop-refused-init

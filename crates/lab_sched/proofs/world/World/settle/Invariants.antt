@@ -1,8 +1,7 @@
 use Rattle.std.proofs.Common.{◌≡◌, ◌+◌, ◌≤◌, ℕ, length, sum}
 use Rattle.std.specs.Int.{bit_at}
 use Rattle.lab_sched.specs.Schedules.{steps_of, total_of, most_steps}
-use Rattle.lab_sched.specs.Settled.{IsSettled, IsShort}
-use Rattle.lab_sched.proofs.Settles.{report}
+use Rattle.lab_sched.specs.Settled.{report, IsSettled, IsShort}
 use Rattle.lab_sched.proofs.world.World.settle.Given as goal
 
 abbrev pub invariant-loop-refused : goal.invariant-loop-refused

@@ -1,6 +1,6 @@
 use Rattle.std.proofs.Common.{refl, subst, ◌∙◌, arith}
-use Rattle.lab_sched.specs.Worlds.{turn_in, IsEffective}
-use Rattle.lab_sched.proofs.Settles.{added_none, added_more, added_no_more, added_same, added_length}
+use Rattle.lab_sched.specs.Worlds.{step_effect_in, IsEffective}
+use Rattle.lab_sched.proofs.ReportAdditions.{added_none, added_more, added_no_more, added_same, added_length}
 use Rattle.lab_sched.proofs.world.World.settle_process.Goals as goal
 
 pub loop-taken-init : goal.loop-taken-init
@@ -13,7 +13,7 @@ returns-then-more-eq0-clause-added c =
 pub returns-then-more-eq0-clause-short : goal.returns-then-more-eq0-clause-short
 returns-then-more-eq0-clause-short c _ = (
   c.loop-taken-test.true,
-  subst (λ w. IsEffective (turn_in w c.args.pid)) (added_same c.settle_steps-more.result c.args.pid c.if-more-eq0.true c.settle_steps-more.ensures.added)
+  subst (λ w. IsEffective (step_effect_in w c.args.pid)) (added_same c.settle_steps-more.result c.args.pid c.if-more-eq0.true c.settle_steps-more.ensures.added)
       (c.can_step.ensures.yes c.if-not-can_step.false),
 )
 

@@ -1,7 +1,6 @@
 use Rattle.std.proofs.Common.{◌≡◌, ◌+◌, ◌-◌, ◌≤◌, length, replicate}
 use Rattle.lab_sched.specs.Schedules.{steps_of, total_of}
-use Rattle.lab_sched.specs.Settled.{IsAdded}
-use Rattle.lab_sched.proofs.Settles.{report}
+use Rattle.lab_sched.specs.Settled.{report, IsAdded}
 use Rattle.lab_sched.proofs.world.World.settle_process.Given as goal
 
 abbrev pub invariant-loop-taken : goal.invariant-loop-taken

@@ -1,6 +1,6 @@
 use Rattle.std.proofs.Common.{◌<◌, ◌∙◌, refl, sym, arith, ⊎_elim, length}
 use Rattle.std.proofs.lemmas.List.{length-set}
-use Rattle.lab_sched.proofs.Settles.{settled_none, settled_more, stopped_more, short_more, sum_less, sum_at, added_same, added_length}
+use Rattle.lab_sched.proofs.ReportAdditions.{settled_none, settled_more, stopped_more, short_more, sum_less, sum_at, added_same, added_length}
 use Rattle.lab_sched.proofs.world.World.settle_round.Goals as goal
 
 pub loop-pid-init : goal.loop-pid-init

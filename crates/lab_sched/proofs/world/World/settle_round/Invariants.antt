@@ -1,8 +1,7 @@
 use Rattle.std.proofs.Common.{◌≡◌, ◌+◌, ◌≤◌, ◌<◌, ℕ, length, sum, true, false}
 use Rattle.std.specs.Int.{bit_at}
 use Rattle.lab_sched.specs.Schedules.{steps_of, total_of}
-use Rattle.lab_sched.specs.Settled.{IsSettled, HasStopped, IsShort}
-use Rattle.lab_sched.proofs.Settles.{report}
+use Rattle.lab_sched.specs.Settled.{report, IsSettled, HasStopped, IsShort}
 use Rattle.lab_sched.proofs.world.World.settle_round.Given as goal
 
 abbrev pub invariant-loop-pid : goal.invariant-loop-pid

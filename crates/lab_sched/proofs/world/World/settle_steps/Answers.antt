@@ -1,6 +1,6 @@
 use Rattle.std.proofs.Common.{ap}
 use Rattle.lab_sched.specs.Schedules.{steps_of}
-use Rattle.lab_sched.proofs.Settles.{added_nothing}
+use Rattle.lab_sched.proofs.ReportAdditions.{added_nothing}
 use Rattle.lab_sched.proofs.world.World.settle_steps.Goals as goal
 
 pub returns-in_default-clause-added : goal.returns-in_default-clause-added

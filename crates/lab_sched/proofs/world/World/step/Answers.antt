@@ -1,7 +1,7 @@
 use Rattle.std.proofs.Common.{◌<◌, length, refl, arith}
 use Rattle.lab_sched.proofs.WorldLemmas.{stepped_world, stepped_told, same_world, world_set}
 use Rattle.lab_sched.proofs.Profiles.{step_profile}
-use Rattle.lab_sched.specs.Held.{seen}
+use Rattle.lab_sched.specs.Held.{process_view}
 use Rattle.lab_sched.proofs.world.World.step.Goals as goal
 
 pub invariant_of-self : goal.invariant_of-self
@@ -9,7 +9,7 @@ invariant_of-self c =
     let ps = c.self.inside.processes.items in
     let within : c.args.pid < length ps = omega (arith, c.self.inside.processes.ok.0) in
     let s = c.index_mut-process.result.now in
-    let kept = step_profile c.self.inside.kernel c.take_step.new.kernel c.args.pid (seen s) (seen c.take_step.new.process) c.take_step.result c.take_step.ensures.ok c.take_step.ensures.err in
+    let kept = step_profile c.self.inside.kernel c.take_step.new.kernel c.args.pid (process_view s) (process_view c.take_step.new.process) c.take_step.result c.take_step.ensures.ok c.take_step.ensures.err in
     world_set ps _ c.self.inside.kernel c.take_step.new.kernel c.args.pid s c.take_step.new.process c.self.invariant within c.index_mut-process.ensures.value refl kept c.take_step.ensures.held c.take_step.ensures.count
 
 pub invariant_of-self-2 : goal.invariant_of-self-2
@@ -17,7 +17,7 @@ invariant_of-self-2 c =
     let ps = c.self.inside.processes.items in
     let within : c.args.pid < length ps = omega (arith, c.self.inside.processes.ok.0) in
     let s = c.index_mut-process.result.now in
-    let kept = step_profile c.self.inside.kernel c.take_step.new.kernel c.args.pid (seen s) (seen c.take_step.new.process) c.take_step.result c.take_step.ensures.ok c.take_step.ensures.err in
+    let kept = step_profile c.self.inside.kernel c.take_step.new.kernel c.args.pid (process_view s) (process_view c.take_step.new.process) c.take_step.result c.take_step.ensures.ok c.take_step.ensures.err in
     world_set ps _ c.self.inside.kernel c.take_step.new.kernel c.args.pid s c.take_step.new.process c.self.invariant within c.index_mut-process.ensures.value refl kept c.take_step.ensures.held c.take_step.ensures.count
 
 pub returns-clause-world : goal.returns-clause-world

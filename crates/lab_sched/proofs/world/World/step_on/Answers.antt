@@ -1,8 +1,8 @@
 use Rattle.std.proofs.Common.{refl}
-use Rattle.lab_sched.proofs.Locals.{stops_at}
+use Rattle.lab_sched.proofs.LocalSteps.{stops_at}
 use Rattle.lab_sched.proofs.WorldLemmas.{seen_within, stepped_world, stepped_told, same_world, world_set}
 use Rattle.lab_sched.proofs.Profiles.{step_profile}
-use Rattle.lab_sched.specs.Held.{seen}
+use Rattle.lab_sched.specs.Held.{process_view}
 use Rattle.lab_sched.proofs.world.World.step_on.Goals as goal
 
 pub invariant_of-self : goal.invariant_of-self
@@ -10,7 +10,7 @@ invariant_of-self c =
     let ps = c.self.inside.processes.items in
     let within = seen_within ps c.self.inside.kernel c.args.self.now c.args.pid c.self.view_is c.requires.process in
     let s = c.index_mut-process.result.now in
-    let kept = step_profile c.self.inside.kernel c.step_on.new.kernel c.args.pid (seen s) (seen c.step_on.new.process) c.step_on.result c.step_on.ensures.ok c.step_on.ensures.err in
+    let kept = step_profile c.self.inside.kernel c.step_on.new.kernel c.args.pid (process_view s) (process_view c.step_on.new.process) c.step_on.result c.step_on.ensures.ok c.step_on.ensures.err in
     world_set ps _ c.self.inside.kernel c.step_on.new.kernel c.args.pid s c.step_on.new.process c.self.invariant within c.index_mut-process.ensures.value refl kept c.step_on.ensures.held c.step_on.ensures.count
 
 pub invariant_of-self-2 : goal.invariant_of-self-2
@@ -18,7 +18,7 @@ invariant_of-self-2 c =
     let ps = c.self.inside.processes.items in
     let within = seen_within ps c.self.inside.kernel c.args.self.now c.args.pid c.self.view_is c.requires.process in
     let s = c.index_mut-process.result.now in
-    let kept = step_profile c.self.inside.kernel c.step_on.new.kernel c.args.pid (seen s) (seen c.step_on.new.process) c.step_on.result c.step_on.ensures.ok c.step_on.ensures.err in
+    let kept = step_profile c.self.inside.kernel c.step_on.new.kernel c.args.pid (process_view s) (process_view c.step_on.new.process) c.step_on.result c.step_on.ensures.ok c.step_on.ensures.err in
     world_set ps _ c.self.inside.kernel c.step_on.new.kernel c.args.pid s c.step_on.new.process c.self.invariant within c.index_mut-process.ensures.value refl kept c.step_on.ensures.held c.step_on.ensures.count
 
 pub returns-clause-world : goal.returns-clause-world

@@ -1,7 +1,7 @@
 use Rattle.std.proofs.Common.{◌++◌, ◌∷◌, [], refl, ap, ◌∙◌}
 use Rattle.ipc_kernel.specs.Answer.{answer}
 use Rattle.lab_sched.specs.Worlds.{WorldState}
-use Rattle.lab_sched.proofs.Settles.{taken_none, taken_call}
+use Rattle.lab_sched.proofs.ReportAdditions.{taken_none, taken_call}
 use Rattle.lab_sched.proofs.world.World.take_call.Goals as goal
 
 pub returns-in_default-clause-taken : goal.returns-in_default-clause-taken

@@ -1,5 +1,5 @@
 use Rattle.std.proofs.Common.{refl}
-use Rattle.lab_sched.proofs.Settles.{taken_none}
+use Rattle.lab_sched.proofs.ReportAdditions.{taken_none}
 use Rattle.lab_sched.proofs.world.World.take_steps.Goals as goal
 
 pub returns-in-Ended-clause-taken : goal.returns-in-Ended-clause-taken

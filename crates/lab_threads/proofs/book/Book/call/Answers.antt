@@ -1,6 +1,6 @@
 use Rattle.std.proofs.Common.{rules, ap}
 use Rattle.ipc_kernel.specs.Outcomes.{Outcome}
-use Rattle.lab_threads.proofs.Books.{book_after, book_still, kernel_after}
+use Rattle.lab_threads.proofs.BookCalls.{book_after, book_still, kernel_after}
 use Rattle.lab_threads.proofs.book.Book.call.Goals as goal
 
 pub invariant_of-self-then-not-has_entry : goal.invariant_of-self-then-not-has_entry

@@ -1,5 +1,5 @@
 use Rattle.std.proofs.Common.{◌≡◌, length, arith, rules}
-use Rattle.lab_threads.proofs.Books.{book_none, none_after}
+use Rattle.lab_threads.proofs.BookCalls.{book_none, none_after}
 use Rattle.lab_threads.proofs.book.Book.new.Goals as goal
 
 pub invariant_of-result : goal.invariant_of-result

@@ -1,7 +1,7 @@
 use Rattle.std.proofs.Common.{◌<◌, ◌+◌, ◌/◌, get_or, length, ap, sym, arith, rules, below_more}
 use Rattle.std.proofs.lemmas.List.{get_or_default}
 use Rattle.lc3_machine.specs.Memory.{IsReadyAt}
-use Rattle.lc3_machine.specs.Pages.{absent}
+use Rattle.lc3_machine.specs.Private.Pages.{absent}
 use Rattle.lc3_machine.proofs.PageLemmas.{IsReadyAt-made, made-IsReadyAt}
 use Rattle.lc3_machine.proofs.memory.Memory.is_writable.Goals as goal
 use Rattle.lc3_word.specs.Segment.{first_device}

@@ -1,7 +1,7 @@
 use Rattle.std.proofs.Common.{◌<◌, ◌+◌, ap, sym, ◌∙◌, length, set, get_or, arith}
 use Rattle.std.proofs.lemmas.List.{take_all}
 use Rattle.lc3_machine.specs.Process.{zeros, memory_of}
-use Rattle.lc3_machine.specs.Memory.{written}
+use Rattle.lc3_machine.specs.Memory.{with_words}
 use Rattle.lc3_machine.proofs.MemoryLemmas.{length-zeros, written-none, written-more, written-zeros}
 use Rattle.lc3_machine.proofs.memory.Memory.load.Goals as goal
 
@@ -21,6 +21,6 @@ returns c =
     record {
       words =
           c.loop-k.invariant
-          ∙ ap (λ ws. written (zeros 65536) c.args.origin ws) (take_all c.loop-k.k c.args.words.now c.loop-k-test.false)
+          ∙ ap (λ ws. with_words (zeros 65536) c.args.origin ws) (take_all c.loop-k.k c.args.words.now c.loop-k-test.false)
           ∙ written-zeros 65536 c.args.origin c.args.words.now (omega arith);
     }

@@ -1,7 +1,7 @@
 use Rattle.std.proofs.Common.{◌≡◌, ℕ, ◌<◌, ◌≤◌, ◌+◌, ◌-◌, ◌/◌, ◌∙◌, List, Some, true, get_or, slice_get, refl, ap, sym, subst, length, arith}
 use Rattle.std.proofs.lemmas.List.{get_or_default}
 use Rattle.lc3_machine.specs.Memory.{IsReadyAt, StaysReady}
-use Rattle.lc3_machine.specs.Pages.{PageWords, absent, joined, page_made}
+use Rattle.lc3_machine.specs.Private.Pages.{PageWords, absent, memory_of_pages, page_made}
 use Rattle.lc3_machine.proofs.PageLemmas.{same-joined, StaysReady-set, made-more}
 use Rattle.lc3_machine.proofs.memory.Memory.reserve.Goals as goal
 
@@ -13,12 +13,12 @@ loop-i-preserved c =
     let inside : c.loop-i.i < length c.loop-i.self-inside.pages = omega (arith, c.make.ensures.count) in
     let is = get_or_default ps c.loop-i.i absent (get_or ps c.loop-i.i absent) inside in
     let made = c.in_ok-make.ensures.ok absent in
-    let stays : StaysReady ((joined c.loop-i.self-inside.pages).ready) ((joined c.make.new.self).ready) =
-    subst (λ qs. StaysReady ((joined c.loop-i.self-inside.pages).ready) ((joined qs).ready)) (sym made) (StaysReady-set ps c.loop-i.i page (page_made page) inside is (λ _. refl)) in
+    let stays : StaysReady ((memory_of_pages c.loop-i.self-inside.pages).ready) ((memory_of_pages c.make.new.self).ready) =
+    subst (λ qs. StaysReady ((memory_of_pages c.loop-i.self-inside.pages).ready) ((memory_of_pages qs).ready)) (sym made) (StaysReady-set ps c.loop-i.i page (page_made page) inside is (λ _. refl)) in
     record {
-      words = ap (λ qs. (joined qs).words) made ∙ same-joined ps c.loop-i.i page (page_made page) inside is refl ∙ c.loop-i.invariant.words;
+      words = ap (λ qs. (memory_of_pages qs).words) made ∙ same-joined ps c.loop-i.i page (page_made page) inside is refl ∙ c.loop-i.invariant.words;
       ready = λ address ready. stays address (c.loop-i.invariant.ready address ready);
-      made = subst (λ (qs : List PageWords). (q : ℕ) → c.args.at / 256 ≤ q → q < c.loop-i.i + 1 → slice_get ((joined qs).ready) q ≡ Some true) (sym made) (made-more ps (c.args.at / 256) c.loop-i.i page (page_made page) inside refl c.loop-i.invariant.made);
+      made = subst (λ (qs : List PageWords). (q : ℕ) → c.args.at / 256 ≤ q → q < c.loop-i.i + 1 → slice_get ((memory_of_pages qs).ready) q ≡ Some true) (sym made) (made-more ps (c.args.at / 256) c.loop-i.i page (page_made page) inside refl c.loop-i.invariant.made);
     }
 
 pub returns-clause-ok : goal.returns-clause-ok

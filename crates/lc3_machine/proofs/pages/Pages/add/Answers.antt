@@ -1,7 +1,7 @@
 use Rattle.std.proofs.Common.{◌≡◌, ◌+◌, ◌-◌, ◌++◌, List, true, replicate, get_or, set, length, vec_len, arith, sym, ap, subst, ◌∙◌}
 use Rattle.std.proofs.lemmas.List.{take_all}
 use Rattle.lc3_machine.specs.Process.{zeros}
-use Rattle.lc3_machine.specs.Pages.{PageWords, ArePages, pages_at, page_made}
+use Rattle.lc3_machine.specs.Private.Pages.{PageWords, ArePages, pages_at, page_made}
 use Rattle.lc3_machine.proofs.PlacedPages.{page-blank, pages-made, more-pages, zeros-is}
 use Rattle.lc3_machine.proofs.pages.Pages.add.Goals as goal
 

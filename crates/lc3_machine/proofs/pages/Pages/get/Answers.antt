@@ -1,6 +1,6 @@
 use Rattle.std.proofs.Common.{◌+◌, List, get_or, ap, subst, ◌∙◌}
 use Rattle.std.proofs.lemmas.List.{get_or_default}
-use Rattle.lc3_machine.specs.Pages.{PageWords, AreWhole}
+use Rattle.lc3_machine.specs.Private.Pages.{PageWords, AreWhole}
 use Rattle.lc3_machine.proofs.PlacedPages.{page-word, word-inside, pages-whole}
 use Rattle.lc3_machine.proofs.pages.Pages.get.Goals as goal
 

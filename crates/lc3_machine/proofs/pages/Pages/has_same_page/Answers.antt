@@ -1,5 +1,5 @@
 use Rattle.std.proofs.Common.{◌≡◌, List, get_or, refl, sym, ap, ◌∙◌}
-use Rattle.lc3_machine.specs.Pages.{PageWords}
+use Rattle.lc3_machine.specs.Private.Pages.{PageWords}
 use Rattle.lc3_machine.specs.Process.{zeros}
 use Rattle.lc3_machine.proofs.PlacedPages.{page-blank}
 use Rattle.lc3_machine.proofs.pages.Pages.has_same_page.Goals as goal

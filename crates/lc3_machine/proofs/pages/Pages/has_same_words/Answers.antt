@@ -1,6 +1,6 @@
 use Rattle.std.proofs.Common.{◌≡◌, ◌<◌, ℕ, List, get_or, length, refl, ap, subst, arith, rules}
 use Rattle.std.proofs.lemmas.List.{get_or_default}
-use Rattle.lc3_machine.specs.Pages.{PageWords, AreWhole, ArePages, absent, pages_at}
+use Rattle.lc3_machine.specs.Private.Pages.{PageWords, AreWhole, ArePages, absent, pages_at}
 use Rattle.lc3_machine.proofs.PlacedPages.{pages-count, pages-whole}
 use Rattle.lc3_machine.proofs.PageCopies.{same-page, same-more}
 use Rattle.lc3_machine.proofs.pages.Pages.has_same_words.Goals as goal

@@ -1,5 +1,5 @@
 use Rattle.std.proofs.Common.{subst}
-use Rattle.lc3_machine.specs.Pages.{AreWhole}
+use Rattle.lc3_machine.specs.Private.Pages.{AreWhole}
 use Rattle.lc3_machine.proofs.PlacedPages.{pages-whole}
 use Rattle.lc3_machine.proofs.pages.Pages.is_made.Goals as goal
 

@@ -1,6 +1,6 @@
 use Rattle.std.proofs.Common.{◌≡◌, ◌<◌, List, true, nat_lt, get_or, set, arith, sym, ap, ◌∙◌}
 use Rattle.std.proofs.lemmas.Bool.Decides.{nat_tests}
-use Rattle.lc3_machine.specs.Pages.{PageWords, absent, page_written}
+use Rattle.lc3_machine.specs.Private.Pages.{PageWords, absent, page_written}
 use Rattle.lc3_machine.proofs.PlacedPages.{page-made, pages-written, still-pages}
 use Rattle.lc3_machine.proofs.pages.Pages.write.Goals as goal
 

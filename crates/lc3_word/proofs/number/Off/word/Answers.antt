@@ -1,4 +1,4 @@
-use Rattle.std.proofs.Common.{◌≡◌, ◌∙◌, sym, ap, w16, of_z}
+use Rattle.std.proofs.Common.{◌∙◌, sym, ap, w16}
 use Rattle.std.proofs.lemmas.Int.{to_z-of_z}
 use Rattle.lc3_word.specs.Words.{low_bits}
 use Rattle.lc3_word.proofs.Signed.{IsSigned-fits, low_bits-word}

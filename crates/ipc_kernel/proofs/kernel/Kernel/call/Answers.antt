@@ -1,7 +1,0 @@
-use Rattle.ipc_kernel.proofs.LawfulAnswers.{carried_form}
-use Rattle.ipc_kernel.proofs.kernel.Kernel.call.Goals as goal
-
-pub returns-clause-form : goal.returns-clause-form
-returns-clause-form c =
-    carried_form c.carry_out-answer.result c.args.self.now c.carry_out-answer.new.self c.args.pid c.args.call.now c.decide-decision.result
-    c.decide-decision.ensures.outcome c.decide-decision.ensures.size c.decide-decision.ensures.limit c.carry_out-answer.ensures.outcome

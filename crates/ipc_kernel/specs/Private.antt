@@ -1,0 +1,4 @@
+-- Definitions that only contracts inside the crate cite.
+pub mod Decisions
+pub mod Counts
+pub mod Index

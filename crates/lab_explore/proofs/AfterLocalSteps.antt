@@ -1,0 +1,73 @@
+-- Processes and worlds ahead of others: by all their local steps.
+use Rattle.std.proofs.Common.{ℕ, zero, suc, ◌+◌, ◌≡◌, List, [], ◌∷◌, Option, Some, None, refl, sym, ap, subst, ◌∙◌, slice_get}
+use Rattle.lc3_machine.specs.Process.{Process as Machine}
+use Rattle.ipc_kernel.specs.Kernel.{KernelState}
+use Rattle.lab_sched.specs.Worlds.{Process, Running, Waiting, Ended, WorldState, moves, next_action}
+use Rattle.lab_sched.specs.LocalRun.{AreLocal}
+use Rattle.lab_sched.specs.Finished.{IsAtRest}
+use Rattle.lab_sched.proofs.GrowingTraces.{local-append}
+use Rattle.lab_explore.specs.Calls.{AreAlike, IsAtCall, IsAhead, Both, IsAdvance}
+use Rattle.lab_explore.specs.Closed.{AreAtRest}
+
+-- a process at a call has no local step
+pub none_local : (n : ℕ) (s u : Process) → IsAtCall s → AreLocal n s u → u ≡ s
+none_local zero s u at h = sym h
+none_local (suc n) (Running m) u at h = let asks = at.1 in let goes = h.1 in cc
+none_local (suc n) (Waiting m c) u at h = absurd h
+none_local (suc n) (Ended e) u at h = absurd h
+
+pub stays : (s u : Process) → IsAtCall s → IsAhead s u → u ≡ s
+stays s u at h = none_local h.taken s u at h.local
+
+-- what is ahead of a process is ahead of the process after its next local step
+goes_on : (n : ℕ) (m q : Machine) (u : Process) → next_action m ≡ moves q → AreLocal n (Running m) u → IsAtCall u → IsAhead (Running q) u
+goes_on zero m q u e h at = let asks = subst IsAtCall (sym h) at in let is = asks.1 in absurd (cc)
+goes_on (suc n) m q u e h at =
+    let is = h.1 in
+    let same : h.0 ≡ q = cc in
+    record { taken = n; local = subst (λ x. AreLocal n (Running x) u) same h.2; at_call = at }
+
+pub ahead_moves : (m q : Machine) (u : Process) → next_action m ≡ moves q → IsAhead (Running m) u → IsAhead (Running q) u
+ahead_moves m q u e h = goes_on h.taken m q u e h.local h.at_call
+
+pub ahead_of_ahead : (a b c : Option Process) → Both IsAhead a b → Both IsAhead b c → Both IsAhead a c
+ahead_of_ahead None None None h i = tt
+ahead_of_ahead None None (Some z) h i = absurd i
+ahead_of_ahead None (Some y) c h i = absurd h
+ahead_of_ahead (Some x) None c h i = absurd h
+ahead_of_ahead (Some x) (Some y) None h i = absurd i
+ahead_of_ahead (Some x) (Some y) (Some z) h i = record {
+  taken = h.taken + i.taken;
+  local = local-append h.taken i.taken x y z h.local i.local;
+  at_call = i.at_call;
+}
+
+-- a process at rest is at a call
+rest_at_call : (k : KernelState) (p : ℕ) (s : Process) → IsAtRest k p s → IsAtCall s
+rest_at_call k p (Running m) h = absurd h
+rest_at_call k p (Waiting m c) h = tt
+rest_at_call k p (Ended e) h = tt
+
+-- lists with the same elements at the same places
+pub same_by_gets : {A : Type 0} (xs ys : List A) → ((i : ℕ) → slice_get xs i ≡ slice_get ys i) → xs ≡ ys
+same_by_gets [] [] f = refl
+same_by_gets [] (y ∷ ys) f = let e = f 0 in absurd (cc)
+same_by_gets (x ∷ xs) [] f = let e = f 0 in absurd (cc)
+same_by_gets {A} (x ∷ xs) (y ∷ ys) f =
+    let head : Some x ≡ Some y = f 0 in
+    let same : x ≡ y = cc in
+    let tail = same_by_gets xs ys (λ i. f (suc i)) in
+    ap (λ z. z ∷ xs) same ∙ ap (λ zs. y ∷ zs) tail
+
+rest_at : (k : KernelState) (p : ℕ) (a b : Option Process) → ((s : Process) → a ≡ Some s → IsAtRest k p s) → Both IsAhead a b → b ≡ a
+rest_at k p None None rest h = refl
+rest_at k p None (Some u) rest h = absurd h
+rest_at k p (Some s) None rest h = absurd h
+rest_at k p (Some s) (Some u) rest h = ap (λ x. Some x) (stays s u (rest_at_call k p s (rest s refl)) h)
+
+-- a world at rest has the processes of its advance
+pub rest_stays : (w v : WorldState) → AreAtRest w → IsAdvance w v → AreAlike w v
+rest_stays w v rest h = record {
+  processes = same_by_gets v.processes w.processes (λ p. rest_at w.kernel p (slice_get w.processes p) (slice_get v.processes p) (rest p) (h.processes p));
+  kernel = h.kernel;
+}

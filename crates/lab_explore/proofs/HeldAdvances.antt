@@ -1,0 +1,114 @@
+-- Whatever steps are taken, the list has the advance of the world that they lead to.
+use Rattle.std.proofs.Common.{ℕ, ◌≡◌, List, [], ◌∷◌, Option, Some, None, refl, sym, ap, subst, ◌∙◌, slice_get, inl, inr, ◌⊎◌, Contains}
+use Rattle.std.proofs.lemmas.Bool.Decides.{eqb_tells}
+use Rattle.lc3_machine.specs.Process.{Process as Machine}
+use Rattle.ipc_kernel.specs.Alike.{IsConsistent}
+use Rattle.ipc_kernel.proofs.Alikes.{alike_then}
+use Rattle.lab_sched.specs.Worlds.{Process, Running, Waiting, Ended, WorldState, NextAction, moves, calls, next_action, StepEffect, nothing, local_step, kernel_step, step_effect, step_effect_in, process_after_answer, after, step, run, IsEffective}
+use Rattle.lab_sched.proofs.ListPlaces.{get-set_same, get_past}
+use Rattle.lab_sched.proofs.Executions.{turn_local}
+use Rattle.lab_sched.proofs.Commutes.{after_other}
+use Rattle.lab_explore.specs.Calls.{AreAlike, IsAhead, Both, IsAdvance}
+use Rattle.lab_explore.specs.Closed.{HasAdvance, IsClosed, AreAtRest, HoldsEveryEnd}
+use Rattle.lab_explore.proofs.AlikeWorlds.{turn_alike, kernel_alike, consistent_after}
+use Rattle.lab_explore.proofs.AfterLocalSteps.{stays, ahead_moves, ahead_of_ahead, rest_stays}
+
+-- a step of the same kind leaves a process in the same state, whatever the rest of the world
+pub same_after : (w v : WorldState) (p : ℕ) (s : Process) (t : StepEffect) → slice_get w.processes p ≡ Some s → slice_get v.processes p ≡ Some s
+    → slice_get (after w p t).processes p ≡ slice_get (after v p t).processes p
+same_after w v p s nothing a b = a ∙ sym b
+same_after w v p s (local_step n) a b = get-set_same w.processes p (Running n) (get_past w.processes p s a) ∙ sym (get-set_same v.processes p (Running n) (get_past v.processes p s b))
+same_after w v p s (kernel_step m c r) a b = get-set_same w.processes p (process_after_answer m c r) (get_past w.processes p s a) ∙ sym (get-set_same v.processes p (process_after_answer m c r) (get_past v.processes p s b))
+
+-- where a process makes the same step in a world and in its advance, what is ahead of the one is ahead of the other
+both_step : (w v u : WorldState) (p : ℕ) (s : Process) (t : StepEffect) → slice_get w.processes p ≡ Some s → slice_get v.processes p ≡ Some s
+    → IsConsistent w.kernel → IsAdvance w v → IsAdvance (after v p t) u → IsAdvance (after w p t) u
+both_step w v u p s t a b c h i = record {
+  kernel = alike_then (after w p t).kernel (after v p t).kernel u.kernel (kernel_alike w v p t c h.kernel) i.kernel;
+  processes = λ j. elim (eqb_tells p j) [
+    | inl same ↦ subst (λ n. Both IsAhead (slice_get (after w p t).processes n) (slice_get u.processes n)) same.1
+        (subst (λ o. Both IsAhead o (slice_get u.processes p)) (sym (same_after w v p s t a b)) (i.processes p))
+    | inr other ↦
+        let first = subst (λ o. Both IsAhead o (slice_get v.processes j)) (sym (after_other w j p t other.1)) (h.processes j) in
+        let then = subst (λ o. Both IsAhead o (slice_get u.processes j)) (after_other v j p t other.1) (i.processes j) in
+        ahead_of_ahead (slice_get (after w p t).processes j) (slice_get v.processes j) (slice_get u.processes j) first then
+  ];
+}
+
+-- a local step of a process keeps the advance
+local_keeps : (w v : WorldState) (p : ℕ) (m q : Machine) (u : Process) → slice_get w.processes p ≡ Some (Running m) → slice_get v.processes p ≡ Some u
+    → next_action m ≡ moves q → IsAdvance w v → IsAhead (Running m) u → IsAdvance (after w p (local_step q)) v
+local_keeps w v p m q u a b e h i = record {
+  kernel = h.kernel;
+  processes = λ j. elim (eqb_tells p j) [
+    | inl same ↦ subst (λ n. Both IsAhead (slice_get (after w p (local_step q)).processes n) (slice_get v.processes n)) same.1 here
+    | inr other ↦ subst (λ o. Both IsAhead o (slice_get v.processes j)) (sym (after_other w j p (local_step q) other.1)) (h.processes j)
+  ];
+}
+  where
+    now : slice_get (after w p (local_step q)).processes p ≡ Some (Running q)
+    now = get-set_same w.processes p (Running q) (get_past w.processes p (Running m) a)
+
+    here : Both IsAhead (slice_get (after w p (local_step q)).processes p) (slice_get v.processes p)
+    here = subst (λ o. Both IsAhead o (slice_get v.processes p)) (sym now) (subst (λ o. Both IsAhead (Some (Running q)) o) (sym b) (ahead_moves m q u e i))
+
+-- a step that isn't effective changes nothing
+pub idle : (t : StepEffect) → (t ≡ nothing) ⊎ IsEffective t
+idle nothing = inl refl
+idle (local_step n) = inr tt
+idle (kernel_step m c r) = inr tt
+
+step_advance : (start : WorldState) (V : WorldState → Type 0) → IsClosed start V → (w : WorldState) (p : ℕ) → IsConsistent w.kernel → HasAdvance V w → HasAdvance V (step w p)
+step_advance start V closed w p consistent has = by (slice_get w.processes p) (slice_get v.processes p) refl refl (h.processes p)
+  where
+    v : WorldState
+    v = has.0
+
+    h : IsAdvance w v
+    h = has.2
+
+    still : step_effect_in w p ≡ nothing → HasAdvance V (step w p)
+    still e = subst (HasAdvance V) (ap (λ t. after w p t) (sym e)) has
+
+    -- a process at a call makes the same step in both worlds
+    at_call : (s : Process) → slice_get w.processes p ≡ Some s → slice_get v.processes p ≡ Some s → HasAdvance V (step w p)
+    at_call s a b =
+        let same : step_effect_in v p ≡ step_effect_in w p = turn_alike w.kernel v.kernel p (slice_get v.processes p) consistent h.kernel ∙ ap (λ o. step_effect w.kernel p o) (b ∙ sym a) in
+        elim (idle (step_effect_in w p)) [
+          | inl none ↦ still none
+          | inr effective ↦
+              let next = closed.goes_on v p has.1 (subst IsEffective (sym same) effective) in
+              let there = subst (λ t. IsAdvance (after v p t) next.0) same next.2 in
+              (next.0, next.1, both_step w v next.0 p s (step_effect_in w p) a b consistent h there)
+        ]
+
+    running : (m : Machine) (u : Process) (a : NextAction) → next_action m ≡ a → slice_get w.processes p ≡ Some (Running m) → slice_get v.processes p ≡ Some u → IsAhead (Running m) u → HasAdvance V (step w p)
+    running m u (moves q) e a b i =
+        let here : step w p ≡ after w p (local_step q) = ap (λ t. after w p t) (turn_local w p m q a e) in
+        (v, has.1, subst (λ x. IsAdvance x v) (sym here) (local_keeps w v p m q u a b e h i))
+    running m u (calls c) e a b i = at_call (Running m) a (b ∙ ap (λ x. Some x) (stays (Running m) u (c, e) i))
+
+    by : (a b : Option Process) → slice_get w.processes p ≡ a → slice_get v.processes p ≡ b → Both IsAhead a b → HasAdvance V (step w p)
+    by None None a b i = still (ap (λ o. step_effect w.kernel p o) a)
+    by None (Some u) a b i = absurd i
+    by (Some s) None a b i = absurd i
+    by (Some (Running m)) (Some u) a b i = running m u (next_action m) refl a b i
+    by (Some (Waiting m c)) (Some u) a b i = at_call (Waiting m c) a (b ∙ ap (λ x. Some x) (stays (Waiting m c) u tt i))
+    by (Some (Ended e)) (Some u) a b i = at_call (Ended e) a (b ∙ ap (λ x. Some x) (stays (Ended e) u tt i))
+
+-- the list has the advance of whatever world the steps lead to
+pub simulates : (start : WorldState) (V : WorldState → Type 0) → IsClosed start V → (ps : List ℕ) (w : WorldState) → IsConsistent w.kernel → HasAdvance V w → HasAdvance V (run w ps)
+unfolding run
+simulates start V closed [] w consistent has = has
+simulates start V closed (p ∷ ps) w consistent has =
+    simulates start V closed ps (step w p) (consistent_after w p (step_effect_in w p) consistent) (step_advance start V closed w p consistent has)
+
+-- a closed set has a world alike each world at rest that any steps lead to
+pub has_every_end : (start : WorldState) (V : WorldState → Type 0) → IsConsistent start.kernel → IsClosed start V → (ps : List ℕ) → AreAtRest (run start ps)
+    → (v : WorldState) × V v × AreAlike (run start ps) v
+has_every_end start V consistent closed ps rest =
+    let has = simulates start V closed ps start consistent closed.begins in
+    (has.0, has.1, rest_stays (run start ps) has.0 rest has.2)
+
+pub holds_every_end : HoldsEveryEnd
+holds_every_end start vs consistent closed ps rest = has_every_end start (Contains vs) consistent closed ps rest

@@ -1,0 +1,4 @@
+-- Definitions that only contracts inside the crate cite.
+pub mod Stored
+pub mod Known
+pub mod Walked

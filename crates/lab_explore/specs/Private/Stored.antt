@@ -1,0 +1,141 @@
+-- What a search keeps: kernels, states of processes, and worlds as places among these.
+use Rattle.std.specs.Prelude.{ℕ, ◌≡◌, ◌<◌, ◌^◌, List, Option, Some, None, length, slice_get}
+use Rattle.std.specs.Option.{option_map}
+use Rattle.ipc_kernel.specs.Kernel.{KernelState}
+use Rattle.ipc_kernel.specs.Alike.{IsAlike}
+use Rattle.lab_sched.specs.declared.process.Process.{Process as Kept}
+use Rattle.lab_sched.specs.Worlds.{Process, WorldState, nothing, step_effect, step_effect_in, step, IsEffective}
+use Rattle.lab_sched.specs.Held.{process_view, IsHeld, step_of}
+use Rattle.lab_explore.specs.declared.store.Row.{Row}
+use Rattle.lab_explore.specs.declared.store.Edge.{Edge}
+use Rattle.lab_explore.specs.declared.store.Store.{Store}
+use Rattle.lab_explore.specs.declared.store.Next.{Next}
+use Rattle.lab_explore.specs.declared.store.Next.TheVariants.{Nothing, Limit, To}
+use Rattle.lab_explore.specs.declared.trying.Made.{Made}
+use Rattle.lab_explore.specs.declared.trying.Tried.{Tried}
+use Rattle.lab_explore.specs.declared.trying.Tried.TheVariants.{Still, Runs, Came}
+use Rattle.lab_explore.specs.Calls.{AreAlike, IsAtCall, IsAhead, Alongside}
+use Rattle.lab_explore.specs.Closed.{HasAdvance}
+use Rattle.lab_explore.specs.Ends.{Each}
+
+-- what stands at a place of the one stands there in the other
+abbrev pub Keeps : {A : Type 0} → List A → List A → Type 0
+Keeps {A} xs ys = (i : ℕ) (x : A) → slice_get xs i ≡ Some x → slice_get ys i ≡ Some x
+
+-- the state at a place
+abbrev pub IsState : Store → ℕ → Process → Type 0
+IsState t i s = option_map process_view (slice_get t.states.items i) ≡ Some s
+
+-- a row stands for the world with the kernel at its place, and the states at theirs
+pub record IsRow (t : Store) (r : Row) (w : WorldState) : Type 0 where
+  pub kernel : slice_get t.kernels.items r.kernel ≡ Some w.kernel
+  pub states : Alongside (IsState t) r.states.items w.processes
+
+-- row number i stands for the world
+abbrev pub IsAt : Store → ℕ → WorldState → Type 0
+IsAt t i w = (r : Row) × (slice_get t.rows.items i ≡ Some r) × IsRow t r w
+
+-- row number i stands for a world that the world is alike
+abbrev pub IsLike : Store → ℕ → WorldState → Type 0
+IsLike t i w = (v : WorldState) × IsAt t i v × AreAlike v w
+
+-- some row stands for the world
+abbrev pub Holds : Store → WorldState → Type 0
+Holds t w = (i : ℕ) × IsAt t i w
+
+-- a state that is kept is at a call, and ready for the reply to it
+abbrev pub IsReady : Kept → Type 0
+IsReady s = IsHeld s × IsAtCall (process_view s)
+
+-- each row stands for a world
+pub record IsStore (t : Store) : Type 0 where
+  pub states : Each IsReady t.states.items
+  pub rows : Each (λ r. (w : WorldState) × IsRow t r w) t.rows.items
+
+-- nothing is lost
+pub record Grows (t u : Store) : Type 0 where
+  pub kernels : Keeps t.kernels.items u.kernels.items
+  pub states : Keeps t.states.items u.states.items
+  pub rows : Keeps t.rows.items u.rows.items
+  pub edges : Keeps t.edges.items u.edges.items
+
+-- u is s after all its local steps, fewer than 2^32
+pub record IsReached (s u : Process) : Type 0 where
+  pub ahead : IsAhead s u
+  pub few : ahead.taken < 2 ^ 32
+
+-- v is w after all local steps of its processes, fewer than 2^32 of each, over a kernel that is
+-- alike
+pub record AreReached (w v : WorldState) : Type 0 where
+  pub kernel : IsAlike w.kernel v.kernel
+  pub processes : Alongside IsReached w.processes v.processes
+
+-- the kernel at a place is alike a kernel
+abbrev pub IsKernel : Store → ℕ → KernelState → Type 0
+IsKernel t i k = (j : KernelState) × (slice_get t.kernels.items i ≡ Some j) × IsAlike k j
+
+-- what a step of process p makes of it and of the kernel, and of it then all its local steps
+abbrev pub IsNext : Store → KernelState → ℕ → Process → Next → Type 0
+IsNext t k p s Nothing = step_effect k p (Some s) ≡ nothing
+IsNext t k p s Limit = Unit {0}
+IsNext t k p s (To kernel state taken) =
+    (u : Process) × IsKernel t kernel (step_of k p s).kernel × IsState t state u
+    × IsReached (step_of k p s).process u
+
+-- the same where the kernel and the process are given by their places
+abbrev pub IsMove : Store → ℕ → ℕ → ℕ → Next → Type 0
+IsMove t kernel p state next =
+    (k : KernelState) × (s : Process) × (slice_get t.kernels.items kernel ≡ Some k)
+    × IsState t state s × IsNext t k p s next
+
+-- an edge from row number i leads to the world after a step of process p and then all its local
+-- steps
+abbrev pub HasEdge : Store → ℕ → WorldState → ℕ → Type 0
+HasEdge t i w p =
+    (k : ℕ) × (e : Edge) × (v : WorldState) × (slice_get t.edges.items k ≡ Some e) × (e.from ≡ i)
+    × IsAt t e.to v × AreReached (step w p) v
+
+-- the step of process p from the world of row number i, if it is effective, has an edge
+abbrev pub IsTried : Store → ℕ → WorldState → ℕ → Type 0
+IsTried t i w p = IsEffective (step_effect_in w p) → HasEdge t i w p
+
+-- row number i stands for a world from which each effective step has an edge
+abbrev pub IsExpanded : Store → ℕ → Type 0
+IsExpanded t i = (w : WorldState) × IsAt t i w × ((p : ℕ) → IsTried t i w p)
+
+-- the same of each row
+abbrev pub AreExpanded : Store → Type 0
+AreExpanded t = (i : ℕ) → i < length t.rows.items → IsExpanded t i
+
+-- the advance of the start is held, and so is each step from each row
+pub record IsSearched (start : WorldState) (t : Store) : Type 0 where
+  pub begins : HasAdvance (Holds t) start
+  pub expanded : AreExpanded t
+
+-- what a step of process p makes of it and of the kernel, and of it then all its local steps, as
+-- they are
+abbrev pub IsStepped : KernelState → ℕ → Process → Tried → Type 0
+IsStepped k p s Still = step_effect k p (Some s) ≡ nothing
+IsStepped k p s Runs = Unit {0}
+IsStepped k p s (Came made) =
+    (made.kernel ≡ (step_of k p s).kernel) × IsReady made.process
+    × IsReached (step_of k p s).process (process_view made.process)
+
+-- the same where the kernel and the process are given by their places
+abbrev pub IsKeptStep : Store → ℕ → ℕ → ℕ → Tried → Type 0
+IsKeptStep t kernel p state tried =
+    (k : KernelState) × (s : Process) × (slice_get t.kernels.items kernel ≡ Some k)
+    × IsState t state s × IsStepped k p s tried
+
+-- all local steps of a process, if it may take so many
+abbrev pub IsRun : KernelState → Process → Option Made → Type 0
+IsRun k s None = Unit {0}
+IsRun k s (Some made) = (made.kernel ≡ k) × IsReady made.process × IsReached s (process_view made.process)
+
+-- the state at a place is the process after all its local steps
+abbrev pub IsCome : Store → ℕ → Process → Type 0
+IsCome t i s = (u : Process) × IsState t i u × IsAhead s u
+
+-- the same of each process
+abbrev pub IsBegun : Store → List ℕ → List Process → Type 0
+IsBegun t is ss = Alongside (IsCome t) is ss

@@ -1,0 +1,220 @@
+-- Steps that are added to a report, and to what processes have left.
+use Rattle.std.proofs.Common.{ℕ, ◌+◌, ◌-◌, ◌≡◌, ◌<◌, ◌≤◌, ◌++◌, List, [], ◌∷◌, Bool, true, refl, sym, ap, subst, ◌∙◌, arith, length, set, map, get_or, inl, inr, ◌⊎◌, slice_get, zero, suc, ◌≢◌, Some, replicate}
+use Rattle.std.proofs.lemmas.List.{append-nil, append_assoc, replicate-append-replicate, length-set, get_or-set_same, get_or-set_other, map-set}
+use Rattle.std.proofs.lemmas.Bool.Decides.{eqb_tells}
+use Rattle.std.specs.List.{sum}
+use Rattle.std.proofs.lemmas.List.Sums.{sum_by-set}
+use Rattle.std.specs.Int.{bit_at}
+use Rattle.std.proofs.lemmas.Nat.Bits.{bit_at-zero}
+use Rattle.lc3_machine.specs.Process.{Process as Machine}
+use Rattle.ipc_kernel.specs.declared.call.Call.{Call}
+use Rattle.ipc_kernel.specs.declared.call.Answer.{Answer}
+use Rattle.ipc_kernel.specs.declared.call.Answer.TheVariants.{Done, Wait}
+use Rattle.ipc_kernel.specs.Kernel.{KernelState}
+use Rattle.ipc_kernel.specs.Answer.{answer}
+use Rattle.lab_sched.specs.declared.process.Process.{Process as Kept}
+use Rattle.lab_sched.specs.declared.entry.Entry.{Entry}
+use Rattle.lab_sched.specs.declared.next.Next.{Next}
+use Rattle.lab_sched.specs.declared.next.Next.TheVariants as next
+use Rattle.lab_sched.specs.Worlds.{Process, Running, Waiting, Ended, WorldState, first_try, retry, nothing, kernel_step, step_effect, step_effect_in, step, after, run, IsEffective}
+use Rattle.lab_sched.specs.Held.{process_view}
+use Rattle.lab_sched.specs.Verdicts.{HasEnded}
+use Rattle.lab_sched.specs.Execution.{IsExecution}
+use Rattle.lab_sched.specs.Settled.{Report, report, IsAdded, IsSettled, HasStopped, IsShort}
+use Rattle.lab_sched.specs.Settling.{AsksFor, IsNext, AsksIn, IsNextIn, IsTaken}
+use Rattle.lab_sched.proofs.Runs.{run-none}
+use Rattle.lab_sched.proofs.Executions.{course_none, course-append, course_step, course_length, course_local, with_process, count-append, count-replicate_same, count-replicate_other}
+use Rattle.lab_sched.proofs.Commutes.{after_other}
+use Rattle.lab_sched.proofs.WorldLemmas.{seen_at, same_world}
+
+pub added_none : (r : Report) → IsAdded r [] r
+added_none r = record { told = []; course = course_none r.world; steps = sym (append-nil r.steps); entries = sym (append-nil r.entries) }
+
+pub added-append : {r q t : Report} {ps qs : List ℕ} → IsAdded r ps q → IsAdded q qs t → IsAdded r (ps ++ qs) t
+added-append {r} {q} {t} {ps} {qs} a b = record {
+  told = a.told ++ b.told;
+  course = course-append a.course b.course;
+  steps = b.steps ∙ ap (λ xs. xs ++ qs) a.steps ∙ append_assoc r.steps ps qs;
+  entries = b.entries ∙ ap (λ xs. xs ++ b.told) a.entries ∙ append_assoc r.entries a.told b.told;
+}
+
+pub added_length : {r q : Report} {ps : List ℕ} → IsAdded r ps q → length q.world.processes ≡ length r.world.processes
+added_length a = course_length a.course
+
+pub added_more : {r q t : Report} (n k p : ℕ) → IsAdded r (replicate n p) q → IsAdded q (replicate k p) t → IsAdded r (replicate (n + k) p) t
+added_more {r} {q} {t} n k p a b = subst (λ ps. IsAdded r ps t) (replicate-append-replicate n k p) (added-append a b)
+
+pub added_no_more : {r q t : Report} (n k p : ℕ) → k ≡ 0 → IsAdded r (replicate n p) q → IsAdded q (replicate k p) t → IsAdded r (replicate n p) t
+added_no_more {r} {q} {t} n k p none a b = subst (λ m. IsAdded r (replicate m p) t) (omega arith) (added_more n k p a b)
+
+pub settled_none : (r : Report) (left : List ℕ) → IsSettled r r left left
+settled_none r left = record { taken = []; added = added_none r; len = refl; counted = λ p below. omega arith }
+
+-- k more steps of process i
+pub settled_more : {r q t : Report} {left rest : List ℕ} (i k : ℕ) → IsSettled r q left rest → IsAdded q (replicate k i) t → k ≤ get_or rest i 0 → i < length rest
+    → IsSettled r t left (set rest i (get_or rest i 0 - k))
+settled_more {r} {q} {t} {left} {rest} i k is added fits within = record {
+  taken = is.taken ++ replicate k i;
+  added = added-append is.added added;
+  len = length-set rest i (get_or rest i 0 - k) ∙ is.len;
+  counted = λ p below. elim (eqb_tells i p) [
+    | inl same ↦
+        let old = is.counted i (omega (arith, same.1)) in
+        let counts = count-append i is.taken (replicate k i) in
+        let mine = count-replicate_same i k in
+        let rests = get_or-set_same rest i (get_or rest i 0 - k) 0 within in
+        rw (← same.1) (omega (arith, old, counts, mine, rests, fits))
+    | inr other ↦
+        let old = is.counted p below in
+        let counts = count-append p is.taken (replicate k i) in
+        let none = count-replicate_other p i k other.1 in
+        let rests = get_or-set_other rest i p (get_or rest i 0 - k) 0 (λ e. other.1 (sym e)) in
+        omega (arith, old, counts, none, rests)
+  ];
+}
+
+pub settled-append : {r q t : Report} {left rest last : List ℕ} → IsSettled r q left rest → IsSettled q t rest last → IsSettled r t left last
+settled-append {r} {q} {t} {left} {rest} {last} a b = record {
+  taken = a.taken ++ b.taken;
+  added = added-append a.added b.added;
+  len = b.len ∙ a.len;
+  counted = λ p below.
+      omega (arith, a.counted p below, b.counted p (omega (arith, a.len)), count-append p a.taken b.taken);
+}
+
+stopped_here : (v : WorldState) (left : List ℕ) (bits' : ℕ) (short : Bool) (i k : ℕ) → (short ≡ true → bit_at bits' i ≡ 1) → i < length left
+    → ((k ≡ get_or left i 0) ⊎ (step_effect_in v i ≡ nothing) ⊎ (short ≡ true)) → HasStopped v (set left i (get_or left i 0 - k)) bits' i
+stopped_here v left bits' short i k set_bit within (inl all) = inl (omega (arith, get_or-set_same left i (get_or left i 0 - k) 0 within, all))
+stopped_here v left bits' short i k set_bit within (inr (inl none)) = inr (inl none)
+stopped_here v left bits' short i k set_bit within (inr (inr refused)) = inr (inr (set_bit refused))
+
+stopped_there : (w v : WorldState) (left left' : List ℕ) (bits bits' : ℕ) (p : ℕ) → w ≡ v → get_or left' p 0 ≡ get_or left p 0 → (bit_at bits p ≡ 1 → bit_at bits' p ≡ 1)
+    → HasStopped w left bits p → HasStopped v left' bits' p
+stopped_there w v left left' bits bits' p same rest kept (inl none) = inl (rest ∙ none)
+stopped_there w v left left' bits bits' p same rest kept (inr (inl still)) = inr (inl (subst (λ x. step_effect_in x p ≡ nothing) same still))
+stopped_there w v left left' bits bits' p same rest kept (inr (inr is_set)) = inr (inr (kept is_set))
+
+-- a process that had stopped still has where nothing was stepped, and so has the one that was tried
+pub stopped_more : {w v : WorldState} (left : List ℕ) (bits bits' : ℕ) {short : Bool} (i k : ℕ) → w ≡ v → ((p : ℕ) → p < i → HasStopped w left bits p)
+    → ((p : ℕ) → bit_at bits p ≡ 1 → bit_at bits' p ≡ 1) → (short ≡ true → bit_at bits' i ≡ 1)
+    → ((k ≡ get_or left i 0) ⊎ (step_effect_in v i ≡ nothing) ⊎ (short ≡ true)) → i < length left
+    → (p : ℕ) → p < i + 1 → HasStopped v (set left i (get_or left i 0 - k)) bits' p
+stopped_more {w} {v} left bits bits' {short} i k same stopped kept set_bit last within p below = elim (eqb_tells i p) [
+  | inl here ↦ subst (λ n. HasStopped v (set left i (get_or left i 0 - k)) bits' n) here.1 (stopped_here v left bits' short i k set_bit within last)
+  | inr other ↦
+      stopped_there w v left (set left i (get_or left i 0 - k)) bits bits' p same
+      (get_or-set_other left i p (get_or left i 0 - k) 0 (λ e. other.1 (sym e))) (kept p) (stopped p (let ne = other.1 in omega arith))
+]
+
+pub sum_less : (left : List ℕ) (i k : ℕ) → i < length left → k ≤ get_or left i 0 → sum (set left i (get_or left i 0 - k)) + k ≡ sum left
+sum_less left i k within fits = omega (arith, sum_by-set (λ x. x) left i (get_or left i 0 - k) 0 within)
+
+pub sum_at : (left : List ℕ) (i : ℕ) → i < length left → get_or left i 0 ≤ sum left
+sum_at left i within = omega (arith, sum_less left i (get_or left i 0) within (omega arith))
+
+pub added_same : {r q : Report} (k p : ℕ) → k ≡ 0 → IsAdded r (replicate k p) q → r.world ≡ q.world
+added_same {r} {q} k p none a = let b : IsAdded r [] q = subst (λ n. IsAdded r (replicate n p) q) none a in sym (run-none r.world) ∙ b.course.leads
+
+-- the steps of process i leave the others
+run_other : (k i p : ℕ) (w : WorldState) → i ≢ p → slice_get (run w (replicate k i)).processes p ≡ slice_get w.processes p
+unfolding run
+run_other zero i p w ne = refl
+run_other (suc k) i p w ne = run_other k i p (step w i) ne ∙ after_other w p i (step_effect_in w i) ne
+
+not_ended : (w : WorldState) (p : ℕ) (s : Process) → IsEffective (step_effect_in w p) → slice_get w.processes p ≡ Some s → HasEnded s → ⊥
+not_ended w p (Running m) h at is = is
+not_ended w p (Waiting m c) h at is = is
+not_ended w p (Ended e) h at is = subst IsEffective (ap (λ o. step_effect w.kernel p o) at) h
+
+pub short_more : {r q : Report} (left : List ℕ) (bits bits' : ℕ) {short : Bool} (i k : ℕ) → IsAdded r (replicate k i) q → i < length left → length left ≡ length r.world.processes
+    → (bit_at bits i ≡ 1 → ⊥) → ((p : ℕ) → bit_at bits' p ≡ 1 → (bit_at bits p ≡ 1) ⊎ ((p ≡ i) × (short ≡ true)))
+    → (short ≡ true → (k < get_or left i 0) × IsEffective (step_effect_in q.world i))
+    → ((p : ℕ) → bit_at bits p ≡ 1 → IsShort r.world left p)
+    → (p : ℕ) → bit_at bits' p ≡ 1 → IsShort q.world (set left i (get_or left i 0 - k)) p
+short_more {r} {q} left bits bits' {short} i k added within len clear only mine old p is_set = pick (only p is_set)
+  where
+    lengths : length q.world.processes ≡ length r.world.processes
+    lengths = course_length added.course
+
+    pick : ((bit_at bits p ≡ 1) ⊎ ((p ≡ i) × (short ≡ true))) → IsShort q.world (set left i (get_or left i 0 - k)) p
+    pick (inl was) =
+        let ne : i ≢ p = λ e. clear (subst (λ n. bit_at bits n ≡ 1) (sym e) was) in
+        let before = old p was in
+        let same : slice_get q.world.processes p ≡ slice_get r.world.processes p = ap (λ (v : WorldState). slice_get v.processes p) (sym added.course.leads) ∙ run_other k i p r.world ne in
+        let rest = get_or-set_other left i p (get_or left i 0 - k) 0 (λ e. ne (sym e)) in
+        record {
+          there = omega (arith, before.there, lengths);
+          some = omega (arith, before.some, rest);
+          lives = λ s at. before.lives s (sym same ∙ at);
+        }
+    pick (inr now) =
+        let m = mine now.1 in
+        let rest = get_or-set_same left i (get_or left i 0 - k) 0 within in
+        record {
+          there = omega (arith, now.0, within, len, lengths);
+          some = rw now.0 (omega (arith, rest, m.0));
+          lives = λ s at. not_ended q.world p s (rw now.0 m.1) at;
+        }
+
+-- what a process does next, over the whole world
+
+next_seen : (w : WorldState) (p most : ℕ) (s u : Process) (n : Next) (v : WorldState) → slice_get w.processes p ≡ Some s → (u ≡ s → v ≡ w) → with_process w p u ≡ v
+    → IsNext s most n u → IsNextIn w p most n v
+next_seen w p most s u (next.Moved n) v at same is h = (h.1, subst (λ x. IsExecution w (replicate n p) x []) is (course_local n w p s u at h.2))
+next_seen w p most s u (next.Asks c) v at same is h = (same h.0, (s, at, h.1))
+next_seen w p most s u next.Ended v at same is h = same h.0
+next_seen w p most s u next.Short v at same is h = same h
+
+pub next_in : (ps ps' : List Kept) (k : KernelState) (w : WorldState) (p most : ℕ) (s s' : Kept) (n : Next)
+    → record { processes = map process_view ps; kernel = k } ≡ w → p < length ps → s ≡ get_or ps p s → ps' ≡ set ps p s' → IsNext (process_view s) most n (process_view s')
+    → IsNextIn w p most n (record { processes = map process_view ps'; kernel = k })
+unfolding with_process
+next_in ps ps' k w p most s s' n same within read ps-is found =
+    let old : WorldState = record { processes = map process_view ps; kernel = k } in
+    let new : WorldState = record { processes = map process_view ps'; kernel = k } in
+    let moved : map process_view ps' ≡ set (map process_view ps) p (process_view s') = ap (λ xs. map process_view xs) ps-is ∙ map-set process_view ps p s' in
+    subst (λ x. IsNextIn x p most n new) same
+    (next_seen old p most (process_view s) (process_view s') n new (seen_at ps p s within read)
+    (λ e. same_world ps ps' k k old p s s' refl within read ps-is e refl)
+    (ap (λ xs. record { processes = xs; kernel = k }) (sym moved)) found)
+
+-- steps that were taken with their entries
+
+pub taken_none : (w v : WorldState) (es fs : List Entry) (p : ℕ) → v ≡ w → fs ≡ es → IsTaken w es (replicate 0 p) v fs
+taken_none w v es fs p w-is es-is = record {
+  told = [];
+  course = subst (λ x. IsExecution w [] x []) (sym w-is) (course_none w);
+  entries = es-is ∙ sym (append-nil es);
+}
+
+retry_told : (m : Machine) (c : Call) (a : Answer) → IsEffective (retry m c a) → retry m c a ≡ kernel_step m c a
+retry_told m c Wait h = absurd h
+retry_told m c (Done r) h = refl
+
+-- the step of a process that asks for a call, or waits for it
+turn_asked : (w : WorldState) (p : ℕ) (c : Call) (s : Process) → slice_get w.processes p ≡ Some s → AsksFor s c → IsEffective (step_effect_in w p)
+    → (m : Machine) × (step_effect_in w p ≡ kernel_step m c (answer w.kernel p c).0)
+turn_asked w p c (Running m) at asks h = (m, ap (λ o. step_effect w.kernel p o) at ∙ ap (λ a. first_try w.kernel p m a) asks)
+turn_asked w p c (Waiting m d) at asks h =
+    let here : step_effect_in w p ≡ retry m d (answer w.kernel p d).0 = ap (λ o. step_effect w.kernel p o) at in
+    (m, here ∙ retry_told m d (answer w.kernel p d).0 (subst IsEffective here h) ∙ ap (λ x. kernel_step m x (answer w.kernel p x).0) asks)
+turn_asked w p c (Ended e) at asks h = absurd asks
+
+pub taken_call : (w v : WorldState) (es fs : List Entry) (p : ℕ) (c : Call) (a : Answer) → IsEffective (step_effect_in w p) → AsksIn w p c → a ≡ (answer w.kernel p c).0 → v ≡ step w p
+    → fs ≡ es ++ record { pid = p; call = c; answer = a } ∷ [] → IsTaken w es (replicate 1 p) v fs
+taken_call w v es fs p c a h asks a-is v-is fs-is =
+    let t = turn_asked w p c asks.0 asks.1 asks.2 h in
+    let is : step_effect_in w p ≡ kernel_step t.0 c a = t.1 ∙ ap (λ b. kernel_step t.0 c b) (sym a-is) in
+    let told : List Entry = record { pid = p; call = c; answer = a } ∷ [] in
+    record {
+      told = told;
+      course = subst (λ x. IsExecution w (p ∷ []) x told) (sym (v-is ∙ ap (λ x. after w p x) is)) (course_step w p (kernel_step t.0 c a) is tt);
+      entries = fs-is;
+    }
+
+pub added_nothing : (w : WorldState) (es : List Entry) (ss ts : List ℕ) (p : ℕ) → ts ≡ ss → IsAdded (report w ss es) (replicate 0 p) (report w ts es)
+added_nothing w es ss ts p same = subst (λ x. IsAdded (report w ss es) [] (report w x es)) (sym same) (added_none (report w ss es))
+
+-- 0 has no bit
+pub no_bits : (p : ℕ) → bit_at 0 p ≡ 1 → ⊥
+no_bits p h = absurd (omega (arith, bit_at-zero p))

@@ -1,0 +1,121 @@
+-- The report: the merged steps, and then those of the settling.
+use Rattle.std.proofs.Common.{ℕ, ◌+◌, ◌≡◌, ◌<◌, ◌++◌, List, [], ◌∷◌, Some, refl, sym, ap, subst, ◌∙◌, arith, length, slice_get, get_or, map, inl, inr, ◌⊎◌, All}
+use Rattle.std.specs.Int.{bit_at}
+use Rattle.std.specs.Option.{option_map}
+use Rattle.std.proofs.lemmas.List.{length-map}
+use Rattle.std.proofs.lemmas.Nat.Bits.{bit_at-zero}
+use Rattle.std.proofs.lemmas.List.Elements.{All-map}
+use Rattle.std.proofs.lemmas.Option.{slice_get-map, slice_get-get_or, slice_get_within, get_or_from_slice_get}
+use Rattle.ipc_kernel.specs.Kernel.{KernelState, empty_kernel}
+use Rattle.lab_sched.specs.Worlds.{HasProfile, first_profile, HaveOneProfile, Process, WorldState, step_effect}
+use Rattle.lab_sched.specs.Execution.{count, IsExecution}
+use Rattle.lab_sched.specs.LocalRun.{steps}
+use Rattle.lab_sched.specs.History.{replay}
+use Rattle.lab_sched.specs.Held.{process_view, IsHeld}
+use Rattle.lab_sched.specs.Settled.{report, IsSettled, HasStopped, HaveStopped}
+use Rattle.lab_sched.specs.Starts.{Runs}
+use Rattle.lab_sched.specs.Finished.{IsAtRest, IsFinished}
+use Rattle.lab_sched.specs.declared.entry.Entry.{Entry}
+use Rattle.lab_sched.specs.declared.process.Process.{Process as ProcessValue}
+use Rattle.lab_sched.specs.declared.process.Process.TheVariants as variants
+use Rattle.lab_sched.proofs.Executions.{count-append, course-append}
+use Rattle.lab_sched.proofs.ReportAdditions.{added_length}
+use Rattle.lab_sched.proofs.IneffectiveProcesses.{at_rest}
+use Rattle.lab_sched.proofs.Profiles.{alone_profile, one_of}
+use Rattle.lab_threads.specs.declared.worker_result.WorkerResult.{WorkerResult}
+use Rattle.lab_threads.specs.Private.WorkerResults.{AreWorkerResults}
+use Rattle.lab_threads.specs.Private.Merged.{initial_world, final_world, HaveAllSteps, LeadToResults}
+use Rattle.lab_threads.proofs.Merges.{some_at}
+
+map-map_seen : (workers : List WorkerResult) → map process_view (map (λ k. k.process) workers) ≡ map (λ k. process_view k.process) workers
+map-map_seen [] = refl
+map-map_seen (k ∷ ks) = ap (λ xs. process_view k.process ∷ xs) (map-map_seen ks)
+
+pub joined_is : (w : WorldState) (ps : List ProcessValue) (k : KernelState) (n : ℕ) (workers : List WorkerResult) (history : List Entry)
+    → w.processes ≡ map process_view ps → ps ≡ map (λ v. v.process) workers → w.kernel ≡ k → k ≡ replay (empty_kernel n) history → w ≡ final_world n workers history
+joined_is w ps k n workers history ps-is ends-is k-is kernel-is =
+    ap (λ xs. record { processes = xs; kernel = w.kernel }) (ps-is ∙ ap (λ xs. map process_view xs) ends-is ∙ map-map_seen workers)
+    ∙ ap (λ j. record { processes = map (λ v. process_view v.process) workers; kernel = j }) (k-is ∙ kernel-is)
+
+-- settling goes on with an execution
+pub settled_course : (b w v : WorldState) (ss ss' left rest : List ℕ) (h h' : List Entry) → IsExecution b ss w h
+    → IsSettled (report w ss h) (report v ss' h') left rest → IsExecution b ss' v h'
+settled_course b w v ss ss' left rest h h' course settled =
+    let added = settled.added in
+    let both = course-append course added.course in
+    subst (λ es. IsExecution b ss' v es) (sym added.entries) (subst (λ ps. IsExecution b ps v (h ++ added.told)) (sym added.steps) both)
+
+rested : (v : WorldState) (p : ℕ) (s : Process) (ss' rest : List ℕ) (refused limit : ℕ) → slice_get v.processes p ≡ Some s → refused ≡ 0
+    → count p ss' + get_or rest p 0 ≡ limit → HasStopped v rest refused p → IsAtRest v.kernel p s ⊎ (count p ss' ≡ limit)
+rested v p s ss' rest refused limit at none counts (inl all) = inr (omega (arith, counts, all))
+rested v p s ss' rest refused limit at none counts (inr (inl still)) = inl (at_rest v.kernel p s (ap (λ o. step_effect v.kernel p o) (sym at) ∙ still))
+rested v p s ss' rest refused limit at none counts (inr (inr is_set)) =
+    let zero_bit : bit_at refused p ≡ 0 = ap (λ n. bit_at n p) none ∙ bit_at-zero p in
+    absurd (omega (arith, zero_bit, is_set))
+
+-- and where the steps so far and those left make the limit, it finishes
+pub settled_finished : (w v : WorldState) (ss ss' left rest : List ℕ) (h h' : List Entry) (limit refused : ℕ)
+    → length left ≡ length w.processes → ((p : ℕ) → p < length left → count p ss + get_or left p 0 ≡ limit)
+    → IsSettled (report w ss h) (report v ss' h') left rest → refused ≡ 0
+    → HaveStopped v rest refused → IsFinished v ss' limit
+settled_finished w v ss ss' left rest h h' limit refused len counted settled none stopped p s at =
+    let lengths : length v.processes ≡ length w.processes = added_length settled.added in
+    let below : p < length left = omega (arith, len, lengths, slice_get_within v.processes p s at) in
+    let taken = settled.counted p below in
+    let all : count p ss' ≡ count p ss + count p settled.taken = ap (λ ps. count p ps) settled.added.steps ∙ count-append p ss settled.taken in
+    let counts : count p ss' + get_or rest p 0 ≡ limit = omega (arith, all, taken, counted p below) in
+    (omega (arith, counts), rested v p s ss' rest refused limit at none counts (stopped p (omega (arith, below, settled.len))))
+
+-- the steps of each trace and those that are left make the limit
+pub worker_steps : (ss left : List ℕ) (starts : List ProcessValue) (workers : List WorkerResult) (limit : ℕ) → AreWorkerResults limit starts workers
+    → ((p : ℕ) (k : WorkerResult) → slice_get workers p ≡ Some k → count p ss ≡ steps k.trace) → left ≡ map (λ k. k.left) workers
+    → (p : ℕ) → p < length left → count p ss + get_or left p 0 ≡ limit
+worker_steps ss left starts workers limit are counted left-is p within =
+    let lefts : length left ≡ length workers = ap length left-is ∙ length-map workers (λ k. k.left) in
+    let below : p < length workers = subst (λ n. p < n) lefts within in
+    let k = some_at workers p below in
+    let start = some_at starts p (subst (λ n. p < n) are.len below) in
+    let worker = are.each p start.0 k.0 start.1 k.1 in
+    let mine : get_or left p 0 ≡ k.0.left =
+    get_or_from_slice_get left p k.0.left 0 (ap (λ xs. slice_get xs p) left-is ∙ slice_get-map (λ k. k.left) workers p ∙ ap (λ o. option_map (λ k. k.left) o) k.1) in
+    omega (arith, mine, counted p k.0 k.1, worker.within)
+
+runs_held : (s : ProcessValue) → Runs s → IsHeld s
+runs_held (variants.Running m) runs = tt
+runs_held (variants.Waiting h c) runs = absurd runs
+runs_held (variants.Ended e) runs = absurd runs
+
+-- what `merge` says, of the lists that its slices show
+pub from_course : (ss : List ℕ) (workers workers' : List WorkerResult) (h h' : List Entry) → workers' ≡ workers → h' ≡ h
+    → LeadToResults workers' h' ss → LeadToResults workers h ss
+from_course ss workers workers' h h' workers-is h-is all =
+    subst (λ v. LeadToResults v h ss) workers-is (subst (λ e. LeadToResults workers' e ss) h-is all)
+
+pub from_counts : (ss : List ℕ) (workers workers' : List WorkerResult) → workers' ≡ workers → HaveAllSteps workers' ss → HaveAllSteps workers ss
+from_counts ss workers workers' workers-is all = subst (λ v. HaveAllSteps v ss) workers-is all
+
+-- where the workers of running processes stopped is ready for replies
+pub workers_held : (limit : ℕ) (starts : List ProcessValue) (workers : List WorkerResult) → AreWorkerResults limit starts workers → All Runs starts → All IsHeld (map (λ k. k.process) workers)
+workers_held limit starts workers are runs =
+    All-map IsHeld (λ (k : WorkerResult). k.process) workers
+    (λ p d below.
+    let within : p < length starts = subst (λ n. p < n) are.len below in
+    let start = some_at starts p within in
+    let is : get_or starts p start.0 ≡ start.0 = get_or_from_slice_get starts p start.0 start.0 start.1 in
+    (are.each p start.0 (get_or workers p d) start.1 (slice_get-get_or workers p d below)).held (runs_held start.0 (subst Runs is (runs p start.0 within))))
+
+-- where the results of workers of one profile end have it
+pub workers_profile : (limit : ℕ) (starts : List ProcessValue) (workers : List WorkerResult) → AreWorkerResults limit starts workers → HaveOneProfile (map process_view starts)
+    → HaveOneProfile (map process_view (map (λ k. k.process) workers))
+workers_profile limit starts workers are have =
+    one_of (first_profile (map process_view starts)) (map process_view (map (λ k. k.process) workers))
+    (All-map (HasProfile (first_profile (map process_view starts))) process_view (map (λ k. k.process) workers)
+    (All-map (λ s. HasProfile (first_profile (map process_view starts)) (process_view s)) (λ (k : WorkerResult). k.process) workers
+    (λ p d below.
+    let within : p < length starts = subst (λ n. p < n) are.len below in
+    let start = some_at starts p within in
+    let here : get_or (map process_view starts) p (process_view start.0) ≡ process_view start.0 =
+    get_or_from_slice_get (map process_view starts) p (process_view start.0) (process_view start.0) (slice_get-map process_view starts p ∙ ap (λ o. option_map process_view o) start.1) in
+    let was = subst (HasProfile (first_profile (map process_view starts))) here (have p (process_view start.0) (omega (arith, within, length-map starts process_view))) in
+    let worker = get_or workers p d in
+    alone_profile (process_view start.0) worker.trace (process_view worker.process) (are.each p start.0 worker start.1 (slice_get-get_or workers p d below)).alone ∙ was)))

@@ -1,0 +1,5 @@
+-- Definitions that only contracts inside the crate cite.
+pub mod Addresses
+pub mod Layouts
+pub mod Views
+pub mod Drafts
