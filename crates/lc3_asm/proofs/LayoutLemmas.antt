@@ -1,7 +1,7 @@
 -- The words of one more line.
 use Rattle.std.proofs.Common.{◌≡◌, ℕ, zero, suc, ◌+◌, ◌<◌, ◌≤◌, List, [], ◌∷◌, ◌++◌, length, take, drop, map, get_or, refl, ap, sym, ◌∙◌, append_assoc, append-nil, arith, lit≤, Option, Some, None}
 use Rattle.std.specs.Prelude.{sum_by, Result, Ok, Err, nat_abs}
-use Rattle.std.proofs.lemmas.List.{drop_more, take_more, drop_all, take_all, map-append}
+use Rattle.std.proofs.lemmas.List.{drop_more, take_more, map-append}
 use Rattle.std.proofs.lemmas.List.Sums.{sum_by-append}
 use Rattle.std.proofs.lemmas.List.{length-append, length-replicate}
 use Rattle.lc3_table.specs.Statements.{Line, Blank, LabelAlone, Operates, Operand, Register, Number, Label, Characters, forms, ◌>>=◌}
@@ -115,10 +115,3 @@ module _ (known : List (List ℕ × ℕ)) (lines : List Read) (i : ℕ) (d x : R
   pub small-more : (made ws ws' : List ℕ) → Ok made ≡ words (value known) address (seen_line x) → ws' ≡ ws ++ made → length ws ≤ sum_by size (map seen_line (take i lines)) → length ws' ≤ sum_by size (map seen_line (take (i + 1) lines))
   small-more made ws ws' e f k =
       rw (f, front) (omega (arith, words-size (value known) address (seen_line x) made e, k, length-append ws made, sum_by-append size (map seen_line (take i lines)) (seen_line x ∷ [])))
-
-pub laid-all : (known : List (List ℕ × ℕ)) (lines : List Read) (i : ℕ) (ws : List ℕ) (rs : List Row) → length lines ≤ i
-    → words_and_rows ws rs (words_after known (map seen_line (take i lines)) (map seen_line (drop i lines))) ≡ Ok (ws, rs)
-laid-all known lines i ws rs h = rw (drop_all i lines h, append-nil) (ap (λ u. Ok (ws, u)) (append-nil rs))
-
-pub small-all : (lines : List Read) (i n : ℕ) → length lines ≤ i → n ≤ sum_by size (map seen_line (take i lines)) → n ≤ sum_by size (map seen_line lines)
-small-all lines i n h k = rw (take_all i lines h) at k

@@ -1,6 +1,6 @@
 -- Pages that read the same, and memory that is made up of them.
-use Rattle.std.proofs.Common.{◌≡◌, ℕ, ◌+◌, ◌*◌, ◌<◌, ◌≤◌, List, [], ◌++◌, length, get_or, take, flat_map, ap, sym, ◌∙◌, arith}
-use Rattle.std.proofs.lemmas.List.{ext_get_or, take_more, take_all, flat_map_more}
+use Rattle.std.proofs.Common.{◌≡◌, ℕ, ◌+◌, ◌*◌, ◌<◌, List, [], ◌++◌, length, get_or, take, flat_map, ap, sym, ◌∙◌, arith}
+use Rattle.std.proofs.lemmas.List.{ext_get_or, take_more, flat_map_more}
 use Rattle.lc3_machine.specs.Private.Pages.{PageWords, AreWhole, memory_of_pages}
 use Rattle.lc3_machine.proofs.PageLemmas.{AreOf, get_or-parts}
 
@@ -30,8 +30,3 @@ same-more ps qs i p q h h' is is' same so_far =
     let a = words-more ps i p h is in
     let b = words-more qs i q h' is' in
     a ∙ ap (λ ws. ws ++ p.words) so_far ∙ ap (λ ws. (memory_of_pages (take i qs)).words ++ ws) same ∙ sym b
-
--- the same words in all pages
-pub same-all : (ps qs : List PageWords) (n : ℕ) → length ps ≤ n → length qs ≤ n → (memory_of_pages (take n ps)).words ≡ (memory_of_pages (take n qs)).words → (memory_of_pages ps).words ≡ (memory_of_pages qs).words
-same-all ps qs n h h' same =
-    sym (ap (λ xs. (memory_of_pages xs).words) (take_all n ps h)) ∙ same ∙ ap (λ xs. (memory_of_pages xs).words) (take_all n qs h')
