@@ -4,7 +4,7 @@ use Rattle.lc3_machine.specs.declared.want.Want.TheVariants.{Trap, End}
 use Rattle.lc3_machine.specs.Process.{Process, Held, Outcome, GoesOn, Stops, reg, with_reg}
 use Rattle.lc3_machine.specs.Console.{after_trap}
 use Rattle.lc3_machine.specs.Memory.{IsWritable, with_words}
-use Rattle.lc3_machine.specs.Reply.{written_if, IsWritableIf}
+use Rattle.lc3_machine.specs.Reply.{with_words_if, IsWritableIf}
 use Rattle.lc3_machine.specs.Effects.{next_step}
 use Rattle.ipc_kernel.specs.declared.call.Call.TheVariants.{Exit}
 use Rattle.ipc_kernel.specs.declared.call.Reply.{Reply}
@@ -34,8 +34,8 @@ after_call p result memory = after_trap (record (with_reg p 0 result) { memory =
 abbrev pub replied_to : ℕ → Process → Reply → Process
 replied_to v p (Plain r) = after_call p r p.memory
 replied_to v p (Message words prio) =
-    after_call p (length words) (written_if (with_words p.memory (reg p 1) words) (unless_zero (reg p 3)) (prio ∷ []))
-replied_to v p (Attr words) = after_call p 0 (written_if p.memory (four_words_go v p) words)
+    after_call p (length words) (with_words_if (with_words p.memory (reg p 1) words) (unless_zero (reg p 3)) (prio ∷ []))
+replied_to v p (Attr words) = after_call p 0 (with_words_if p.memory (four_words_go v p) words)
 replied_to v p (Value value) = after_call p 0 (with_words p.memory (reg p 1) (value ∷ []))
 
 -- the process after the reply to its call

@@ -7,7 +7,7 @@ use Rattle.lc3_table.specs.Decoding.{instruction_at}
 use Rattle.lc3_machine.specs.declared.want.How.{How}
 use Rattle.lc3_machine.specs.declared.want.How.TheVariants as how
 use Rattle.lc3_machine.specs.Process.{Process, Outcome, GoesOn, Stops, at_word, outcome_of_store, target, reg, word_sum, signed_word, at_next_instruction, at_address, with_result}
-use Rattle.lc3_machine.specs.Console.{getc, outcome_of_in, wrote, low_byte, packed_bytes, string_at}
+use Rattle.lc3_machine.specs.Console.{getc, outcome_of_in, outcome_of_string, low_byte, packed_bytes, string_at}
 use Rattle.lc3_machine.specs.Effects.{effect, effect_of_word, outcome_of_trap, next_step, is_among, is_kernel_trap}
 use Rattle.lc3_machine.specs.Reply.{process_after_end}
 use Rattle.lc3_word.specs.Segment.{first_device}
@@ -38,18 +38,18 @@ keeps_prompted : (p : Process) (input : List ℕ) → Keeps p.profile (outcome_o
 keeps_prompted p [] = tt
 keeps_prompted p (byte ∷ left) = refl
 
-keeps_wrote : (p : Process) (bytes : List ℕ → List ℕ) (words : Option (List ℕ)) → Keeps p.profile (wrote p bytes words)
-keeps_wrote p bytes None = tt
-keeps_wrote p bytes (Some words) = refl
+keeps_string : (p : Process) (bytes : List ℕ → List ℕ) (words : Option (List ℕ)) → Keeps p.profile (outcome_of_string p bytes words)
+keeps_string p bytes None = tt
+keeps_string p bytes (Some words) = refl
 
 keeps_trapped : (v : ℕ) (p : Process) → Keeps p.profile (outcome_of_trap v p)
 unfolding outcome_of_trap
 keeps_trapped v p =
     keeps_if p.profile (v == 0x20) _ _ (keeps_getc p p.input)
     (keeps_if p.profile (v == 0x21) _ _ refl
-    (keeps_if p.profile (v == 0x22) _ _ (keeps_wrote p (map low_byte) (string_at p.memory (reg p 0)))
+    (keeps_if p.profile (v == 0x22) _ _ (keeps_string p (map low_byte) (string_at p.memory (reg p 0)))
     (keeps_if p.profile (v == 0x23) _ _ (keeps_prompted p p.input)
-    (keeps_if p.profile (v == 0x24) _ _ (keeps_wrote p (flat_map packed_bytes) (string_at p.memory (reg p 0)))
+    (keeps_if p.profile (v == 0x24) _ _ (keeps_string p (flat_map packed_bytes) (string_at p.memory (reg p 0)))
     (keeps_if p.profile (v == 0x25) _ _ tt
     (keeps_if p.profile (is_kernel_trap v) _ _ tt tt))))))
 

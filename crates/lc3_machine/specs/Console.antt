@@ -53,15 +53,15 @@ outcome_of_in p [] = Stops (End NoInput)
 outcome_of_in p (byte ∷ left) =
     GoesOn (after_trap (with_output (record (with_reg p 0 byte) { input = left }) (prompt ++ byte ∷ 10 ∷ [])))
 
--- what a trap writes of a string; one that reaches the device registers ends the process
-abbrev pub wrote : Process → (List ℕ → List ℕ) → Option (List ℕ) → Outcome
-wrote p bytes None = Stops (End Device)
-wrote p bytes (Some words) = GoesOn (after_trap (with_output p (bytes words)))
+-- what happens once the bytes of a string are written; one that reaches the device registers ends the process
+abbrev pub outcome_of_string : Process → (List ℕ → List ℕ) → Option (List ℕ) → Outcome
+outcome_of_string p bytes None = Stops (End Device)
+outcome_of_string p bytes (Some words) = GoesOn (after_trap (with_output p (bytes words)))
 
 -- PUTS: the low byte of each word of the string whose address is in R0
 abbrev pub puts : Process → Outcome
-puts p = wrote p (map low_byte) (string_at p.memory (reg p 0))
+puts p = outcome_of_string p (map low_byte) (string_at p.memory (reg p 0))
 
 -- PUTSP: the bytes of each word of the packed string whose address is in R0
 abbrev pub putsp : Process → Outcome
-putsp p = wrote p (flat_map packed_bytes) (string_at p.memory (reg p 0))
+putsp p = outcome_of_string p (flat_map packed_bytes) (string_at p.memory (reg p 0))

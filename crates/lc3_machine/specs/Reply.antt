@@ -16,15 +16,15 @@ result_of (Four at words) = 0
 result_of (One at word) = 0
 
 -- memory with words written where an address is given
-abbrev pub written_if : List ℕ → Option ℕ → List ℕ → List ℕ
-written_if memory None words = memory
-written_if memory (Some at) words = with_words memory at words
+abbrev pub with_words_if : List ℕ → Option ℕ → List ℕ → List ℕ
+with_words_if memory None words = memory
+with_words_if memory (Some at) words = with_words memory at words
 
 -- the memory after an effect; the words of a message come before its priority
 abbrev pub memory_after : Effect → List ℕ → List ℕ
 memory_after (Plain r) memory = memory
-memory_after (Message at words prio_at prio) memory = written_if (with_words memory at words.now) prio_at (prio ∷ [])
-memory_after (Four at words) memory = written_if memory at words
+memory_after (Message at words prio_at prio) memory = with_words_if (with_words memory at words.now) prio_at (prio ∷ [])
+memory_after (Four at words) memory = with_words_if memory at words
 memory_after (One at word) memory = with_words memory at (word ∷ [])
 
 -- the process after its call is answered
