@@ -3,7 +3,7 @@ use Rattle.std.proofs.Common.{◌≡◌, ℕ, ◌+◌, ◌<◌, ◌≤◌, min, 
 use Rattle.std.proofs.lemmas.List.{drop_more, drop_all}
 use Rattle.std.proofs.lemmas.Bool.{cases_lt}
 use Rattle.lc3_table.specs.Statements.{◌>>=◌}
-use Rattle.lc3_table.specs.Meaning.{resolved_field, all_resolved}
+use Rattle.lc3_table.specs.Meaning.{resolved_field, resolved_fields}
 use Rattle.lc3_table.specs.declared.fields.Field.{Field}
 use Rattle.lc3_table.specs.declared.operation.Fault.{Fault}
 use Rattle.lc3_table.specs.declared.operation.Form.{Form}
@@ -19,18 +19,18 @@ front-append front new y (Err k) e = refl
 module _ (values : List ℕ → Option ℕ) (address : ℕ) (fs : List Form) (xs : List Read) (i : ℕ) where
   pub resolved-more : (x d : Read) (y : Field) (found new : List Field) → i < length fs → i < length xs → x ≡ get_or xs i d
       → Ok y ≡ resolved_field values address (get_or fs i form.Register) (seen_operand x) → new ≡ found ++ y ∷ []
-      → with_front new (all_resolved values address (drop (i + 1) fs) (map seen_operand (drop (i + 1) xs)))
-      ≡ with_front found (all_resolved values address (drop i fs) (map seen_operand (drop i xs)))
+      → with_front new (resolved_fields values address (drop (i + 1) fs) (map seen_operand (drop (i + 1) xs)))
+      ≡ with_front found (resolved_fields values address (drop i fs) (map seen_operand (drop i xs)))
   resolved-more x d y found new h k at e n =
       let here : Ok y ≡ resolved_field values address (get_or fs i form.Register) (seen_operand (get_or xs i d)) = rw at at e in
       rw (drop_more fs i form.Register h, drop_more xs i d k, ← here)
-      (front-append found new y (all_resolved values address (drop (i + 1) fs) (map seen_operand (drop (i + 1) xs))) n)
+      (front-append found new y (resolved_fields values address (drop (i + 1) fs) (map seen_operand (drop (i + 1) xs))) n)
 
-  no_operand : (gs : List Form) → all_resolved values address gs [] ≡ Ok []
+  no_operand : (gs : List Form) → resolved_fields values address gs [] ≡ Ok []
   no_operand [] = refl
   no_operand (g ∷ gs) = refl
 
-  pub resolved-end : min (length fs) (length xs) ≤ i → all_resolved values address (drop i fs) (map seen_operand (drop i xs)) ≡ Ok []
+  pub resolved-end : min (length fs) (length xs) ≤ i → resolved_fields values address (drop i fs) (map seen_operand (drop i xs)) ≡ Ok []
   resolved-end h = elim (cases_lt i (length fs)) [
     | inl low ↦ rw (drop_all i xs (omega arith)) (no_operand (drop i fs))
     | inr high ↦ rw (drop_all i fs (omega arith)) refl

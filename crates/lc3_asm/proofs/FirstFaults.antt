@@ -6,7 +6,7 @@ use Rattle.lc3_table.specs.Statements.{Line, Operand, ◌>>=◌}
 use Rattle.lc3_table.specs.Meaning.{words}
 use Rattle.lc3_table.specs.declared.operation.Fault.{Fault}
 use Rattle.lc3_table.specs.declared.operation.Fault.TheVariants as fault
-use Rattle.lc3_asm.specs.Texts.{At, at_line, lines, is_origin, is_end, labels, value, address_after, line_after, read_after, lines_read, words_after, laid_out, program_of, program_of_lines, program}
+use Rattle.lc3_asm.specs.Texts.{At, at_line, lines, is_origin, is_end, labels, value, address_after, line_after, lines_after, lines_read, words_after, program_with_words, program_of, program_of_lines, program}
 use Rattle.lc3_asm.specs.Laws.{AreReadAs, HaveWords, IsFirstUnread, LacksOrigin, IsFirstWithoutWords, HasFirstFault, Unread, Unstarted, WithoutWords, FaultIsFirst}
 
 -- a fault at a line
@@ -33,8 +33,8 @@ record Broken (before : List (Line Operand)) (bs : List (List ℕ)) (n : ℕ) (k
 
 broken-next : (before : List (Line Operand)) (b : List ℕ) (bs : List (List ℕ)) (l : Line Operand) (n : ℕ) (k : Fault) (ends : Bool)
     → line_after before b ≡ Ok l → is_end l ≡ ends
-    → (read_after (before ++ l ∷ []) bs ≡ Err (at n k) → Broken (before ++ l ∷ []) bs n k)
-    → (if ends then Ok (before ++ l ∷ []) else read_after (before ++ l ∷ []) bs) ≡ Err (at n k) → Broken before (b ∷ bs) n k
+    → (lines_after (before ++ l ∷ []) bs ≡ Err (at n k) → Broken (before ++ l ∷ []) bs n k)
+    → (if ends then Ok (before ++ l ∷ []) else lines_after (before ++ l ∷ []) bs) ≡ Err (at n k) → Broken before (b ∷ bs) n k
 broken-next before b bs l n k true read ends next e = cc
 broken-next before b bs l n k false read ends next e =
     let more = next e in record {
@@ -49,8 +49,8 @@ broken-next before b bs l n k false read ends next e =
     }
 
 broken-line : (before : List (Line Operand)) (b : List ℕ) (bs : List (List ℕ)) (n : ℕ) (k : Fault) (r : Result (Line Operand) Fault) → line_after before b ≡ r
-    → ((l : Line Operand) → read_after (before ++ l ∷ []) bs ≡ Err (at n k) → Broken (before ++ l ∷ []) bs n k)
-    → (at_line (length before + 1) r >>= λ l. if is_end l then Ok (before ++ l ∷ []) else read_after (before ++ l ∷ []) bs) ≡ Err (at n k) → Broken before (b ∷ bs) n k
+    → ((l : Line Operand) → lines_after (before ++ l ∷ []) bs ≡ Err (at n k) → Broken (before ++ l ∷ []) bs n k)
+    → (at_line (length before + 1) r >>= λ l. if is_end l then Ok (before ++ l ∷ []) else lines_after (before ++ l ∷ []) bs) ≡ Err (at n k) → Broken before (b ∷ bs) n k
 broken-line before b bs n k (Err f) read next e =
     let same = err-same (at (length before + 1) f) (at n k) e in
     let number : length before + 1 ≡ n = ap (λ (a : At). a.line) same in
@@ -66,19 +66,19 @@ broken-line before b bs n k (Err f) read next e =
     }
 broken-line before b bs n k (Ok l) read next e = broken-next before b bs l n k (is_end l) read refl (next l) e
 
-broken : (before : List (Line Operand)) (bs : List (List ℕ)) (n : ℕ) (k : Fault) → read_after before bs ≡ Err (at n k) → Broken before bs n k
+broken : (before : List (Line Operand)) (bs : List (List ℕ)) (n : ℕ) (k : Fault) → lines_after before bs ≡ Err (at n k) → Broken before bs n k
 broken before [] n k e = cc
 broken before (b ∷ bs) n k e = broken-line before b bs n k (line_after before b) refl (λ l. broken (before ++ l ∷ []) bs n k) e
 
 -- the texts that were read are passed over
 read-over : (before : List (Line Operand)) (front : List (List ℕ)) (made : List (Line Operand)) (rest : List (List ℕ)) → AreReadAs before front made
-    → read_after before (front ++ rest) ≡ read_after (before ++ made) rest
-read-over before [] [] rest h = ap (λ u. read_after u rest) (sym (append-nil before))
+    → lines_after before (front ++ rest) ≡ lines_after (before ++ made) rest
+read-over before [] [] rest h = ap (λ u. lines_after u rest) (sym (append-nil before))
 read-over before [] (l ∷ made) rest h = absurd h
 read-over before (b ∷ front) [] rest h = absurd h
 read-over before (b ∷ front) (l ∷ made) rest h =
-    let step : read_after before (b ∷ (front ++ rest)) ≡ read_after (before ++ l ∷ []) (front ++ rest) = rw (h.0, h.1) refl in
-    step ∙ read-over (before ++ l ∷ []) front made rest h.2 ∙ ap (λ u. read_after u rest) (append_assoc before (l ∷ []) made)
+    let step : lines_after before (b ∷ (front ++ rest)) ≡ lines_after (before ++ l ∷ []) (front ++ rest) = rw (h.0, h.1) refl in
+    step ∙ read-over (before ++ l ∷ []) front made rest h.2 ∙ ap (λ u. lines_after u rest) (append_assoc before (l ∷ []) made)
 
 length-read : (before : List (Line Operand)) (front : List (List ℕ)) (made : List (Line Operand)) → AreReadAs before front made → length made ≡ length front
 length-read before [] [] h = refl
@@ -90,7 +90,7 @@ unread : (text : List ℕ) (n : ℕ) (k : Fault) → IsFirstUnread text n k → 
 unread text n k h =
     let count : length h.before + 1 ≡ n = omega (arith, length-read [] h.front h.before h.earlier, h.number) in
     let found : lines_read text ≡ Err (at n k) =
-    ap (read_after []) h.lines_are ∙ read-over [] h.front h.before (h.bytes ∷ h.rest) h.earlier ∙ rw (h.here, count) refl in
+    ap (lines_after []) h.lines_are ∙ read-over [] h.front h.before (h.bytes ∷ h.rest) h.earlier ∙ rw (h.here, count) refl in
     rw found refl
 
 -- the first line without words, behind these lines
@@ -176,7 +176,7 @@ found-started text ls n k false read e h =
     let same = err-same (at (length (lines text)) fault.NoOrig) (at n k) h in
     Unstarted (record { read = ls; lines_are = read; unstarted = e; number = sym (ap (λ (a : At). a.line) same); here = sym (ap (λ (a : At). a.kind) same) })
 found-started text ls n k true read e h =
-    let w = wordless (labels ls) [] ls n k (rest-err (words_after (labels ls) [] ls) (laid_out ls) (at n k) h) in
+    let w = wordless (labels ls) [] ls n k (rest-err (words_after (labels ls) [] ls) (program_with_words ls) (at n k) h) in
     WithoutWords (record {
       read = ls;
       before = w.made;

@@ -5,7 +5,7 @@ use Rattle.std.proofs.lemmas.List.{drop_more, take_more, map-append}
 use Rattle.std.proofs.lemmas.List.Sums.{sum_by-append}
 use Rattle.std.proofs.lemmas.List.{length-append, length-replicate}
 use Rattle.lc3_table.specs.Statements.{Line, Blank, LabelAlone, Operates, Operand, Register, Number, Label, Characters, forms, ◌>>=◌}
-use Rattle.lc3_table.specs.Meaning.{words, size, operation_size, words_of_fields, instruction, instruction_words, all_resolved}
+use Rattle.lc3_table.specs.Meaning.{words, size, operation_size, words_of_fields, instruction, instruction_words, resolved_fields}
 use Rattle.lc3_table.specs.declared.fields.Field.{Field}
 use Rattle.lc3_table.specs.declared.fields.Field.TheVariants as field
 use Rattle.lc3_table.specs.declared.instr.Instr.{Instr}
@@ -50,7 +50,7 @@ encoded-size o xs ys = at_most_one (instruction o ys)
 words-size : (values : List ℕ → Option ℕ) (address : ℕ) (l : Line Operand) (made : List ℕ) → Ok made ≡ words values address l → length made ≤ size l
 words-size values address Blank made e = let same : made ≡ [] = cc in rw same (lit≤ tt)
 words-size values address (LabelAlone n) made e = let same : made ≡ [] = cc in rw same (lit≤ tt)
-words-size values address (Operates n o xs) made e = by (all_resolved values address (forms o) xs) e
+words-size values address (Operates n o xs) made e = by (resolved_fields values address (forms o) xs) e
   where
     by : (r : Result (List Field) Fault) → Ok made ≡ (r >>= λ ys. Ok (words_of_fields o xs ys)) → length made ≤ operation_size o xs
     by (Ok ys) f = let same : made ≡ words_of_fields o xs ys = cc in rw same (encoded-size o xs ys)

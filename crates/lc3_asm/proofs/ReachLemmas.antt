@@ -19,7 +19,7 @@ use Rattle.lc3_table.specs.declared.operation.Fault.TheVariants as fault
 use Rattle.lc3_table.specs.Instructions.{word_of, IsInstruction}
 use Rattle.lc3_table.specs.Decoding.{instruction_at}
 use Rattle.lc3_table.specs.Statements.{Line, Operates, Operand, Register, Label, forms, operation_order, is_between, or_fault, ◌>>=◌}
-use Rattle.lc3_table.specs.Meaning.{within, label_number, resolved_field, all_resolved, words_of_fields, instruction}
+use Rattle.lc3_table.specs.Meaning.{offset_between, label_number, resolved_field, resolved_fields, words_of_fields, instruction}
 use Rattle.lc3_table.proofs.Reading.{instruction_at-word_of}
 use Rattle.lc3_asm.specs.Texts.{Program, program, value, labels, origin, words_of, address_after, is_origin}
 use Rattle.lc3_asm.specs.Laws.{HasLine, Reaches, word_at, pc_offset, target_named, field_with_offset}
@@ -53,7 +53,7 @@ signed11 z h =
     record { low = omega (arith, ints, low); high = omega (arith, ints, high) }
 
 near : (values : List ℕ → Option ℕ) (address bits : ℕ) (f : Form) (low high : ℤ) (name : List ℕ) (y : Field)
-    → ((t : ℕ) → label_number f address t ≡ within low high (pos t -ℤ pos (address + 1))) → ((z : ℤ) → is_between low high z ≡ true → IsSigned bits z)
+    → ((t : ℕ) → label_number f address t ≡ offset_between low high (pos t -ℤ pos (address + 1))) → ((z : ℤ) → is_between low high z ≡ true → IsSigned bits z)
     → resolved_field values address f (Label name) ≡ Ok y → Near values address bits name y
 near values address bits f low high name y is signed e =
     let target = then-ok (or_fault (values name) fault.Undefined) (λ t. label_number f address t >>= λ z. Ok (field.Number z)) y e in
@@ -76,16 +76,16 @@ near11 : (values : List ℕ → Option ℕ) (address : ℕ) (name : List ℕ) (y
 near11 values address name y e = near values address 11 form.FarTarget (neg_ℤ (pos 1024)) (pos 1023) name y (λ t. refl) signed11 e
 
 -- the fields of a label alone, and of a register and a label
-one-field : (values : List ℕ → Option ℕ) (address : ℕ) (f : Form) (name : List ℕ) (ys : List Field) → all_resolved values address (f ∷ []) (Label name ∷ []) ≡ Ok ys
+one-field : (values : List ℕ → Option ℕ) (address : ℕ) (f : Form) (name : List ℕ) (ys : List Field) → resolved_fields values address (f ∷ []) (Label name ∷ []) ≡ Ok ys
     → (y : Field) × (resolved_field values address f (Label name) ≡ Ok y) × (ys ≡ y ∷ [])
 one-field values address f name ys e =
-    let first = then-ok (resolved_field values address f (Label name)) (λ y. all_resolved values address [] [] >>= λ zs. Ok (y ∷ zs)) ys e in
+    let first = then-ok (resolved_field values address f (Label name)) (λ y. resolved_fields values address [] [] >>= λ zs. Ok (y ∷ zs)) ys e in
     (first.0, first.1, sym (ok-same (first.0 ∷ []) ys first.2))
 
-two-fields : (values : List ℕ → Option ℕ) (address r : ℕ) (f : Form) (name : List ℕ) (ys : List Field) → all_resolved values address (form.Register ∷ f ∷ []) (Register r ∷ Label name ∷ []) ≡ Ok ys
+two-fields : (values : List ℕ → Option ℕ) (address r : ℕ) (f : Form) (name : List ℕ) (ys : List Field) → resolved_fields values address (form.Register ∷ f ∷ []) (Register r ∷ Label name ∷ []) ≡ Ok ys
     → (y : Field) × (resolved_field values address f (Label name) ≡ Ok y) × (ys ≡ field.Register r ∷ y ∷ [])
 two-fields values address r f name ys e =
-    let rest = then-ok (all_resolved values address (f ∷ []) (Label name ∷ [])) (λ zs. Ok (field.Register r ∷ zs)) ys e in
+    let rest = then-ok (resolved_fields values address (f ∷ []) (Label name ∷ [])) (λ zs. Ok (field.Register r ∷ zs)) ys e in
     let last = one-field values address f name rest.0 rest.1 in
     (last.0, last.1, sym (ok-same (field.Register r ∷ rest.0) ys rest.2) ∙ ap (λ zs. field.Register r ∷ zs) last.2)
 
@@ -105,11 +105,11 @@ register-fits : (r : ℕ) (b : Bool) → ((true && nat_lt r 8) && b) ≡ true �
 register-fits r b h = ltb-true r 8 (and_parts (nat_lt r 8) b h).0
 
 written : (values : List ℕ → Option ℕ) (address : ℕ) (o : Operation) (xs : List Operand) (name ws : List ℕ) → all_fit (forms o) xs ≡ true → target_named o xs ≡ Some name
-    → (all_resolved values address (forms o) xs >>= λ ys. Ok (words_of_fields o xs ys)) ≡ Ok ws → Written values address o xs name ws
+    → (resolved_fields values address (forms o) xs >>= λ ys. Ok (words_of_fields o xs ys)) ≡ Ok ws → Written values address o xs name ws
 unfolding instruction
 written values address (op.Branch n z p) (Label m ∷ []) name ws h t e =
     let same : m ≡ name = cc in
-    let ys = then-ok (all_resolved values address (form.Target ∷ []) (Label m ∷ [])) (λ ys. Ok (words_of_fields (op.Branch n z p) (Label m ∷ []) ys)) ws e in
+    let ys = then-ok (resolved_fields values address (form.Target ∷ []) (Label m ∷ [])) (λ ys. Ok (words_of_fields (op.Branch n z p) (Label m ∷ []) ys)) ws e in
     let y = one-field values address form.Target m ys.0 ys.1 in
     let near = near9 values address m y.0 y.1 in
     let word : words_of_fields (op.Branch n z p) (Label m ∷ []) ys.0 ≡ ws = ok-same _ ws ys.2 in
@@ -126,7 +126,7 @@ written values address (op.Branch n z p) (Label m ∷ []) name ws h t e =
     })
 written values address op.JumpSubroutine (Label m ∷ []) name ws h t e =
     let same : m ≡ name = cc in
-    let ys = then-ok (all_resolved values address (form.FarTarget ∷ []) (Label m ∷ [])) (λ ys. Ok (words_of_fields op.JumpSubroutine (Label m ∷ []) ys)) ws e in
+    let ys = then-ok (resolved_fields values address (form.FarTarget ∷ []) (Label m ∷ [])) (λ ys. Ok (words_of_fields op.JumpSubroutine (Label m ∷ []) ys)) ws e in
     let y = one-field values address form.FarTarget m ys.0 ys.1 in
     let near = near11 values address m y.0 y.1 in
     let word : words_of_fields op.JumpSubroutine (Label m ∷ []) ys.0 ≡ ws = ok-same _ ws ys.2 in
@@ -143,7 +143,7 @@ written values address op.JumpSubroutine (Label m ∷ []) name ws h t e =
     })
 written values address op.Load (Register r ∷ Label m ∷ []) name ws h t e =
     let same : m ≡ name = cc in
-    let ys = then-ok (all_resolved values address (form.Register ∷ form.Target ∷ []) (Register r ∷ Label m ∷ [])) (λ ys. Ok (words_of_fields op.Load (Register r ∷ Label m ∷ []) ys)) ws e in
+    let ys = then-ok (resolved_fields values address (form.Register ∷ form.Target ∷ []) (Register r ∷ Label m ∷ [])) (λ ys. Ok (words_of_fields op.Load (Register r ∷ Label m ∷ []) ys)) ws e in
     let y = two-fields values address r form.Target m ys.0 ys.1 in
     let near = near9 values address m y.0 y.1 in
     let word : words_of_fields op.Load (Register r ∷ Label m ∷ []) ys.0 ≡ ws = ok-same _ ws ys.2 in
@@ -160,7 +160,7 @@ written values address op.Load (Register r ∷ Label m ∷ []) name ws h t e =
     })
 written values address op.LoadIndirect (Register r ∷ Label m ∷ []) name ws h t e =
     let same : m ≡ name = cc in
-    let ys = then-ok (all_resolved values address (form.Register ∷ form.Target ∷ []) (Register r ∷ Label m ∷ [])) (λ ys. Ok (words_of_fields op.LoadIndirect (Register r ∷ Label m ∷ []) ys)) ws e in
+    let ys = then-ok (resolved_fields values address (form.Register ∷ form.Target ∷ []) (Register r ∷ Label m ∷ [])) (λ ys. Ok (words_of_fields op.LoadIndirect (Register r ∷ Label m ∷ []) ys)) ws e in
     let y = two-fields values address r form.Target m ys.0 ys.1 in
     let near = near9 values address m y.0 y.1 in
     let word : words_of_fields op.LoadIndirect (Register r ∷ Label m ∷ []) ys.0 ≡ ws = ok-same _ ws ys.2 in
@@ -177,7 +177,7 @@ written values address op.LoadIndirect (Register r ∷ Label m ∷ []) name ws h
     })
 written values address op.LoadAddress (Register r ∷ Label m ∷ []) name ws h t e =
     let same : m ≡ name = cc in
-    let ys = then-ok (all_resolved values address (form.Register ∷ form.Target ∷ []) (Register r ∷ Label m ∷ [])) (λ ys. Ok (words_of_fields op.LoadAddress (Register r ∷ Label m ∷ []) ys)) ws e in
+    let ys = then-ok (resolved_fields values address (form.Register ∷ form.Target ∷ []) (Register r ∷ Label m ∷ [])) (λ ys. Ok (words_of_fields op.LoadAddress (Register r ∷ Label m ∷ []) ys)) ws e in
     let y = two-fields values address r form.Target m ys.0 ys.1 in
     let near = near9 values address m y.0 y.1 in
     let word : words_of_fields op.LoadAddress (Register r ∷ Label m ∷ []) ys.0 ≡ ws = ok-same _ ws ys.2 in
@@ -194,7 +194,7 @@ written values address op.LoadAddress (Register r ∷ Label m ∷ []) name ws h 
     })
 written values address op.Store (Register r ∷ Label m ∷ []) name ws h t e =
     let same : m ≡ name = cc in
-    let ys = then-ok (all_resolved values address (form.Register ∷ form.Target ∷ []) (Register r ∷ Label m ∷ [])) (λ ys. Ok (words_of_fields op.Store (Register r ∷ Label m ∷ []) ys)) ws e in
+    let ys = then-ok (resolved_fields values address (form.Register ∷ form.Target ∷ []) (Register r ∷ Label m ∷ [])) (λ ys. Ok (words_of_fields op.Store (Register r ∷ Label m ∷ []) ys)) ws e in
     let y = two-fields values address r form.Target m ys.0 ys.1 in
     let near = near9 values address m y.0 y.1 in
     let word : words_of_fields op.Store (Register r ∷ Label m ∷ []) ys.0 ≡ ws = ok-same _ ws ys.2 in
@@ -211,7 +211,7 @@ written values address op.Store (Register r ∷ Label m ∷ []) name ws h t e =
     })
 written values address op.StoreIndirect (Register r ∷ Label m ∷ []) name ws h t e =
     let same : m ≡ name = cc in
-    let ys = then-ok (all_resolved values address (form.Register ∷ form.Target ∷ []) (Register r ∷ Label m ∷ [])) (λ ys. Ok (words_of_fields op.StoreIndirect (Register r ∷ Label m ∷ []) ys)) ws e in
+    let ys = then-ok (resolved_fields values address (form.Register ∷ form.Target ∷ []) (Register r ∷ Label m ∷ [])) (λ ys. Ok (words_of_fields op.StoreIndirect (Register r ∷ Label m ∷ []) ys)) ws e in
     let y = two-fields values address r form.Target m ys.0 ys.1 in
     let near = near9 values address m y.0 y.1 in
     let word : words_of_fields op.StoreIndirect (Register r ∷ Label m ∷ []) ys.0 ≡ ws = ok-same _ ws ys.2 in
@@ -260,10 +260,10 @@ reaches_label text p before label o xs name accepted has named =
     })
 
 -- the word of a `.FILL` of a label
-filled : (values : List ℕ → Option ℕ) (address : ℕ) (name ws : List ℕ) → (all_resolved values address (form.Value ∷ []) (Label name ∷ []) >>= λ ys. Ok (words_of_fields op.Fill (Label name ∷ []) ys)) ≡ Ok ws
+filled : (values : List ℕ → Option ℕ) (address : ℕ) (name ws : List ℕ) → (resolved_fields values address (form.Value ∷ []) (Label name ∷ []) >>= λ ys. Ok (words_of_fields op.Fill (Label name ∷ []) ys)) ≡ Ok ws
     → (target : ℕ) × (values name ≡ Some target) × (ws ≡ low_bits 16 (pos target) ∷ [])
 filled values address name ws e =
-    let ys = then-ok (all_resolved values address (form.Value ∷ []) (Label name ∷ [])) (λ ys. Ok (words_of_fields op.Fill (Label name ∷ []) ys)) ws e in
+    let ys = then-ok (resolved_fields values address (form.Value ∷ []) (Label name ∷ [])) (λ ys. Ok (words_of_fields op.Fill (Label name ∷ []) ys)) ws e in
     let y = one-field values address form.Value name ys.0 ys.1 in
     let target = then-ok (or_fault (values name) fault.Undefined) (λ t. label_number form.Value address t >>= λ z. Ok (field.Number z)) y.0 y.1 in
     let field_is : field.Number (pos target.0) ≡ y.0 = ok-same (field.Number (pos target.0)) y.0 target.2 in

@@ -5,7 +5,7 @@ use Rattle.std.specs.List.{list_any}
 use Rattle.lc3_table.specs.Statements.{Line, Operand, line, unless, ◌>>=◌}
 use Rattle.lc3_table.specs.declared.operation.Fault.{Fault}
 use Rattle.lc3_table.specs.declared.operation.Fault.TheVariants as fault
-use Rattle.lc3_asm.specs.Texts.{LineWords, Program, at_line, lines, is_origin, is_end, label_of, labels, line_after, read_after, lines_read, words_after, place_fault, is_duplicate, address_after, laid_out, program_of, program_of_lines, program}
+use Rattle.lc3_asm.specs.Texts.{LineWords, Program, at_line, lines, is_origin, is_end, label_of, labels, line_after, lines_after, lines_read, words_after, place_fault, is_duplicate, address_after, program_with_words, program_of, program_of_lines, program}
 use Rattle.lc3_asm.proofs.Outcomes.{then-ok, unless-ok, ok-same}
 use Rattle.lc3_asm.proofs.DraftLemmas.{fits_from_test}
 use Rattle.lc3_word.specs.Segment.{first_device}
@@ -33,18 +33,18 @@ abbrev Goes : List (Line Operand) → List (Line Operand) → Type 0
 Goes before ls = (ms : List (Line Operand)) × (ls ≡ before ++ ms) × AreRead before ms
 
 goes-end : (before : List (Line Operand)) (bs : List (List ℕ)) (ls : List (Line Operand)) (l : Line Operand) (b : Bool) → IsRead before l
-    → (read_after (before ++ l ∷ []) bs ≡ Ok ls → Goes (before ++ l ∷ []) ls)
-    → (if b then Ok (before ++ l ∷ []) else read_after (before ++ l ∷ []) bs) ≡ Ok ls → Goes before ls
+    → (lines_after (before ++ l ∷ []) bs ≡ Ok ls → Goes (before ++ l ∷ []) ls)
+    → (if b then Ok (before ++ l ∷ []) else lines_after (before ++ l ∷ []) bs) ≡ Ok ls → Goes before ls
 goes-end before bs ls l true read rest h = let same : before ++ l ∷ [] ≡ ls = ok-same (before ++ l ∷ []) ls h in (l ∷ [], sym same, (read, tt))
 goes-end before bs ls l false read rest h = let more = rest h in (l ∷ more.0, more.1 ∙ append_assoc before (l ∷ []) more.0, (read, more.2))
 
 goes-line : (before : List (Line Operand)) (bs : List (List ℕ)) (ls : List (Line Operand)) (b : List ℕ) (r : Result (Line Operand) Fault) → line_after before b ≡ r
-    → ((l : Line Operand) → read_after (before ++ l ∷ []) bs ≡ Ok ls → Goes (before ++ l ∷ []) ls)
-    → (at_line (length before + 1) r >>= λ l. if is_end l then Ok (before ++ l ∷ []) else read_after (before ++ l ∷ []) bs) ≡ Ok ls → Goes before ls
+    → ((l : Line Operand) → lines_after (before ++ l ∷ []) bs ≡ Ok ls → Goes (before ++ l ∷ []) ls)
+    → (at_line (length before + 1) r >>= λ l. if is_end l then Ok (before ++ l ∷ []) else lines_after (before ++ l ∷ []) bs) ≡ Ok ls → Goes before ls
 goes-line before bs ls b (Err k) f rest h = cc
 goes-line before bs ls b (Ok l) f rest h = goes-end before bs ls l (is_end l) (line-read before b l f) (rest l) h
 
-goes : (before : List (Line Operand)) (bs : List (List ℕ)) (ls : List (Line Operand)) → read_after before bs ≡ Ok ls → Goes before ls
+goes : (before : List (Line Operand)) (bs : List (List ℕ)) (ls : List (Line Operand)) → lines_after before bs ≡ Ok ls → Goes before ls
 goes before [] ls e = let same : before ≡ ls = ok-same before ls e in ([], sym same ∙ sym (append-nil before), tt)
 goes before (b ∷ bs) ls e = goes-line before bs ls b (line_after before b) refl (λ l. goes (before ++ l ∷ []) bs ls) e
 
@@ -68,12 +68,12 @@ all-below front (l ∷ ls) r h = subst (λ u. address_after u ≤ first_device) 
 pub record Meant (p : Program) (ls : List (Line Operand)) : Type 0 where
   pub made : List LineWords
   pub words_are : words_after (labels ls) [] ls ≡ Ok made
-  pub laid : laid_out ls made ≡ p
+  pub laid : program_with_words ls made ≡ p
 
 meant-started : (p : Program) (ls : List (Line Operand)) (n : ℕ) (b : Bool) → (if b then program_of ls else Err (record { line = n; kind = fault.NoOrig })) ≡ Ok p → Meant p ls
 meant-started p ls n true e =
-    let made = then-ok (words_after (labels ls) [] ls) (λ ws. Ok (laid_out ls ws)) p e in
-    record { made = made.0; words_are = made.1; laid = ok-same (laid_out ls made.0) p made.2 }
+    let made = then-ok (words_after (labels ls) [] ls) (λ ws. Ok (program_with_words ls ws)) p e in
+    record { made = made.0; words_are = made.1; laid = ok-same (program_with_words ls made.0) p made.2 }
 meant-started p ls n false e = cc
 
 pub meant : (text : List ℕ) (p : Program) (ls : List (Line Operand)) → program text ≡ Ok p → lines_read text ≡ Ok ls → Meant p ls

@@ -4,7 +4,7 @@ use Rattle.std.specs.Prelude.{Ok, is_some, ◌&&◌, nat_abs}
 use Rattle.std.proofs.lemmas.List.{length-append, length-replicate}
 use lib.IntN.{ℤ}
 use Rattle.lc3_table.specs.Statements.{Line, Blank, LabelAlone, Operates, Operand, Register, Number, Label, Characters, or_fault, forms, ◌>>=◌}
-use Rattle.lc3_table.specs.Meaning.{words, size, operation_size, words_of_fields, instruction, instruction_words, resolved_field, label_number, all_resolved}
+use Rattle.lc3_table.specs.Meaning.{words, size, operation_size, words_of_fields, instruction, instruction_words, resolved_field, label_number, resolved_fields}
 use Rattle.lc3_table.specs.declared.fields.Field.{Field}
 use Rattle.lc3_table.specs.declared.fields.Field.TheVariants as field
 use Rattle.lc3_table.specs.declared.instr.Instr.{Instr}
@@ -52,27 +52,27 @@ characters-field : (f : Form) (cs : List ℕ) → fits f (Characters cs) ≡ tru
 characters-field form.Characters cs h = refl
 characters-field f cs h = cc
 
-resolved-fits : (values : List ℕ → Option ℕ) (address : ℕ) (f : Form) (x : Operand) (y : Field) → fits f x ≡ true → resolved_field values address f x ≡ Ok y → field_fits f y ≡ true
-resolved-fits values address f (Register r) y h e = let same : field.Register r ≡ y = ok-same (field.Register r) y e in rw (← same) (register-field f r h)
-resolved-fits values address f (Number z) y h e = let same : field.Number z ≡ y = ok-same (field.Number z) y e in rw (← same) (number-field f z h)
-resolved-fits values address f (Characters cs) y h e = let same : field.Nothing ≡ y = ok-same field.Nothing y e in rw (← same) (characters-field f cs h)
-resolved-fits values address f (Label n) y h e =
+resolved_field-fits : (values : List ℕ → Option ℕ) (address : ℕ) (f : Form) (x : Operand) (y : Field) → fits f x ≡ true → resolved_field values address f x ≡ Ok y → field_fits f y ≡ true
+resolved_field-fits values address f (Register r) y h e = let same : field.Register r ≡ y = ok-same (field.Register r) y e in rw (← same) (register-field f r h)
+resolved_field-fits values address f (Number z) y h e = let same : field.Number z ≡ y = ok-same (field.Number z) y e in rw (← same) (number-field f z h)
+resolved_field-fits values address f (Characters cs) y h e = let same : field.Nothing ≡ y = ok-same field.Nothing y e in rw (← same) (characters-field f cs h)
+resolved_field-fits values address f (Label n) y h e =
     let target = then-ok (or_fault (values n) fault.Undefined) (λ t. label_number f address t >>= λ z. Ok (field.Number z)) y e in
     let number = then-ok (label_number f address target.0) (λ z. Ok (field.Number z)) y target.2 in
     let same : field.Number number.0 ≡ y = ok-same (field.Number number.0) y number.2 in
     rw (← same) (label-field f n number.0 h)
 
-all_resolved-fits : (values : List ℕ → Option ℕ) (address : ℕ) (fs : List Form) (xs : List Operand) (ys : List Field) → all_fit fs xs ≡ true → all_resolved values address fs xs ≡ Ok ys → fields_fit fs ys ≡ true
-all_resolved-fits values address [] [] ys h e = let same : [] ≡ ys = ok-same [] ys e in rw (← same) refl
-all_resolved-fits values address [] (x ∷ xs) ys h e = cc
-all_resolved-fits values address (f ∷ fs) [] ys h e = cc
-all_resolved-fits values address (f ∷ fs) (x ∷ xs) ys h e =
-    let first = then-ok (resolved_field values address f x) (λ y. all_resolved values address fs xs >>= λ zs. Ok (y ∷ zs)) ys e in
-    let rest = then-ok (all_resolved values address fs xs) (λ zs. Ok (first.0 ∷ zs)) ys first.2 in
+resolved_fields-fit : (values : List ℕ → Option ℕ) (address : ℕ) (fs : List Form) (xs : List Operand) (ys : List Field) → all_fit fs xs ≡ true → resolved_fields values address fs xs ≡ Ok ys → fields_fit fs ys ≡ true
+resolved_fields-fit values address [] [] ys h e = let same : [] ≡ ys = ok-same [] ys e in rw (← same) refl
+resolved_fields-fit values address [] (x ∷ xs) ys h e = cc
+resolved_fields-fit values address (f ∷ fs) [] ys h e = cc
+resolved_fields-fit values address (f ∷ fs) (x ∷ xs) ys h e =
+    let first = then-ok (resolved_field values address f x) (λ y. resolved_fields values address fs xs >>= λ zs. Ok (y ∷ zs)) ys e in
+    let rest = then-ok (resolved_fields values address fs xs) (λ zs. Ok (first.0 ∷ zs)) ys first.2 in
     let same : first.0 ∷ rest.0 ≡ ys = ok-same (first.0 ∷ rest.0) ys rest.2 in
     let fit = and_parts (fits f x) (all_fit fs xs) h in
-    let one : field_fits f first.0 ≡ true = resolved-fits values address f x first.0 fit.0 first.1 in
-    let all : fields_fit fs rest.0 ≡ true = all_resolved-fits values address fs xs rest.0 fit.1 rest.1 in
+    let one : field_fits f first.0 ≡ true = resolved_field-fits values address f x first.0 fit.0 first.1 in
+    let all : fields_fit fs rest.0 ≡ true = resolved_fields-fit values address fs xs rest.0 fit.1 rest.1 in
     rw (← same, one, all) refl
 
 -- the operations that are one instruction
@@ -134,6 +134,6 @@ pub words-exact : (values : List ℕ → Option ℕ) (address : ℕ) (l : Line O
 words-exact values address Blank ws h e = let same : [] ≡ ws = ok-same [] ws e in rw (← same) refl
 words-exact values address (LabelAlone n) ws h e = let same : [] ≡ ws = ok-same [] ws e in rw (← same) refl
 words-exact values address (Operates n o xs) ws h e =
-    let fields = then-ok (all_resolved values address (forms o) xs) (λ ys. Ok (words_of_fields o xs ys)) ws e in
+    let fields = then-ok (resolved_fields values address (forms o) xs) (λ ys. Ok (words_of_fields o xs ys)) ws e in
     let same : words_of_fields o xs fields.0 ≡ ws = ok-same (words_of_fields o xs fields.0) ws fields.2 in
-    rw (← same) (encoded-exact o xs fields.0 h (all_resolved-fits values address (forms o) xs fields.0 h fields.1))
+    rw (← same) (encoded-exact o xs fields.0 h (resolved_fields-fit values address (forms o) xs fields.0 h fields.1))

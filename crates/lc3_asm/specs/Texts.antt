@@ -95,11 +95,11 @@ abbrev pub line_after : List (Line Operand) → List ℕ → Result (Line Operan
 line_after before bytes = line (list_any is_origin before) bytes >>= λ l. unless (place_fault before l) (Ok l)
 
 -- the lines before and these, up to `.END`; or the least line with a fault, and its first fault
-abbrev pub read_after : List (Line Operand) → List (List ℕ) → Result (List (Line Operand)) At
-read_after before [] = Ok before
-read_after before (bytes ∷ rest) =
+abbrev pub lines_after : List (Line Operand) → List (List ℕ) → Result (List (Line Operand)) At
+lines_after before [] = Ok before
+lines_after before (bytes ∷ rest) =
     at_line (length before + 1) (line_after before bytes) >>= λ l.
-    if is_end l then Ok (before ++ l ∷ []) else read_after (before ++ l ∷ []) rest
+    if is_end l then Ok (before ++ l ∷ []) else lines_after (before ++ l ∷ []) rest
 
 -- the words of these lines, which stand after those before; or the least line that names a label which no
 -- line defines, or one too far away
@@ -131,12 +131,12 @@ pub record Program : Type 0 where
   pub rows : List Row
 
 -- the program of these lines with these words
-abbrev pub laid_out : List (Line Operand) → List LineWords → Program
-laid_out ls made = record { image = record { origin = origin ls; words = words_of made }; symbols = labels ls; rows = rows_of made }
+abbrev pub program_with_words : List (Line Operand) → List LineWords → Program
+program_with_words ls made = record { image = record { origin = origin ls; words = words_of made }; symbols = labels ls; rows = rows_of made }
 
 -- the program of lines that could all be read, or the least line whose label has no value or is too far away
 abbrev pub program_of : List (Line Operand) → Result Program At
-program_of ls = words_after (labels ls) [] ls >>= λ made. Ok (laid_out ls made)
+program_of ls = words_after (labels ls) [] ls >>= λ made. Ok (program_with_words ls made)
 
 -- the same for a text of this many lines; without a `.ORIG` the fault is the last line's
 abbrev pub program_of_lines : ℕ → List (Line Operand) → Result Program At
@@ -144,7 +144,7 @@ program_of_lines count ls = if list_any is_origin ls then program_of ls else Err
 
 -- the lines of a text up to `.END`; or the least line that can't be read, and its first fault
 abbrev pub lines_read : List ℕ → Result (List (Line Operand)) At
-lines_read text = read_after [] (lines text)
+lines_read text = lines_after [] (lines text)
 
 -- What a source text says, or its fault.
 abbrev pub program : List ℕ → Result Program At

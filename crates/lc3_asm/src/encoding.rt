@@ -1,7 +1,7 @@
 //! The words of a line.
 
 ghost use Rattle.std.specs.Prelude.{◌≡◌, ◌+◌, ◌-ℤ◌, pos, IfOk, map, [], ◌∷◌, ◌++◌};
-ghost use Rattle.lc3_table.specs.Meaning.{within, label_number, resolved_field, all_resolved, words_of_fields, words};
+ghost use Rattle.lc3_table.specs.Meaning.{offset_between, label_number, resolved_field, resolved_fields, words_of_fields, words};
 ghost use Rattle.lc3_asm.specs.Texts.{value};
 ghost use Rattle.lc3_asm.specs.Private.Views.{Gives, seen_operand, seen_line};
 
@@ -14,7 +14,7 @@ use std::alloc::{AllocError, Global};
 
 /// The offset from the line at an address to a target, where the field has room for it.
 fn offset(low: i64, high: i64, address: u16, target: u16) -> Result<i64, Fault>
-    ensures value { result ≡ within low high (pos target -ℤ pos (address + 1)) }
+    ensures value { result ≡ offset_between low high (pos target -ℤ pos (address + 1)) }
 {
     let offset = i64::from(target) - (i64::from(address) + 1);
     if low <= offset && offset <= high {
@@ -25,7 +25,7 @@ fn offset(low: i64, high: i64, address: u16, target: u16) -> Result<i64, Fault>
 }
 
 /// What a label with this value stands for.
-fn reached(form: Form, address: u16, target: u16) -> Result<i64, Fault>
+fn label_number(form: Form, address: u16, target: u16) -> Result<i64, Fault>
     ensures value { result ≡ label_number form address target }
 {
     match form {
@@ -36,7 +36,12 @@ fn reached(form: Form, address: u16, target: u16) -> Result<i64, Fault>
 }
 
 /// An operand of the line at this address, with what a label stands for in its place.
-fn resolved(symbols: &Symbols, address: u16, form: Form, operand: &Operand) -> Result<Field, Fault>
+fn resolved_field(
+    symbols: &Symbols,
+    address: u16,
+    form: Form,
+    operand: &Operand,
+) -> Result<Field, Fault>
     ensures exact { result
         ≡ resolved_field (value symbols.now) address form (seen_operand operand.now) }
 {
@@ -48,14 +53,14 @@ fn resolved(symbols: &Symbols, address: u16, form: Form, operand: &Operand) -> R
             let Some(target) = symbols.value(name.as_str()) else {
                 return Err(Fault::Undefined);
             };
-            let number = reached(form, address, target)?;
+            let number = label_number(form, address, target)?;
             Ok(Field::Number(number))
         }
     }
 }
 
 /// The operands of the line at this address, with what the labels stand for in their places.
-fn all_resolved(
+fn resolved_fields(
     alloc: Global,
     symbols: &Symbols,
     address: u16,
@@ -63,11 +68,11 @@ fn all_resolved(
     operands: &[Operand],
 ) -> Result<Vec<Field>, LineError>
     ensures exact { Gives (λ v. v.items) result
-        (all_resolved (value symbols.now) address forms.now (map seen_operand operands.now)) }
+        (resolved_fields (value symbols.now) address forms.now (map seen_operand operands.now)) }
 {
     let mut found = Vec::new(alloc);
     for i in 0..forms.len().min(operands.len()) {
-        match resolved(symbols, address, forms[i], &operands[i]) {
+        match resolved_field(symbols, address, forms[i], &operands[i]) {
             Ok(field) => found.push(field)?,
             Err(fault) => return Err(LineError::Fault(fault)),
         }
@@ -88,7 +93,7 @@ fn text_words(alloc: Global, characters: &[u8]) -> Result<Vec<u16>, AllocError>
 }
 
 /// The words of an operation with these operands and fields.
-fn encoded(
+fn words_of_fields(
     alloc: Global,
     operation: Operation,
     operands: &[Operand],
@@ -127,6 +132,6 @@ pub fn line_words(
     else {
         return Ok(Vec::new(alloc));
     };
-    let fields = all_resolved(alloc, symbols, address, operation.forms(), operands)?;
-    Ok(encoded(alloc, *operation, operands, &fields)?)
+    let fields = resolved_fields(alloc, symbols, address, operation.forms(), operands)?;
+    Ok(words_of_fields(alloc, *operation, operands, &fields)?)
 }

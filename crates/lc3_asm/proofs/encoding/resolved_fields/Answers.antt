@@ -3,7 +3,7 @@ use Rattle.std.specs.Prelude.{Ok}
 use Rattle.lc3_asm.specs.Texts.{value}
 use Rattle.lc3_asm.proofs.OperandSteps.{with_front}
 use Rattle.lc3_asm.proofs.FieldSteps.{resolved-more, resolved-end}
-use Rattle.lc3_asm.proofs.encoding.all_resolved.Goals as goal
+use Rattle.lc3_asm.proofs.encoding.resolved_fields.Goals as goal
 
 pub loop-i-preserved : goal.loop-i-preserved
 loop-i-preserved c =
