@@ -38,6 +38,111 @@ fn operand(word: u16) -> Option<Operand>
 }
 
 #[inline(always)]
+fn add(word: u16) -> Option<Instr>
+    requires opcode { word / 4096 ≡ 1 }
+    ensures found { IfSome result (λ i. word_of i ≡ word) }
+    ensures in_range { IfSome result (λ i. IsInstruction i) }
+    ensures none { IfNone result ((i : Instr) → IsInstruction i → word_of i ≢ word) }
+{
+    let dr = Reg::of_low_bits(word >> 9);
+    let sr1 = Reg::of_low_bits(word >> 6);
+    let operand = operand(word)?;
+    Some(Instr::Add { dr, sr1, operand })
+}
+
+#[inline(always)]
+fn and(word: u16) -> Option<Instr>
+    requires opcode { word / 4096 ≡ 5 }
+    ensures found { IfSome result (λ i. word_of i ≡ word) }
+    ensures in_range { IfSome result (λ i. IsInstruction i) }
+    ensures none { IfNone result ((i : Instr) → IsInstruction i → word_of i ≢ word) }
+{
+    let dr = Reg::of_low_bits(word >> 9);
+    let sr1 = Reg::of_low_bits(word >> 6);
+    let operand = operand(word)?;
+    Some(Instr::And { dr, sr1, operand })
+}
+
+#[inline(always)]
+fn load(word: u16) -> Instr
+    requires opcode { word / 4096 ≡ 2 }
+    ensures found { word_of result ≡ word }
+    ensures in_range { IsInstruction result }
+{
+    let dr = Reg::of_low_bits(word >> 9);
+    let offset = Off::of_low_bits(word);
+    Instr::Ld { dr, offset }
+}
+
+#[inline(always)]
+fn load_indirect(word: u16) -> Instr
+    requires opcode { word / 4096 ≡ 10 }
+    ensures found { word_of result ≡ word }
+    ensures in_range { IsInstruction result }
+{
+    let dr = Reg::of_low_bits(word >> 9);
+    let offset = Off::of_low_bits(word);
+    Instr::Ldi { dr, offset }
+}
+
+#[inline(always)]
+fn load_base_offset(word: u16) -> Instr
+    requires opcode { word / 4096 ≡ 6 }
+    ensures found { word_of result ≡ word }
+    ensures in_range { IsInstruction result }
+{
+    let dr = Reg::of_low_bits(word >> 9);
+    let base = Reg::of_low_bits(word >> 6);
+    let offset = Off::of_low_bits(word);
+    Instr::Ldr { dr, base, offset }
+}
+
+#[inline(always)]
+fn load_address(word: u16) -> Instr
+    requires opcode { word / 4096 ≡ 14 }
+    ensures found { word_of result ≡ word }
+    ensures in_range { IsInstruction result }
+{
+    let dr = Reg::of_low_bits(word >> 9);
+    let offset = Off::of_low_bits(word);
+    Instr::Lea { dr, offset }
+}
+
+#[inline(always)]
+fn store(word: u16) -> Instr
+    requires opcode { word / 4096 ≡ 3 }
+    ensures found { word_of result ≡ word }
+    ensures in_range { IsInstruction result }
+{
+    let sr = Reg::of_low_bits(word >> 9);
+    let offset = Off::of_low_bits(word);
+    Instr::St { sr, offset }
+}
+
+#[inline(always)]
+fn store_indirect(word: u16) -> Instr
+    requires opcode { word / 4096 ≡ 11 }
+    ensures found { word_of result ≡ word }
+    ensures in_range { IsInstruction result }
+{
+    let sr = Reg::of_low_bits(word >> 9);
+    let offset = Off::of_low_bits(word);
+    Instr::Sti { sr, offset }
+}
+
+#[inline(always)]
+fn store_base_offset(word: u16) -> Instr
+    requires opcode { word / 4096 ≡ 7 }
+    ensures found { word_of result ≡ word }
+    ensures in_range { IsInstruction result }
+{
+    let sr = Reg::of_low_bits(word >> 9);
+    let base = Reg::of_low_bits(word >> 6);
+    let offset = Off::of_low_bits(word);
+    Instr::Str { sr, base, offset }
+}
+
+#[inline(always)]
 fn branch(word: u16) -> Instr
     requires opcode { word / 4096 ≡ 0 }
     ensures found { word_of result ≡ word }
@@ -138,59 +243,19 @@ fn instruction(word: u16) -> Option<Instr>
 {
     match word >> 12 {
         0 => Some(branch(word)),
-        1 => {
-            let dr = Reg::of_low_bits(word >> 9);
-            let sr1 = Reg::of_low_bits(word >> 6);
-            let operand = operand(word)?;
-            Some(Instr::Add { dr, sr1, operand })
-        }
-        2 => {
-            let dr = Reg::of_low_bits(word >> 9);
-            let offset = Off::of_low_bits(word);
-            Some(Instr::Ld { dr, offset })
-        }
-        3 => {
-            let sr = Reg::of_low_bits(word >> 9);
-            let offset = Off::of_low_bits(word);
-            Some(Instr::St { sr, offset })
-        }
+        1 => add(word),
+        2 => Some(load(word)),
+        3 => Some(store(word)),
         4 => subroutine(word),
-        5 => {
-            let dr = Reg::of_low_bits(word >> 9);
-            let sr1 = Reg::of_low_bits(word >> 6);
-            let operand = operand(word)?;
-            Some(Instr::And { dr, sr1, operand })
-        }
-        6 => {
-            let dr = Reg::of_low_bits(word >> 9);
-            let base = Reg::of_low_bits(word >> 6);
-            let offset = Off::of_low_bits(word);
-            Some(Instr::Ldr { dr, base, offset })
-        }
-        7 => {
-            let sr = Reg::of_low_bits(word >> 9);
-            let base = Reg::of_low_bits(word >> 6);
-            let offset = Off::of_low_bits(word);
-            Some(Instr::Str { sr, base, offset })
-        }
+        5 => and(word),
+        6 => Some(load_base_offset(word)),
+        7 => Some(store_base_offset(word)),
         8 => return_from_interrupt(word),
         9 => complement(word),
-        10 => {
-            let dr = Reg::of_low_bits(word >> 9);
-            let offset = Off::of_low_bits(word);
-            Some(Instr::Ldi { dr, offset })
-        }
-        11 => {
-            let sr = Reg::of_low_bits(word >> 9);
-            let offset = Off::of_low_bits(word);
-            Some(Instr::Sti { sr, offset })
-        }
+        10 => Some(load_indirect(word)),
+        11 => Some(store_indirect(word)),
         12 => jump(word),
-        14 => {
-            let dr = Reg::of_low_bits(word >> 9);
-            let offset = Off::of_low_bits(word);
-            Some(Instr::Lea { dr, offset })
-        }
+        14 => Some(load_address(word)),
         15 => trap(word),
         _ => None,
     }
