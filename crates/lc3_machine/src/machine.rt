@@ -196,7 +196,7 @@ impl Machine {
     /// The incremented program counter.
     #[inline(always)]
     fn next_pc(&self) -> u16
-        ensures { result ≡ next_pc self.now.process }
+        ensures value { result ≡ next_pc self.now.process }
     {
         add(self.pc, 1)
     }
@@ -204,7 +204,7 @@ impl Machine {
     /// The address at an offset from the incremented program counter.
     #[inline(always)]
     fn target(&self, offset: u16) -> u16
-        ensures { result ≡ word_sum (next_pc self.now.process) offset }
+        ensures value { result ≡ word_sum (next_pc self.now.process) offset }
     {
         add(self.next_pc(), offset)
     }
@@ -212,7 +212,7 @@ impl Machine {
     /// The address at an offset from the one in a register.
     #[inline(always)]
     fn at(&self, base: Reg, offset: u16) -> u16
-        ensures { result ≡ word_sum (reg self.now.process base) offset }
+        ensures value { result ≡ word_sum (reg self.now.process base) offset }
     {
         add(self.reg(base), offset)
     }
@@ -220,7 +220,7 @@ impl Machine {
     /// Goes on at the next instruction.
     #[inline(always)]
     fn advance(&mut self)
-        ensures { self.new.process ≡ at_next_instruction self.old.process }
+        ensures advanced { self.new.process ≡ at_next_instruction self.old.process }
     {
         self.pc = self.next_pc();
     }
@@ -228,7 +228,7 @@ impl Machine {
     /// Goes on after a trap; in profile A the address where it goes on stands in R7.
     #[inline(always)]
     fn return_from_trap(&mut self)
-        ensures { self.new.process ≡ after_trap self.old.process }
+        ensures returned { self.new.process ≡ after_trap self.old.process }
     {
         let next = self.next_pc();
         match self.profile {

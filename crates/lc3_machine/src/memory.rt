@@ -28,7 +28,7 @@ impl Model for Memory {
 impl Memory {
     /// Memory that is zero.
     fn zero(alloc: Global) -> Result<Memory, AllocError>
-        ensures { IfOk result (λ m. m.words ≡ zeros 65536) }
+        ensures zeros { IfOk result (λ m. m.words ≡ zeros 65536) }
     {
         let pages = Pages::absent(alloc)?;
         Ok(Memory { pages })

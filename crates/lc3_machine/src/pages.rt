@@ -40,14 +40,14 @@ fn are_zero(words: &[u16]) -> bool {
 
 /// Where pages begin that aren't made.
 fn unwritten() -> [usize; PAGES]
-    ensures { result ≡ replicate 256 0 }
+    ensures zeros { result ≡ replicate 256 0 }
 {
     [0; PAGES]
 }
 
 /// A page of zeros.
 fn blank(alloc: Global) -> Result<Vec<u16>, AllocError>
-    ensures { IfOk result (λ words. words.items ≡ zeros 256) }
+    ensures zeros { IfOk result (λ words. words.items ≡ zeros 256) }
 {
     let mut words = Vec::new(alloc);
     words.resize(PAGE, 0)?;
@@ -57,7 +57,7 @@ fn blank(alloc: Global) -> Result<Vec<u16>, AllocError>
 impl Pages {
     /// Pages that were never written.
     pub(crate) fn absent(alloc: Global) -> Result<Pages, AllocError>
-        ensures { IfOk result (λ pages. pages ≡ replicate 256 absent) }
+        ensures absent { IfOk result (λ pages. pages ≡ replicate 256 absent) }
     {
         Ok(Pages {
             words: blank(alloc)?,

@@ -17,7 +17,7 @@ impl Machine {
     /// GETC: the next byte of the input into R0.
     #[inline(never)]
     fn getc(&mut self) -> Progress
-        ensures { CarriedOut (getc self.old.process self.old.process.input)
+        ensures getc { CarriedOut (getc self.old.process self.old.process.input)
             self.old.process result self.new.process }
     {
         match self.input.next() {
@@ -33,7 +33,7 @@ impl Machine {
     /// OUT: the low byte of R0 to the output.
     #[inline(never)]
     fn out(&mut self) -> Progress
-        ensures { CarriedOut (out self.old.process) self.old.process result self.new.process }
+        ensures out { CarriedOut (out self.old.process) self.old.process result self.new.process }
     {
         let byte = (self.regs.get(0) % 256) as u8;
         match self.output.push(byte) {
@@ -48,7 +48,7 @@ impl Machine {
     /// IN: the next byte of the input into R0, with a prompt before it and its echo.
     #[inline(never)]
     fn ask(&mut self) -> Progress
-        ensures { CarriedOut (outcome_of_in self.old.process self.old.process.input)
+        ensures ask { CarriedOut (outcome_of_in self.old.process self.old.process.input)
             self.old.process result self.new.process }
     {
         if self.input.left().is_empty() {
@@ -71,7 +71,7 @@ impl Machine {
     /// PUTS: the low bytes of the string whose address is in R0.
     #[inline(never)]
     fn puts(&mut self) -> Progress
-        ensures { CarriedOut (puts self.old.process) self.old.process result self.new.process }
+        ensures puts { CarriedOut (puts self.old.process) self.old.process result self.new.process }
     {
         let address = self.regs.get(0);
         let Some(count) = self.memory.string_len(address) else {
@@ -88,7 +88,8 @@ impl Machine {
     /// PUTSP: both bytes of each word of the string whose address is in R0.
     #[inline(never)]
     fn putsp(&mut self) -> Progress
-        ensures { CarriedOut (putsp self.old.process) self.old.process result self.new.process }
+        ensures putsp { CarriedOut (putsp self.old.process)
+            self.old.process result self.new.process }
     {
         let address = self.regs.get(0);
         let Some(count) = self.memory.string_len(address) else {
@@ -106,7 +107,7 @@ impl Machine {
     #[tactic(auto, unfolding(crate::specs::Effects::outcome_of_trap))]
     #[inline(always)]
     pub(super) fn trap(&mut self, vector: u8) -> Progress
-        ensures { CarriedOut (outcome_of_trap vector self.old.process)
+        ensures trap { CarriedOut (outcome_of_trap vector self.old.process)
             self.old.process result self.new.process }
     {
         match vector {
@@ -125,7 +126,7 @@ impl Machine {
 /// Writes a prompt, a byte and a line feed, for which there is room.
 fn write_echo(output: &mut Vec<u8>, byte: u8)
     requires room { vec_len output.old + 21 ≤ vec_capacity output.old }
-    ensures { output.new.items ≡ output.old.items ++ (prompt ++ byte ∷ 10 ∷ []) }
+    ensures written { output.new.items ≡ output.old.items ++ (prompt ++ byte ∷ 10 ∷ []) }
 {
     let _ = output.extend_from_slice(PROMPT);
     let _ = output.extend_from_slice(&[byte, b'\n']);
@@ -135,7 +136,7 @@ fn write_echo(output: &mut Vec<u8>, byte: u8)
 fn write_low_bytes(output: &mut Vec<u8>, memory: &Memory, address: u16, count: u16)
     requires in_memory { address + count < first_device }
     requires room { vec_len output.old + count ≤ vec_capacity output.old }
-    ensures { output.new.items ≡ output.old.items
+    ensures written { output.new.items ≡ output.old.items
         ++ map low_byte (take count (words_from memory.now.words address)) }
 {
     for k in 0..count {
@@ -148,7 +149,7 @@ fn write_low_bytes(output: &mut Vec<u8>, memory: &Memory, address: u16, count: u
 fn write_packed_bytes(output: &mut Vec<u8>, memory: &Memory, address: u16, count: u16)
     requires in_memory { address + count < first_device }
     requires room { vec_len output.old + 2 * count ≤ vec_capacity output.old }
-    ensures { output.new.items ≡ output.old.items
+    ensures written { output.new.items ≡ output.old.items
         ++ flat_map packed_bytes (take count (words_from memory.now.words address)) }
 {
     for k in 0..count {

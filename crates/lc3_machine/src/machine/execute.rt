@@ -14,7 +14,8 @@ impl Machine {
     /// Puts a result into a register, sets the code from it, and goes on at the next instruction.
     #[inline(always)]
     fn give(&mut self, dr: Reg, value: u16) -> Progress
-        ensures { CarriedOut (GoesOn (at_next_instruction (with_result self.old.process dr value)))
+        ensures value { CarriedOut
+            (GoesOn (at_next_instruction (with_result self.old.process dr value)))
             self.old.process result self.new.process }
     {
         self.regs.set(dr.number(), value);
@@ -26,7 +27,7 @@ impl Machine {
     /// Puts an address into a register, and goes on at the next instruction; in profile A it sets the code from it.
     #[inline(always)]
     fn give_address(&mut self, dr: Reg, address: u16) -> Progress
-        ensures { CarriedOut
+        ensures address { CarriedOut
             (GoesOn (at_next_instruction (with_address self.old.process dr address)))
             self.old.process result self.new.process }
     {
@@ -42,7 +43,7 @@ impl Machine {
     /// Goes on elsewhere.
     #[inline(always)]
     fn jump(&mut self, address: u16) -> Progress
-        ensures { CarriedOut (GoesOn (at_address self.old.process address))
+        ensures jump { CarriedOut (GoesOn (at_address self.old.process address))
             self.old.process result self.new.process }
     {
         self.pc = address;
@@ -52,7 +53,7 @@ impl Machine {
     /// Goes on elsewhere, with the address of the next instruction in R7.
     #[inline(always)]
     fn call(&mut self, routine: u16) -> Progress
-        ensures { CarriedOut (GoesOn (at_routine self.old.process routine))
+        ensures call { CarriedOut (GoesOn (at_routine self.old.process routine))
             self.old.process result self.new.process }
     {
         let link = self.next_pc();
@@ -65,7 +66,7 @@ impl Machine {
     #[tactic(auto, unfolding(crate::specs::Process::cc_of))]
     #[inline(always)]
     fn is_among(&self, n: bool, z: bool, p: bool) -> bool
-        ensures { result ≡ is_among self.now.process.cc n z p }
+        ensures value { result ≡ is_among self.now.process.cc n z p }
     {
         if self.result >> 15 == 1 {
             n
@@ -79,7 +80,7 @@ impl Machine {
     /// Goes on elsewhere if the code that is set is among these, and else at the next instruction.
     #[inline(always)]
     fn branch(&mut self, n: bool, z: bool, p: bool, address: u16) -> Progress
-        ensures { CarriedOut (GoesOn (process_after_branch self.old.process n z p address))
+        ensures branch { CarriedOut (GoesOn (process_after_branch self.old.process n z p address))
             self.old.process result self.new.process }
     {
         self.pc = if self.is_among(n, z, p) {
@@ -93,7 +94,7 @@ impl Machine {
     /// Puts the word at an address into a register.
     #[inline(always)]
     fn load_into(&mut self, dr: Reg, address: u16) -> Progress
-        ensures { CarriedOut (outcome_of_load self.old.process dr address)
+        ensures load { CarriedOut (outcome_of_load self.old.process dr address)
             self.old.process result self.new.process }
     {
         if address >= FIRST_DEVICE {
@@ -106,7 +107,7 @@ impl Machine {
     /// Puts the word at the address that stands at an address into a register.
     #[inline(always)]
     fn load_indirect(&mut self, dr: Reg, address: u16) -> Progress
-        ensures { CarriedOut
+        ensures load { CarriedOut
             (at_word self.old.process address
             (λ pointer. outcome_of_load self.old.process dr pointer))
             self.old.process result self.new.process }
@@ -121,7 +122,7 @@ impl Machine {
     /// Stores a word at an address.
     #[inline(always)]
     fn store(&mut self, address: u16, word: u16) -> Progress
-        ensures { CarriedOut (outcome_of_store self.old.process address word)
+        ensures store { CarriedOut (outcome_of_store self.old.process address word)
             self.old.process result self.new.process }
     {
         if address >= FIRST_DEVICE {
@@ -139,7 +140,7 @@ impl Machine {
     /// Stores a word at the address that stands at an address.
     #[inline(always)]
     fn store_indirect(&mut self, address: u16, word: u16) -> Progress
-        ensures { CarriedOut
+        ensures store { CarriedOut
             (at_word self.old.process address
             (λ pointer. outcome_of_store self.old.process pointer word))
             self.old.process result self.new.process }
@@ -154,7 +155,7 @@ impl Machine {
     /// The word of the second operand of ADD and AND.
     #[inline(always)]
     fn operand(&self, operand: Operand) -> u16
-        ensures { result ≡ operand_value self.now.process operand }
+        ensures value { result ≡ operand_value self.now.process operand }
     {
         match operand {
             Operand::Register(sr2) => self.reg(sr2),
@@ -166,7 +167,7 @@ impl Machine {
     #[tactic(auto, unfolding(crate::specs::Effects::effect))]
     #[inline(always)]
     fn execute(&mut self, instr: Instr) -> Progress
-        ensures { CarriedOut (effect instr self.old.process)
+        ensures effect { CarriedOut (effect instr self.old.process)
             self.old.process result self.new.process }
     {
         match instr {

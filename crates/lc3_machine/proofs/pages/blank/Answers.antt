@@ -5,6 +5,8 @@ use Rattle.lc3_machine.proofs.pages.blank.Goals as goal
 pub returns : goal.returns
 returns c =
     let none : 256 - vec_len c.new-words.result ≡ 256 = omega (arith, c.new-words.ensures.len) in
-    c.in_ok-resize.ensures.items
-    ∙ ap (λ ws. take 256 ws ++ replicate (256 - vec_len c.new-words.result) 0) c.new-words.ensures.items
-    ∙ ap (λ n. replicate n 0) none ∙ sym (zeros-is 256)
+    record {
+      zeros = c.in_ok-resize.ensures.items
+          ∙ ap (λ ws. take 256 ws ++ replicate (256 - vec_len c.new-words.result) 0) c.new-words.ensures.items
+          ∙ ap (λ n. replicate n 0) none ∙ sym (zeros-is 256);
+    }

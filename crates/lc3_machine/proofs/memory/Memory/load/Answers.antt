@@ -6,7 +6,7 @@ use Rattle.lc3_machine.proofs.MemoryLemmas.{length-zeros, written-none, written-
 use Rattle.lc3_machine.proofs.memory.Memory.load.Goals as goal
 
 pub loop-k-init : goal.loop-k-init
-loop-k-init c = c.in_ok-memory.ensures ∙ sym (written-none (zeros 65536) c.args.origin)
+loop-k-init c = c.in_ok-memory.ensures.zeros ∙ sym (written-none (zeros 65536) c.args.origin)
 
 pub loop-k-preserved : goal.loop-k-preserved
 loop-k-preserved c =
