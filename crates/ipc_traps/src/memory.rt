@@ -12,15 +12,15 @@ use std::alloc::{AllocError, Global};
 /// The word of a register.
 #[inline(always)]
 pub(crate) fn register(machine: &Machine, number: u16) -> u16
-    requires { number < 8 }
-    ensures { result ≡ reg machine.now.process number }
+    requires number { number < 8 }
+    ensures word { result ≡ reg machine.now.process number }
 {
     machine.reg(Reg::of_low_bits(number))
 }
 
 /// Whether a range lies below the device registers.
 pub(crate) fn is_in_memory(at: u16, len: u16) -> bool
-    ensures { result ≡ is_in_memory at len }
+    ensures inside { result ≡ is_in_memory at len }
 {
     len == 0 || at as u32 + len as u32 <= FIRST_DEVICE as u32
 }
@@ -32,8 +32,8 @@ pub(crate) fn read_words(
     at: u16,
     len: u16,
 ) -> Result<Vec<u16>, AllocError>
-    requires { is_in_memory at len ≡ true }
-    ensures { IfOk result (λ v. v.items ≡ words_at machine.now.process.memory at len) }
+    requires range { is_in_memory at len ≡ true }
+    ensures words { IfOk result (λ v. v.items ≡ words_at machine.now.process.memory at len) }
 {
     let mut words = Vec::with_capacity(alloc, len as usize)?;
     for k in 0..len {
@@ -46,7 +46,7 @@ pub(crate) fn read_words(
 pub(crate) fn read_few(machine: &Machine, at: u16, len: u16) -> FewWords
     requires range { is_in_memory at len ≡ true }
     requires few { len ≤ FEW_WORDS }
-    ensures { result ≡ words_at machine.now.process.memory at len }
+    ensures words { result ≡ words_at machine.now.process.memory at len }
 {
     let mut words = FewWords::new();
     for k in 0..len {
@@ -57,8 +57,8 @@ pub(crate) fn read_few(machine: &Machine, at: u16, len: u16) -> FewWords
 
 /// The four words at an address.
 pub(crate) fn read_four(machine: &Machine, at: u16) -> [u16; 4]
-    requires { is_in_memory at 4 ≡ true }
-    ensures { result ≡ words_at machine.now.process.memory at 4 }
+    requires range { is_in_memory at 4 ≡ true }
+    ensures words { result ≡ words_at machine.now.process.memory at 4 }
 {
     [
         machine.word(at),

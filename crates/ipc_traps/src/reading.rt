@@ -34,7 +34,7 @@ pub fn read_call(alloc: Global, call: &AtCall) -> Result<Asked, AllocError>
 #[tactic(auto, unfolding(crate::specs::Asked::trap_asks))]
 #[inline(always)]
 fn read_trap(alloc: Global, machine: &Machine, vector: u8) -> Result<Asked, AllocError>
-    ensures { IfOk result (λ a. request_of a ≡ trap_asks vector machine.now.process) }
+    ensures request { IfOk result (λ a. request_of a ≡ trap_asks vector machine.now.process) }
 {
     let first = register(machine, 0);
     match vector {
@@ -59,7 +59,7 @@ fn read_trap(alloc: Global, machine: &Machine, vector: u8) -> Result<Asked, Allo
 /// The name at the address in R0, or why it is refused.
 #[tactic(auto, unfolding(crate::specs::Asked::name_at))]
 fn read_name(alloc: Global, machine: &Machine) -> Result<Result<Name, Errno>, AllocError>
-    ensures { IfOk result (λ read. read ≡ name_at machine.now.process) }
+    ensures name { IfOk result (λ read. read ≡ name_at machine.now.process) }
 {
     let at = register(machine, 0);
     let Some(len) = name_length(machine, at) else {
@@ -71,16 +71,16 @@ fn read_name(alloc: Global, machine: &Machine) -> Result<Result<Name, Errno>, Al
 
 /// Whether mq_open is given attributes: O_CREAT is set, and R2 isn't 0.
 fn has_attributes(machine: &Machine) -> bool
-    ensures { result ≡ has_attributes machine.now.process }
+    ensures given { result ≡ has_attributes machine.now.process }
 {
     register(machine, 1) & O_CREAT != 0 && register(machine, 2) != 0
 }
 
 /// The attributes for mq_open.
 fn attributes(machine: &Machine) -> Option<[u16; 4]>
-    requires { has_attributes machine.now.process ≡ true
+    requires range { has_attributes machine.now.process ≡ true
         → is_in_memory (reg machine.now.process 2) 4 ≡ true }
-    ensures { result ≡ attributes machine.now.process }
+    ensures attributes { result ≡ attributes machine.now.process }
 {
     if has_attributes(machine) {
         Some(read_four(machine, register(machine, 2)))
@@ -91,7 +91,7 @@ fn attributes(machine: &Machine) -> Option<[u16; 4]>
 
 /// mq_open
 fn read_open(alloc: Global, machine: &Machine) -> Result<Asked, AllocError>
-    ensures { IfOk result (λ a. request_of a ≡ queue_opened machine.now.process) }
+    ensures request { IfOk result (λ a. request_of a ≡ queue_opened machine.now.process) }
 {
     if has_attributes(machine) && !is_in_memory(register(machine, 2), 4) {
         return Ok(Asked::Refused(Errno::Fault));
@@ -108,7 +108,7 @@ fn read_open(alloc: Global, machine: &Machine) -> Result<Asked, AllocError>
 
 /// mq_unlink
 fn read_unlink(alloc: Global, machine: &Machine) -> Result<Asked, AllocError>
-    ensures { IfOk result (λ a. request_of a ≡ by_name machine.now.process true MqUnlink) }
+    ensures request { IfOk result (λ a. request_of a ≡ by_name machine.now.process true MqUnlink) }
 {
     match read_name(alloc, machine)? {
         Err(e) => Ok(Asked::Refused(e)),
@@ -118,7 +118,7 @@ fn read_unlink(alloc: Global, machine: &Machine) -> Result<Asked, AllocError>
 
 /// sem_open
 fn read_sem_open(alloc: Global, machine: &Machine) -> Result<Asked, AllocError>
-    ensures { IfOk result (λ a. request_of a ≡ semaphore_opened machine.now.process) }
+    ensures request { IfOk result (λ a. request_of a ≡ semaphore_opened machine.now.process) }
 {
     match read_name(alloc, machine)? {
         Err(e) => Ok(Asked::Refused(e)),
@@ -132,7 +132,7 @@ fn read_sem_open(alloc: Global, machine: &Machine) -> Result<Asked, AllocError>
 
 /// sem_unlink
 fn read_sem_unlink(alloc: Global, machine: &Machine) -> Result<Asked, AllocError>
-    ensures { IfOk result (λ a. request_of a ≡ by_name machine.now.process true SemUnlink) }
+    ensures request { IfOk result (λ a. request_of a ≡ by_name machine.now.process true SemUnlink) }
 {
     match read_name(alloc, machine)? {
         Err(e) => Ok(Asked::Refused(e)),
@@ -142,8 +142,8 @@ fn read_sem_unlink(alloc: Global, machine: &Machine) -> Result<Asked, AllocError
 
 /// The words of a message.
 fn read_message(alloc: Global, machine: &Machine, at: u16, len: u16) -> Result<Words, AllocError>
-    requires { is_in_memory at len ≡ true }
-    ensures { IfOk result (λ words. words ≡ words_at machine.now.process.memory at len) }
+    requires range { is_in_memory at len ≡ true }
+    ensures words { IfOk result (λ words. words ≡ words_at machine.now.process.memory at len) }
 {
     if len as usize <= FEW_WORDS {
         return Ok(Words::from_few(read_few(machine, at, len)));
@@ -153,7 +153,7 @@ fn read_message(alloc: Global, machine: &Machine, at: u16, len: u16) -> Result<W
 
 /// mq_send
 fn read_send(alloc: Global, machine: &Machine) -> Result<Asked, AllocError>
-    ensures { IfOk result (λ a. request_of a ≡ message_sent machine.now.process) }
+    ensures request { IfOk result (λ a. request_of a ≡ message_sent machine.now.process) }
 {
     let at = register(machine, 1);
     let len = register(machine, 2);
@@ -170,7 +170,7 @@ fn read_send(alloc: Global, machine: &Machine) -> Result<Asked, AllocError>
 
 /// mq_receive
 fn read_receive(machine: &Machine) -> Asked
-    ensures { request_of result ≡ message_received machine.now.process }
+    ensures request { request_of result ≡ message_received machine.now.process }
 {
     let len = register(machine, 2);
     let prio_at = register(machine, 3);
@@ -188,7 +188,7 @@ fn read_receive(machine: &Machine) -> Asked
 
 /// mq_getattr
 fn read_getattr(machine: &Machine) -> Asked
-    ensures { request_of result ≡ attributes_read machine.now.process }
+    ensures request { request_of result ≡ attributes_read machine.now.process }
 {
     if !is_in_memory(register(machine, 1), 4) {
         return Asked::Refused(Errno::Fault);
@@ -200,7 +200,7 @@ fn read_getattr(machine: &Machine) -> Asked
 
 /// mq_setattr
 fn read_setattr(machine: &Machine) -> Asked
-    ensures { request_of result ≡ attributes_set machine.now.process }
+    ensures request { request_of result ≡ attributes_set machine.now.process }
 {
     let new_at = register(machine, 1);
     let old_at = register(machine, 2);
@@ -218,7 +218,7 @@ fn read_setattr(machine: &Machine) -> Asked
 
 /// sem_getvalue
 fn read_getvalue(machine: &Machine) -> Asked
-    ensures { request_of result ≡ value_read machine.now.process }
+    ensures request { request_of result ≡ value_read machine.now.process }
 {
     if !is_in_memory(register(machine, 1), 1) {
         return Asked::Refused(Errno::Fault);

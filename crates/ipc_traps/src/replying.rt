@@ -15,14 +15,15 @@ use std::alloc::AllocError;
 
 /// An address, of which 0 stands for none.
 fn unless_zero(address: u16) -> Option<u16>
-    ensures { result ≡ unless_zero address }
+    ensures address { result ≡ unless_zero address }
 {
     if address == 0 { None } else { Some(address) }
 }
 
 /// Where the call wants the attributes of a queue written.
 fn four_words_go(call: &AtCall) -> Option<u16>
-    ensures { result ≡ four_words_go (vector_in (next_step call.now.process)) call.now.process }
+    ensures address { result
+        ≡ four_words_go (vector_in (next_step call.now.process)) call.now.process }
 {
     match call.want() {
         Want::Trap(0x46) => unless_zero(register(call.machine(), 2)),
@@ -134,7 +135,8 @@ fn prepare_setattr(call: &mut AtCall) -> Result<(), AllocError>
 fn prepare_getvalue(call: &mut AtCall) -> Result<(), AllocError>
     ensures process { call.new.process ≡ call.old.process }
     ensures ready { StaysReady call.old.ready call.new.ready }
-    ensures ok { OnOk result ((v : ℕ) → IsPreparedFor v (value_read call.new.process) call.new) }
+    ensures ok { OnOk result ((v : ℕ)
+        → IsPreparedFor v (value_read call.new.process) call.new) }
 {
     let at = register(call.machine(), 1);
     if !is_in_memory(at, 1) {
