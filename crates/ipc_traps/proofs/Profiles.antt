@@ -10,7 +10,7 @@ use Rattle.ipc_kernel.specs.declared.call.Call.TheVariants.{MqUnlink, SemOpen, S
 use Rattle.ipc_kernel.specs.declared.call.Reply.{Reply}
 use Rattle.ipc_kernel.specs.declared.call.Reply.TheVariants.{Plain, Message, Attr, Value}
 use Rattle.ipc_traps.specs.Asked.{Request, Local, Refuses, Calls, Ends, next_request, outcome_asks, trap_asks, within, request_for_name, name_at}
-use Rattle.ipc_traps.specs.Reply.{process_after_reply, replied_to, vector_in}
+use Rattle.ipc_traps.specs.Reply.{process_after_reply, process_after_trap_reply, vector_in}
 
 -- the process after a local step has the profile of the one before
 unfoldable pub Keeps : Process → Request → Type 0
@@ -67,13 +67,13 @@ pub asked_keeps : (p : Process) → Keeps p (next_request p)
 unfolding next_request
 asked_keeps p = keeps-outcome p (next_step p) refl
 
-replied-to : (v : ℕ) (p : Process) (reply : Reply) → (replied_to v p reply).profile ≡ p.profile
-replied-to v p (Plain r) = refl
-replied-to v p (Message words prio) = refl
-replied-to v p (Attr words) = refl
-replied-to v p (Value value) = refl
+profile-after_trap_reply : (v : ℕ) (p : Process) (reply : Reply) → (process_after_trap_reply v p reply).profile ≡ p.profile
+profile-after_trap_reply v p (Plain r) = refl
+profile-after_trap_reply v p (Message words prio) = refl
+profile-after_trap_reply v p (Attr words) = refl
+profile-after_trap_reply v p (Value value) = refl
 
 -- a reply keeps the profile
 pub replied_profile : (p : Process) (reply : Reply) → (process_after_reply p reply).profile ≡ p.profile
 unfolding process_after_reply
-replied_profile p reply = replied-to (vector_in (next_step p)) p reply
+replied_profile p reply = profile-after_trap_reply (vector_in (next_step p)) p reply

@@ -48,57 +48,57 @@ abbrev pub attributes : Process → Option (List ℕ)
 attributes p = if has_attributes p then Some (words_at p.memory (reg p 2) 4) else None
 
 -- mq_open: name at R0, flags R1, attributes at R2
-abbrev pub queue_opened : Process → Request
-queue_opened p =
+abbrev pub mq_open_request : Process → Request
+mq_open_request p =
     by_name p (not (has_attributes p) || is_in_memory (reg p 2) 4)
     (λ name. MqOpen name (reg p 1) (attributes p))
 
 -- sem_open: name at R0, flags R1, first value R2
-abbrev pub semaphore_opened : Process → Request
-semaphore_opened p = by_name p true (λ name. SemOpen name (reg p 1) (reg p 2))
+abbrev pub sem_open_request : Process → Request
+sem_open_request p = by_name p true (λ name. SemOpen name (reg p 1) (reg p 2))
 
 -- mq_send: descriptor R0, buffer at R1, length R2, priority R3
-abbrev pub message_sent : Process → Request
-message_sent p =
+abbrev pub mq_send_request : Process → Request
+mq_send_request p =
     within (is_in_memory (reg p 1) (reg p 2)) (Calls (MqSend (reg p 0) (words_at p.memory (reg p 1) (reg p 2)) (reg p 3)))
 
 -- mq_receive: descriptor R0, buffer at R1, length R2, the priority goes to R3 unless that is 0
-abbrev pub message_received : Process → Request
-message_received p =
+abbrev pub mq_receive_request : Process → Request
+mq_receive_request p =
     within (is_in_memory (reg p 1) (reg p 2) && ((reg p 3 == 0) || is_in_memory (reg p 3) 1))
     (Calls (MqReceive (reg p 0) (reg p 2)))
 
 -- mq_getattr: descriptor R0, attributes go to R1
-abbrev pub attributes_read : Process → Request
-attributes_read p = within (is_in_memory (reg p 1) 4) (Calls (MqGetattr (reg p 0)))
+abbrev pub mq_getattr_request : Process → Request
+mq_getattr_request p = within (is_in_memory (reg p 1) 4) (Calls (MqGetattr (reg p 0)))
 
 -- mq_setattr: descriptor R0, new attributes at R1, the old ones go to R2 unless that is 0
-abbrev pub attributes_set : Process → Request
-attributes_set p =
+abbrev pub mq_setattr_request : Process → Request
+mq_setattr_request p =
     within (is_in_memory (reg p 1) 4 && ((reg p 2 == 0) || is_in_memory (reg p 2) 4))
     (Calls (MqSetattr (reg p 0) (slice_index p.memory (reg p 1))))
 
 -- sem_getvalue: slot R0, the value goes to R1
-abbrev pub value_read : Process → Request
-value_read p = within (is_in_memory (reg p 1) 1) (Calls (SemGetvalue (reg p 0)))
+abbrev pub sem_getvalue_request : Process → Request
+sem_getvalue_request p = within (is_in_memory (reg p 1) 1) (Calls (SemGetvalue (reg p 0)))
 
 -- what a trap of the kernel asks for, by its vector; before any other trap a process is at its end
 unfoldable pub trap_asks : ℕ → Process → Request
 trap_asks v p =
-    if v == 0x40 then queue_opened p else
+    if v == 0x40 then mq_open_request p else
     if v == 0x41 then Calls (MqClose (reg p 0)) else
     if v == 0x42 then by_name p true MqUnlink else
-    if v == 0x43 then message_sent p else
-    if v == 0x44 then message_received p else
-    if v == 0x45 then attributes_read p else
-    if v == 0x46 then attributes_set p else
-    if v == 0x50 then semaphore_opened p else
+    if v == 0x43 then mq_send_request p else
+    if v == 0x44 then mq_receive_request p else
+    if v == 0x45 then mq_getattr_request p else
+    if v == 0x46 then mq_setattr_request p else
+    if v == 0x50 then sem_open_request p else
     if v == 0x51 then Calls (SemClose (reg p 0)) else
     if v == 0x52 then by_name p true SemUnlink else
     if v == 0x53 then Calls (SemWait (reg p 0)) else
     if v == 0x54 then Calls (SemTrywait (reg p 0)) else
     if v == 0x55 then Calls (SemPost (reg p 0)) else
-    if v == 0x56 then value_read p else
+    if v == 0x56 then sem_getvalue_request p else
     Calls Exit
 
 -- what an outcome of the machine asks for

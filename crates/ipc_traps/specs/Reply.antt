@@ -31,16 +31,16 @@ abbrev pub after_call : Process → ℕ → List ℕ → Process
 after_call p result memory = after_trap (record (with_reg p 0 result) { memory = memory })
 
 -- the process after the reply to a trap
-abbrev pub replied_to : ℕ → Process → Reply → Process
-replied_to v p (Plain r) = after_call p r p.memory
-replied_to v p (Message words prio) =
+abbrev pub process_after_trap_reply : ℕ → Process → Reply → Process
+process_after_trap_reply v p (Plain r) = after_call p r p.memory
+process_after_trap_reply v p (Message words prio) =
     after_call p (length words) (with_words_if (with_words p.memory (reg p 1) words) (unless_zero (reg p 3)) (prio ∷ []))
-replied_to v p (Attr words) = after_call p 0 (with_words_if p.memory (four_words_go v p) words)
-replied_to v p (Value value) = after_call p 0 (with_words p.memory (reg p 1) (value ∷ []))
+process_after_trap_reply v p (Attr words) = after_call p 0 (with_words_if p.memory (four_words_go v p) words)
+process_after_trap_reply v p (Value value) = after_call p 0 (with_words p.memory (reg p 1) (value ∷ []))
 
 -- the process after the reply to its call
 unfoldable pub process_after_reply : Process → Reply → Process
-process_after_reply p reply = replied_to (vector_in (next_step p)) p reply
+process_after_reply p reply = process_after_trap_reply (vector_in (next_step p)) p reply
 
 -- all that the reply to a trap writes can be written without taking memory
 abbrev pub HasRoomFor : ℕ → Held → Reply → Type 0

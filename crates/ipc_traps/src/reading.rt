@@ -5,7 +5,7 @@ ghost use Rattle.lc3_machine.specs.Process.{reg};
 ghost use Rattle.lc3_machine.specs.Steps.{AsksTrap};
 ghost use Rattle.ipc_kernel.specs.declared.call.Call.TheVariants.{MqUnlink, SemUnlink};
 ghost use Rattle.ipc_traps.specs.Names.{is_in_memory, words_at};
-ghost use Rattle.ipc_traps.specs.Asked.{IsAsked, request_of, next_request, trap_asks, name_at, by_name, has_attributes, attributes, queue_opened, semaphore_opened, message_sent, message_received, attributes_read, attributes_set, value_read};
+ghost use Rattle.ipc_traps.specs.Asked.{IsAsked, request_of, next_request, trap_asks, name_at, by_name, has_attributes, attributes, mq_open_request, sem_open_request, mq_send_request, mq_receive_request, mq_getattr_request, mq_setattr_request, sem_getvalue_request};
 
 use crate::Asked;
 use crate::memory::{is_in_memory, name_length, read_few, read_four, read_words, register};
@@ -91,7 +91,7 @@ fn attributes(machine: &Machine) -> Option<[u16; 4]>
 
 /// mq_open
 fn read_open(alloc: Global, machine: &Machine) -> Result<Asked, AllocError>
-    ensures request { IfOk result (λ a. request_of a ≡ queue_opened machine.now.process) }
+    ensures request { IfOk result (λ a. request_of a ≡ mq_open_request machine.now.process) }
 {
     if has_attributes(machine) && !is_in_memory(register(machine, 2), 4) {
         return Ok(Asked::Refused(Errno::Fault));
@@ -118,7 +118,7 @@ fn read_unlink(alloc: Global, machine: &Machine) -> Result<Asked, AllocError>
 
 /// sem_open
 fn read_sem_open(alloc: Global, machine: &Machine) -> Result<Asked, AllocError>
-    ensures request { IfOk result (λ a. request_of a ≡ semaphore_opened machine.now.process) }
+    ensures request { IfOk result (λ a. request_of a ≡ sem_open_request machine.now.process) }
 {
     match read_name(alloc, machine)? {
         Err(e) => Ok(Asked::Refused(e)),
@@ -153,7 +153,7 @@ fn read_message(alloc: Global, machine: &Machine, at: u16, len: u16) -> Result<W
 
 /// mq_send
 fn read_send(alloc: Global, machine: &Machine) -> Result<Asked, AllocError>
-    ensures request { IfOk result (λ a. request_of a ≡ message_sent machine.now.process) }
+    ensures request { IfOk result (λ a. request_of a ≡ mq_send_request machine.now.process) }
 {
     let at = register(machine, 1);
     let len = register(machine, 2);
@@ -170,7 +170,7 @@ fn read_send(alloc: Global, machine: &Machine) -> Result<Asked, AllocError>
 
 /// mq_receive
 fn read_receive(machine: &Machine) -> Asked
-    ensures request { request_of result ≡ message_received machine.now.process }
+    ensures request { request_of result ≡ mq_receive_request machine.now.process }
 {
     let len = register(machine, 2);
     let prio_at = register(machine, 3);
@@ -188,7 +188,7 @@ fn read_receive(machine: &Machine) -> Asked
 
 /// mq_getattr
 fn read_getattr(machine: &Machine) -> Asked
-    ensures request { request_of result ≡ attributes_read machine.now.process }
+    ensures request { request_of result ≡ mq_getattr_request machine.now.process }
 {
     if !is_in_memory(register(machine, 1), 4) {
         return Asked::Refused(Errno::Fault);
@@ -200,7 +200,7 @@ fn read_getattr(machine: &Machine) -> Asked
 
 /// mq_setattr
 fn read_setattr(machine: &Machine) -> Asked
-    ensures request { request_of result ≡ attributes_set machine.now.process }
+    ensures request { request_of result ≡ mq_setattr_request machine.now.process }
 {
     let new_at = register(machine, 1);
     let old_at = register(machine, 2);
@@ -218,7 +218,7 @@ fn read_setattr(machine: &Machine) -> Asked
 
 /// sem_getvalue
 fn read_getvalue(machine: &Machine) -> Asked
-    ensures request { request_of result ≡ value_read machine.now.process }
+    ensures request { request_of result ≡ sem_getvalue_request machine.now.process }
 {
     if !is_in_memory(register(machine, 1), 1) {
         return Asked::Refused(Errno::Fault);

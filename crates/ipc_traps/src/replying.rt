@@ -4,8 +4,8 @@ ghost use Rattle.std.specs.Prelude.{◌≡◌, ℕ, ◌<◌, OnOk, Option};
 ghost use Rattle.lc3_machine.specs.Effects.{next_step};
 ghost use Rattle.lc3_machine.specs.Memory.{StaysReady};
 ghost use Rattle.lc3_machine.specs.Reply.{CanTake, process_after_effect};
-ghost use Rattle.ipc_traps.specs.Asked.{message_received, attributes_read, attributes_set, value_read};
-ghost use Rattle.ipc_traps.specs.Reply.{vector_in, unless_zero, four_words_go, process_after_reply, replied_to, HasRoom, IsPrepared, IsPreparedFor};
+ghost use Rattle.ipc_traps.specs.Asked.{mq_receive_request, mq_getattr_request, mq_setattr_request, sem_getvalue_request};
+ghost use Rattle.ipc_traps.specs.Reply.{vector_in, unless_zero, four_words_go, process_after_reply, process_after_trap_reply, HasRoom, IsPrepared, IsPreparedFor};
 
 use crate::memory::{is_in_memory, register};
 use ipc_kernel::Reply;
@@ -84,7 +84,7 @@ pub fn prepare(call: &mut AtCall) -> Result<(), AllocError>
 fn prepare_receive(call: &mut AtCall) -> Result<(), AllocError>
     ensures process { call.new.process ≡ call.old.process }
     ensures ready { StaysReady call.old.ready call.new.ready }
-    ensures ok { OnOk result (IsPreparedFor 0x44 (message_received call.new.process) call.new) }
+    ensures ok { OnOk result (IsPreparedFor 0x44 (mq_receive_request call.new.process) call.new) }
 {
     let at = register(call.machine(), 1);
     let len = register(call.machine(), 2);
@@ -106,7 +106,7 @@ fn prepare_receive(call: &mut AtCall) -> Result<(), AllocError>
 fn prepare_getattr(call: &mut AtCall) -> Result<(), AllocError>
     ensures process { call.new.process ≡ call.old.process }
     ensures ready { StaysReady call.old.ready call.new.ready }
-    ensures ok { OnOk result (IsPreparedFor 0x45 (attributes_read call.new.process) call.new) }
+    ensures ok { OnOk result (IsPreparedFor 0x45 (mq_getattr_request call.new.process) call.new) }
 {
     let at = register(call.machine(), 1);
     if !is_in_memory(at, 4) {
@@ -119,7 +119,7 @@ fn prepare_getattr(call: &mut AtCall) -> Result<(), AllocError>
 fn prepare_setattr(call: &mut AtCall) -> Result<(), AllocError>
     ensures process { call.new.process ≡ call.old.process }
     ensures ready { StaysReady call.old.ready call.new.ready }
-    ensures ok { OnOk result (IsPreparedFor 0x46 (attributes_set call.new.process) call.new) }
+    ensures ok { OnOk result (IsPreparedFor 0x46 (mq_setattr_request call.new.process) call.new) }
 {
     let at = register(call.machine(), 2);
     if at == 0 {
@@ -136,7 +136,7 @@ fn prepare_getvalue(call: &mut AtCall) -> Result<(), AllocError>
     ensures process { call.new.process ≡ call.old.process }
     ensures ready { StaysReady call.old.ready call.new.ready }
     ensures ok { OnOk result ((v : ℕ)
-        → IsPreparedFor v (value_read call.new.process) call.new) }
+        → IsPreparedFor v (sem_getvalue_request call.new.process) call.new) }
 {
     let at = register(call.machine(), 1);
     if !is_in_memory(at, 1) {
