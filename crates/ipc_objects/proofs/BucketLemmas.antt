@@ -276,11 +276,6 @@ without_last (Some e) es new inv some is less same sorted =
 pub bucket_rest : (p : ℕ) (x : Message) (b new : List Message) → IsBucket (p, b) → b ≡ x ∷ new → 0 < length new → IsBucket (p, new)
 bucket_rest p x b new is parts some = (some, All-tail (λ m. m.priority ≡ p) x new (subst (All (λ m. m.priority ≡ p)) parts is.1))
 
--- a bucket stays one when a message of its priority is added or refused
-pub bucket_pushed : {T E : Type 0} (r : Result T E) (m : Message) (p : ℕ) (b new : List Message) → IsBucket (p, b) → m.priority ≡ p → OnOk r (new ≡ b ++ m ∷ []) → OnErr r (new ≡ b) → IsBucket (p, new)
-bucket_pushed (Ok x) m p b new is same ok err = rw ok (rw length-append (omega arith), All-push (λ x. x.priority ≡ p) b m is.1 same)
-bucket_pushed (Err x) m p b new is same ok err = rw err is
-
 -- messages below a priority stay so when one below it is added or refused
 pub below_sent : {T E : Type 0} (r : Result T E) (m : Message) (p : ℕ) (ms new : List Message) → All (λ x. x.priority < p) ms → m.priority < p → OnOk r (new ≡ after_send m ms) → OnErr r (new ≡ ms) → All (λ x. x.priority < p) new
 below_sent (Ok x) m p ms new each less ok err = rw ok (All-sent (λ x. x.priority < p) m ms less each)
