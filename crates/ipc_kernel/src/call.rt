@@ -1,6 +1,7 @@
 //! Calls, replies and answers.
 ghost use Rattle.std.specs.Prelude.{◌≡◌, ◌↔◌, IfOk, IsErr, IsTrue};
 ghost use Rattle.ipc_kernel.specs.Replies.{is_message};
+ghost use Rattle.ipc_kernel.specs.declared.call.Call.TheVariants.{MqOpen, MqSend, MqReceive, MqSetattr, SemOpen};
 
 use ipc_names::Name;
 use ipc_objects::Words;
@@ -108,25 +109,14 @@ impl Call {
     {
         Ok(match self {
             Call::MqOpen { name, flags, attr } => {
-                let name = name.copy()?;
-                Call::MqOpen {
-                    name,
-                    flags: *flags,
-                    attr: *attr,
-                }
+                let (name, flags, attr) = (name.copy()?, *flags, *attr);
+                Call::MqOpen { name, flags, attr }
             }
             Call::MqClose { mqd } => Call::MqClose { mqd: *mqd },
-            Call::MqUnlink { name } => {
-                let name = name.copy()?;
-                Call::MqUnlink { name }
-            }
+            Call::MqUnlink { name } => Call::MqUnlink { name: name.copy()? },
             Call::MqSend { mqd, words, prio } => {
-                let words = words.copy()?;
-                Call::MqSend {
-                    mqd: *mqd,
-                    words,
-                    prio: *prio,
-                }
+                let (mqd, words, prio) = (*mqd, words.copy()?, *prio);
+                Call::MqSend { mqd, words, prio }
             }
             Call::MqReceive { mqd, len } => Call::MqReceive {
                 mqd: *mqd,
@@ -138,18 +128,11 @@ impl Call {
                 flags: *flags,
             },
             Call::SemOpen { name, flags, value } => {
-                let name = name.copy()?;
-                Call::SemOpen {
-                    name,
-                    flags: *flags,
-                    value: *value,
-                }
+                let (name, flags, value) = (name.copy()?, *flags, *value);
+                Call::SemOpen { name, flags, value }
             }
             Call::SemClose { slot } => Call::SemClose { slot: *slot },
-            Call::SemUnlink { name } => {
-                let name = name.copy()?;
-                Call::SemUnlink { name }
-            }
+            Call::SemUnlink { name } => Call::SemUnlink { name: name.copy()? },
             Call::SemWait { slot } => Call::SemWait { slot: *slot },
             Call::SemTrywait { slot } => Call::SemTrywait { slot: *slot },
             Call::SemPost { slot } => Call::SemPost { slot: *slot },
@@ -158,55 +141,78 @@ impl Call {
         })
     }
 
+    /// Whether the call is mq_open with these arguments.
+    fn is_mq_open(&self, other_name: &Name, other_flags: u16, other_attr: Option<[u16; 4]>) -> bool
+        ensures same { IsTrue result ↔ (self.now ≡ MqOpen other_name.now other_flags other_attr) }
+    {
+        match self {
+            Call::MqOpen { name, flags, attr } => {
+                name.text() == other_name.text() && *flags == other_flags && *attr == other_attr
+            }
+            _ => false,
+        }
+    }
+
+    /// Whether the call is mq_send with these arguments.
+    fn is_mq_send(&self, other_mqd: u16, other_words: &Words, other_prio: u16) -> bool
+        ensures same { IsTrue result ↔ (self.now ≡ MqSend other_mqd other_words.now other_prio) }
+    {
+        match self {
+            Call::MqSend { mqd, words, prio } => {
+                *mqd == other_mqd
+                    && words.as_slice() == other_words.as_slice()
+                    && *prio == other_prio
+            }
+            _ => false,
+        }
+    }
+
+    /// Whether the call is mq_receive with these arguments.
+    fn is_mq_receive(&self, other_mqd: u16, other_len: u16) -> bool
+        ensures same { IsTrue result ↔ (self.now ≡ MqReceive other_mqd other_len) }
+    {
+        match self {
+            Call::MqReceive { mqd, len } => *mqd == other_mqd && *len == other_len,
+            _ => false,
+        }
+    }
+
+    /// Whether the call is mq_setattr with these arguments.
+    fn is_mq_setattr(&self, other_mqd: u16, other_flags: u16) -> bool
+        ensures same { IsTrue result ↔ (self.now ≡ MqSetattr other_mqd other_flags) }
+    {
+        match self {
+            Call::MqSetattr { mqd, flags } => *mqd == other_mqd && *flags == other_flags,
+            _ => false,
+        }
+    }
+
+    /// Whether the call is sem_open with these arguments.
+    fn is_sem_open(&self, other_name: &Name, other_flags: u16, other_value: u16) -> bool
+        ensures same { IsTrue result ↔ (self.now ≡ SemOpen other_name.now other_flags other_value) }
+    {
+        match self {
+            Call::SemOpen { name, flags, value } => {
+                name.text() == other_name.text() && *flags == other_flags && *value == other_value
+            }
+            _ => false,
+        }
+    }
+
     /// Whether two calls are the same, with the same arguments.
     pub fn is_same(&self, other: &Call) -> bool
         ensures same { IsTrue result ↔ (self.now ≡ other.now) }
     {
         match (self, other) {
-            (
-                Call::MqOpen { name, flags, attr },
-                Call::MqOpen {
-                    name: other_name,
-                    flags: other_flags,
-                    attr: other_attr,
-                },
-            ) => name.text() == other_name.text() && flags == other_flags && attr == other_attr,
+            (Call::MqOpen { name, flags, attr }, _) => other.is_mq_open(name, *flags, *attr),
             (Call::MqClose { mqd }, Call::MqClose { mqd: other }) => mqd == other,
             (Call::MqUnlink { name }, Call::MqUnlink { name: other }) => name.text()
                 == other.text(),
-            (
-                Call::MqSend { mqd, words, prio },
-                Call::MqSend {
-                    mqd: other_mqd,
-                    words: other_words,
-                    prio: other_prio,
-                },
-            ) => {
-                mqd == other_mqd && words.as_slice() == other_words.as_slice() && prio == other_prio
-            }
-            (
-                Call::MqReceive { mqd, len },
-                Call::MqReceive {
-                    mqd: other_mqd,
-                    len: other_len,
-                },
-            ) => mqd == other_mqd && len == other_len,
+            (Call::MqSend { mqd, words, prio }, _) => other.is_mq_send(*mqd, words, *prio),
+            (Call::MqReceive { mqd, len }, _) => other.is_mq_receive(*mqd, *len),
             (Call::MqGetattr { mqd }, Call::MqGetattr { mqd: other }) => mqd == other,
-            (
-                Call::MqSetattr { mqd, flags },
-                Call::MqSetattr {
-                    mqd: other_mqd,
-                    flags: other_flags,
-                },
-            ) => mqd == other_mqd && flags == other_flags,
-            (
-                Call::SemOpen { name, flags, value },
-                Call::SemOpen {
-                    name: other_name,
-                    flags: other_flags,
-                    value: other_value,
-                },
-            ) => name.text() == other_name.text() && flags == other_flags && value == other_value,
+            (Call::MqSetattr { mqd, flags }, _) => other.is_mq_setattr(*mqd, *flags),
+            (Call::SemOpen { name, flags, value }, _) => other.is_sem_open(name, *flags, *value),
             (Call::SemClose { slot }, Call::SemClose { slot: other }) => slot == other,
             (Call::SemUnlink { name }, Call::SemUnlink { name: other }) => name.text()
                 == other.text(),
