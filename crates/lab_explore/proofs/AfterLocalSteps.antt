@@ -1,20 +1,21 @@
 -- Processes and worlds ahead of others: by all their local steps.
 use Rattle.std.proofs.Common.{ℕ, zero, suc, ◌+◌, ◌≡◌, List, [], ◌∷◌, Option, Some, None, refl, sym, ap, subst, ◌∙◌, slice_get}
 use Rattle.lc3_machine.specs.Process.{Process as Machine}
+use Rattle.lc3_machine.proofs.Runs.{steps_append}
 use Rattle.ipc_kernel.specs.Kernel.{KernelState}
 use Rattle.lab_sched.specs.Worlds.{Process, Running, Waiting, Ended, WorldState, moves, next_action}
-use Rattle.lab_sched.specs.LocalRun.{AreLocal}
+use Rattle.lab_sched.specs.LocalRun.{IsLocalStep, AreLocal}
 use Rattle.lab_sched.specs.Finished.{IsAtRest}
-use Rattle.lab_sched.proofs.GrowingTraces.{local-append}
+use Rattle.lab_sched.proofs.OwnSteps.{first_local}
 use Rattle.lab_explore.specs.Calls.{AreAlike, IsAtCall, IsAhead, Both, IsAdvance}
 use Rattle.lab_explore.specs.Closed.{AreAtRest}
 
 -- a process at a call has no local step
 pub none_local : (n : ℕ) (s u : Process) → IsAtCall s → AreLocal n s u → u ≡ s
 none_local zero s u at h = sym h
-none_local (suc n) (Running m) u at h = let asks = at.1 in let goes = h.1 in cc
-none_local (suc n) (Waiting m c) u at h = absurd h
-none_local (suc n) (Ended e) u at h = absurd h
+none_local (suc n) (Running m) u at h = let asks = at.1 in let goes = h.1.1 in cc
+none_local (suc n) (Waiting m c) u at h = absurd h.1
+none_local (suc n) (Ended e) u at h = absurd h.1
 
 pub stays : (s u : Process) → IsAtCall s → IsAhead s u → u ≡ s
 stays s u at h = none_local h.taken s u at h.local
@@ -23,9 +24,10 @@ stays s u at h = none_local h.taken s u at h.local
 goes_on : (n : ℕ) (m q : Machine) (u : Process) → next_action m ≡ moves q → AreLocal n (Running m) u → IsAtCall u → IsAhead (Running q) u
 goes_on zero m q u e h at = let asks = subst IsAtCall (sym h) at in let is = asks.1 in absurd (cc)
 goes_on (suc n) m q u e h at =
-    let is = h.1 in
-    let same : h.0 ≡ q = cc in
-    record { taken = n; local = subst (λ x. AreLocal n (Running x) u) same h.2; at_call = at }
+    let first = first_local n m u h in
+    let is = first.1 in
+    let same : first.0 ≡ q = cc in
+    record { taken = n; local = subst (λ x. AreLocal n (Running x) u) same first.2; at_call = at }
 
 pub ahead_moves : (m q : Machine) (u : Process) → next_action m ≡ moves q → IsAhead (Running m) u → IsAhead (Running q) u
 ahead_moves m q u e h = goes_on h.taken m q u e h.local h.at_call
@@ -38,7 +40,7 @@ ahead_of_ahead (Some x) None c h i = absurd h
 ahead_of_ahead (Some x) (Some y) None h i = absurd i
 ahead_of_ahead (Some x) (Some y) (Some z) h i = record {
   taken = h.taken + i.taken;
-  local = local-append h.taken i.taken x y z h.local i.local;
+  local = steps_append IsLocalStep h.taken i.taken x y z h.local i.local;
   at_call = i.at_call;
 }
 

@@ -7,6 +7,7 @@ use Rattle.lab_sched.specs.Execution.{AreEffective}
 use Rattle.lab_sched.specs.LocalRun.{AreLocal}
 use Rattle.lab_sched.proofs.ListPlaces.{get-set_same, get-set_other, get_past}
 use Rattle.lab_sched.proofs.Executions.{turn_local}
+use Rattle.lab_sched.proofs.OwnSteps.{first_local}
 use Rattle.lab_sched.proofs.Commutes.{after_other}
 use Rattle.lab_explore.specs.declared.store.Store.{Store}
 use Rattle.lab_explore.specs.Calls.{IsAtCall, IsAhead, Both, Alongside}
@@ -77,14 +78,18 @@ record HasLeft (t : Store) (order : List ℕ) (w : WorldState) (n : ℕ) : Type 
 -- a process at a call takes no local step
 none_taken : (k : ℕ) (s u : Process) → IsAtCall s → AreLocal k s u → k ≡ 0
 none_taken zero s u at h = refl
-none_taken (suc k) (Running m) u at h = let asks = at.1 in let goes = h.1 in absurd (cc)
-none_taken (suc k) (Waiting m c) u at h = absurd h
-none_taken (suc k) (Ended e) u at h = absurd h
+none_taken (suc k) (Running m) u at h = let asks = at.1 in let goes = h.1.1 in absurd (cc)
+none_taken (suc k) (Waiting m c) u at h = absurd h.1
+none_taken (suc k) (Ended e) u at h = absurd h.1
 
 -- a local step leaves one less
 one_taken : (k : ℕ) (m q : Machine) (u : Process) → next_action m ≡ moves q → AreLocal k (Running m) u → IsAtCall u → (j : ℕ) × (k ≡ suc j) × AreLocal j (Running q) u
 one_taken zero m q u e h at = let asks = subst IsAtCall (sym h) at in let is = asks.1 in absurd (cc)
-one_taken (suc j) m q u e h at = let is = h.1 in let same : h.0 ≡ q = cc in (j, refl, subst (λ x. AreLocal j (Running x) u) same h.2)
+one_taken (suc j) m q u e h at =
+    let first = first_local j m u h in
+    let is = first.1 in
+    let same : first.0 ≡ q = cc in
+    (j, refl, subst (λ x. AreLocal j (Running x) u) same first.2)
 
 -- a process that took no step since its call
 taken_on : (a : Option ℕ) (b c d : Option Process) → TakesAt a b c → Both IsReached c d → TakesAt a b d

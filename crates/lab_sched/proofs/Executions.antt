@@ -18,6 +18,7 @@ use Rattle.lab_sched.specs.declared.trace.TracedCall.{TracedCall}
 use Rattle.lab_sched.proofs.ListPlaces.{get-set_same, get_past, set_same}
 use Rattle.lab_sched.proofs.Runs.{run-append, run-none, run-one, length-run}
 use Rattle.lab_sched.proofs.Histories.{replay-append, legal-append}
+use Rattle.lab_sched.proofs.OwnSteps.{first_local}
 
 pub entries-append : (w : WorldState) (xs ys : List ℕ) → entries w (xs ++ ys) ≡ entries w xs ++ entries (run w xs) ys
 unfolding run entries
@@ -77,13 +78,15 @@ course_local zero w p s u at h =
     let e : set w.processes p u ≡ w.processes = set_same w.processes p u (at ∙ ap (λ x. Some x) h) in
     subst (λ x. IsExecution w [] x []) (ap (λ ps. record w { processes = ps }) (sym e)) (course_none w)
 course_local (suc n) w p (Running m) u at h =
-    let first = course_step w p (local_step h.0) (turn_local w p m h.0 at h.1) tt in
-    let v = with_process w p (Running h.0) in
-    let rest = course_local n v p (Running h.0) u (get-set_same w.processes p (Running h.0) (get_past w.processes p (Running m) at)) h.2 in
+    let opened = first_local n m u h in
+    let q = opened.0 in
+    let first = course_step w p (local_step q) (turn_local w p m q at opened.1) tt in
+    let v = with_process w p (Running q) in
+    let rest = course_local n v p (Running q) u (get-set_same w.processes p (Running q) (get_past w.processes p (Running m) at)) opened.2 in
     let both = course-append first rest in
-    subst (λ x. IsExecution w (p ∷ replicate n p) x []) (ap (λ ps. record w { processes = ps }) (set-set w.processes p (Running h.0) u)) both
-course_local (suc n) w p (Waiting m c) u at h = absurd h
-course_local (suc n) w p (Ended e) u at h = absurd h
+    subst (λ x. IsExecution w (p ∷ replicate n p) x []) (ap (λ ps. record w { processes = ps }) (set-set w.processes p (Running q) u)) both
+course_local (suc n) w p (Waiting m c) u at h = absurd h.1
+course_local (suc n) w p (Ended e) u at h = absurd h.1
 
 -- the step of a process that is told an answer
 turn_told : (w : WorldState) (p : ℕ) (x y : Process) (c : Call) (a : Answer) → slice_get w.processes p ≡ Some x → TakesAnswer x c a y → a ≡ (answer w.kernel p c).0

@@ -14,6 +14,7 @@ pub mod ScheduleRuns
 pub mod Histories
 pub mod Executions
 pub mod GrowingTraces
+pub mod OwnSteps
 pub mod IneffectiveProcesses
 pub mod Commutes
 pub mod ScheduleEnds

@@ -28,6 +28,7 @@ use Rattle.lab_sched.specs.Settling.{AsksFor}
 use Rattle.lab_sched.specs.Stepping.{CanTakeReply, StandsBefore, StopsBy, StopsByIn, after_end, after_reply, before_wait}
 use Rattle.lab_sched.specs.Verdicts.{IsWaiting}
 use Rattle.lab_sched.proofs.EndSteps.{act_end, end_step}
+use Rattle.lab_sched.proofs.OwnSteps.{first_local}
 use Rattle.lab_sched.proofs.ListPlaces.{get-set_same}
 use Rattle.lab_sched.proofs.WorldLemmas.{seen_at}
 
@@ -38,10 +39,11 @@ local_none s u n h none = sym (subst (λ i. AreLocal i s u) none h)
 -- one local step
 local_first : (k : KernelState) (p : ℕ) (s u : Process) → AreLocal 1 s u → HasStepped k p s k u stepped.Moved
 local_first k p (Running m) u h =
-    ap {B = StepResult} (λ x. record { process = x; kernel = k; told = stepped.Moved }) (sym h.2)
-    ∙ sym (ap {B = StepResult} (λ a. step_result k p (Running m) (first_try k p m a)) h.1)
-local_first k p (Waiting m c) u h = absurd h
-local_first k p (Ended e) u h = absurd h
+    let first = first_local 0 m u h in
+    ap {B = StepResult} (λ x. record { process = x; kernel = k; told = stepped.Moved }) (sym first.2)
+    ∙ sym (ap {B = StepResult} (λ a. step_result k p (Running m) (first_try k p m a)) first.1)
+local_first k p (Waiting m c) u h = absurd h.1
+local_first k p (Ended e) u h = absurd h.1
 
 pub local_one : (k : KernelState) (p : ℕ) (s u : Process) (n : ℕ) → AreLocal n s u → n ≡ 1 → HasStepped k p s k u stepped.Moved
 local_one k p s u n h one = local_first k p s u (subst (λ i. AreLocal i s u) one h)

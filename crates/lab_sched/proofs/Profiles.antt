@@ -24,6 +24,7 @@ use Rattle.lab_sched.specs.Settling.{IsNext}
 use Rattle.lab_sched.specs.Starts.{start_of}
 use Rattle.lab_sched.specs.declared.trace.TracedCall.{TracedCall}
 use Rattle.lab_sched.specs.declared.trace.Trace.{Trace}
+use Rattle.lab_sched.proofs.OwnSteps.{first_local}
 
 told-by : (m : Machine) (c : Call) (request : Request) (a : Answer) → profile_of (process_after_answer_to m c request a) ≡ m.profile
 told-by m c request Wait = refl
@@ -79,9 +80,11 @@ step_profile k k' p s s' (Err e) is same = ap profile_of same
 -- local steps keep the profile
 pub locals_profile : (n : ℕ) (s u : Process) → AreLocal n s u → profile_of u ≡ profile_of s
 locals_profile zero s u h = ap profile_of (sym h)
-locals_profile (suc n) (Running m) u h = locals_profile n (Running h.0) u h.2 ∙ moves_profile m h.0 h.1
-locals_profile (suc n) (Waiting m c) u h = absurd h
-locals_profile (suc n) (Ended e) u h = absurd h
+locals_profile (suc n) (Running m) u h =
+    let first = first_local n m u h in
+    locals_profile n (Running first.0) u first.2 ∙ moves_profile m first.0 first.1
+locals_profile (suc n) (Waiting m c) u h = absurd h.1
+locals_profile (suc n) (Ended e) u h = absurd h.1
 
 -- what a process does next keeps the profile
 pub next_keeps : (s : Process) (most : ℕ) (n : Next) (u : Process) → IsNext s most n u → profile_of u ≡ profile_of s

@@ -1,6 +1,7 @@
 -- A process by itself: where its local steps and the answers to its calls lead it, whatever the kernel is.
 use Rattle.std.specs.Prelude.{ℕ, zero, suc, ◌+◌, ◌≡◌, List, [], ◌∷◌}
 use Rattle.lc3_machine.specs.Process.{Process as Machine}
+use Rattle.lc3_machine.specs.Steps.{AreSteps}
 use Rattle.ipc_kernel.specs.declared.call.Call.{Call}
 use Rattle.ipc_kernel.specs.declared.call.Answer.{Answer}
 use Rattle.ipc_kernel.specs.declared.call.Answer.TheVariants.{Done, Wait}
@@ -8,12 +9,15 @@ use Rattle.lab_sched.specs.Worlds.{Process, Running, Waiting, Ended, moves, call
 use Rattle.lab_sched.specs.declared.trace.TracedCall.{TracedCall}
 use Rattle.lab_sched.specs.declared.trace.Trace.{Trace}
 
--- u is s after n local steps, refusals among them
+-- u is s after its next step, which is local: one of its machine's own, or a refusal
+abbrev pub IsLocalStep : Process → Process → Type 0
+IsLocalStep (Running m) u = (q : Machine) × (next_action m ≡ moves q) × (u ≡ Running q)
+IsLocalStep (Waiting m c) u = ⊥
+IsLocalStep (Ended e) u = ⊥
+
+-- u is s after n local steps
 abbrev pub AreLocal : ℕ → Process → Process → Type 0
-AreLocal zero s u = s ≡ u
-AreLocal (suc n) (Running m) u = (q : Machine) × (next_action m ≡ moves q) × AreLocal n (Running q) u
-AreLocal (suc n) (Waiting m c) u = ⊥
-AreLocal (suc n) (Ended e) u = ⊥
+AreLocal n s u = AreSteps IsLocalStep n s u
 
 -- the process asks for the call or waits for it, and v is what the answer makes of it; one that waits isn't told to wait again
 abbrev pub TakesAnswer : Process → Call → Answer → Process → Type 0

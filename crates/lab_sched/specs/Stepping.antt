@@ -4,7 +4,7 @@ use Rattle.lc3_machine.specs.declared.want.Want.{Want}
 use Rattle.lc3_machine.specs.declared.want.How.{How}
 use Rattle.lc3_machine.specs.declared.machine.Progress.{Progress}
 use Rattle.lc3_machine.specs.declared.machine.Progress.TheVariants as progress
-use Rattle.lc3_machine.specs.Process.{Process as Machine, Stops}
+use Rattle.lc3_machine.specs.Process.{Stops}
 use Rattle.lc3_machine.specs.Effects.{next_step}
 use Rattle.lc3_machine.specs.Reply.{process_after_end}
 use Rattle.ipc_kernel.specs.declared.call.Call.{Call}
@@ -16,7 +16,8 @@ use Rattle.lab_sched.specs.declared.process.Process.{Process as Kept}
 use Rattle.lab_sched.specs.declared.process.Process.TheVariants as kept
 use Rattle.lab_sched.specs.declared.stepping.Asking.{Asking}
 use Rattle.lab_sched.specs.declared.stepping.Asking.TheVariants as asking
-use Rattle.lab_sched.specs.Worlds.{Process, Running, Waiting, Ended, WorldState, moves, next_action, process_after_answer}
+use Rattle.lab_sched.specs.Worlds.{Process, Running, Waiting, Ended, WorldState, process_after_answer}
+use Rattle.lab_sched.specs.LocalRun.{IsLocalStep}
 
 -- a running process whose next step is this trap or end
 abbrev pub StandsBefore : Process → Want → Type 0
@@ -35,7 +36,7 @@ StopsBy (Ended e) p = Unit {0}
 -- what came of a running process that stood before a trap
 abbrev pub IsAsking : Process → Asking → Process → Type 0
 IsAsking (Running m) asking.Waits u = (c : Call) × (next_request m ≡ Calls c) × (u ≡ Waiting m c)
-IsAsking (Running m) asking.Refused u = (q : Machine) × (next_action m ≡ moves q) × (u ≡ Running q)
+IsAsking (Running m) asking.Refused u = IsLocalStep (Running m) u
 IsAsking (Running m) asking.Short u = u ≡ Running m
 IsAsking (Waiting m c) a u = ⊥
 IsAsking (Ended e) a u = ⊥

@@ -1,6 +1,6 @@
 //! One step of one process: what it does next, and what the answer to its call makes of it.
 ghost use Rattle.std.specs.Prelude.{◌≡◌, ◌<◌, ◌≤◌, Some, length, IfOk, OnOk, OnErr};
-ghost use Rattle.lc3_machine.specs.Steps.{AsksTrap, after as machine_after};
+ghost use Rattle.lc3_machine.specs.Steps.{AsksTrap, AreOwnSteps};
 ghost use Rattle.lc3_machine.specs.declared.want.Want.TheVariants.{Trap, End};
 ghost use Rattle.ipc_traps.specs.Asked.{Calls, next_request};
 ghost use Rattle.lab_sched.specs.declared.stepped.Stepped.TheVariants.{Same, Waits};
@@ -42,8 +42,8 @@ struct TrapAt {
 pub fn local_steps(process: &mut Process, most: u32) -> (u32, Progress)
     requires held { IsHeld process.old }
     ensures local { AreLocal result.0 (process_view process.old) (process_view process.new) }
-    ensures own { machine_after result.0 (machine_of (process_view process.old))
-        ≡ Some (machine_of (process_view process.new)) }
+    ensures own { AreOwnSteps result.0
+        (machine_of (process_view process.old)) (machine_of (process_view process.new)) }
     ensures held { IsHeld process.new }
     ensures within { result.0 ≤ most }
     ensures stops { result.0 < most → StopsBy (process_view process.new) result.1 }

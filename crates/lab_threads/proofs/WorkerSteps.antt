@@ -36,7 +36,7 @@ begun (Ended e) u h = absurd h
 
 -- a refusal without the kernel is a local step
 pub refused : (s u : Process) → IsAsking s Refused u → AreLocal 1 s u
-refused (Running m) u h = (h.0, h.1, sym h.2)
+refused (Running m) u h = (u, h, refl)
 refused (Waiting m c) u h = absurd h
 refused (Ended e) u h = absurd h
 

@@ -1,7 +1,7 @@
 use Rattle.std.proofs.Common.{arith, subst, sym}
 use Rattle.lab_sched.specs.Held.{process_view}
-use Rattle.lab_sched.specs.LocalRun.{AreLocal}
-use Rattle.lab_sched.proofs.GrowingTraces.{local-append}
+use Rattle.lab_sched.specs.LocalRun.{IsLocalStep, AreLocal}
+use Rattle.lc3_machine.proofs.Runs.{steps_append}
 use Rattle.lab_explore.proofs.StepsToCalls.{asks_at_call, ended_at_call}
 use Rattle.lab_explore.proofs.advance.run_on.Goals as goal
 
@@ -9,7 +9,7 @@ pub loop-taken-preserved : goal.loop-taken-preserved
 loop-taken-preserved c =
     let more = c.in-Moved.ensures.next in
     record {
-      local = local-append c.loop-taken.taken c.in-Moved.more (process_view c.args.process.now) (process_view c.loop-taken.process) (process_view c.find_next.new.process) c.loop-taken.invariant.local more.2;
+      local = steps_append IsLocalStep c.loop-taken.taken c.in-Moved.more (process_view c.args.process.now) (process_view c.loop-taken.process) (process_view c.find_next.new.process) c.loop-taken.invariant.local more.2;
       held = c.in-Moved.ensures.held;
       within = omega (arith, more.1);
     }

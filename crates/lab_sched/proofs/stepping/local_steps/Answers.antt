@@ -1,10 +1,9 @@
-use Rattle.std.proofs.Common.{◌≡◌, Some, subst, sym}
-use Rattle.lc3_machine.proofs.Runs.{after-zero}
-use Rattle.lc3_machine.specs.Steps.{after as machine_after}
+use Rattle.std.proofs.Common.{refl, subst, sym}
+use Rattle.lc3_machine.specs.Steps.{AreOwnSteps}
 use Rattle.lab_sched.specs.LocalRun.{AreLocal}
 use Rattle.lab_sched.specs.Held.{process_view}
 use Rattle.lab_sched.specs.Worlds.{Running, machine_of}
-use Rattle.lab_sched.proofs.GrowingTraces.{ran_local, ran_own}
+use Rattle.lab_sched.proofs.OwnSteps.{ran_local, ran_own}
 use Rattle.lab_sched.proofs.stepping.local_steps.Goals as goal
 
 pub returns-in-Running-clause-local : goal.returns-in-Running-clause-local
@@ -14,11 +13,11 @@ returns-in-Running-clause-local c =
 
 pub returns-in-Running-clause-own : goal.returns-in-Running-clause-own
 returns-in-Running-clause-own c =
-    subst (λ x. machine_after c.advance.result.0 (machine_of (process_view x)) ≡ Some c.advance.new.self) (sym c.in-Running.is)
+    subst (λ x. AreOwnSteps c.advance.result.0 (machine_of (process_view x)) c.advance.new.self) (sym c.in-Running.is)
     (ran_own c.args.most c.advance.result.0 c.in-Running.running c.advance.new.self c.advance.result.1 c.advance.ensures.run)
 
 pub returns-in-Waiting-clause-own : goal.returns-in-Waiting-clause-own
-returns-in-Waiting-clause-own c = after-zero (machine_of (process_view c.args.process.now))
+returns-in-Waiting-clause-own c = refl
 
 pub returns-in-Waiting-2-clause-own : goal.returns-in-Waiting-2-clause-own
-returns-in-Waiting-2-clause-own c = after-zero (machine_of (process_view c.args.process.now))
+returns-in-Waiting-2-clause-own c = refl
