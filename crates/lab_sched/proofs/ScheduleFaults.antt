@@ -23,10 +23,10 @@ with_block b w ws (Ok cs) bs ih e h =
     rw (e, ih cs refl) (ap (map Some) same)
 with_block b w ws (Err f) bs ih e h = cc
 
-written-blocks : (at : ℕ) (ws : List (List ℕ)) (bs : List Block) → blocks_of_words at ws ≡ Ok bs → map block_in ws ≡ map Some bs
+blocks-words : (at : ℕ) (ws : List (List ℕ)) (bs : List Block) → blocks_of_words at ws ≡ Ok bs → map block_in ws ≡ map Some bs
 unfolding blocks_of_words
-written-blocks at [] bs h = let same : [] ≡ bs = cc in ap (map Some) same
-written-blocks at (w ∷ ws) bs h = go (written-blocks (at + 1) ws) (block_in w) refl h
+blocks-words at [] bs h = let same : [] ≡ bs = cc in ap (map Some) same
+blocks-words at (w ∷ ws) bs h = go (blocks-words (at + 1) ws) (block_in w) refl h
   where
     go : ((cs : List Block) → blocks_of_words (at + 1) ws ≡ Ok cs → map block_in ws ≡ map Some cs) → (o : Option Block) → block_in w ≡ o → (block_or at o >>= λ b. blocks_of_words (at + 1) ws >>= λ cs. Ok (b ∷ cs)) ≡ Ok bs → map block_in (w ∷ ws) ≡ map Some bs
     go ih None e k = cc
@@ -128,9 +128,9 @@ over at total found (b ∷ bs) k h = go (over (at + 1) (total + b.count) found b
 
 -- the three laws
 
-scheduled-reads : (bs s : List Block) → AllByRecursion IsBlock bs → schedule_of_blocks bs ≡ Ok s → IsSchedule s × (steps_of s ≡ steps_of bs)
+schedule-reads : (bs s : List Block) → AllByRecursion IsBlock bs → schedule_of_blocks bs ≡ Ok s → IsSchedule s × (steps_of s ≡ steps_of bs)
 unfolding schedule_of_blocks
-scheduled-reads bs s v h = go (too_long 1 0 bs) refl h
+schedule-reads bs s v h = go (too_long 1 0 bs) refl h
   where
     go : (o : Option ℕ) → too_long 1 0 bs ≡ o → within o (joined_blocks bs) ≡ Ok s → IsSchedule s × (steps_of s ≡ steps_of bs)
     go None e f =
@@ -150,14 +150,14 @@ read_steps_lem text s h = go (blocks_of_words 1 (words text)) refl h
     go : (read : Result (List Block) SchedFault) → blocks_of_words 1 (words text) ≡ read → (read >>= schedule_of_blocks) ≡ Ok s
         → IsSchedule s × ((blocks : List Block) × (map block_in (words text) ≡ map Some blocks) × (steps_of s ≡ steps_of blocks))
     go (Ok bs) e f =
-        let all = written-blocks 1 (words text) bs e in
-        let r = scheduled-reads bs s (words-valid (words text) bs all) f in
+        let all = blocks-words 1 (words text) bs e in
+        let r = schedule-reads bs s (words-valid (words text) bs all) f in
         (r.0, (bs, all, r.1))
     go (Err g) e f = cc
 
-scheduled-over : (bs : List Block) (at : ℕ) → schedule_of_blocks bs ≡ Err (TooLong at) → IsFirstOver bs at
+schedule-over : (bs : List Block) (at : ℕ) → schedule_of_blocks bs ≡ Err (TooLong at) → IsFirstOver bs at
 unfolding schedule_of_blocks
-scheduled-over bs at h = go (too_long 1 0 bs) refl h
+schedule-over bs at h = go (too_long 1 0 bs) refl h
   where
     go : (o : Option ℕ) → too_long 1 0 bs ≡ o → within o (joined_blocks bs) ≡ Err (TooLong at) → IsFirstOver bs at
     go None e f = cc
@@ -176,10 +176,10 @@ no_bad bs at h = go (too_long 1 0 bs) h
     go None f = cc
     go (Some found) f = cc
 
-written-long : (at found : ℕ) (ws : List (List ℕ)) → blocks_of_words at ws ≡ Err (TooLong found) → ⊥
+blocks-long : (at found : ℕ) (ws : List (List ℕ)) → blocks_of_words at ws ≡ Err (TooLong found) → ⊥
 unfolding blocks_of_words
-written-long at found [] h = cc
-written-long at found (w ∷ ws) h = go (written-long (at + 1) found ws) (block_in w) h
+blocks-long at found [] h = cc
+blocks-long at found (w ∷ ws) h = go (blocks-long (at + 1) found ws) (block_in w) h
   where
     then_none : (b : Block) (read : Result (List Block) SchedFault) → (read ≡ Err (TooLong found) → ⊥) → (read >>= λ cs. Ok (b ∷ cs)) ≡ Err (TooLong found) → ⊥
     then_none b (Ok cs) ih k = cc
@@ -195,8 +195,8 @@ first_too_long_lem text at h = go (blocks_of_words 1 (words text)) refl h
   where
     go : (read : Result (List Block) SchedFault) → blocks_of_words 1 (words text) ≡ read → (read >>= schedule_of_blocks) ≡ Err (TooLong at)
         → (blocks : List Block) × (map block_in (words text) ≡ map Some blocks) × IsFirstOver blocks at
-    go (Ok bs) e f = (bs, written-blocks 1 (words text) bs e, scheduled-over bs at f)
-    go (Err g) e f = absurd (written-long 1 at (words text) (e ∙ f))
+    go (Ok bs) e f = (bs, blocks-words 1 (words text) bs e, schedule-over bs at f)
+    go (Err g) e f = absurd (blocks-long 1 at (words text) (e ∙ f))
 
 -- the first bad block
 

@@ -82,10 +82,10 @@ words-text b (c ∷ rest) v s =
     words-blank (block_text b) (block_text c ++ later_text rest) (text_some b) (text_no_space b v.0 s.0)
     ∙ ap (λ ws. block_text b ∷ ws) (words-text c rest v.1 s.1)
 
-written-text : (at : ℕ) (bs : List Block) → AllByRecursion IsBlock bs → AreSmall bs → blocks_of_words at (map block_text bs) ≡ Ok bs
+blocks-text : (at : ℕ) (bs : List Block) → AllByRecursion IsBlock bs → AreSmall bs → blocks_of_words at (map block_text bs) ≡ Ok bs
 unfolding blocks_of_words
-written-text at [] v s = refl
-written-text at (b ∷ rest) v s = rw (block_in-text b v.0 s.0, written-text (at + 1) rest v.1 s.1) refl
+blocks-text at [] v s = refl
+blocks-text at (b ∷ rest) v s = rw (block_in-text b v.0 s.0, blocks-text (at + 1) rest v.1 s.1) refl
 
 too_long-none : (at total : ℕ) (bs : List Block) → total + total_of bs ≤ most_steps → too_long at total bs ≡ None
 unfolding too_long
@@ -109,7 +109,7 @@ pub reads_back_lem : ReadsBack
 unfolding reading_of_words schedule_of_blocks
 reads_back_lem bs h =
     ap (λ ws. blocks_of_words 1 ws >>= schedule_of_blocks) (words-schedule bs h)
-    ∙ ap (λ r. r >>= schedule_of_blocks) (written-text 1 bs h.valid (small-from_total bs h.within))
+    ∙ ap (λ r. r >>= schedule_of_blocks) (blocks-text 1 bs h.valid (small-from_total bs h.within))
     ∙ rw (too_long-none 1 0 bs (omega (arith, h.within))) (ap Ok (joined-apart bs h.apart))
 
 -- a text that was written reads back

@@ -19,26 +19,26 @@ front_more : (found : List Block) (b : Block) (read : Result (List Block) SchedF
 front_more found b (Ok bs) = ap Ok (sym (append_assoc found (b ∷ []) bs))
 front_more found b (Err e) = refl
 
-pub written-more : (found : List Block) (at : ℕ) (word : List ℕ) (ws : List (List ℕ)) (b : Block) → Some b ≡ block_in word
+pub blocks-more : (found : List Block) (at : ℕ) (word : List ℕ) (ws : List (List ℕ)) (b : Block) → Some b ≡ block_in word
     → with_front found (blocks_of_words at (word ∷ ws)) ≡ with_front (found ++ b ∷ []) (blocks_of_words (at + 1) ws)
 unfolding blocks_of_words
-written-more found at word ws b e = rw (← e) (front_more found b (blocks_of_words (at + 1) ws))
+blocks-more found at word ws b e = rw (← e) (front_more found b (blocks_of_words (at + 1) ws))
 
-pub written-bad : (found : List Block) (at : ℕ) (word : List ℕ) (ws : List (List ℕ)) → None ≡ block_in word
+pub blocks-bad : (found : List Block) (at : ℕ) (word : List ℕ) (ws : List (List ℕ)) → None ≡ block_in word
     → with_front found (blocks_of_words at (word ∷ ws)) ≡ Err (BadBlock at)
 unfolding blocks_of_words
-written-bad found at word ws e = rw (← e) refl
+blocks-bad found at word ws e = rw (← e) refl
 
-pub written-end : (found : List Block) (at : ℕ) → with_front found (blocks_of_words at []) ≡ Ok found
+pub blocks-end : (found : List Block) (at : ℕ) → with_front found (blocks_of_words at []) ≡ Ok found
 unfolding blocks_of_words
-written-end found at = ap Ok (append-nil found)
+blocks-end found at = ap Ok (append-nil found)
 
 front_none : (read : Result (List Block) SchedFault) → read ≡ with_front [] read
 front_none (Ok bs) = refl
 front_none (Err e) = refl
 
-pub written-start : (at : ℕ) (ws : List (List ℕ)) → blocks_of_words at ws ≡ with_front [] (blocks_of_words at ws)
-written-start at ws = front_none (blocks_of_words at ws)
+pub blocks-start : (at : ℕ) (ws : List (List ℕ)) → blocks_of_words at ws ≡ with_front [] (blocks_of_words at ws)
+blocks-start at ws = front_none (blocks_of_words at ws)
 
 -- blocks in a row
 
@@ -69,13 +69,13 @@ joined-none = refl
 pub joined-more : (bs : List Block) (i : ℕ) (d : Block) → i < length bs → joined_blocks (joined_blocks (take i bs) ++ get_or bs i d ∷ []) ≡ joined_blocks (take (i + 1) bs)
 joined-more bs i d h = joined-joined (take i bs) (get_or bs i d ∷ []) ∙ ap joined_blocks (sym (take_more bs i d h))
 
-pub scheduled-long : (bs : List Block) (at : ℕ) → too_long 1 0 bs ≡ Some at → schedule_of_blocks bs ≡ Err (TooLong at)
+pub schedule-long : (bs : List Block) (at : ℕ) → too_long 1 0 bs ≡ Some at → schedule_of_blocks bs ≡ Err (TooLong at)
 unfolding schedule_of_blocks
-scheduled-long bs at e = rw e refl
+schedule-long bs at e = rw e refl
 
-pub scheduled-ok : (bs made : List Block) (i : ℕ) → too_long 1 0 bs ≡ None → made ≡ joined_blocks (take i bs) → length bs ≤ i → schedule_of_blocks bs ≡ Ok made
+pub schedule-ok : (bs made : List Block) (i : ℕ) → too_long 1 0 bs ≡ None → made ≡ joined_blocks (take i bs) → length bs ≤ i → schedule_of_blocks bs ≡ Ok made
 unfolding schedule_of_blocks
-scheduled-ok bs made i e m h = rw e (ap Ok (ap joined_blocks (sym (take_all i bs h)) ∙ sym m))
+schedule-ok bs made i e m h = rw e (ap Ok (ap joined_blocks (sym (take_all i bs h)) ∙ sym m))
 
 pub fails-then : {A B : Type 0} (e : SchedFault) (read : Result A SchedFault) (next : A → Result B SchedFault) → Fails e read → Fails e (read >>= next)
 fails-then (BadBlock at) read next h = rw h refl

@@ -56,7 +56,7 @@ fn append(blocks: &mut Vec<Block>, block: Block) -> Result<(), AllocError>
 
 /// The blocks, with a blank before each but the first.
 fn text_of(alloc: Global, blocks: &[Block]) -> Result<String, AllocError>
-    ensures { IfOk result (λ s. string_bytes s ≡ schedule_text blocks.now) }
+    ensures text { IfOk result (λ s. string_bytes s ≡ schedule_text blocks.now) }
 {
     let mut text = String::new(alloc);
     let Some((first, rest)) = blocks.split_first() else {

@@ -13,7 +13,7 @@ use std::alloc::Global;
 
 /// The number that digits write, from low to high.
 fn in_range(low: u32, high: u32, digits: &[u8]) -> Option<u32>
-    requires { high ≤ most_steps }
+    requires within { high ≤ most_steps }
     ensures value { result ≡ in_range low high (unsigned_number 10 digits.now) }
     ensures bounds { IfSome result (λ n. (low ≤ n) × (n ≤ high)) }
 {
@@ -66,7 +66,7 @@ fn block_in(word: &[u8]) -> Option<Block>
 }
 
 /// The blocks that words write, one each.
-fn written(alloc: Global, words: &[&[u8]]) -> Result<Vec<Block>, SchedFault>
+fn blocks_of_words(alloc: Global, words: &[&[u8]]) -> Result<Vec<Block>, SchedFault>
     ensures exact { Gives (λ v. v.items) result
         (blocks_of_words 1 (map (λ word. word.now) words.now)) }
     ensures valid { IfOk result (λ v. All IsBlock v.items) }
@@ -82,9 +82,9 @@ fn written(alloc: Global, words: &[&[u8]]) -> Result<Vec<Block>, SchedFault>
 }
 
 /// The schedule of blocks in a row.
-fn scheduled(alloc: Global, blocks: &[Block]) -> Result<Schedule, SchedFault>
-    requires { All IsBlock blocks.now }
-    ensures { Gives (λ s. s) result (schedule_of_blocks blocks.now) }
+fn schedule_of_blocks(alloc: Global, blocks: &[Block]) -> Result<Schedule, SchedFault>
+    requires valid { All IsBlock blocks.now }
+    ensures exact { Gives (λ s. s) result (schedule_of_blocks blocks.now) }
 {
     let mut schedule = Schedule::new(alloc);
     for (i, block) in blocks.iter().enumerate() {
@@ -98,15 +98,15 @@ fn scheduled(alloc: Global, blocks: &[Block]) -> Result<Schedule, SchedFault>
 
 /// The schedule that words write. A word that isn't a block goes before a total that is too large.
 pub(crate) fn schedule_of_words(alloc: Global, words: &[&[u8]]) -> Result<Schedule, SchedFault>
-    ensures { Gives (λ s. s) result (reading_of_words (map (λ word. word.now) words.now)) }
+    ensures exact { Gives (λ s. s) result (reading_of_words (map (λ word. word.now) words.now)) }
 {
-    let blocks = written(alloc, words)?;
-    scheduled(alloc, blocks.as_slice())
+    let blocks = blocks_of_words(alloc, words)?;
+    schedule_of_blocks(alloc, blocks.as_slice())
 }
 
 /// The schedule that a text writes, by its words.
 pub(crate) fn schedule_of(alloc: Global, text: &[u8]) -> Result<Schedule, SchedFault>
-    ensures { Gives (λ s. s) result (reading text.now) }
+    ensures exact { Gives (λ s. s) result (reading text.now) }
 {
     let words = words_between(alloc, WHITE_SPACE, text)?;
     schedule_of_words(alloc, words.as_slice())

@@ -4,7 +4,7 @@ use Rattle.lab_sched.proofs.ScheduleTextLemmas.{later_text, later-end, text-firs
 use Rattle.lab_sched.proofs.schedule.text_of.Goals as goal
 
 pub returns-in_default : goal.returns-in_default
-returns-in_default c = c.new-text.ensures.bytes ∙ text-none c.args.blocks.now c.in_default.ensures.cases
+returns-in_default c = record { text = c.new-text.ensures.bytes ∙ text-none c.args.blocks.now c.in_default.ensures.cases }
 
 pub loop-block-init : goal.loop-block-init
 loop-block-init c =
@@ -14,4 +14,4 @@ loop-block-init c =
     ∙ ap schedule_text (sym c.in-Some.ensures.cases.0)
 
 pub returns : goal.returns
-returns c = sym (later-end _ c.in-Some.rest.now c.loop-block.block-index c.loop-block-test.false) ∙ c.loop-block.invariant
+returns c = record { text = sym (later-end _ c.in-Some.rest.now c.loop-block.block-index c.loop-block-test.false) ∙ c.loop-block.invariant }

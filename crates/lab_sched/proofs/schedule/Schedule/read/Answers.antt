@@ -3,7 +3,7 @@ use Rattle.lab_sched.proofs.schedule.Schedule.read.Goals as goal
 
 pub returns : goal.returns
 returns c =
-    let gives = rw c.as_bytes.ensures.value at c.schedule_of.ensures in
+    let gives = rw c.as_bytes.ensures.value at c.schedule_of.ensures.exact in
     record {
       ok = gives_ok c.schedule_of.result c.args.text.now gives;
       err = gives_err c.schedule_of.result c.args.text.now gives;

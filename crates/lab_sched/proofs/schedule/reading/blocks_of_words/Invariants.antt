@@ -3,7 +3,7 @@ use Rattle.std.specs.List.{All}
 use Rattle.lab_sched.specs.Schedules.{IsBlock}
 use Rattle.lab_sched.specs.ScheduleTexts.{blocks_of_words}
 use Rattle.lab_sched.proofs.ScheduleSteps.{with_front}
-use Rattle.lab_sched.proofs.schedule.reading.written.Given as goal
+use Rattle.lab_sched.proofs.schedule.reading.blocks_of_words.Given as goal
 
 -- the words so far are read, and the others are left
 abbrev pub invariant-loop-i : goal.invariant-loop-i

@@ -1,8 +1,8 @@
 use Rattle.std.proofs.Common.{◌+◌, ◌++◌, ◌∷◌, [], drop, get_or, ap, sym, ◌∙◌, arith}
 use Rattle.lab_sched.specs.Schedules.{block, joined_blocks, total_of}
 use Rattle.lab_sched.specs.ScheduleTexts.{too_long}
-use Rattle.lab_sched.proofs.ScheduleSteps.{too_long-more, too_long-here, too_long-end, joined-none, joined-more, scheduled-long, scheduled-ok}
-use Rattle.lab_sched.proofs.schedule.reading.scheduled.Goals as goal
+use Rattle.lab_sched.proofs.ScheduleSteps.{too_long-more, too_long-here, too_long-end, joined-none, joined-more, schedule-long, schedule-ok}
+use Rattle.lab_sched.proofs.schedule.reading.schedule_of_blocks.Goals as goal
 
 pub loop-i-init : goal.loop-i-init
 loop-i-init c = record {
@@ -11,11 +11,13 @@ loop-i-init c = record {
 }
 
 pub returns-then-block-total : goal.returns-then-block-total
-returns-then-block-total c =
-    scheduled-long c.args.blocks.now (c.loop-i.i + 1)
-    (c.loop-i.invariant.rest
-    ∙ too_long-here c.args.blocks.now c.loop-i.i (total_of c.loop-i.schedule) (block 0 0) c.loop-i-test.true
-    (omega (arith, c.total.ensures.value, c.if-block-total.true)))
+returns-then-block-total c = record {
+  exact =
+      schedule-long c.args.blocks.now (c.loop-i.i + 1)
+      (c.loop-i.invariant.rest
+      ∙ too_long-here c.args.blocks.now c.loop-i.i (total_of c.loop-i.schedule) (block 0 0) c.loop-i-test.true
+      (omega (arith, c.total.ensures.value, c.if-block-total.true)));
+}
 
 pub loop-i-preserved : goal.loop-i-preserved
 loop-i-preserved c =
@@ -34,7 +36,9 @@ loop-i-preserved c =
     }
 
 pub returns : goal.returns
-returns c =
-    scheduled-ok c.args.blocks.now c.loop-i.schedule c.loop-i.i
-    (c.loop-i.invariant.rest ∙ too_long-end c.args.blocks.now c.loop-i.i (total_of c.loop-i.schedule) c.loop-i-test.false)
-    c.loop-i.invariant.made c.loop-i-test.false
+returns c = record {
+  exact =
+      schedule-ok c.args.blocks.now c.loop-i.schedule c.loop-i.i
+      (c.loop-i.invariant.rest ∙ too_long-end c.args.blocks.now c.loop-i.i (total_of c.loop-i.schedule) c.loop-i-test.false)
+      c.loop-i.invariant.made c.loop-i-test.false;
+}

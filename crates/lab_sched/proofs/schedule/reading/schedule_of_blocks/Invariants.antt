@@ -1,7 +1,7 @@
 use Rattle.std.proofs.Common.{◌≡◌, ◌+◌, take, drop}
 use Rattle.lab_sched.specs.Schedules.{joined_blocks, total_of}
 use Rattle.lab_sched.specs.ScheduleTexts.{too_long}
-use Rattle.lab_sched.proofs.schedule.reading.scheduled.Given as goal
+use Rattle.lab_sched.proofs.schedule.reading.schedule_of_blocks.Given as goal
 
 abbrev pub invariant-loop-i : goal.invariant-loop-i
 invariant-loop-i l = record {
