@@ -1,17 +1,12 @@
 -- Explorations: what the parts of one say together.
-use Rattle.std.proofs.Common.{ℕ, ◌≡◌, ◌≤◌, ◌++◌, [], ◌∷◌, slice_get, List, refl, sym, ap, subst, ◌∙◌, arith, All, length, map, inl, inr}
-use Rattle.std.proofs.lemmas.List.{length-map, length-replicate}
-use Rattle.std.proofs.lemmas.List.Elements.{All-weaker}
-use Rattle.ipc_kernel.specs.Limits.{process_max}
+use Rattle.std.proofs.Common.{ℕ, ◌≡◌, ◌++◌, [], ◌∷◌, slice_get, List, refl, sym, ap, subst, ◌∙◌, length, map, inl, inr}
 use Rattle.ipc_kernel.specs.Kernel.{KernelState, empty_kernel}
 use Rattle.lab_sched.specs.declared.process.Process.{Process as Kept}
-use Rattle.lab_sched.specs.declared.process.Process.TheVariants as kept
-use Rattle.ipc_kernel.specs.Processes.{closed_process}
 use Rattle.ipc_kernel.specs.Alike.{IsConsistent}
 use Rattle.ipc_kernel.proofs.Consistents.{consistent_empty}
 use Rattle.lab_explore.specs.Calls.{AreAlike}
 use Rattle.lab_explore.proofs.AlikeWorlds.{world_then, world_back, rest_alike, one_verdict, consistent_run}
-use Rattle.lab_sched.specs.Worlds.{HaveOneProfile, Process, Running, Waiting, Ended, WorldState, step_effect, step_effect_in, run}
+use Rattle.lab_sched.specs.Worlds.{Process, Running, Waiting, Ended, WorldState, step_effect, step_effect_in, run}
 use Rattle.lab_sched.specs.Finished.{IsAtRest}
 use Rattle.lab_sched.specs.Schedules.{steps_of}
 use Rattle.lab_sched.specs.Verdicts.{IsVerdict, IsWaiting, HasEnded, AreStuck}
@@ -19,42 +14,24 @@ use Rattle.lab_sched.specs.declared.verdict.Verdict.{Verdict}
 use Rattle.lab_sched.specs.declared.verdict.Verdict.TheVariants as verdict
 use Rattle.lab_sched.proofs.WorldLemmas.{fresh_world}
 use Rattle.lab_sched.proofs.IneffectiveProcesses.{at_rest}
-use Rattle.lab_sched.specs.Held.{process_view, IsHeld, IsWorld}
-use Rattle.lab_sched.specs.Starts.{Runs}
+use Rattle.lab_sched.specs.Held.{process_view, IsWorld}
+use Rattle.lab_sched.specs.Starts.{AreStarts, initial_world}
 use Rattle.lab_explore.specs.declared.store.Store.{Store}
 use Rattle.lab_explore.specs.declared.ends.End.{End}
 use Rattle.lab_explore.specs.declared.ends.Walk.{Walk}
 use Rattle.lab_explore.specs.Closed.{IsClosed, AreAtRest}
 use Rattle.lab_explore.specs.Private.Stored.{IsAt, IsLike, Holds, Keeps}
-use Rattle.lab_explore.specs.Private.Walked.{AreStarts, HaveRowEnds}
+use Rattle.lab_explore.specs.Private.Walked.{HaveRowEnds}
 use Rattle.lab_explore.specs.Ends.{IsWalk, IsEnd, AreEnds, HasEnd, HaveAllEnds, NoneStuck, NeverStuck}
 use Rattle.lab_explore.proofs.Pushes.{get_pushed}
 use Rattle.lab_explore.proofs.FirstWorlds.{at_unique}
 use Rattle.lab_explore.proofs.HeldAdvances.{has_every_end, idle}
 
-runs_held : (s : Kept) → Runs s → IsHeld s
-runs_held (kept.Running m) runs = tt
-runs_held (kept.Waiting h c) runs = absurd runs
-runs_held (kept.Ended e) runs = absurd runs
-
--- the start of a laboratory, by its processes
-pub started : (w : WorldState) (ps : List Kept) (k : KernelState) (n : ℕ) → map process_view ps ≡ w.processes → w.kernel ≡ empty_kernel (length w.processes) → n ≡ length ps → k ≡ empty_kernel n
-    → w ≡ record { processes = map process_view ps; kernel = k }
-started w ps k n processes kernel count is =
-    let lengths : length w.processes ≡ n = ap length (sym processes) ∙ length-map ps process_view ∙ sym count in
-    let same : w.kernel ≡ k = kernel ∙ ap empty_kernel lengths ∙ sym is in
-    ap (λ xs. record { processes = xs; kernel = w.kernel }) (sym processes) ∙ ap (λ x. record { processes = map process_view ps; kernel = x }) same
-
-pub lengths : (w : WorldState) (ps : List Kept) → map process_view ps ≡ w.processes → length w.processes ≡ length ps
-lengths w ps processes = ap length (sym processes) ∙ length-map ps process_view
-
--- the processes of a laboratory before its first step are starts
-pub are_starts : (w : WorldState) (ps qs : List Kept) → qs ≡ ps → map process_view ps ≡ w.processes → All Runs ps
-    → HaveOneProfile (map process_view ps) → 1 ≤ length w.processes → length w.processes ≤ process_max → AreStarts qs
-are_starts w ps qs same processes running profile some few =
-    let count : length w.processes ≡ length ps = lengths w ps processes in
-    subst AreStarts (sym same)
-    (record { running = running; profile = profile; some = omega (arith, count, some); few = omega (arith, count, few) })
+-- the start of a laboratory, by copies of its processes over an empty kernel
+pub started : (w : WorldState) (ps qs : List Kept) (k : KernelState) (n : ℕ) → initial_world ps ≡ w → qs ≡ ps → n ≡ length qs → k ≡ empty_kernel n
+    → w ≡ record { processes = map process_view qs; kernel = k }
+started w ps qs k n world same count empty =
+    sym world ∙ ap initial_world (sym same) ∙ ap (λ j. record { processes = map process_view qs; kernel = j }) (ap empty_kernel (sym count) ∙ sym empty)
 
 -- all ends, where the worlds of a store are closed, and each of them that is at rest has its end
 pub all_ends : (fresh start : WorldState) (t : Store) (ends : List End) → fresh ≡ start → IsConsistent start.kernel → AreEnds fresh ends → IsClosed start (Holds t) → HaveRowEnds t ends
@@ -75,9 +52,7 @@ same_ends fresh start ends same each = subst (λ s. AreEnds s ends) (sym same) e
 
 -- copies of processes over the empty kernel
 pub copies_world : (ps cs : List Kept) (k : KernelState) → cs ≡ ps → AreStarts ps → k ≡ empty_kernel (length ps) → IsWorld cs k
-copies_world ps cs k same starts empty =
-    let count : length ps ≡ length k.processes = sym (ap (λ (x : KernelState). length x.processes) empty ∙ length-replicate (length ps) closed_process) in
-    subst (λ xs. IsWorld xs k) (sym same) (fresh_world ps k (record { running = starts.running; profile = starts.profile; some = starts.some; few = starts.few; count = count; empty = empty }))
+copies_world ps cs k same starts empty = subst (λ xs. IsWorld xs k) (sym same) (fresh_world ps k (record { starts = starts; empty = empty }))
 
 ended_rests : (k : KernelState) (p : ℕ) (s : Process) → HasEnded s → IsAtRest k p s
 ended_rests k p (Running m) h = h

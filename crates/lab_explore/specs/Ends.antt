@@ -1,8 +1,5 @@
 -- The ends of an exploration.
-use Rattle.std.specs.Prelude.{ℕ, ◌≡◌, List, Some, length, map, slice_get}
-use Rattle.ipc_kernel.specs.Kernel.{empty_kernel}
-use Rattle.lab_sched.specs.declared.process.Process.{Process as Kept}
-use Rattle.lab_sched.specs.Held.{process_view}
+use Rattle.std.specs.Prelude.{ℕ, ◌≡◌, List, Some, slice_get}
 use Rattle.lab_sched.specs.Worlds.{WorldState, run}
 use Rattle.lab_sched.specs.Execution.{AreEffective}
 use Rattle.lab_sched.specs.Schedules.{steps_of}
@@ -16,10 +13,6 @@ use Rattle.lab_explore.specs.Closed.{AreAtRest}
 -- P holds of each element
 abbrev pub Each : {A : Type 0} → (A → Type 0) → List A → Type 0
 Each {A} P xs = (i : ℕ) (x : A) → slice_get xs i ≡ Some x → P x
-
--- processes before their first step, over the empty kernel
-abbrev pub first_world : List Kept → WorldState
-first_world ps = record { processes = map process_view ps; kernel = empty_kernel (length ps) }
 
 -- effective steps lead from the start to the world
 pub record IsWalk (start : WorldState) (w : Walk) : Type 0 where

@@ -2,13 +2,14 @@
 ghost use Rattle.std.specs.Prelude.{◌≡◌, ◌<◌, IsTrue, false, length, IfOk, OnOk};
 ghost use Rattle.lab_sched.specs.Worlds.{WorldState};
 ghost use Rattle.lab_sched.specs.Held.{process_view};
+ghost use Rattle.lab_sched.specs.Starts.{AreStarts, initial_world};
 ghost use Rattle.lab_sched.specs.declared.verdict.Verdict.TheVariants.{Open};
 ghost use Rattle.lab_sched.specs.declared.stepped.Stepped.TheVariants.{Same};
 ghost use Rattle.lab_sched.specs.Finished.{IsAtRest};
 ghost use Rattle.lab_explore.specs.Closed.{AreAtRest};
 ghost use Rattle.lab_explore.specs.Private.Stored.{IsState, IsAt, IsLike, Keeps};
-ghost use Rattle.lab_explore.specs.Private.Walked.{AreStarts, KeepsStart, HasRowEnd, HaveRowEnds};
-ghost use Rattle.lab_explore.specs.Ends.{first_world, IsWalk, IsEnd, AreEnds};
+ghost use Rattle.lab_explore.specs.Private.Walked.{KeepsStart, HasRowEnd, HaveRowEnds};
+ghost use Rattle.lab_explore.specs.Ends.{IsWalk, IsEnd, AreEnds};
 
 use crate::ExploreFault;
 use crate::search::Search;
@@ -180,7 +181,7 @@ fn copies(alloc: Global, processes: &[Process]) -> Result<Vec<Process>, AllocErr
 /// The world of processes before their first steps.
 pub(crate) fn world_of(alloc: Global, processes: &[Process]) -> Result<World, ExploreFault>
     requires starts { AreStarts processes.now }
-    ensures world { IfOk result (λ w. w ≡ first_world processes.now) }
+    ensures world { IfOk result (λ w. w ≡ initial_world processes.now) }
 {
     let kernel = Kernel::new(alloc, processes.len())?;
     match copies(alloc, processes) {
@@ -255,7 +256,7 @@ impl Search {
     /// The end of a row, reached again.
     fn vouched(&self, alloc: Global, processes: &[Process], at: usize) -> Result<End, ExploreFault>
         requires starts { AreStarts processes.now }
-        ensures end { IfOk result (λ e. IsEnd (first_world processes.now) e) }
+        ensures end { IfOk result (λ e. IsEnd (initial_world processes.now) e) }
         ensures row { IfOk result (λ e. IsLike self.now.store at e.world) }
     {
         let mut walk = Walk {
@@ -283,8 +284,8 @@ impl Search {
         ends: &mut Vec<End>,
     ) -> Result<(), ExploreFault>
         requires starts { AreStarts processes.now }
-        ensures each { OnOk result (AreEnds (first_world processes.now) ends.old.items
-            → AreEnds (first_world processes.now) ends.new.items) }
+        ensures each { OnOk result (AreEnds (initial_world processes.now) ends.old.items
+            → AreEnds (initial_world processes.now) ends.new.items) }
         ensures keeps { OnOk result (Keeps ends.old.items ends.new.items) }
         ensures here { OnOk result (HasRowEnd self.now.store ends.new.items at) }
     {
@@ -303,7 +304,7 @@ impl Search {
         processes: &[Process],
     ) -> Result<Vec<End>, ExploreFault>
         requires starts { AreStarts processes.now }
-        ensures ends { IfOk result (λ ends. AreEnds (first_world processes.now) ends.items) }
+        ensures ends { IfOk result (λ ends. AreEnds (initial_world processes.now) ends.items) }
         ensures all { IfOk result (λ ends. HaveRowEnds self.now.store ends.items) }
     {
         let mut ends = Vec::new(alloc);

@@ -1,7 +1,8 @@
 //! Explorations.
 ghost use Rattle.std.specs.Prelude.{◌≡◌, IsTrue, None, IfOk, IfSome};
-ghost use Rattle.lab_explore.specs.Private.Walked.{AreStarts, HaveRowEnds};
-ghost use Rattle.lab_explore.specs.Ends.{first_world, AreEnds, HaveAllEnds, NoneStuck, NeverStuck};
+ghost use Rattle.lab_sched.specs.Starts.{AreStarts, initial_world};
+ghost use Rattle.lab_explore.specs.Private.Walked.{HaveRowEnds};
+ghost use Rattle.lab_explore.specs.Ends.{AreEnds, HaveAllEnds, NoneStuck, NeverStuck};
 ghost use Rattle.lab_explore.specs.Rounds.{IsRound, AreRising, AreEndless, AreBounded};
 
 use crate::search::{Search, search_all};
@@ -68,10 +69,10 @@ impl Search {
     ) -> Result<Exploration, ExploreFault>
         requires starts { AreStarts processes.now }
         ensures ends { IfOk result (λ found.
-            AreEnds (first_world processes.now) found.ends.items) }
+            AreEnds (initial_world processes.now) found.ends.items) }
         ensures all { IfOk result (λ found. HaveRowEnds self.now.store found.ends.items) }
         ensures round { IfOk result (λ found.
-            IfSome found.round (λ r. IsRound (first_world processes.now) r)) }
+            IfSome found.round (λ r. IsRound (initial_world processes.now) r)) }
         ensures none { IfOk result (λ found.
             found.round ≡ None → AreRising self.now.store.edges.items) }
         ensures complete { IfOk result (λ found. IsTrue found.complete → IsTrue self.now.complete) }

@@ -2,9 +2,10 @@
 ghost use Rattle.std.specs.Prelude.{◌≡◌, ◌≤◌, length, None, IfOk, IfSome, OnOk};
 ghost use Rattle.lab_sched.specs.Worlds.{WorldState};
 ghost use Rattle.lab_sched.specs.Schedules.{steps_of};
+ghost use Rattle.lab_sched.specs.Starts.{AreStarts, initial_world};
 ghost use Rattle.lab_explore.specs.Private.Stored.{IsLike};
-ghost use Rattle.lab_explore.specs.Private.Walked.{AreStarts, KeepsStart};
-ghost use Rattle.lab_explore.specs.Ends.{first_world, IsWalk};
+ghost use Rattle.lab_explore.specs.Private.Walked.{KeepsStart};
+ghost use Rattle.lab_explore.specs.Ends.{IsWalk};
 ghost use Rattle.lab_explore.specs.Rounds.{IsRound, AreRising};
 
 use crate::ExploreFault;
@@ -94,7 +95,7 @@ impl Search {
         cycle: &Cycle,
     ) -> Result<Round, ExploreFault>
         requires starts { AreStarts processes.now }
-        ensures round { IfOk result (λ r. IsRound (first_world processes.now) r) }
+        ensures round { IfOk result (λ r. IsRound (initial_world processes.now) r) }
     {
         let mut walk = Walk {
             world: world_of(alloc, processes)?,
@@ -120,7 +121,7 @@ impl Search {
     ) -> Result<Option<Round>, ExploreFault>
         requires starts { AreStarts processes.now }
         ensures round { IfOk result (λ round.
-            IfSome round (λ r. IsRound (first_world processes.now) r)) }
+            IfSome round (λ r. IsRound (initial_world processes.now) r)) }
         ensures none { IfOk result (λ round. round ≡ None → AreRising self.now.store.edges.items) }
     {
         let edges = self.store.edges.as_slice();

@@ -94,14 +94,20 @@ world_set ps ps' k k' p s s' inv within read ps-is kept held count =
       count = all ∙ inv.count ∙ sym count;
     }
 
-runs_held : (s : Kept) → Runs s → IsHeld s
+pub runs_held : (s : Kept) → Runs s → IsHeld s
 runs_held (kept.Running m) runs = tt
 runs_held (kept.Waiting h c) runs = absurd runs
 runs_held (kept.Ended e) runs = absurd runs
 
 -- a laboratory before its first step is a world
 pub fresh_world : (ps : List Kept) (k : KernelState) → IsFresh ps k → IsWorld ps k
-fresh_world ps k inv = record { held = All-weaker Runs IsHeld runs_held ps inv.running; profile = inv.profile; some = inv.some; few = inv.few; count = inv.count }
+fresh_world ps k inv = record {
+  held = All-weaker Runs IsHeld runs_held ps inv.starts.running;
+  profile = inv.starts.profile;
+  some = inv.starts.some;
+  few = inv.starts.few;
+  count = sym (ap (λ (x : KernelState). length x.processes) inv.empty ∙ length-replicate (length ps) closed_process);
+}
 
 pub seen_within : (ps : List Kept) (k : KernelState) (w : WorldState) (p : ℕ) → record { processes = map process_view ps; kernel = k } ≡ w → p < length w.processes → p < length ps
 seen_within ps k w p same below = subst (λ n. p < n) (ap (λ (x : WorldState). length x.processes) (sym same) ∙ length-map ps process_view) below
@@ -132,11 +138,13 @@ pub fresh_is : (profile : Profile) (ks : List Kept) (ps : List Program) (k : Ker
 fresh_is profile ks ps k so runs k-is some few =
     let count : length ks ≡ length ps = sym (length-map ks process_view) ∙ ap length so ∙ length-map ps (start_of profile) in
     record {
-      running = runs;
-      profile = subst HaveOneProfile (sym so) (starts_profile profile ps);
-      some = omega (arith, count);
-      few = omega (arith, count);
-      count = count ∙ sym (ap (λ (x : KernelState). length x.processes) k-is ∙ length-replicate (length ps) closed_process);
+      starts =
+          record {
+            running = runs;
+            profile = subst HaveOneProfile (sym so) (starts_profile profile ps);
+            some = omega (arith, count);
+            few = omega (arith, count);
+          };
       empty = k-is ∙ ap empty_kernel (sym count);
     }
 

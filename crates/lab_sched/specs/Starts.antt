@@ -28,11 +28,18 @@ Runs (kept.Running m) = Unit {0}
 Runs (kept.Waiting h c) = ⊥
 Runs (kept.Ended e) = ⊥
 
--- the processes of a laboratory before its first step, and its kernel, which is empty
-pub record IsFresh (ps : List Kept) (k : KernelState) : Type 0 where
+-- 1 to 64 processes of one profile, each of which runs
+pub record AreStarts (ps : List Kept) : Type 0 where
   pub running : All Runs ps
   pub profile : HaveOneProfile (map process_view ps)
   pub some : 1 ≤ length ps
   pub few : length ps ≤ process_max
-  pub count : length ps ≡ length k.processes
+
+-- processes before their first step, over the empty kernel
+abbrev pub initial_world : List Kept → WorldState
+initial_world ps = record { processes = map process_view ps; kernel = empty_kernel (length ps) }
+
+-- the processes of a laboratory before its first step, and its kernel, which is empty
+pub record IsFresh (ps : List Kept) (k : KernelState) : Type 0 where
+  pub starts : AreStarts ps
   pub empty : k ≡ empty_kernel (length ps)

@@ -1,10 +1,7 @@
 //! Laboratories before their first step.
-ghost use Rattle.std.specs.Prelude.{◌≡◌, ◌≤◌, ◌↔◌, length, map, All, Err, IfOk};
-ghost use Rattle.ipc_kernel.specs.Limits.{process_max};
-ghost use Rattle.ipc_kernel.specs.Kernel.{empty_kernel};
-ghost use Rattle.lab_sched.specs.Starts.{start_of, fresh, IsCount, Runs};
+ghost use Rattle.std.specs.Prelude.{◌≡◌, ◌↔◌, length, map, All, Err, IfOk};
+ghost use Rattle.lab_sched.specs.Starts.{start_of, fresh, IsCount, Runs, AreStarts, initial_world};
 ghost use Rattle.lab_sched.specs.Held.{process_view};
-ghost use Rattle.lab_sched.specs.Worlds.{HaveOneProfile};
 ghost use Rattle.lab_sched.specs.declared.fresh.FreshFault.TheVariants.{Count, NoMemory};
 
 use crate::{Process, World};
@@ -72,7 +69,7 @@ impl Model for Fresh {
 }
 
 /// The processes of programs, each at its start and of this profile.
-fn started(
+fn starts_of(
     alloc: Global,
     programs: &[Program],
     profile: Profile,
@@ -99,7 +96,7 @@ impl Fresh {
         if !matches!(programs.len(), 1..=PROCESS_MAX) {
             return Err(FreshFault::Count);
         }
-        let processes = started(alloc, programs, profile)?;
+        let processes = starts_of(alloc, programs, profile)?;
         let kernel = Kernel::new(alloc, programs.len())?;
         Ok(Fresh { processes, kernel })
     }
@@ -107,12 +104,8 @@ impl Fresh {
     /// The processes at their starts, 1 to 64, each running, all of one profile. The kernel that
     /// they were to share is empty.
     pub fn processes(self) -> Vec<Process>
-        ensures processes { map process_view result.items ≡ self.processes }
-        ensures running { All Runs result.items }
-        ensures profile { HaveOneProfile (map process_view result.items) }
-        ensures some { 1 ≤ length self.processes }
-        ensures few { length self.processes ≤ process_max }
-        ensures empty { self.kernel ≡ empty_kernel (length self.processes) }
+        ensures starts { AreStarts result.items }
+        ensures world { initial_world result.items ≡ self }
     {
         self.processes
     }

@@ -13,6 +13,7 @@ use Rattle.lab_sched.specs.LocalRun.{AreLocal, Leads, weight, steps}
 use Rattle.lab_sched.specs.History.{IsLegal}
 use Rattle.lab_sched.specs.Held.{process_view}
 use Rattle.lab_sched.specs.Schedules.{steps_of}
+use Rattle.lab_sched.specs.Starts.{initial_world}
 use Rattle.lab_sched.specs.declared.schedule.block.Block.{Block}
 use Rattle.lab_sched.specs.declared.entry.Entry.{Entry}
 use Rattle.lab_sched.specs.declared.process.Process.{Process as ProcessValue}
@@ -21,7 +22,7 @@ use Rattle.lab_sched.proofs.ListPlaces.{get-set_same, get-set_other}
 use Rattle.lab_sched.proofs.Executions.{count-append, count-replicate_same, count-replicate_other, course_none, course-append, course_item, course_local, with_process, called, course_kernel}
 use Rattle.lab_threads.specs.declared.worker_result.WorkerResult.{WorkerResult}
 use Rattle.lab_threads.specs.Private.WorkerResults.{AreWorkerResults}
-use Rattle.lab_threads.specs.Private.Merged.{initial_world, final_world, IsFound, IsItem, AreLeft, IsMerged, AreCounted}
+use Rattle.lab_threads.specs.Private.Merged.{final_world, IsFound, IsItem, AreLeft, IsMerged, AreCounted}
 
 pub some_at : {A : Type 0} (xs : List A) (p : ℕ) → p < length xs → (x : A) × (slice_get xs p ≡ Some x)
 some_at [] p h = absurd (omega arith)

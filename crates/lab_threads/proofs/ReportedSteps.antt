@@ -17,14 +17,14 @@ use Rattle.lab_sched.specs.Starts.{Runs}
 use Rattle.lab_sched.specs.Finished.{IsAtRest, IsFinished}
 use Rattle.lab_sched.specs.declared.entry.Entry.{Entry}
 use Rattle.lab_sched.specs.declared.process.Process.{Process as ProcessValue}
-use Rattle.lab_sched.specs.declared.process.Process.TheVariants as variants
 use Rattle.lab_sched.proofs.Executions.{count-append, course-append}
 use Rattle.lab_sched.proofs.ReportAdditions.{added_length}
 use Rattle.lab_sched.proofs.IneffectiveProcesses.{at_rest}
 use Rattle.lab_sched.proofs.Profiles.{alone_profile, one_of}
+use Rattle.lab_sched.proofs.WorldLemmas.{runs_held}
 use Rattle.lab_threads.specs.declared.worker_result.WorkerResult.{WorkerResult}
 use Rattle.lab_threads.specs.Private.WorkerResults.{AreWorkerResults}
-use Rattle.lab_threads.specs.Private.Merged.{initial_world, final_world, HaveAllSteps, LeadToResults}
+use Rattle.lab_threads.specs.Private.Merged.{final_world, HaveAllSteps, LeadToResults}
 use Rattle.lab_threads.proofs.Merges.{some_at}
 
 map-map_seen : (workers : List WorkerResult) → map process_view (map (λ k. k.process) workers) ≡ map (λ k. process_view k.process) workers
@@ -79,11 +79,6 @@ worker_steps ss left starts workers limit are counted left-is p within =
     let mine : get_or left p 0 ≡ k.0.left =
     get_or_from_slice_get left p k.0.left 0 (ap (λ xs. slice_get xs p) left-is ∙ slice_get-map (λ k. k.left) workers p ∙ ap (λ o. option_map (λ k. k.left) o) k.1) in
     omega (arith, mine, counted p k.0 k.1, worker.within)
-
-runs_held : (s : ProcessValue) → Runs s → IsHeld s
-runs_held (variants.Running m) runs = tt
-runs_held (variants.Waiting h c) runs = absurd runs
-runs_held (variants.Ended e) runs = absurd runs
 
 -- what `merge` says, of the lists that its slices show
 pub from_course : (ss : List ℕ) (workers workers' : List WorkerResult) (h h' : List Entry) → workers' ≡ workers → h' ≡ h

@@ -8,12 +8,12 @@ ghost use Rattle.lab_sched.specs.Finished.{IsFinished};
 ghost use Rattle.lab_sched.specs.Held.{process_view, IsHeld};
 ghost use Rattle.lab_sched.specs.History.{IsLegal, replay};
 ghost use Rattle.lab_sched.specs.Schedules.{steps_of, total_of, most_steps};
-ghost use Rattle.lab_sched.specs.Starts.{Runs};
+ghost use Rattle.lab_sched.specs.Starts.{AreStarts, initial_world};
 ghost use Rattle.lab_sched.specs.Verdicts.{IsVerdict};
 ghost use Rattle.lab_sched.specs.declared.process.Process.{Process as ProcessValue};
 ghost use Rattle.lab_threads.specs.Limits.{most_steps_each};
 ghost use Rattle.lab_threads.specs.Private.WorkerResults.{AreWorkerResults};
-ghost use Rattle.lab_threads.specs.Private.Merged.{initial_world, HaveAllSteps, LeadToResults};
+ghost use Rattle.lab_threads.specs.Private.Merged.{HaveAllSteps, LeadToResults};
 ghost use Rattle.lab_threads.specs.Private.Reported.{IsReportFrom, MakeLimit};
 
 use crate::merging::merge;
@@ -167,10 +167,7 @@ fn run_starts<R: Threads + Wait + Sync, G: Gate>(
     limit: u32,
     gate: &G,
 ) -> Result<Report, RunFault>
-    requires runs { All Runs starts.items }
-    requires profile { HaveOneProfile (map process_view starts.items) }
-    requires some { 1 ≤ length starts.items }
-    requires few { length starts.items ≤ process_max }
+    requires starts { AreStarts starts.items }
     ensures course { IfOk result (λ r. IsReportFrom (initial_world starts.items) r) }
     ensures legal { IfOk result
         (λ r. IsLegal (empty_kernel (length starts.items)) r.history.items) }

@@ -1,23 +1,12 @@
 -- Walks from the start to the worlds that a search keeps, and the ends that they come to.
-use Rattle.std.specs.Prelude.{ℕ, ◌≤◌, List, All, length, map}
-use Rattle.ipc_kernel.specs.Limits.{process_max}
-use Rattle.lab_sched.specs.declared.process.Process.{Process as Kept}
-use Rattle.lab_sched.specs.Held.{process_view}
-use Rattle.lab_sched.specs.Starts.{Runs}
-use Rattle.lab_sched.specs.Worlds.{HaveOneProfile, WorldState}
+use Rattle.std.specs.Prelude.{ℕ, List}
+use Rattle.lab_sched.specs.Worlds.{WorldState}
 use Rattle.lab_explore.specs.declared.ends.End.{End}
 use Rattle.lab_explore.specs.declared.ends.Walk.{Walk}
 use Rattle.lab_explore.specs.declared.store.Store.{Store}
 use Rattle.lab_explore.specs.Closed.{AreAtRest}
 use Rattle.lab_explore.specs.Ends.{IsWalk, HasEnd}
 use Rattle.lab_explore.specs.Private.Stored.{IsAt}
-
--- 1 to 64 processes of one profile, each of which runs
-pub record AreStarts (ps : List Kept) : Type 0 where
-  pub running : All Runs ps
-  pub profile : HaveOneProfile (map process_view ps)
-  pub some : 1 ≤ length ps
-  pub few : length ps ≤ process_max
 
 -- the second walk begins where the first does
 abbrev pub KeepsStart : Walk → Walk → Type 0

@@ -1,5 +1,5 @@
--- The world that workers and a history begin in, the one that they lead to, and how the steps of
--- the workers are merged along a history.
+-- The world that workers and a history lead to, and how the steps of the workers are merged along a
+-- history.
 use Rattle.std.specs.Prelude.{ℕ, ◌≡◌, ◌+◌, List, [], Some, map, length, slice_get, slice_index, drop}
 use Rattle.ipc_kernel.specs.Kernel.{empty_kernel}
 use Rattle.lab_sched.specs.Worlds.{Process, WorldState}
@@ -7,15 +7,12 @@ use Rattle.lab_sched.specs.Execution.{IsExecution, count}
 use Rattle.lab_sched.specs.LocalRun.{Leads, weight, steps}
 use Rattle.lab_sched.specs.History.{IsLegal, replay}
 use Rattle.lab_sched.specs.Held.{process_view}
+use Rattle.lab_sched.specs.Starts.{initial_world}
 use Rattle.lab_sched.specs.declared.entry.Entry.{Entry}
 use Rattle.lab_sched.specs.declared.process.Process.{Process as ProcessValue}
 use Rattle.lab_sched.specs.declared.trace.TracedCall.{TracedCall}
 use Rattle.lab_threads.specs.declared.worker_result.WorkerResult.{WorkerResult}
 use Rattle.lab_threads.specs.Private.WorkerResults.{AreWorkerResults}
-
--- processes at their start over the empty kernel
-abbrev pub initial_world : List ProcessValue → WorldState
-initial_world starts = record { processes = map process_view starts; kernel = empty_kernel (length starts) }
 
 -- the processes where the workers stopped, over the kernel after the history
 abbrev pub final_world : ℕ → List WorkerResult → List Entry → WorldState

@@ -6,7 +6,8 @@ use Rattle.lab_sched.specs.Held.{process_view, IsHeld}
 use Rattle.lab_sched.specs.Worlds.{HaveOneProfile}
 use Rattle.lab_sched.specs.History.{IsLegal, replay}
 use Rattle.lab_sched.specs.Schedules.{steps_of}
-use Rattle.lab_threads.specs.Private.Merged.{initial_world, final_world}
+use Rattle.lab_sched.specs.Starts.{initial_world}
+use Rattle.lab_threads.specs.Private.Merged.{final_world}
 use Rattle.lab_threads.proofs.ReportedSteps.{joined_is, from_course, from_counts, worker_steps}
 use Rattle.lab_threads.proofs.Merges.{ok_then}
 use Rattle.lab_threads.proofs.reports.reported.Goals as goal

@@ -4,10 +4,10 @@ use Rattle.lab_threads.proofs.Merges.{ok_then}
 use Rattle.lab_threads.proofs.reports.run_starts.Goals as goal
 
 pub reported-requires-clause-held : goal.reported-requires-clause-held
-reported-requires-clause-held g c = workers_held c.args.limit c.args.starts.items c.in_ok-workers.workers.items c.in_ok-workers.ensures.results c.requires.runs
+reported-requires-clause-held g c = workers_held c.args.limit c.args.starts.items c.in_ok-workers.workers.items c.in_ok-workers.ensures.results c.requires.starts.running
 
 pub reported-requires-clause-profile : goal.reported-requires-clause-profile
-reported-requires-clause-profile g c = workers_profile c.args.limit c.args.starts.items c.in_ok-workers.workers.items c.in_ok-workers.ensures.results c.requires.profile
+reported-requires-clause-profile g c = workers_profile c.args.limit c.args.starts.items c.in_ok-workers.workers.items c.in_ok-workers.ensures.results c.requires.starts.profile
 
 pub returns-clause-course : goal.returns-clause-course
 returns-clause-course g c = ok_then c.reported.result c.reported.ensures.course (λ r course. course c.args.starts.items c.in_ok-workers.ensures.results)

@@ -1,13 +1,14 @@
 use Rattle.std.proofs.Common.{subst, sym}
 use Rattle.lab_explore.specs.Private.Stored.{Keeps}
-use Rattle.lab_explore.specs.Ends.{Each, first_world, IsEnd}
+use Rattle.lab_sched.specs.Starts.{initial_world}
+use Rattle.lab_explore.specs.Ends.{Each, IsEnd}
 use Rattle.lab_explore.proofs.Pushes.{each_push, keeps_push}
 use Rattle.lab_explore.proofs.Explorations.{end_pushed}
 use Rattle.lab_explore.proofs.search.Search.add_end.Goals as goal
 
 pub returns-clause-each : goal.returns-clause-each
 returns-clause-each c old =
-    let start = first_world c.args.processes.now in
+    let start = initial_world c.args.processes.now in
     subst (λ xs. Each (IsEnd start) xs) (sym c.in_ok-push.ensures.items) (each_push (IsEnd start) c.args.ends.now.items c.in_ok-end.end old c.in_ok-end.ensures.end)
 
 pub returns-clause-keeps : goal.returns-clause-keeps

@@ -1,10 +1,11 @@
 use Rattle.std.proofs.Common.{ℕ, ◌<◌}
 use Rattle.lab_explore.specs.Private.Walked.{HasRowEnd}
-use Rattle.lab_explore.specs.Ends.{first_world, AreEnds}
+use Rattle.lab_sched.specs.Starts.{initial_world}
+use Rattle.lab_explore.specs.Ends.{AreEnds}
 use Rattle.lab_explore.proofs.search.Search.ends.Given as goal
 
 abbrev pub invariant-loop-at : goal.invariant-loop-at
 invariant-loop-at l = record {
-  ends : AreEnds (first_world l.processes) l.ends.items;
+  ends : AreEnds (initial_world l.processes) l.ends.items;
   all : (i : ℕ) → i < l.at → HasRowEnd l.self.store l.ends.items i;
 }

@@ -1,8 +1,8 @@
-use Rattle.lab_explore.specs.Ends.{first_world}
+use Rattle.lab_sched.specs.Starts.{initial_world}
 use Rattle.lab_explore.proofs.Walks.{walk_none}
 use Rattle.lab_explore.proofs.search.Search.vouched.Goals as goal
 
 pub returns-in_ok-end-in-Ok-clause-end : goal.returns-in_ok-end-in-Ok-clause-end
 returns-in_ok-end-in-Ok-clause-end c =
-    let start = first_world c.args.processes.now in
+    let start = initial_world c.args.processes.now in
     c.in_ok-end-in-Ok.ensures.end start (c.in-Ok.ensures.walk start (walk_none start c.in_ok-world_of.field-0 c.new.result c.new.ensures.empty c.in_ok-world_of.ensures.world))

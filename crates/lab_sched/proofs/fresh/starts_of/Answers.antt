@@ -4,7 +4,7 @@ use Rattle.lc3_machine.specs.Process.{start}
 use Rattle.lab_sched.specs.declared.process.Process.TheVariants.{Running}
 use Rattle.lab_sched.specs.Starts.{Runs}
 use Rattle.lab_sched.proofs.WorldLemmas.{started_more}
-use Rattle.lab_sched.proofs.fresh.started.Goals as goal
+use Rattle.lab_sched.proofs.fresh.starts_of.Goals as goal
 
 pub loop-program-preserved : goal.loop-program-preserved
 loop-program-preserved c =

@@ -1,7 +1,7 @@
 use Rattle.std.proofs.Common.{◌≡◌, All, map, take}
 use Rattle.lab_sched.specs.Held.{process_view}
 use Rattle.lab_sched.specs.Starts.{start_of, Runs}
-use Rattle.lab_sched.proofs.fresh.started.Given as goal
+use Rattle.lab_sched.proofs.fresh.starts_of.Given as goal
 
 abbrev pub invariant-loop-program : goal.invariant-loop-program
 invariant-loop-program l = record {
