@@ -3,13 +3,14 @@ use Rattle.std.proofs.Common.{◌≡◌, ◌≢◌, ℕ, Bool, true, false, List
 use Rattle.std.specs.Prelude.{IfSome, position, nat_lt, length, ◌+◌}
 use Rattle.std.specs.List.{filter_map}
 use Rattle.lab_commands.specs.Fault.{Explains}
-use Rattle.lab_commands.specs.Hex.{is_bad, words_of, number_of, segment_of, image_of}
+use Rattle.lab_commands.specs.Hex.{is_bad, number_of, segment_of, image_of}
 use Rattle.lab_commands.specs.declared.fault.CliFault.{CliFault}
 use Rattle.lab_commands.specs.declared.fault.CliFault.TheVariants.{Empty, BadWord, TooLong, TooLarge, Read, Write, NoMemory}
 use Rattle.lc3_word.specs.Segment.{Segment, first_device}
 use Rattle.lc3_table.specs.declared.profile.Profile.TheVariants.{A}
 use Rattle.lab_sched.specs.Worlds.{WorldState, run}
 use Rattle.lab_sched.specs.Schedules.{steps_of}
+use Rattle.lab_sched.specs.ScheduleTexts.{words}
 use Rattle.lab_sched.specs.Starts.{fresh}
 use Rattle.lab_sched.specs.declared.fresh.Program.{Program}
 use Rattle.lab_sched.specs.declared.schedule.block.Block.{Block}
@@ -46,11 +47,11 @@ IsOfText Write = ⊥
 IsOfText NoMemory = ⊥
 IsOfText e = Unit {0}
 
-bad_word : (text : List ℕ) (n : ℕ) → position is_bad (words_of text) ≡ Some n → image_of text ≡ Err (BadWord (n + 1))
+bad_word : (text : List ℕ) (n : ℕ) → position is_bad (words text) ≡ Some n → image_of text ≡ Err (BadWord (n + 1))
 unfolding image_of
 bad_word text n at = rw at refl
 
-good_words : (text : List ℕ) → position is_bad (words_of text) ≡ None → image_of text ≡ segment_of (filter_map number_of (words_of text))
+good_words : (text : List ℕ) → position is_bad (words text) ≡ None → image_of text ≡ segment_of (filter_map number_of (words text))
 unfolding image_of
 good_words text at = rw at refl
 
@@ -63,14 +64,14 @@ fault_of_segment (origin ∷ words) e h = by (nat_lt first_device (origin + leng
     by false h = cc
 
 of_text : (text : List ℕ) (e : CliFault) → image_of text ≡ Err e → IsOfText e
-of_text text e h = by (position is_bad (words_of text)) refl
+of_text text e h = by (position is_bad (words text)) refl
   where
-    by : (o : Option ℕ) → position is_bad (words_of text) ≡ o → IsOfText e
+    by : (o : Option ℕ) → position is_bad (words text) ≡ o → IsOfText e
     by (Some n) at =
         let is = bad_word text n at in
         let same : BadWord (n + 1) ≡ e = cc in
         subst IsOfText same tt
-    by None at = fault_of_segment (filter_map number_of (words_of text)) e (sym (good_words text at) ∙ h)
+    by None at = fault_of_segment (filter_map number_of (words text)) e (sym (good_words text at) ∙ h)
 
 -- what reading a text answers is explained by the text
 pub fault_of_text : (e : CliFault) (text : List ℕ) → (e ≢ NoMemory → image_of text ≡ Err e) → Explains e (Some text) false false
