@@ -49,8 +49,8 @@ unfolding run
 consistent_run [] w s = s
 consistent_run (p ∷ ps) w s = consistent_run ps (step w p) (consistent_after w p (step_effect_in w p) s)
 
-pub same_turn : (w v : WorldState) (p : ℕ) → IsConsistent w.kernel → AreAlike w v → step_effect_in v p ≡ step_effect_in w p
-same_turn w v p s a = ap (λ ps. step_effect v.kernel p (slice_get ps p)) a.processes ∙ turn_alike w.kernel v.kernel p (slice_get w.processes p) s a.kernel
+pub same_effect : (w v : WorldState) (p : ℕ) → IsConsistent w.kernel → AreAlike w v → step_effect_in v p ≡ step_effect_in w p
+same_effect w v p s a = ap (λ ps. step_effect v.kernel p (slice_get ps p)) a.processes ∙ turn_alike w.kernel v.kernel p (slice_get w.processes p) s a.kernel
 
 processes_after : (w v : WorldState) (p : ℕ) (t : StepEffect) → v.processes ≡ w.processes → (after v p t).processes ≡ (after w p t).processes
 processes_after w v p nothing e = e
@@ -58,18 +58,18 @@ processes_after w v p (local_step n) e = ap (λ ps. set ps p (Running n)) e
 processes_after w v p (kernel_step m c r) e = ap (λ ps. set ps p (process_after_answer m c r)) e
 
 pub step_alike : (w v : WorldState) (p : ℕ) → IsConsistent w.kernel → AreAlike w v → AreAlike (step w p) (step v p)
-step_alike w v p s a = subst (λ t. AreAlike (step w p) (after v p t)) (sym (same_turn w v p s a)) (record {
+step_alike w v p s a = subst (λ t. AreAlike (step w p) (after v p t)) (sym (same_effect w v p s a)) (record {
   processes = processes_after w v p (step_effect_in w p) a.processes;
   kernel = kernel_alike w v p (step_effect_in w p) s a.kernel;
 })
 
 pub steps_alike : StepsAlike
-steps_alike w v p s a = (same_turn w v p s a, step_alike w v p s a)
+steps_alike w v p s a = (same_effect w v p s a, step_alike w v p s a)
 
 pub effective_alike : (ps : List ℕ) (w v : WorldState) → IsConsistent w.kernel → AreAlike w v → AreEffective w ps → AreEffective v ps
 effective_alike [] w v s a h = tt
 effective_alike (p ∷ ps) w v s a h =
-    (subst IsEffective (sym (same_turn w v p s a)) h.0, effective_alike ps (step w p) (step v p) (consistent_after w p (step_effect_in w p) s) (step_alike w v p s a) h.1)
+    (subst IsEffective (sym (same_effect w v p s a)) h.0, effective_alike ps (step w p) (step v p) (consistent_after w p (step_effect_in w p) s) (step_alike w v p s a) h.1)
 
 pub run_alike : (ps : List ℕ) (w v : WorldState) → IsConsistent w.kernel → AreAlike w v → AreAlike (run w ps) (run v ps)
 unfolding run
@@ -91,14 +91,14 @@ pub stuck_alike : (w v : WorldState) → IsConsistent w.kernel → AreAlike w v 
 stuck_alike w v s a h = record {
   waits = (h.waits.0, h.waits.1, ap (λ ps. slice_get ps h.waits.0) a.processes ∙ h.waits.2, h.waits.3);
   none_runs = λ p x at. h.none_runs p x (ap (λ ps. slice_get ps p) (sym a.processes) ∙ at);
-  none_moves = λ p effective. h.none_moves p (subst IsEffective (same_turn w v p s a) effective);
+  none_moves = λ p effective. h.none_moves p (subst IsEffective (same_effect w v p s a) effective);
 }
 
 stuck_back : (w v : WorldState) → IsConsistent w.kernel → AreAlike w v → AreStuck v → AreStuck w
 stuck_back w v s a h = record {
   waits = (h.waits.0, h.waits.1, ap (λ ps. slice_get ps h.waits.0) (sym a.processes) ∙ h.waits.2, h.waits.3);
   none_runs = λ p x at. h.none_runs p x (ap (λ ps. slice_get ps p) a.processes ∙ at);
-  none_moves = λ p effective. h.none_moves p (subst IsEffective (sym (same_turn w v p s a)) effective);
+  none_moves = λ p effective. h.none_moves p (subst IsEffective (sym (same_effect w v p s a)) effective);
 }
 
 pub one_verdict : OneVerdict

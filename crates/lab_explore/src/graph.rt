@@ -104,12 +104,12 @@ pub(crate) fn order_of(
     let mut numbers = edges_to(alloc, edges, count)?;
     let mut rows = rows_without(alloc, numbers.as_slice())?;
     let mut order = vec![in alloc; 0; count]?;
-    for turn in 0..count {
-        let Some(row) = rows.get(turn) else {
+    for place in 0..count {
+        let Some(row) = rows.get(place) else {
             return Ok(order);
         };
         let row = *row;
-        put(&mut order, row, turn + 1);
+        put(&mut order, row, place + 1);
         release(edges, firsts.as_slice(), row, &mut numbers, &mut rows)?;
     }
     Ok(order)
@@ -234,8 +234,8 @@ fn cycle_through(
     let firsts = first_edges(alloc, edges, count)?;
     let mut reached = vec![in alloc; 0; count]?;
     let mut rows = vec![in alloc; goal]?;
-    for turn in 0..count {
-        let Some(row) = rows.get(turn) else {
+    for place in 0..count {
+        let Some(row) = rows.get(place) else {
             return Ok(None);
         };
         let row = *row;

@@ -60,11 +60,11 @@ one_retry : (m : Machine) (c : Call) (a : Answer) (rs : List Answer) → IsEffec
 one_retry m c Wait rs h = absurd h
 one_retry m c (Done r) rs h = refl
 
-one_turn : (k : KernelState) (p : ℕ) (s : Process) (rs : List Answer) → IsEffective (step_effect k p (Some s))
+one_effect : (k : KernelState) (p : ℕ) (s : Process) (rs : List Answer) → IsEffective (step_effect k p (Some s))
     → one s (answers_of (step_effect k p (Some s)) ++ rs) ≡ (process_after s (step_effect k p (Some s)), rs)
-one_turn k p (Running m) rs h = one_try k p m (next_action m) rs
-one_turn k p (Waiting m c) rs h = one_retry m c (answer k p c).0 rs h
-one_turn k p (Ended e) rs h = absurd h
+one_effect k p (Running m) rs h = one_try k p m (next_action m) rs
+one_effect k p (Waiting m c) rs h = one_retry m c (answer k p c).0 rs h
+one_effect k p (Ended e) rs h = absurd h
 
 answers_mine : (p : ℕ) (t : StepEffect) → answers p (entry_of p t) ≡ answers_of t
 answers_mine p nothing = refl
@@ -99,20 +99,20 @@ walks w (q ∷ xs) p s h at = elim (eqb_tells q p) [
       let here : slice_get (step w q).processes p ≡ Some (process_after s t) =
       ap (λ n. slice_get (after w n (step_effect_in w q)).processes p) same.1 ∙ after_mine w p s (step_effect_in w q) at ∙ ap (λ u. Some (process_after s u)) mine in
       let rest = walks (step w q) xs p (process_after s t) h.1 here in
-      let process_after_answer : answers p (entries w (q ∷ xs)) ≡ answers_of t ++ rs =
+      let answered : answers p (entries w (q ∷ xs)) ≡ answers_of t ++ rs =
       answers-append p (entry_of q (step_effect_in w q)) (entries (step w q) xs)
       ∙ ap (λ zs. zs ++ rs) (ap (λ n. answers p (entry_of n (step_effect_in w q))) same.1 ∙ answers_mine p (step_effect_in w q) ∙ ap answers_of mine) in
       let counted : count p (q ∷ xs) ≡ suc (count p xs) = ap (λ b. cond b (count p xs + 1) (count p xs)) same.0 ∙ add-one (count p xs) in
       let one_more : walk s (suc (count p xs)) (answers_of t ++ rs) ≡ walk (process_after s t) (count p xs) rs =
-      ap (λ x. walk x.0 (count p xs) x.1) (one_turn w.kernel p s rs effective) in
-      rest ∙ ap (λ x. Some x) (sym (ap (λ n. walk s n (answers p (entries w (q ∷ xs)))) counted ∙ ap (λ zs. walk s (suc (count p xs)) zs) process_after_answer ∙ one_more))
+      ap (λ x. walk x.0 (count p xs) x.1) (one_effect w.kernel p s rs effective) in
+      rest ∙ ap (λ x. Some x) (sym (ap (λ n. walk s n (answers p (entries w (q ∷ xs)))) counted ∙ ap (λ zs. walk s (suc (count p xs)) zs) answered ∙ one_more))
   | inr other ↦
       let here : slice_get (step w q).processes p ≡ Some s = after_other w p q (step_effect_in w q) other.1 ∙ at in
       let rest = walks (step w q) xs p s h.1 here in
-      let process_after_answer : answers p (entries w (q ∷ xs)) ≡ answers p (entries (step w q) xs) =
+      let answered : answers p (entries w (q ∷ xs)) ≡ answers p (entries (step w q) xs) =
       answers-append p (entry_of q (step_effect_in w q)) (entries (step w q) xs) ∙ ap (λ zs. zs ++ answers p (entries (step w q) xs)) (answers_other p q (step_effect_in w q) other.0) in
       let counted : count p (q ∷ xs) ≡ count p xs = ap (λ b. cond b (count p xs + 1) (count p xs)) other.0 in
-      rest ∙ ap (λ x. Some x) (sym (ap (λ n. walk s n (answers p (entries w (q ∷ xs)))) counted ∙ ap (λ zs. walk s (count p xs) zs) process_after_answer))
+      rest ∙ ap (λ x. Some x) (sym (ap (λ n. walk s n (answers p (entries w (q ∷ xs)))) counted ∙ ap (λ zs. walk s (count p xs) zs) answered))
 ]
 
 none_past : {A : Type 0} (xs : List A) (p : ℕ) → slice_get xs p ≡ None → length xs ≤ p

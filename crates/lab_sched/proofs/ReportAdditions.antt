@@ -28,18 +28,18 @@ use Rattle.lab_sched.proofs.Commutes.{after_other}
 use Rattle.lab_sched.proofs.WorldLemmas.{seen_at, same_world}
 
 pub added_none : (r : Report) → IsAdded r [] r
-added_none r = record { told = []; course = course_none r.world; steps = sym (append-nil r.steps); entries = sym (append-nil r.entries) }
+added_none r = record { told = []; execution = course_none r.world; steps = sym (append-nil r.steps); entries = sym (append-nil r.entries) }
 
 pub added-append : {r q t : Report} {ps qs : List ℕ} → IsAdded r ps q → IsAdded q qs t → IsAdded r (ps ++ qs) t
 added-append {r} {q} {t} {ps} {qs} a b = record {
   told = a.told ++ b.told;
-  course = course-append a.course b.course;
+  execution = course-append a.execution b.execution;
   steps = b.steps ∙ ap (λ xs. xs ++ qs) a.steps ∙ append_assoc r.steps ps qs;
   entries = b.entries ∙ ap (λ xs. xs ++ b.told) a.entries ∙ append_assoc r.entries a.told b.told;
 }
 
 pub added_length : {r q : Report} {ps : List ℕ} → IsAdded r ps q → length q.world.processes ≡ length r.world.processes
-added_length a = course_length a.course
+added_length a = course_length a.execution
 
 pub added_more : {r q t : Report} (n k p : ℕ) → IsAdded r (replicate n p) q → IsAdded q (replicate k p) t → IsAdded r (replicate (n + k) p) t
 added_more {r} {q} {t} n k p a b = subst (λ ps. IsAdded r ps t) (replicate-append-replicate n k p) (added-append a b)
@@ -113,7 +113,7 @@ pub sum_at : (left : List ℕ) (i : ℕ) → i < length left → get_or left i 0
 sum_at left i within = omega (arith, sum_less left i (get_or left i 0) within (omega arith))
 
 pub added_same : {r q : Report} (k p : ℕ) → k ≡ 0 → IsAdded r (replicate k p) q → r.world ≡ q.world
-added_same {r} {q} k p none a = let b : IsAdded r [] q = subst (λ n. IsAdded r (replicate n p) q) none a in sym (run-none r.world) ∙ b.course.leads
+added_same {r} {q} k p none a = let b : IsAdded r [] q = subst (λ n. IsAdded r (replicate n p) q) none a in sym (run-none r.world) ∙ b.execution.leads
 
 -- the steps of process i leave the others
 run_other : (k i p : ℕ) (w : WorldState) → i ≢ p → slice_get (run w (replicate k i)).processes p ≡ slice_get w.processes p
@@ -134,13 +134,13 @@ pub short_more : {r q : Report} (left : List ℕ) (bits bits' : ℕ) {short : Bo
 short_more {r} {q} left bits bits' {short} i k added within len clear only mine old p is_set = pick (only p is_set)
   where
     lengths : length q.world.processes ≡ length r.world.processes
-    lengths = course_length added.course
+    lengths = course_length added.execution
 
     pick : ((bit_at bits p ≡ 1) ⊎ ((p ≡ i) × (short ≡ true))) → IsShort q.world (set left i (get_or left i 0 - k)) p
     pick (inl was) =
         let ne : i ≢ p = λ e. clear (subst (λ n. bit_at bits n ≡ 1) (sym e) was) in
         let before = old p was in
-        let same : slice_get q.world.processes p ≡ slice_get r.world.processes p = ap (λ (v : WorldState). slice_get v.processes p) (sym added.course.leads) ∙ run_other k i p r.world ne in
+        let same : slice_get q.world.processes p ≡ slice_get r.world.processes p = ap (λ (v : WorldState). slice_get v.processes p) (sym added.execution.leads) ∙ run_other k i p r.world ne in
         let rest = get_or-set_other left i p (get_or left i 0 - k) 0 (λ e. ne (sym e)) in
         record {
           there = omega (arith, before.there, lengths);
@@ -183,7 +183,7 @@ next_in ps ps' k w p most s s' n same within read ps-is found =
 pub taken_none : (w v : WorldState) (es fs : List Entry) (p : ℕ) → v ≡ w → fs ≡ es → IsTaken w es (replicate 0 p) v fs
 taken_none w v es fs p w-is es-is = record {
   told = [];
-  course = subst (λ x. IsExecution w [] x []) (sym w-is) (course_none w);
+  execution = subst (λ x. IsExecution w [] x []) (sym w-is) (course_none w);
   entries = es-is ∙ sym (append-nil es);
 }
 
@@ -192,23 +192,23 @@ retry_told m c Wait h = absurd h
 retry_told m c (Done r) h = refl
 
 -- the step of a process that asks for a call, or waits for it
-turn_asked : (w : WorldState) (p : ℕ) (c : Call) (s : Process) → slice_get w.processes p ≡ Some s → AsksFor s c → IsEffective (step_effect_in w p)
+effect_asked : (w : WorldState) (p : ℕ) (c : Call) (s : Process) → slice_get w.processes p ≡ Some s → AsksFor s c → IsEffective (step_effect_in w p)
     → (m : Machine) × (step_effect_in w p ≡ kernel_step m c (answer w.kernel p c).0)
-turn_asked w p c (Running m) at asks h = (m, ap (λ o. step_effect w.kernel p o) at ∙ ap (λ a. first_try w.kernel p m a) asks)
-turn_asked w p c (Waiting m d) at asks h =
+effect_asked w p c (Running m) at asks h = (m, ap (λ o. step_effect w.kernel p o) at ∙ ap (λ a. first_try w.kernel p m a) asks)
+effect_asked w p c (Waiting m d) at asks h =
     let here : step_effect_in w p ≡ retry m d (answer w.kernel p d).0 = ap (λ o. step_effect w.kernel p o) at in
     (m, here ∙ retry_told m d (answer w.kernel p d).0 (subst IsEffective here h) ∙ ap (λ x. kernel_step m x (answer w.kernel p x).0) asks)
-turn_asked w p c (Ended e) at asks h = absurd asks
+effect_asked w p c (Ended e) at asks h = absurd asks
 
 pub taken_call : (w v : WorldState) (es fs : List Entry) (p : ℕ) (c : Call) (a : Answer) → IsEffective (step_effect_in w p) → AsksIn w p c → a ≡ (answer w.kernel p c).0 → v ≡ step w p
     → fs ≡ es ++ record { pid = p; call = c; answer = a } ∷ [] → IsTaken w es (replicate 1 p) v fs
 taken_call w v es fs p c a h asks a-is v-is fs-is =
-    let t = turn_asked w p c asks.0 asks.1 asks.2 h in
+    let t = effect_asked w p c asks.0 asks.1 asks.2 h in
     let is : step_effect_in w p ≡ kernel_step t.0 c a = t.1 ∙ ap (λ b. kernel_step t.0 c b) (sym a-is) in
     let told : List Entry = record { pid = p; call = c; answer = a } ∷ [] in
     record {
       told = told;
-      course = subst (λ x. IsExecution w (p ∷ []) x told) (sym (v-is ∙ ap (λ x. after w p x) is)) (course_step w p (kernel_step t.0 c a) is tt);
+      execution = subst (λ x. IsExecution w (p ∷ []) x told) (sym (v-is ∙ ap (λ x. after w p x) is)) (course_step w p (kernel_step t.0 c a) is tt);
       entries = fs-is;
     }
 

@@ -19,7 +19,7 @@ report w s h = record { world = w; steps = s; entries = h }
 -- the effective steps ps lead from one report to the other; they and their entries are added at the end
 pub record IsAdded (r : Report) (ps : List ℕ) (q : Report) : Type 0 where
   pub told : List Entry
-  pub course : IsExecution r.world ps q.world told
+  pub execution : IsExecution r.world ps q.world told
   pub steps : q.steps ≡ r.steps ++ ps
   pub entries : q.entries ≡ r.entries ++ told
 

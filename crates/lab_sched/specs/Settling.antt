@@ -38,7 +38,7 @@ IsNextIn w p most next.Short v = v ≡ w
 -- the effective steps ps lead from one world to the other, and their entries are added
 pub record IsTaken (w : WorldState) (es : List Entry) (ps : List ℕ) (v : WorldState) (fs : List Entry) : Type 0 where
   pub told : List Entry
-  pub course : IsExecution w ps v told
+  pub execution : IsExecution w ps v told
   pub entries : fs ≡ es ++ told
 
 -- a block with n steps in the place of its last one

@@ -33,7 +33,7 @@ pub merged_none : (starts : List ProcessValue) (workers : List WorkerResult) (ne
     → AreWorkerResults limit starts workers → IsLegal (empty_kernel (length starts)) history → ((p : ℕ) → get_or next p 0 ≡ 0) → ps ≡ [] → IsMerged starts workers next ps [] history
 merged_none starts workers next ps limit history are legal zeros none = record {
   world = initial_world starts;
-  course = subst (λ qs. IsExecution (initial_world starts) qs (initial_world starts) []) (sym none) (course_none (initial_world starts));
+  execution = subst (λ qs. IsExecution (initial_world starts) qs (initial_world starts) []) (sym none) (course_none (initial_world starts));
   legal = legal;
   len = length-map starts process_view ∙ sym are.len;
   left = λ p x k at_x at_k.
@@ -85,7 +85,7 @@ merged_more starts workers next ps done rest e k t is at_k within at_t same_call
     (subst (λ a. IsExecution w (replicate (t.before + 1) e.pid) (called w e.pid t.call y) (record { pid = e.pid; call = t.call; answer = a } ∷ [])) same_answer item) in
     record {
       world = called w e.pid t.call y;
-      course = course-append is.course entry;
+      execution = course-append is.execution entry;
       legal = subst (λ c. IsLegal (answer w.kernel e.pid c).1 rest) (sym same_call) is.legal.1;
       len = length-set w.processes e.pid y ∙ is.len;
       left = left_more w.processes workers next is.left e.pid k y at_k below within leads.4;
@@ -119,7 +119,7 @@ counted_more workers next ps p k t counted at_k within at_t = record {
 -- all entries are merged, and the traces below i have ended
 pub record IsEnding (starts : List ProcessValue) (workers : List WorkerResult) (next ps : List ℕ) (history : List Entry) (i : ℕ) : Type 0 where
   pub world : WorldState
-  pub course : IsExecution (initial_world starts) ps world history
+  pub execution : IsExecution (initial_world starts) ps world history
   pub len : length world.processes ≡ length workers
   pub done : (p : ℕ) (x : Process) (k : WorkerResult) → p < i → slice_get world.processes p ≡ Some x → slice_get workers p ≡ Some k → x ≡ process_view k.process
   pub left : (p : ℕ) (x : Process) (k : WorkerResult) → i ≤ p → slice_get world.processes p ≡ Some x → slice_get workers p ≡ Some k
@@ -137,12 +137,12 @@ ending_more starts workers next ps history i k is at_k whole =
     let at_x : slice_get w.processes i ≡ Some x = slice_get-get_or w.processes i u below in
     let none : drop (get_or next i 0) k.trace.calls.items ≡ [] = drop_all (get_or next i 0) k.trace.calls.items (omega (arith, whole)) in
     let locals : AreLocal k.trace.after x u = subst (λ ts. Leads x ts k.trace.after u) none (is.left i x k (omega arith) at_x at_k) in
-    let course = course_local k.trace.after w i x u at_x locals in
+    let execution = course_local k.trace.after w i x u at_x locals in
     let both : IsExecution (initial_world starts) (ps ++ replicate k.trace.after i) (with_process w i u) history =
-    subst (λ es. IsExecution (initial_world starts) (ps ++ replicate k.trace.after i) (with_process w i u) es) (append-nil history) (course-append is.course course) in
+    subst (λ es. IsExecution (initial_world starts) (ps ++ replicate k.trace.after i) (with_process w i u) es) (append-nil history) (course-append is.execution execution) in
     record {
       world = with_process w i u;
-      course = both;
+      execution = both;
       len = length-set w.processes i u ∙ is.len;
       done = λ p z l under at_z at_l. elim (eqb_tells i p) [
         | inl same ↦
@@ -171,8 +171,8 @@ pub ending_all : (starts : List ProcessValue) (workers : List WorkerResult) (nex
 ending_all starts workers next ps history is =
     let w = is.world in
     let processes : w.processes ≡ map (λ k. process_view k.process) workers = same_processes w.processes workers is.len (λ p x k at_x at_k. is.done p x k (slice_get_within workers p k at_k) at_x at_k) in
-    let e : w ≡ final_world (length starts) workers history = ap (λ xs. record { processes = xs; kernel = w.kernel }) processes ∙ ap (λ k. record { processes = map (λ k. process_view k.process) workers; kernel = k }) (course_kernel is.course) in
-    subst (λ v. IsExecution (initial_world starts) ps v history) e is.course
+    let e : w ≡ final_world (length starts) workers history = ap (λ xs. record { processes = xs; kernel = w.kernel }) processes ∙ ap (λ k. record { processes = map (λ k. process_view k.process) workers; kernel = k }) (course_kernel is.execution) in
+    subst (λ v. IsExecution (initial_world starts) ps v history) e is.execution
 
 -- the counts once the traces below i have ended
 pub record AreEnded (workers : List WorkerResult) (next ps : List ℕ) (i : ℕ) : Type 0 where

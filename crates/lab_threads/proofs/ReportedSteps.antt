@@ -38,11 +38,11 @@ joined_is w ps k n workers history ps-is ends-is k-is kernel-is =
     ∙ ap (λ j. record { processes = map (λ v. process_view v.process) workers; kernel = j }) (k-is ∙ kernel-is)
 
 -- settling goes on with an execution
-pub settled_course : (b w v : WorldState) (ss ss' left rest : List ℕ) (h h' : List Entry) → IsExecution b ss w h
+pub settled_execution : (b w v : WorldState) (ss ss' left rest : List ℕ) (h h' : List Entry) → IsExecution b ss w h
     → IsSettled (report w ss h) (report v ss' h') left rest → IsExecution b ss' v h'
-settled_course b w v ss ss' left rest h h' course settled =
+settled_execution b w v ss ss' left rest h h' execution settled =
     let added = settled.added in
-    let both = course-append course added.course in
+    let both = course-append execution added.execution in
     subst (λ es. IsExecution b ss' v es) (sym added.entries) (subst (λ ps. IsExecution b ps v (h ++ added.told)) (sym added.steps) both)
 
 rested : (v : WorldState) (p : ℕ) (s : Process) (ss' rest : List ℕ) (refused limit : ℕ) → slice_get v.processes p ≡ Some s → refused ≡ 0
@@ -81,9 +81,9 @@ worker_steps ss left starts workers limit are counted left-is p within =
     omega (arith, mine, counted p k.0 k.1, worker.within)
 
 -- what `merge` says, of the lists that its slices show
-pub from_course : (ss : List ℕ) (workers workers' : List WorkerResult) (h h' : List Entry) → workers' ≡ workers → h' ≡ h
+pub from_execution : (ss : List ℕ) (workers workers' : List WorkerResult) (h h' : List Entry) → workers' ≡ workers → h' ≡ h
     → LeadToResults workers' h' ss → LeadToResults workers h ss
-from_course ss workers workers' h h' workers-is h-is all =
+from_execution ss workers workers' h h' workers-is h-is all =
     subst (λ v. LeadToResults v h ss) workers-is (subst (λ e. LeadToResults workers' e ss) h-is all)
 
 pub from_counts : (ss : List ℕ) (workers workers' : List WorkerResult) → workers' ≡ workers → HaveAllSteps workers' ss → HaveAllSteps workers ss

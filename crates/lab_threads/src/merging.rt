@@ -131,7 +131,7 @@ fn merge_ends(
 ) -> Result<Option<Schedule>, AllocError>
     requires few { length workers.now ≤ process_max }
     requires len { length partial.next.items ≡ length workers.now }
-    ensures course { IfOk result (λ o. IfSome o (λ s.
+    ensures execution { IfOk result (λ o. IfSome o (λ s.
         CompletesMerge workers.now partial.next.items (steps_of partial.schedule) (steps_of s))) }
     ensures counts { IfOk result (λ o. IfSome o (λ s.
         AreCounted workers.now partial.next.items (steps_of partial.schedule)
@@ -156,7 +156,7 @@ pub(crate) fn merge(
     history: &[Entry],
 ) -> Result<Option<Schedule>, AllocError>
     requires few { length workers.now ≤ process_max }
-    ensures course { IfOk result (λ o. IfSome o (λ s.
+    ensures execution { IfOk result (λ o. IfSome o (λ s.
         LeadToResults workers.now history.now (steps_of s))) }
     ensures counts { IfOk result (λ o. IfSome o (λ s. HaveAllSteps workers.now (steps_of s))) }
 {

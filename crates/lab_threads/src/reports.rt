@@ -84,7 +84,7 @@ fn merged(
     history: &[Entry],
 ) -> Result<(Schedule, Vec<u32>), RunFault>
     requires few { length workers.now ≤ process_max }
-    ensures course { IfOk result (λ r. LeadToResults workers.now history.now (steps_of r.0)) }
+    ensures execution { IfOk result (λ r. LeadToResults workers.now history.now (steps_of r.0)) }
     ensures counts { IfOk result (λ r. HaveAllSteps workers.now (steps_of r.0)) }
     ensures left { IfOk result (λ r. r.1.items ≡ map (λ k. k.left) workers.now) }
     ensures room { IfOk result (λ r. total_of r.0 + sum r.1.items ≤ most_steps) }
@@ -109,7 +109,7 @@ fn settled(
 ) -> Result<Report, RunFault>
     requires len { length left.items ≡ length world.processes }
     requires room { total_of schedule + sum left.items ≤ most_steps }
-    ensures course { IfOk result (λ r. (start : WorldState)
+    ensures execution { IfOk result (λ r. (start : WorldState)
         → IsExecution start (steps_of schedule) world history.items → IsReportFrom start r) }
     ensures finished { IfOk result (λ r. (limit : ℕ)
         → MakeLimit limit left.items (steps_of schedule)
@@ -143,7 +143,7 @@ fn reported(
     requires profile { HaveOneProfile (map process_view (map (λ k. k.process) workers.items)) }
     requires some { 1 ≤ length workers.items }
     requires few { length workers.items ≤ process_max }
-    ensures course { IfOk result (λ r. (starts : List ProcessValue)
+    ensures execution { IfOk result (λ r. (starts : List ProcessValue)
         → AreWorkerResults limit starts workers.items
         → IsReportFrom (initial_world starts) r) }
     ensures finished { IfOk result (λ r. (starts : List ProcessValue)
@@ -168,7 +168,7 @@ fn run_starts<R: Threads + Wait + Sync, G: Gate>(
     gate: &G,
 ) -> Result<Report, RunFault>
     requires starts { AreStarts starts.items }
-    ensures course { IfOk result (λ r. IsReportFrom (initial_world starts.items) r) }
+    ensures execution { IfOk result (λ r. IsReportFrom (initial_world starts.items) r) }
     ensures legal { IfOk result
         (λ r. IsLegal (empty_kernel (length starts.items)) r.history.items) }
     ensures kernel { IfOk result

@@ -48,7 +48,7 @@ pub record IsMerged
     (starts : List ProcessValue) (workers : List WorkerResult) (next : List ℕ) (ps : List ℕ)
     (done rest : List Entry) : Type 0 where
   pub world : WorldState
-  pub course : IsExecution (initial_world starts) ps world done
+  pub execution : IsExecution (initial_world starts) ps world done
   pub legal : IsLegal world.kernel rest
   pub len : length world.processes ≡ length workers
   pub left : AreLeft world.processes workers next

@@ -20,8 +20,8 @@ loop-pid-preserved c =
       ending = λ starts history merged. ending_step worker at whole added (c.loop-pid.invariant.ending starts history merged);
     }
 
-pub returns-clause-course : goal.returns-clause-course
-returns-clause-course c starts history merged =
+pub returns-clause-execution : goal.returns-clause-execution
+returns-clause-execution c starts history merged =
     let all : c.loop-pid.pid ≡ length c.args.workers.now = omega arith in
     ending_all starts c.args.workers.now c.args.partial.next.items (steps_of c.loop-pid.schedule) history
     (subst (λ i. IsEnding starts c.args.workers.now c.args.partial.next.items (steps_of c.loop-pid.schedule) history i) all (c.loop-pid.invariant.ending starts history merged))

@@ -8,7 +8,7 @@ use Rattle.lab_sched.specs.History.{IsLegal, replay}
 use Rattle.lab_sched.specs.Schedules.{steps_of}
 use Rattle.lab_sched.specs.Starts.{initial_world}
 use Rattle.lab_threads.specs.Private.Merged.{final_world}
-use Rattle.lab_threads.proofs.ReportedSteps.{joined_is, from_course, from_counts, worker_steps}
+use Rattle.lab_threads.proofs.ReportedSteps.{joined_is, from_execution, from_counts, worker_steps}
 use Rattle.lab_threads.proofs.Merges.{ok_then}
 use Rattle.lab_threads.proofs.reports.reported.Goals as goal
 
@@ -28,10 +28,10 @@ join-world-requires c =
           };
     }
 
-pub returns-clause-course : goal.returns-clause-course
-returns-clause-course c =
-    ok_then c.settled.result c.settled.ensures.course
-    (λ r course starts are.
+pub returns-clause-execution : goal.returns-clause-execution
+returns-clause-execution c =
+    ok_then c.settled.result c.settled.ensures.execution
+    (λ r execution starts are.
     let same : length c.args.kernel.processes ≡ length starts = omega (arith, are.len, c.count.ensures.count, c.if-count-len.false, c.len.ensures, c.args.workers.ok.0) in
     let kernel : c.args.kernel ≡ replay (empty_kernel (length starts)) c.args.history.items =
     subst (λ n. c.args.kernel ≡ replay (empty_kernel n) c.args.history.items) same c.requires.kernel in
@@ -39,9 +39,9 @@ returns-clause-course c =
     let joined : c.join-world.result ≡ final_world (length starts) c.args.workers.items c.args.history.items =
     joined_is c.join-world.result c.in_ok-ends.field-0.items c.args.kernel (length starts) c.args.workers.items c.args.history.items
     c.join-world.ensures.processes c.in_ok-ends.ensures.processes c.join-world.ensures.kernel kernel in
-    let merged = from_course (steps_of c.in_ok-schedule.schedule) c.args.workers.items c.deref.result.now c.args.history.items c.deref-2.result.now
-    c.deref.ensures.value c.deref-2.ensures.value c.in_ok-schedule.ensures.course starts c.args.limit are legal in
-    course (initial_world starts) (subst (λ x. IsExecution (initial_world starts) (steps_of c.in_ok-schedule.schedule) x c.args.history.items) (sym joined) merged))
+    let merged = from_execution (steps_of c.in_ok-schedule.schedule) c.args.workers.items c.deref.result.now c.args.history.items c.deref-2.result.now
+    c.deref.ensures.value c.deref-2.ensures.value c.in_ok-schedule.ensures.execution starts c.args.limit are legal in
+    execution (initial_world starts) (subst (λ x. IsExecution (initial_world starts) (steps_of c.in_ok-schedule.schedule) x c.args.history.items) (sym joined) merged))
 
 pub returns-clause-finished : goal.returns-clause-finished
 returns-clause-finished c =

@@ -9,16 +9,16 @@ reported-requires-clause-held g c = workers_held c.args.limit c.args.starts.item
 pub reported-requires-clause-profile : goal.reported-requires-clause-profile
 reported-requires-clause-profile g c = workers_profile c.args.limit c.args.starts.items c.in_ok-workers.workers.items c.in_ok-workers.ensures.results c.requires.starts.profile
 
-pub returns-clause-course : goal.returns-clause-course
-returns-clause-course g c = ok_then c.reported.result c.reported.ensures.course (λ r course. course c.args.starts.items c.in_ok-workers.ensures.results)
+pub returns-clause-execution : goal.returns-clause-execution
+returns-clause-execution g c = ok_then c.reported.result c.reported.ensures.execution (λ r execution. execution c.args.starts.items c.in_ok-workers.ensures.results)
 
 pub returns-clause-finished : goal.returns-clause-finished
 returns-clause-finished g c = ok_then c.reported.result c.reported.ensures.finished (λ r finished. finished c.args.starts.items c.in_ok-workers.ensures.results)
 
 pub returns-clause-legal : goal.returns-clause-legal
 returns-clause-legal g c =
-    ok_then c.reported.result c.reported.ensures.course (λ r course. course_legal (course c.args.starts.items c.in_ok-workers.ensures.results))
+    ok_then c.reported.result c.reported.ensures.execution (λ r execution. course_legal (execution c.args.starts.items c.in_ok-workers.ensures.results))
 
 pub returns-clause-kernel : goal.returns-clause-kernel
 returns-clause-kernel g c =
-    ok_then c.reported.result c.reported.ensures.course (λ r course. course_kernel (course c.args.starts.items c.in_ok-workers.ensures.results))
+    ok_then c.reported.result c.reported.ensures.execution (λ r execution. course_kernel (execution c.args.starts.items c.in_ok-workers.ensures.results))

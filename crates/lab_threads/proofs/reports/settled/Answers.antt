@@ -1,13 +1,13 @@
 use Rattle.std.proofs.Common.{ℕ, ◌≡◌, ◌+◌, ◌<◌, ap, sym, subst, ◌∙◌, get_or, length}
 use Rattle.lab_sched.specs.Execution.{count}
 use Rattle.lab_sched.specs.Schedules.{steps_of}
-use Rattle.lab_threads.proofs.ReportedSteps.{settled_course, settled_finished}
+use Rattle.lab_threads.proofs.ReportedSteps.{settled_execution, settled_finished}
 use Rattle.lab_threads.proofs.reports.settled.Goals as goal
 
-pub returns-clause-course : goal.returns-clause-course
-returns-clause-course c start course =
-    settled_course start c.args.world c.settle-refused.new.self (steps_of c.args.schedule) (steps_of c.settle-refused.new.schedule) _ _
-    c.args.history.items c.settle-refused.new.entries.items course c.settle-refused.ensures.settled
+pub returns-clause-execution : goal.returns-clause-execution
+returns-clause-execution c start execution =
+    settled_execution start c.args.world c.settle-refused.new.self (steps_of c.args.schedule) (steps_of c.settle-refused.new.schedule) _ _
+    c.args.history.items c.settle-refused.new.entries.items execution c.settle-refused.ensures.settled
 
 pub returns-clause-finished : goal.returns-clause-finished
 returns-clause-finished c limit counted =
