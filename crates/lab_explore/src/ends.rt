@@ -254,7 +254,7 @@ impl Search {
     }
 
     /// The end of a row, reached again.
-    fn vouched(&self, alloc: Global, processes: &[Process], at: usize) -> Result<End, ExploreFault>
+    fn row_end(&self, alloc: Global, processes: &[Process], at: usize) -> Result<End, ExploreFault>
         requires starts { AreStarts processes.now }
         ensures end { IfOk result (λ e. IsEnd (initial_world processes.now) e) }
         ensures row { IfOk result (λ e. IsLike self.now.store at e.world) }
@@ -292,7 +292,7 @@ impl Search {
         if !self.store.may_rest(at)? {
             return Ok(());
         }
-        let end = self.vouched(alloc, processes, at)?;
+        let end = self.row_end(alloc, processes, at)?;
         ends.push(end)?;
         Ok(())
     }

@@ -39,7 +39,7 @@ fn go_edges(walk: &mut Walk, edges: &[Edge]) -> Result<(), ExploreFault>
 impl Search {
     /// The round by a schedule that led to the world of a row, and by steps from there, which must
     /// have led to a world alike.
-    fn closed(&self, at: usize, schedule: Schedule, walk: Walk) -> Result<Round, ExploreFault>
+    fn round_at(&self, at: usize, schedule: Schedule, walk: Walk) -> Result<Round, ExploreFault>
         ensures schedule { IfOk result (λ r. r.schedule ≡ schedule) }
         ensures steps { IfOk result (λ r. r.steps ≡ walk.schedule) }
         ensures some { IfOk result (λ r. 1 ≤ length (steps_of r.steps)) }
@@ -76,7 +76,7 @@ impl Search {
         };
         match go_edges(&mut walk, cycle.edges.as_slice()) {
             Ok(()) => {
-                let round = self.closed(cycle.at, schedule, walk)?;
+                let round = self.round_at(cycle.at, schedule, walk)?;
                 Ok(round)
             }
             Err(fault) => {

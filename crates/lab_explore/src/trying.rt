@@ -81,8 +81,8 @@ fn run_on(
 }
 
 /// What came of a step, where the process then made its local steps.
-fn came(made: Option<Made>) -> Tried
-    ensures came { (k : KernelState) (p : ℕ) (s : Seen)
+fn tried_of(made: Option<Made>) -> Tried
+    ensures stepped { (k : KernelState) (p : ℕ) (s : Seen)
         → IsRun (step_of k p s).kernel (step_of k p s).process made → IsStepped k p s result }
 {
     match made {
@@ -109,7 +109,7 @@ fn step_on(
             discard(kernel);
             Ok(Tried::Still)
         }
-        Ok(_) => Ok(came(run_on(alloc, kernel, process, most)?)),
+        Ok(_) => Ok(tried_of(run_on(alloc, kernel, process, most)?)),
         Err(_) => {
             discard(process);
             discard(kernel);

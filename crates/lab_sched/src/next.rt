@@ -28,7 +28,7 @@ pub enum Next {
 
 /// The process before it began to wait, and its call.
 #[tactic(auto, using(crate::proofs::LocalSteps::asks))]
-fn taken_back(process: Process, (): ()) -> (Process, Call)
+fn before_wait(process: Process, (): ()) -> (Process, Call)
     requires held { IsHeld process }
     requires waits { IsWaiting (process_view process) }
     ensures process { process_view result.0 ≡ before_wait (process_view process) }
@@ -50,7 +50,7 @@ fn next_trap(alloc: Global, process: &mut Process, vector: u8) -> Next
     ensures held { IsHeld process.new }
 {
     match begin_call(alloc, process, vector) {
-        Asking::Waits => Next::Asks(replace_with(process, (), taken_back)),
+        Asking::Waits => Next::Asks(replace_with(process, (), before_wait)),
         Asking::Refused => Next::Moved(1),
         Asking::Short => Next::Short,
     }

@@ -78,7 +78,7 @@ fn all_fit(workers: &[WorkerResult]) -> bool {
 }
 
 /// Merges the traces along the history; with the steps that each worker has left.
-fn merged(
+fn merge_workers(
     alloc: Global,
     workers: &[WorkerResult],
     history: &[Entry],
@@ -101,7 +101,7 @@ fn merged(
 
 /// The report of a world that a schedule with this history led to, once all has gone on that has
 /// steps left.
-fn settled(
+fn report_from(
     mut world: World,
     mut schedule: Schedule,
     mut history: Vec<Entry>,
@@ -130,7 +130,7 @@ fn settled(
 }
 
 /// Merges the traces along the history, and goes on from there until all is finished.
-fn reported(
+fn report_of_workers(
     alloc: Global,
     workers: Vec<WorkerResult>,
     kernel: Kernel,
@@ -154,9 +154,9 @@ fn reported(
     if kernel.count() != workers.len() {
         return Err(RunFault::Unvouched);
     }
-    let (schedule, left) = merged(alloc, &workers, &history)?;
+    let (schedule, left) = merge_workers(alloc, &workers, &history)?;
     let world = World::join(ends(alloc, workers)?, kernel);
-    settled(world, schedule, history, left)
+    report_from(world, schedule, history, left)
 }
 
 /// Runs processes on threads over an empty kernel.
@@ -179,7 +179,7 @@ fn run_starts<R: Threads + Wait + Sync, G: Gate>(
     let monitor = Monitor::new(alloc, Book::new(alloc, starts.len())?)?;
     let workers = run_workers(rt, alloc, &monitor, gate, starts, limit)?;
     let (kernel, history) = monitor.into_book().into_parts();
-    reported(alloc, workers, kernel, history, limit)
+    report_of_workers(alloc, workers, kernel, history, limit)
 }
 
 /// Runs each process of a laboratory on a thread of its own, for at most `limit` steps, over one

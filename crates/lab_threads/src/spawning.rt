@@ -59,7 +59,7 @@ fn stop_missing<R: Wait>(rt: &R, monitor: &Monitor, count: usize) {
 }
 
 /// What the workers bring back, each of which keeps its promise.
-fn joined<R: Threads>(
+fn worker_results<R: Threads>(
     rt: &R,
     handles: Vec<PromisedHandle<WorkerResult, WorkerPromise>>,
 ) -> Result<Vec<WorkerResult>, RunFault>
@@ -90,7 +90,7 @@ pub(crate) fn run_workers<R: Threads + Wait + Sync, G: Gate>(
             ensures results { IfOk result (λ ws. AreWorkerResults limit starts.items ws.items) }
         {
             let handles = spawn_all(scope, rt, alloc, monitor, gate, starts, limit)?;
-            joined(rt, handles)
+            worker_results(rt, handles)
         },
     )
 }

@@ -4,6 +4,6 @@ use Rattle.lab_explore.proofs.trying.step_on.Goals as goal
 
 pub returns-in_ok-run_on-in-Ok : goal.returns-in_ok-run_on-in-Ok
 returns-in_ok-run_on-in-Ok c = record {
-  stepped = c.came.ensures.came c.args.kernel c.args.pid (process_view c.args.process)
+  stepped = c.tried_of.ensures.stepped c.args.kernel c.args.pid (process_view c.args.process)
       (run_stepped c.args.kernel c.take_step.new.kernel c.args.pid (process_view c.args.process) (process_view c.take_step.new.process) c.in-Ok.field-0 c.in_ok-run_on-in-Ok.field-0 c.in-Ok.ensures.ok c.in_ok-run_on-in-Ok.ensures.run);
 }

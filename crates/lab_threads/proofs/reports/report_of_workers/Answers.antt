@@ -10,7 +10,7 @@ use Rattle.lab_sched.specs.Starts.{initial_world}
 use Rattle.lab_threads.specs.Private.Merged.{final_world}
 use Rattle.lab_threads.proofs.ReportedSteps.{joined_is, from_execution, from_counts, worker_steps}
 use Rattle.lab_threads.proofs.Merges.{ok_then}
-use Rattle.lab_threads.proofs.reports.reported.Goals as goal
+use Rattle.lab_threads.proofs.reports.report_of_workers.Goals as goal
 
 pub join-world-requires : goal.join-world-requires
 join-world-requires c =
@@ -30,7 +30,7 @@ join-world-requires c =
 
 pub returns-clause-execution : goal.returns-clause-execution
 returns-clause-execution c =
-    ok_then c.settled.result c.settled.ensures.execution
+    ok_then c.report_from.result c.report_from.ensures.execution
     (λ r execution starts are.
     let same : length c.args.kernel.processes ≡ length starts = omega (arith, are.len, c.count.ensures.count, c.if-count-len.false, c.len.ensures, c.args.workers.ok.0) in
     let kernel : c.args.kernel ≡ replay (empty_kernel (length starts)) c.args.history.items =
@@ -45,7 +45,7 @@ returns-clause-execution c =
 
 pub returns-clause-finished : goal.returns-clause-finished
 returns-clause-finished c =
-    ok_then c.settled.result c.settled.ensures.finished
+    ok_then c.report_from.result c.report_from.ensures.finished
     (λ r finished starts are.
     let counts = from_counts (steps_of c.in_ok-schedule.schedule) c.args.workers.items c.deref.result.now c.deref.ensures.value c.in_ok-schedule.ensures.counts in
     let left = c.in_ok-schedule.ensures.left ∙ ap (λ v. map (λ k. k.left) v) c.deref.ensures.value in

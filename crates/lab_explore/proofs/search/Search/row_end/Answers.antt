@@ -1,6 +1,6 @@
 use Rattle.lab_sched.specs.Starts.{initial_world}
 use Rattle.lab_explore.proofs.Walks.{walk_none}
-use Rattle.lab_explore.proofs.search.Search.vouched.Goals as goal
+use Rattle.lab_explore.proofs.search.Search.row_end.Goals as goal
 
 pub returns-in_ok-end-in-Ok-clause-end : goal.returns-in_ok-end-in-Ok-clause-end
 returns-in_ok-end-in-Ok-clause-end c =

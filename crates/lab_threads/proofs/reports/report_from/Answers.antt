@@ -2,7 +2,7 @@ use Rattle.std.proofs.Common.{ℕ, ◌≡◌, ◌+◌, ◌<◌, ap, sym, subst, 
 use Rattle.lab_sched.specs.Execution.{count}
 use Rattle.lab_sched.specs.Schedules.{steps_of}
 use Rattle.lab_threads.proofs.ReportedSteps.{settled_execution, settled_finished}
-use Rattle.lab_threads.proofs.reports.settled.Goals as goal
+use Rattle.lab_threads.proofs.reports.report_from.Goals as goal
 
 pub returns-clause-execution : goal.returns-clause-execution
 returns-clause-execution c start execution =

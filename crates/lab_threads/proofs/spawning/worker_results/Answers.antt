@@ -1,6 +1,6 @@
 use Rattle.std.proofs.Common.{◌≡◌, length, arith}
 use Rattle.lab_threads.proofs.JoinedThreads.{joined_workers}
-use Rattle.lab_threads.proofs.spawning.joined.Goals as goal
+use Rattle.lab_threads.proofs.spawning.worker_results.Goals as goal
 
 pub returns-in-Ok : goal.returns-in-Ok
 returns-in-Ok g c = record {
