@@ -145,7 +145,7 @@ short_more {r} {q} left bits bits' {short} i k added within len clear only mine 
         record {
           there = omega (arith, before.there, lengths);
           some = omega (arith, before.some, rest);
-          lives = λ s at. before.lives s (sym same ∙ at);
+          not_ended = λ s at. before.not_ended s (sym same ∙ at);
         }
     pick (inr now) =
         let m = mine now.1 in
@@ -153,7 +153,7 @@ short_more {r} {q} left bits bits' {short} i k added within len clear only mine 
         record {
           there = omega (arith, now.0, within, len, lengths);
           some = rw now.0 (omega (arith, rest, m.0));
-          lives = λ s at. not_ended q.world p s (rw now.0 m.1) at;
+          not_ended = λ s at. not_ended q.world p s (rw now.0 m.1) at;
         }
 
 -- what a process does next, over the whole world

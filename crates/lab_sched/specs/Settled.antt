@@ -42,4 +42,4 @@ HaveStopped w left bits = (p : ℕ) → p < length left → HasStopped w left bi
 pub record IsShort (w : WorldState) (left : List ℕ) (p : ℕ) : Type 0 where
   pub there : p < length w.processes
   pub some : 0 < slice_index left p
-  pub lives : HasNotEndedIn w p
+  pub not_ended : HasNotEndedIn w p

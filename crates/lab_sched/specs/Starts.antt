@@ -6,9 +6,9 @@ use Rattle.lc3_machine.specs.Process.{start}
 use Rattle.ipc_kernel.specs.Kernel.{KernelState, empty_kernel}
 use Rattle.lab_sched.specs.declared.fresh.Program.{Program}
 use Rattle.lab_sched.specs.declared.process.Process.{Process as Kept}
-use Rattle.lab_sched.specs.declared.process.Process.TheVariants as kept
 use Rattle.lab_sched.specs.Worlds.{HaveOneProfile, Process, Running, WorldState}
 use Rattle.lab_sched.specs.Held.{process_view}
+use Rattle.lab_sched.specs.Verdicts.{IsRunning}
 
 -- a process of a profile at the start of a program
 abbrev pub start_of : Profile → Program → Process
@@ -24,9 +24,7 @@ IsCount n = (1 ≤ n) × (n ≤ process_max)
 
 -- a process that runs
 abbrev pub Runs : Kept → Type 0
-Runs (kept.Running m) = Unit {0}
-Runs (kept.Waiting h c) = ⊥
-Runs (kept.Ended e) = ⊥
+Runs s = IsRunning (process_view s)
 
 -- 1 to 64 processes of one profile, each of which runs
 pub record AreStarts (ps : List Kept) : Type 0 where
