@@ -12,7 +12,6 @@ ghost use Rattle.lab_debug.specs.Private.Replies.{effect_of};
 ghost use Rattle.lab_debug.specs.Effects.{IsCommand, is_at, until, is_there, are_there, carried_out, command_effect, line_effect, refusal_text};
 
 use crate::command::{Command, Refusal, read_command};
-use crate::machine;
 use crate::operands::split_words;
 use crate::texts::{
     dis_text, fds_text, mem_text, mqs_text, out_text, procs_text, profile_text, regs_text,
@@ -69,7 +68,7 @@ fn is_at(world: &World, pid: usize, address: u16) -> bool
     ensures value { result ≡ is_at address (slice_get world.now.processes pid) }
 {
     match world.process(pid) {
-        Some(process) => machine::pc(process) == address,
+        Some(process) => process.machine().pc() == address,
         None => false,
     }
 }

@@ -6,7 +6,6 @@ mod descriptors;
 mod effect;
 mod fault;
 mod lines;
-pub mod machine;
 mod memory;
 mod operands;
 mod output;

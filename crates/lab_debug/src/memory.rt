@@ -6,7 +6,6 @@ ghost use Rattle.lab_sched.specs.Worlds.{machine_of};
 ghost use Rattle.lab_debug.specs.Rows.{Adds};
 ghost use Rattle.lab_debug.specs.Texts.{word_line, memory_lines, mem_text, dis_text};
 
-use crate::machine;
 use lab_sched::{Process, World};
 use lc3_table::WordText;
 use lc3_word::Hex;
@@ -53,7 +52,7 @@ fn push_words(
 {
     for i in 0..count {
         let place = (address + i) as u16;
-        push_word(text, place, machine::word(process, place))?;
+        push_word(text, place, process.machine().word(place))?;
     }
     Ok(())
 }
@@ -72,7 +71,7 @@ fn push_texts(
 {
     for i in 0..count {
         let place = (address + i) as u16;
-        push_word_text(text, place, machine::word(process, place))?;
+        push_word_text(text, place, process.machine().word(place))?;
     }
     Ok(())
 }

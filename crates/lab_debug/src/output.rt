@@ -5,7 +5,6 @@ ghost use Rattle.lab_sched.specs.Worlds.{machine_of};
 ghost use Rattle.lab_debug.specs.Rows.{Adds};
 ghost use Rattle.lab_debug.specs.Texts.{is_plain, escape_text, escape_of, out_line, out_text};
 
-use crate::machine;
 use lab_sched::World;
 use std::alloc::AllocError;
 use std::fmt;
@@ -77,7 +76,7 @@ pub fn push_out(text: &mut String, world: &World, pid: usize) -> Result<(), Allo
     ensures text { OnOk result (Adds text.old text.new (out_text pid world.now)) }
 {
     match world.process(pid) {
-        Some(process) => push_line(text, pid, machine::output(process)),
+        Some(process) => push_line(text, pid, process.machine().output()),
         None => Ok(()),
     }
 }

@@ -5,7 +5,6 @@ ghost use Rattle.lab_sched.specs.Worlds.{machine_of};
 ghost use Rattle.lab_debug.specs.Rows.{Adds, each};
 ghost use Rattle.lab_debug.specs.Texts.{code_text, register_part, counter_part, regs_line, regs_text};
 
-use crate::machine;
 use lab_sched::{Process, World};
 use lc3_word::{Cc, Hex, Reg};
 use std::alloc::AllocError;
@@ -27,7 +26,7 @@ fn push_register(text: &mut String, process: &Process, r: Reg) -> Result<(), All
     ensures text { OnOk result (Adds text.old text.new
         (register_part (machine_of (process_view process.now)) r)) }
 {
-    let word = Hex(machine::reg(process, r));
+    let word = Hex(process.machine().reg(r));
     match write!(text, "{r} {word} ") {
         Ok(()) => Ok(()),
         Err(error) => Err(error),
@@ -52,8 +51,8 @@ fn push_counter(text: &mut String, process: &Process) -> Result<(), AllocError>
     ensures text { OnOk result (Adds text.old text.new
         (counter_part (machine_of (process_view process.now)))) }
 {
-    let pc = Hex(machine::pc(process));
-    let code = code_name(machine::cc(process));
+    let pc = Hex(process.machine().pc());
+    let code = code_name(process.machine().cc());
     match write!(text, "PC {pc} CC {code}\n") {
         Ok(()) => Ok(()),
         Err(error) => Err(error),

@@ -5,7 +5,6 @@ ghost use Rattle.lab_sched.specs.Worlds.{machine_of};
 ghost use Rattle.lab_debug.specs.Rows.{Adds};
 ghost use Rattle.lab_debug.specs.Texts.{how_text, place_text, state_text, status_line, status_text, procs_text};
 
-use crate::machine;
 use lab_sched::{Process, World};
 use lc3_machine::How;
 use lc3_table::WordText;
@@ -22,9 +21,9 @@ impl fmt::Display for Place<'_> {
 
     #[tactic(auto, unfolding(crate::specs::Texts::place_text))]
     fn fmt<W: fmt::Write>(&self, f: &mut fmt::Formatter<W>) -> fmt::Result {
-        let pc = machine::pc(self.0);
+        let pc = self.0.machine().pc();
         if pc < FIRST_DEVICE {
-            let word = WordText(machine::word(self.0, pc));
+            let word = WordText(self.0.machine().word(pc));
             write!(f, "{word}")
         } else {
             write!(f, "-")
@@ -53,7 +52,7 @@ impl fmt::Display for State<'_> {
     ghost output = { λ s. Some (state_text (process_view s.0.now)) };
 
     fn fmt<W: fmt::Write>(&self, f: &mut fmt::Formatter<W>) -> fmt::Result {
-        let pc = Hex(machine::pc(self.0));
+        let pc = Hex(self.0.machine().pc());
         let place = Place(self.0);
         match self.0 {
             Process::Running(_) => write!(f, "running {pc} {place}"),

@@ -2,7 +2,7 @@
 ghost use Rattle.std.specs.Prelude.{◌≡◌, IfOk, string_bytes};
 ghost use Rattle.lab_page.specs.Moments.{code_around, code_text};
 
-use lab_debug::{dis_text, machine};
+use lab_debug::dis_text;
 use lab_sched::World;
 use lc3_word::FIRST_DEVICE;
 use std::alloc::{AllocError, Global};
@@ -28,7 +28,7 @@ pub fn code_text(alloc: Global, world: &World, pid: usize) -> Result<String, All
     ensures text { IfOk result (λ s. string_bytes s ≡ code_text pid world.now) }
 {
     match world.process(pid) {
-        Some(process) => code_around(alloc, world, pid, machine::pc(process)),
+        Some(process) => code_around(alloc, world, pid, process.machine().pc()),
         None => Ok(String::new(alloc)),
     }
 }

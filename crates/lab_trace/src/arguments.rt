@@ -13,7 +13,6 @@ use crate::service::Service;
 use crate::words::{is_in_memory, push_address, push_name, push_pointer, register};
 use ipc_kernel::Kernel;
 use ipc_names::O_CREAT;
-use lab_debug::machine;
 use lab_sched::Process;
 use std::alloc::{AllocError, Global};
 
@@ -28,8 +27,8 @@ fn push_sizes_at(text: &mut String, process: &Process, at: u16) -> Result<(), Al
     }
     push_sizes(
         text,
-        machine::word(process, at + 1),
-        machine::word(process, at + 2),
+        process.machine().word(at + 1),
+        process.machine().word(at + 2),
     )
 }
 
@@ -79,7 +78,7 @@ fn push_flags_asked(text: &mut String, process: &Process, at: u16) -> Result<(),
     if !is_in_memory(at, 4) {
         return push_address(text, at);
     }
-    push_flags(text, machine::word(process, at))
+    push_flags(text, process.machine().word(at))
 }
 
 /// Adds what stands behind the descriptor of mq_send.

@@ -11,7 +11,6 @@ use crate::handles::held_place;
 use crate::service::{Service, service_at};
 use crate::words::register;
 use ipc_kernel::Kernel;
-use lab_debug::machine;
 use lab_sched::{Process, World};
 use std::alloc::{AllocError, Global};
 
@@ -82,11 +81,11 @@ fn observed_of(
         Some(service) => Some(asking_of(alloc, kernel, pid, process, service)?),
         None => None,
     };
-    let pc = machine::pc(process);
+    let pc = process.machine().pc();
     Ok(Observed {
         pc,
-        word: machine::word(process, pc),
-        written: machine::output(process).len(),
+        word: process.machine().word(pc),
+        written: process.machine().output().len(),
         asking,
     })
 }

@@ -13,7 +13,6 @@ use crate::service::{Service, service_at};
 use crate::takers::push_takers;
 use crate::tally::Tally;
 use crate::words::register;
-use lab_debug::machine;
 use lab_sched::{Process, World};
 use std::alloc::{AllocError, Global};
 
@@ -93,7 +92,7 @@ fn push_stand(
     ensures text { OnOk result (string_bytes text.new ≡ string_bytes text.old
         ++ stand widths world.now tally.now pid (process_view process.now)) }
 {
-    let pc = machine::pc(process);
+    let pc = process.machine().pc();
     let local = tally.account(pid).local;
     match process {
         Process::Running(_) => {

@@ -17,7 +17,7 @@ use crate::service::Service;
 use crate::tally::{Account, Tally};
 use crate::words::{push_address, push_at_left, push_at_right, push_bytes};
 use ipc_kernel::Kernel;
-use lab_debug::{how_name, machine};
+use lab_debug::how_name;
 use lab_sched::Process;
 use lc3_machine::How;
 use lc3_table::WordText;
@@ -294,6 +294,6 @@ pub fn new_output<'a>(before: &Observed, after: &'a Process) -> &'a [u8]
     ensures bytes { result.now
         ≡ drop before.now.written (machine_of (process_view after.now)).output }
 {
-    let output = machine::output(after);
+    let output = after.machine().output();
     &output[before.written.min(output.len())..]
 }

@@ -4,7 +4,6 @@ ghost use Rattle.lab_sched.specs.Held.{process_view};
 ghost use Rattle.lab_sched.specs.Worlds.{machine_of};
 ghost use Rattle.lab_trace.specs.Services.{service_in, service_of, service_at, service_name, is_on_queues, is_open, is_on_level};
 
-use lab_debug::machine;
 use lab_sched::Process;
 use lc3_table::{Instr, decode};
 use lc3_word::FIRST_DEVICE;
@@ -67,9 +66,9 @@ fn service_of(instruction: Option<Instr>) -> Option<Service>
 pub fn service_at(process: &Process) -> Option<Service>
     ensures service { result ≡ service_at (machine_of (process_view process.now)) }
 {
-    let pc = machine::pc(process);
+    let pc = process.machine().pc();
     if pc < FIRST_DEVICE {
-        service_of(decode(machine::word(process, pc)))
+        service_of(decode(process.machine().word(pc)))
     } else {
         None
     }

@@ -7,7 +7,7 @@ ghost use Rattle.lc3_machine.specs.Process.{reg};
 ghost use Rattle.ipc_traps.specs.Names.{is_in_memory, words_at};
 ghost use Rattle.lab_trace.specs.Words.{pointer_text, signed_text, is_quotable, character_text, string_text, byte_text, bytes_text, name_end, name_text, blanks, at_left, at_right};
 
-use lab_debug::{Escape, machine};
+use lab_debug::Escape;
 use lab_sched::Process;
 use lc3_word::{FIRST_DEVICE, Hex, Reg};
 use std::alloc::{AllocError, Global};
@@ -20,7 +20,7 @@ pub fn register(process: &Process, number: u16) -> u16
     requires register { number < 8 }
     ensures value { result ≡ reg (machine_of (process_view process.now)) number }
 {
-    machine::reg(process, Reg::of_low_bits(number))
+    process.machine().reg(Reg::of_low_bits(number))
 }
 
 /// Whether a range lies below the device registers.
@@ -144,7 +144,7 @@ pub fn read_words(
 {
     let mut words = Vec::with_capacity(alloc, len as usize)?;
     for k in 0..len {
-        words.push(machine::word(process, at + k))?;
+        words.push(process.machine().word(at + k))?;
     }
     Ok(words)
 }
@@ -155,12 +155,12 @@ fn name_end(process: &Process, at: u16) -> Option<u16>
     ensures inside { IfSome result (λ n. is_in_memory at n ≡ true) }
 {
     // A look at memory, whose contract says that there are 65,536 words.
-    let _ = machine::word(process, at);
+    let _ = process.machine().word(at);
     for k in 0..NAME_WINDOW {
         if u32::from(at) + u32::from(k) >= u32::from(FIRST_DEVICE) {
             return None;
         }
-        if machine::word(process, at + k) == 0 {
+        if process.machine().word(at + k) == 0 {
             return Some(k);
         }
     }

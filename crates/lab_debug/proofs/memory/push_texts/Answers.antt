@@ -10,5 +10,5 @@ use Rattle.lab_debug.proofs.memory.push_texts.Goals as goal
 pub loop-i-preserved : goal.loop-i-preserved
 loop-i-preserved c =
     let text : ℕ → List ℕ = λ k. line_text (c.args.address + k) (slice_index (machine_of (process_view c.args.process.now)).memory (c.args.address + k)) in
-    let wrote = rw c.word.ensures.word at c.in_ok-push_word_text.ensures.text in
+    let wrote = rw (c.word.ensures.word, c.machine.ensures.process) at c.in_ok-push_word_text.ensures.text in
     wrote ∙ ap (λ bytes. bytes ++ text c.loop-i.i) c.loop-i.invariant ∙ each_more (string_bytes c.args.text.now) text c.loop-i.i

@@ -9,7 +9,9 @@ use Rattle.lab_trace.proofs.words.read_words.Goals as goal
 pub loop-k-preserved : goal.loop-k-preserved
 loop-k-preserved c =
     let memory = (machine_of (process_view c.args.process.now)).memory in
+    let word = rw c.machine.ensures.process at c.word.ensures.word in
+    let whole = rw c.machine.ensures.process at c.word.ensures.whole in
     c.in_ok-push.ensures.items
     ∙ ap (λ ws. ws ++ c.word.result ∷ []) c.loop-k.invariant
-    ∙ ap (λ w. take c.loop-k.k (words_from memory c.args.at) ++ w ∷ []) c.word.ensures.word
-    ∙ sym (words-more memory c.args.at c.loop-k.k c.word.ensures.whole (grind (arith, nat_tests)))
+    ∙ ap (λ w. take c.loop-k.k (words_from memory c.args.at) ++ w ∷ []) word
+    ∙ sym (words-more memory c.args.at c.loop-k.k whole (grind (arith, nat_tests)))
