@@ -38,8 +38,8 @@ fn read_numbers(alloc: Global, words: &[&[u8]]) -> Result<Vec<u16>, CliFault>
 /// The number that one to four hexadecimal digits write.
 #[tactic(auto, using(crate::proofs::HexLemmas::short_number))]
 fn short_number(digits: &[u8]) -> Option<u16>
-    requires { length digits.now ≤ 4 }
-    ensures { result ≡ unsigned_number 16 digits.now }
+    requires short { length digits.now ≤ 4 }
+    ensures value { result ≡ unsigned_number 16 digits.now }
 {
     let number = unsigned(16, digits)?;
     Some(number as u16)
@@ -47,7 +47,7 @@ fn short_number(digits: &[u8]) -> Option<u16>
 
 /// The number of one to four hexadecimal digits after an optional `x`.
 fn read_number(word: &[u8]) -> Option<u16>
-    ensures { result ≡ number_of word.now }
+    ensures value { result ≡ number_of word.now }
 {
     let digits = after_mark(word);
     if digits.len() > 4 {
@@ -58,7 +58,7 @@ fn read_number(word: &[u8]) -> Option<u16>
 
 /// What stands after an optional `x`.
 fn after_mark(word: &[u8]) -> &[u8]
-    ensures { result.now ≡ digits_of word.now }
+    ensures value { result.now ≡ digits_of word.now }
 {
     match word {
         [b'x' | b'X', digits @ ..] => digits,

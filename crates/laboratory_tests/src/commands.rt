@@ -93,7 +93,7 @@ fn answer_of_input(
     per_call: usize,
     moved: usize,
 ) -> Result<(), CliFault>
-    requires { 1 ≤ per_call }
+    requires moves { 1 ≤ per_call }
 {
     let mut room = [0u8; 48];
     let mut input = Input::new(SlowIn::new(HI, per_call, moved));

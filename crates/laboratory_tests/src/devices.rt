@@ -83,7 +83,7 @@ fn write_once(
     most: usize,
     before: usize,
 ) -> Result<Option<SessionFault>, FreshFault>
-    requires { 1 ≤ most }
+    requires moves { 1 ≤ most }
 {
     let world = world(alloc, &[FIRST, SECOND])?;
     let end = session(
@@ -101,7 +101,7 @@ fn write_once(
 
 /// Whether a session whose writes fail after so many bytes, `most` a call, tells so and writes just those bytes.
 fn fails_after(alloc: Global, most: usize, before: usize) -> Result<bool, FreshFault>
-    requires { 1 ≤ most }
+    requires moves { 1 ≤ most }
 {
     let mut room = [0u8; 256];
     let fault = match write_once(alloc, &mut room, most, before) {

@@ -10,13 +10,13 @@ returns-in-None-clause-err c _ =
     let words = map (λ word. word.now) c.args.words.now in
     let at = get_or-map (λ word. word.now) c.args.words.now c.loop-i.i (record { ref_ptr = (0, 0); now = [] }) [] c.loop-i-test.true in
     numbers_of-bad words c.loop-i.i (rw length-map c.loop-i-test.true) c.loop-i.invariant.good
-    (is_bad-none (get_or words c.loop-i.i []) (c.in-None.ensures ∙ ap number_of (sym at)))
+    (is_bad-none (get_or words c.loop-i.i []) (c.in-None.ensures.value ∙ ap number_of (sym at)))
 
 pub loop-i-preserved : goal.loop-i-preserved
 loop-i-preserved c =
     let words = map (λ word. word.now) c.args.words.now in
     let at = get_or-map (λ word. word.now) c.args.words.now c.loop-i.i (record { ref_ptr = (0, 0); now = [] }) [] c.loop-i-test.true in
-    let number = c.in-Some.ensures ∙ ap number_of (sym at) in record {
+    let number = c.in-Some.ensures.value ∙ ap number_of (sym at) in record {
       good = below_more _ _ c.loop-i.invariant.good (is_bad-some (get_or words c.loop-i.i []) _ number);
       read = rw (c.in_ok-push-in-Some.ensures.items, c.loop-i.invariant.read)
           (sym (filter_map-take-more words c.loop-i.i _ (rw length-map c.loop-i-test.true) number));
