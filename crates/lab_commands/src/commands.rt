@@ -31,7 +31,7 @@ use std::sync::Wait;
 use std::thread::Threads;
 use std::time::Clock;
 use step::step_programs;
-use trace::{trace_on_page, trace_programs};
+use trace::trace_programs;
 
 /// The program did what its words ask for.
 pub const SUCCESS: u8 = 0;
@@ -109,12 +109,8 @@ fn perform<'a, T: Files + Threads + Wait + Clock + Sync, R: Read, W: Write, P: P
         } => run_programs(rt, alloc, setup, limit, mix, output, progress),
         Request::Trace {
             ref setup,
-            page: None,
-        } => trace_programs(rt, alloc, setup, input, output),
-        Request::Trace {
-            ref setup,
-            page: Some(ref page),
-        } => trace_on_page(rt, alloc, setup, page, input, output),
+            ref page,
+        } => trace_programs(rt, alloc, setup, page.as_ref(), input, output),
         Request::Explore {
             ref setup,
             question,

@@ -13,9 +13,28 @@ use std::alloc::Global;
 use std::io::{Read, Write};
 use std::rt::Files;
 
+/// Writes what happens as the laboratory of programs runs by a schedule from the input, and before it the page, where one
+/// is asked for.
+pub fn trace_programs<'a, T: Files, R: Read, W: Write>(
+    rt: &T,
+    alloc: Global,
+    setup: &Setup<'a>,
+    page: Option<&Page<'a>>,
+    input: &mut Input<R>,
+    output: &mut Output<W>,
+) -> Result<(), Complaint<'a>>
+    requires input_healthy { input.old.failed ≡ false }
+    requires output_healthy { output.old.failed ≡ false }
+{
+    match page {
+        None => trace_as_text(rt, alloc, setup, input, output),
+        Some(page) => trace_on_page(rt, alloc, setup, page, input, output),
+    }
+}
+
 /// Reads the files of the programs, then a schedule from the input, and writes what happens as the laboratory of these
 /// programs runs by that schedule.
-pub fn trace_programs<'a, T: Files, R: Read, W: Write>(
+fn trace_as_text<'a, T: Files, R: Read, W: Write>(
     rt: &T,
     alloc: Global,
     setup: &Setup<'a>,
@@ -31,7 +50,7 @@ pub fn trace_programs<'a, T: Files, R: Read, W: Write>(
 }
 
 /// Reads the sources too, behind the programs, and writes the page before the text. The page can't be a file that is read.
-pub fn trace_on_page<'a, T: Files, R: Read, W: Write>(
+fn trace_on_page<'a, T: Files, R: Read, W: Write>(
     rt: &T,
     alloc: Global,
     setup: &Setup<'a>,
