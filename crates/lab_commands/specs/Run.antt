@@ -8,12 +8,12 @@ use Rattle.lab_sched.specs.Worlds.{Running, WorldState, run}
 use Rattle.lab_debug.specs.Reports.{report_text}
 
 -- the world whose one process has this image and no console input
-abbrev pub alone : Segment → WorldState
-alone image = record { processes = Running (start A image.origin image.words []) ∷ []; kernel = empty_kernel 1 }
+abbrev pub single_world : Segment → WorldState
+single_world image = record { processes = Running (start A image.origin image.words []) ∷ []; kernel = empty_kernel 1 }
 
 -- the same after n steps
 unfoldable pub world_after : ℕ → Segment → WorldState
-world_after n image = run (alone image) (replicate n 0)
+world_after n image = run (single_world image) (replicate n 0)
 
 -- the report after 100,000 steps
 abbrev pub report_of : Segment → List ℕ

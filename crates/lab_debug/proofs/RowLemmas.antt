@@ -2,17 +2,17 @@
 use Rattle.std.proofs.Common.{◌≡◌, ℕ, ◌+◌, [], ◌∷◌, List, ◌++◌, Some, flat_map, take, slice_get, ap, sym, ◌∙◌, append_assoc, append-nil, add-one}
 use Rattle.std.proofs.lemmas.Option.{slice_get_within, get_or_from_slice_get}
 use Rattle.std.proofs.lemmas.List.{flat_map_more, take_more}
-use Rattle.lab_debug.specs.Rows.{each}
+use Rattle.lab_debug.specs.Rows.{texts_below}
 
 -- at first there is none
-pub each_none : (bytes : List ℕ) (text : ℕ → List ℕ) → bytes ++ each 0 text ≡ bytes
-unfolding each
-each_none bytes text = append-nil bytes
+pub texts_below_none : (bytes : List ℕ) (text : ℕ → List ℕ) → bytes ++ texts_below 0 text ≡ bytes
+unfolding texts_below
+texts_below_none bytes text = append-nil bytes
 
 -- one text more
-pub each_more : (bytes : List ℕ) (text : ℕ → List ℕ) (i : ℕ) → (bytes ++ each i text) ++ text i ≡ bytes ++ each (i + 1) text
-unfolding each
-each_more bytes text i = rw add-one (append_assoc bytes (each i text) (text i))
+pub texts_below_more : (bytes : List ℕ) (text : ℕ → List ℕ) (i : ℕ) → (bytes ++ texts_below i text) ++ text i ≡ bytes ++ texts_below (i + 1) text
+unfolding texts_below
+texts_below_more bytes text i = rw add-one (append_assoc bytes (texts_below i text) (text i))
 
 -- the text of one element more
 pub flat_map-next : {X : Type 0} (f : X → List ℕ) (bytes : List ℕ) (xs : List X) (i : ℕ) (x : X) → slice_get xs i ≡ Some x

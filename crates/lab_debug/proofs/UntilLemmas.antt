@@ -4,27 +4,27 @@ use Rattle.lab_sched.specs.Worlds.{WorldState, StepEffect, nothing, local_step, 
 use Rattle.lab_sched.specs.Held.{stepped_of}
 use Rattle.ipc_kernel.specs.declared.call.Answer.TheVariants.{Done, Wait}
 use Rattle.lab_sched.specs.declared.stepped.Stepped.TheVariants.{Same}
-use Rattle.lab_debug.specs.Effects.{is_at, halts, until}
+use Rattle.lab_debug.specs.Effects.{is_at, halts, world_until}
 use Rattle.lab_sched.specs.Verdicts.{is_nothing}
 
 -- nothing more happens where the process halts
-pub until-halted : (pid address : ℕ) (w : WorldState) (i n : ℕ) → i < n → halts pid address w ≡ true → until pid address w (n - i) ≡ w
-unfolding until
+pub until-halted : (pid address : ℕ) (w : WorldState) (i n : ℕ) → i < n → halts pid address w ≡ true → world_until pid address w (n - i) ≡ w
+unfolding world_until
 until-halted pid address w i n h halted =
     let count : n - i ≡ suc (n - (i + 1)) = omega arith in
     rw (count, halted) refl
 
 -- one step more where it doesn't
 pub until-more : (pid address : ℕ) (w : WorldState) (i n : ℕ) → i < n → halts pid address w ≡ false
-    → until pid address (step w pid) (n - (i + 1)) ≡ until pid address w (n - i)
-unfolding until
+    → world_until pid address (step w pid) (n - (i + 1)) ≡ world_until pid address w (n - i)
+unfolding world_until
 until-more pid address w i n h goes_on =
     let count : n - i ≡ suc (n - (i + 1)) = omega arith in
     rw (count, goes_on) refl
 
 -- all steps are done
-pub until-done : (pid address : ℕ) (w : WorldState) (i n : ℕ) → n ≤ i → until pid address w (n - i) ≡ w
-unfolding until
+pub until-done : (pid address : ℕ) (w : WorldState) (i n : ℕ) → n ≤ i → world_until pid address w (n - i) ≡ w
+unfolding world_until
 until-done pid address w i n h =
     let none : n - i ≡ 0 = omega arith in
     rw none refl

@@ -32,33 +32,33 @@ halts pid address w = is_at address (slice_get w.processes pid) || is_nothing (s
 
 -- the world after at most n steps of process pid: up to an address, and only steps that have an
 -- effect
-unfoldable pub until : ℕ → ℕ → WorldState → ℕ → WorldState
-until pid address w zero = w
-until pid address w (suc n) = if halts pid address w then w else until pid address (step w pid) n
+unfoldable pub world_until : ℕ → ℕ → WorldState → ℕ → WorldState
+world_until pid address w zero = w
+world_until pid address w (suc n) = if halts pid address w then w else world_until pid address (step w pid) n
 
 -- a text of a world, and nothing else
-abbrev pub shows : (WorldState → List ℕ) → WorldState → Effect WorldState
-shows text w = record { text = text w; world = w; ends = false }
+abbrev pub text_effect : (WorldState → List ℕ) → WorldState → Effect WorldState
+text_effect text w = record { text = text w; world = w; ends = false }
 
 -- a refused line changes nothing
 abbrev pub refusal_effect : Refusal → WorldState → Effect WorldState
 refusal_effect refusal w = record { text = refusal_text refusal; world = w; ends = false }
 
 -- what a command does, where its processes are there
-abbrev pub carried_out : WorldState → Command → Effect WorldState
-carried_out w (Step pid n) = shows (status_text pid) (run w (replicate n pid))
-carried_out w (Run schedule) = shows verdict_text (run w (steps_of schedule))
-carried_out w (Until pid address n) = shows (status_text pid) (until pid address w n)
-carried_out w (Regs pid) = shows (regs_text pid) w
-carried_out w (Mem range) = shows (mem_text range.pid range.address range.count) w
-carried_out w (Dis range) = shows (dis_text range.pid range.address range.count) w
-carried_out w Procs = shows procs_text w
-carried_out w Mqs = shows mqs_text w
-carried_out w Sems = shows sems_text w
-carried_out w (Fds pid) = shows (fds_text pid) w
-carried_out w (Out pid) = shows (out_text pid) w
-carried_out w Profile = shows profile_text w
-carried_out w Quit = record { text = []; world = w; ends = true }
+abbrev pub accepted_effect : WorldState → Command → Effect WorldState
+accepted_effect w (Step pid n) = text_effect (status_text pid) (run w (replicate n pid))
+accepted_effect w (Run schedule) = text_effect verdict_text (run w (steps_of schedule))
+accepted_effect w (Until pid address n) = text_effect (status_text pid) (world_until pid address w n)
+accepted_effect w (Regs pid) = text_effect (regs_text pid) w
+accepted_effect w (Mem range) = text_effect (mem_text range.pid range.address range.count) w
+accepted_effect w (Dis range) = text_effect (dis_text range.pid range.address range.count) w
+accepted_effect w Procs = text_effect procs_text w
+accepted_effect w Mqs = text_effect mqs_text w
+accepted_effect w Sems = text_effect sems_text w
+accepted_effect w (Fds pid) = text_effect (fds_text pid) w
+accepted_effect w (Out pid) = text_effect (out_text pid) w
+accepted_effect w Profile = text_effect profile_text w
+accepted_effect w Quit = record { text = []; world = w; ends = true }
 
 -- whether process pid is there
 abbrev pub is_there : WorldState → ℕ → Bool
@@ -82,7 +82,7 @@ are_there w Quit = true
 
 -- what a command does; it is refused where a process that it names isn't there
 abbrev pub command_effect : WorldState → Command → Effect WorldState
-command_effect w command = if are_there w command then carried_out w command else refusal_effect NoProcess w
+command_effect w command = if are_there w command then accepted_effect w command else refusal_effect NoProcess w
 
 -- what a line does that was read as a command, or refused
 abbrev pub reading_effect : WorldState → Result Command Refusal → Effect WorldState
@@ -91,7 +91,7 @@ reading_effect w (Err refusal) = refusal_effect refusal w
 
 -- a line without words does nothing
 abbrev pub words_effect : WorldState → List (List ℕ) → Effect WorldState
-words_effect w [] = shows (λ v. []) w
+words_effect w [] = text_effect (λ v. []) w
 words_effect w (name ∷ operands) = reading_effect w (command_of name operands)
 
 -- what a line does

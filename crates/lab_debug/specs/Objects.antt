@@ -10,7 +10,7 @@ use Rattle.ipc_kernel.specs.Processes.{descriptor_of, slot_of}
 use Rattle.ipc_kernel.specs.declared.process.Descriptor.{Descriptor}
 use Rattle.ipc_kernel.specs.declared.process.Slot.{Slot}
 use Rattle.lab_sched.specs.Worlds.{WorldState}
-use Rattle.lab_debug.specs.Rows.{each}
+use Rattle.lab_debug.specs.Rows.{texts_below}
 
 -- the name of an object, or a dash once it is unlinked
 abbrev pub name_text : Option (List ℕ) → List ℕ
@@ -51,7 +51,7 @@ queue_text place w = queue_lines place (queue_and_name (place_at w.kernel.places
 
 -- the queues in order of place
 abbrev pub mqs_text : WorldState → List ℕ
-mqs_text w = each object_places (λ place. queue_text place w)
+mqs_text w = texts_below object_places (λ place. queue_text place w)
 
 -- place, name and value of a semaphore
 abbrev pub semaphore_line : ℕ → Option (Option (List ℕ) × ℕ) → List ℕ
@@ -65,7 +65,7 @@ semaphore_text place w =
 
 -- the semaphores in order of place
 abbrev pub sems_text : WorldState → List ℕ
-sems_text w = each object_places (λ place. semaphore_text place w)
+sems_text w = texts_below object_places (λ place. semaphore_text place w)
 
 -- to receive, to send, or both
 abbrev pub access_text : ℕ → List ℕ
@@ -94,11 +94,11 @@ slot_line s (Some held) =
 -- the open descriptors of process pid, in order
 abbrev pub descriptor_lines : ℕ → WorldState → List ℕ
 descriptor_lines pid w =
-    each open_max (λ d. descriptor_line d (descriptor_of w.kernel.processes pid d))
+    texts_below open_max (λ d. descriptor_line d (descriptor_of w.kernel.processes pid d))
 
 -- the open slots of process pid, in order
 abbrev pub slot_lines : ℕ → WorldState → List ℕ
-slot_lines pid w = each open_max (λ s. slot_line s (slot_of w.kernel.processes pid s))
+slot_lines pid w = texts_below open_max (λ s. slot_line s (slot_of w.kernel.processes pid s))
 
 -- the open descriptors of process pid, and then its open slots; nothing where it isn't there
 abbrev pub fds_text : ℕ → WorldState → List ℕ

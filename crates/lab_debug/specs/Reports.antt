@@ -1,7 +1,7 @@
 -- The report on a world.
 use Rattle.std.specs.Prelude.{ℕ, List, ◌++◌, length}
 use Rattle.lab_sched.specs.Worlds.{WorldState}
-use Rattle.lab_debug.specs.Rows.{each}
+use Rattle.lab_debug.specs.Rows.{texts_below}
 use Rattle.lab_debug.specs.Texts.{status_text, out_text}
 use Rattle.lab_debug.specs.Verdicts.{verdict_text}
 
@@ -11,7 +11,7 @@ process_report pid w = status_text pid w ++ out_text pid w
 
 -- these of each process, in order
 abbrev pub process_reports : WorldState → List ℕ
-process_reports w = each (length w.processes) (λ pid. process_report pid w)
+process_reports w = texts_below (length w.processes) (λ pid. process_report pid w)
 
 -- the lines of all processes, and then the verdict
 unfoldable pub report_text : WorldState → List ℕ

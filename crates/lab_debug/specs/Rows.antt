@@ -6,6 +6,6 @@ abbrev pub Adds : {Z : Type 0} → String Z → String Z → List ℕ → Type 0
 Adds old new more = string_bytes new ≡ string_bytes old ++ more
 
 -- the texts of the numbers below n, in order
-unfoldable pub each : ℕ → (ℕ → List ℕ) → List ℕ
-each zero text = []
-each (suc n) text = each n text ++ text n
+unfoldable pub texts_below : ℕ → (ℕ → List ℕ) → List ℕ
+texts_below zero text = []
+texts_below (suc n) text = texts_below n text ++ text n

@@ -11,7 +11,7 @@ use Rattle.lc3_machine.specs.declared.want.How.{How}
 use Rattle.lc3_machine.specs.declared.want.How.TheVariants.{Halt, Illegal, Device, BadTrap, NoInput}
 use Rattle.lc3_machine.specs.Process.{Process as Machine, reg}
 use Rattle.lab_sched.specs.Worlds.{machine_of, first_profile, Process, Running, Waiting, Ended, WorldState}
-use Rattle.lab_debug.specs.Rows.{each}
+use Rattle.lab_debug.specs.Rows.{texts_below}
 
 -- the text of a process, where it is there
 abbrev pub text_of : (Process → List ℕ) → Option Process → List ℕ
@@ -50,7 +50,7 @@ status_text pid w = text_of (status_line pid) (slice_get w.processes pid)
 
 -- each status line
 abbrev pub procs_text : WorldState → List ℕ
-procs_text w = each (length w.processes) (λ pid. status_text pid w)
+procs_text w = texts_below (length w.processes) (λ pid. status_text pid w)
 
 -- the profile that the processes have
 abbrev pub profile_text : WorldState → List ℕ
@@ -72,7 +72,7 @@ counter_part m = codes "PC " ++ address_text m.pc ++ codes " CC " ++ code_text m
 
 -- R0 to R7, the program counter and the condition code
 abbrev pub regs_line : Machine → List ℕ
-regs_line m = each 8 (register_part m) ++ counter_part m
+regs_line m = texts_below 8 (register_part m) ++ counter_part m
 
 -- the registers of process pid
 abbrev pub regs_text : ℕ → WorldState → List ℕ
@@ -84,7 +84,7 @@ word_line a w = address_text a ++ codes " " ++ address_text w ++ codes "\n"
 
 -- n words of memory from an address on, each on a line
 abbrev pub memory_lines : (ℕ → ℕ → List ℕ) → ℕ → ℕ → Machine → List ℕ
-memory_lines line a n m = each n (λ i. line (a + i) (slice_index m.memory (a + i)))
+memory_lines line a n m = texts_below n (λ i. line (a + i) (slice_index m.memory (a + i)))
 
 -- n words of process pid from address a on
 abbrev pub mem_text : ℕ → ℕ → ℕ → WorldState → List ℕ

@@ -59,7 +59,7 @@ fn push_slot(text: &mut String, slot: u16, held: Option<Slot>) -> Result<(), All
 }
 
 /// Adds the open descriptors of a process.
-#[tactic(auto, using(crate::proofs::RowLemmas::each_none))]
+#[tactic(auto, using(crate::proofs::RowLemmas::texts_below_none))]
 fn push_descriptors(text: &mut String, world: &World, pid: usize) -> Result<(), AllocError>
     requires process { pid < length world.now.processes }
     ensures text { OnOk result (Adds text.old text.new (descriptor_lines pid world.now)) }
@@ -72,7 +72,7 @@ fn push_descriptors(text: &mut String, world: &World, pid: usize) -> Result<(), 
 }
 
 /// Adds the open slots of a process.
-#[tactic(auto, using(crate::proofs::RowLemmas::each_none))]
+#[tactic(auto, using(crate::proofs::RowLemmas::texts_below_none))]
 fn push_slots(text: &mut String, world: &World, pid: usize) -> Result<(), AllocError>
     requires process { pid < length world.now.processes }
     ensures text { OnOk result (Adds text.old text.new (slot_lines pid world.now)) }

@@ -9,7 +9,7 @@ ghost use Rattle.lab_debug.specs.Commands.{step_count_max};
 ghost use Rattle.lab_debug.specs.Texts.{status_text};
 ghost use Rattle.lab_debug.specs.Verdicts.{verdict_text};
 ghost use Rattle.lab_debug.specs.Private.Replies.{effect_of};
-ghost use Rattle.lab_debug.specs.Effects.{IsCommand, is_at, until, is_there, are_there, carried_out, command_effect, line_effect, refusal_text};
+ghost use Rattle.lab_debug.specs.Effects.{IsCommand, is_at, world_until, is_there, are_there, accepted_effect, command_effect, line_effect, refusal_text};
 
 use crate::command::{Command, Refusal, read_command};
 use crate::operands::split_words;
@@ -83,7 +83,7 @@ fn is_same(stepped: Stepped) -> bool
 
 /// Takes at most so many steps of a process: up to an address, and only steps that have an effect.
 fn step_until(world: &mut World, pid: usize, address: u16, count: u32) -> Result<(), AllocError>
-    ensures world { OnOk result (world.new ≡ until pid address world.old count) }
+    ensures world { OnOk result (world.new ≡ world_until pid address world.old count) }
 {
     for i in 0..count {
         if is_at(world, pid, address) {
@@ -132,7 +132,7 @@ fn are_there(world: &World, command: &Command) -> bool
 /// Carries out a command whose processes are there.
 fn carry_out(alloc: Global, world: &mut World, command: Command) -> Result<Reply, AllocError>
     requires ranges { IsCommand command }
-    ensures effect { IfOk result (λ r. effect_of r world.new ≡ carried_out world.old command) }
+    ensures effect { IfOk result (λ r. effect_of r world.new ≡ accepted_effect world.old command) }
 {
     let text = match command {
         Command::Step { pid, count } => {

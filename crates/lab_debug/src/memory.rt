@@ -39,7 +39,7 @@ fn push_word_text(text: &mut String, address: u16, word: u16) -> Result<(), Allo
 }
 
 /// Adds the words of a range, each on a line.
-#[tactic(auto, using(crate::proofs::RowLemmas::each_none))]
+#[tactic(auto, using(crate::proofs::RowLemmas::texts_below_none))]
 fn push_words(
     text: &mut String,
     process: &Process,
@@ -58,7 +58,7 @@ fn push_words(
 }
 
 /// Adds the words of a range with their texts, each on a line.
-#[tactic(auto, using(crate::proofs::RowLemmas::each_none))]
+#[tactic(auto, using(crate::proofs::RowLemmas::texts_below_none))]
 fn push_texts(
     text: &mut String,
     process: &Process,

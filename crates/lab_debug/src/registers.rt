@@ -2,7 +2,7 @@
 ghost use Rattle.std.specs.Prelude.{◌≡◌, Some, OnOk};
 ghost use Rattle.lab_sched.specs.Held.{process_view};
 ghost use Rattle.lab_sched.specs.Worlds.{machine_of};
-ghost use Rattle.lab_debug.specs.Rows.{Adds, each};
+ghost use Rattle.lab_debug.specs.Rows.{Adds, texts_below};
 ghost use Rattle.lab_debug.specs.Texts.{code_text, register_part, counter_part, regs_line, regs_text};
 
 use lab_sched::{Process, World};
@@ -34,10 +34,10 @@ fn push_register(text: &mut String, process: &Process, r: Reg) -> Result<(), All
 }
 
 /// Adds R0 to R7, each with a blank.
-#[tactic(auto, using(crate::proofs::RowLemmas::each_none, crate::proofs::RowLemmas::each_more))]
+#[tactic(auto, using(crate::proofs::RowLemmas::texts_below_none, crate::proofs::RowLemmas::texts_below_more))]
 fn push_registers(text: &mut String, process: &Process) -> Result<(), AllocError>
     ensures text { OnOk result (Adds text.old text.new
-        (each 8 (register_part (machine_of (process_view process.now))))) }
+        (texts_below 8 (register_part (machine_of (process_view process.now))))) }
 {
     for number in 0..8u16 {
         push_register(text, process, Reg::of_low_bits(number))?;

@@ -36,7 +36,7 @@ fn push_process(text: &mut String, world: &World, pid: usize) -> Result<(), Allo
 }
 
 /// Adds these of each process.
-#[tactic(auto, using(crate::proofs::RowLemmas::each_none))]
+#[tactic(auto, using(crate::proofs::RowLemmas::texts_below_none))]
 fn push_processes(text: &mut String, world: &World) -> Result<(), AllocError>
     ensures text { OnOk result (Adds text.old text.new (process_reports world.now)) }
 {

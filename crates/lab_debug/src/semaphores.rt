@@ -23,7 +23,7 @@ fn push_place(text: &mut String, world: &World, place: u8) -> Result<(), AllocEr
 }
 
 /// Adds the semaphores in order of place.
-#[tactic(auto, using(crate::proofs::RowLemmas::each_none))]
+#[tactic(auto, using(crate::proofs::RowLemmas::texts_below_none))]
 pub fn push_sems(text: &mut String, world: &World) -> Result<(), AllocError>
     ensures text { OnOk result (Adds text.old text.new (sems_text world.now)) }
 {

@@ -89,7 +89,7 @@ pub fn push_status(text: &mut String, world: &World, pid: usize) -> Result<(), A
 }
 
 /// Adds each status line.
-#[tactic(auto, using(crate::proofs::RowLemmas::each_none))]
+#[tactic(auto, using(crate::proofs::RowLemmas::texts_below_none))]
 pub fn push_procs(text: &mut String, world: &World) -> Result<(), AllocError>
     ensures text { OnOk result (Adds text.old text.new (procs_text world.now)) }
 {

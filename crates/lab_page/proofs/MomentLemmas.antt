@@ -13,7 +13,7 @@ use Rattle.lab_trace.specs.Scenes.{Scene, first_scene, line, next, scene_after}
 use Rattle.lab_trace.specs.Lines.{widths_for}
 use Rattle.lab_trace.specs.declared.lines.Widths.{Widths}
 use Rattle.lab_trace.proofs.SceneLemmas.{renumbered, next-still}
-use Rattle.lab_page.specs.Moments.{Moment, moment_told, moment_list, moment, moments, moments_of}
+use Rattle.lab_page.specs.Moments.{Moment, step_moment, moment_list, moment, moments, moments_of}
 use Rattle.lab_page.specs.Runs.{ending_at, ending_of}
 
 pub moments-none : (v : Widths) (b : Bool) (s : Scene) → moments v b s [] ≡ []
@@ -35,7 +35,7 @@ moments-append v b s (x ∷ xs) ys =
 pub moment-still : (v : Widths) (b : Bool) (s : Scene) (p : ℕ) → step_effect_in s.world p ≡ nothing → moment v b s p ≡ []
 unfolding moment
 moment-still v b s p e =
-    ap (λ (t : StepEffect). moment_list (moment_told b (stepped_of t) (line v s p) s.number p (step s.world p))) e
+    ap (λ (t : StepEffect). moment_list (step_moment b (stepped_of t) (line v s p) s.number p (step s.world p))) e
 
 -- nor have n of them
 moments-still : (n : ℕ) (v : Widths) (b : Bool) (s : Scene) (p : ℕ) → step_effect_in s.world p ≡ nothing → moments v b s (replicate n p) ≡ []

@@ -79,12 +79,12 @@ moment_list None = []
 moment_list (Some m) = m ∷ []
 
 -- the moment after a step of this kind; one without an effect has none
-abbrev pub moment_told : Bool → Stepped → List ℕ → ℕ → ℕ → WorldState → Option Moment
-moment_told whole t l n p w = if has_effect t then moment_by whole l n p w else None
+abbrev pub step_moment : Bool → Stepped → List ℕ → ℕ → ℕ → WorldState → Option Moment
+step_moment whole t l n p w = if has_effect t then moment_by whole l n p w else None
 
 -- the moment after the next step, of process p, or nothing
 unfoldable pub moment : Widths → Bool → Scene → ℕ → List Moment
-moment v whole s p = moment_list (moment_told whole (stepped_of (step_effect_in s.world p)) (line v s p) s.number p (step s.world p))
+moment v whole s p = moment_list (step_moment whole (stepped_of (step_effect_in s.world p)) (line v s p) s.number p (step s.world p))
 
 -- the moments of steps
 unfoldable pub moments : Widths → Bool → Scene → List ℕ → List Moment

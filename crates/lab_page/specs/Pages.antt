@@ -17,28 +17,28 @@ use Rattle.lab_page.specs.declared.template.moving.TheConstants.{MOVING}
 use Rattle.lab_page.specs.declared.template.setup.TheConstants.{SETUP}
 
 -- the page before its data
-unfoldable pub before : List ℕ
-before = HEAD.now ++ STYLE.now ++ TOP.now ++ BODY.now ++ DATA.now
+unfoldable pub page_start : List ℕ
+page_start = HEAD.now ++ STYLE.now ++ TOP.now ++ BODY.now ++ DATA.now
 
 -- the scripts that read the data
-unfoldable pub reading : List ℕ
-reading = RECORDS.now ++ STATE.now ++ STUDY.now
+unfoldable pub reading_scripts : List ℕ
+reading_scripts = RECORDS.now ++ STATE.now ++ STUDY.now
 
 -- the limit of steps that the scripts name
-unfoldable pub limit : List ℕ
-limit = codes "const MOST_WHOLE = " ++ decimal most_whole ++ codes ";"
+unfoldable pub limit_script : List ℕ
+limit_script = codes "const MOST_WHOLE = " ++ decimal most_whole ++ codes ";"
 
 -- the scripts that draw
-unfoldable pub drawing : List ℕ
-drawing = LAYOUT.now ++ BOXES.now ++ PICTURE.now
+unfoldable pub drawing_scripts : List ℕ
+drawing_scripts = LAYOUT.now ++ BOXES.now ++ PICTURE.now
 
 -- the scripts that show a moment
-unfoldable pub showing : List ℕ
-showing = PANEL.now ++ MOVING.now ++ SETUP.now
+unfoldable pub showing_scripts : List ℕ
+showing_scripts = PANEL.now ++ MOVING.now ++ SETUP.now
 
 -- the page behind its data
-unfoldable pub after : List ℕ
-after = SCRIPT.now ++ reading ++ limit ++ drawing ++ showing ++ END.now
+unfoldable pub page_end : List ℕ
+page_end = SCRIPT.now ++ reading_scripts ++ limit_script ++ drawing_scripts ++ showing_scripts ++ END.now
 
 -- a byte of JSON that stands in a page: a `<`, which only a string can hold, is escaped (RFC 8259, 7)
 unfoldable pub safe_byte : ℕ → List ℕ
@@ -50,7 +50,7 @@ safe json = flat_map safe_byte json
 
 -- the page with these data
 abbrev pub page_text : List ℕ → List ℕ
-page_text json = before ++ safe json ++ after
+page_text json = page_start ++ safe json ++ page_end
 
 -- a text in which no `<` stands: it ends no element of a page
 abbrev pub HasNoTag : List ℕ → Type 0

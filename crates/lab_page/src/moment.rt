@@ -2,7 +2,7 @@
 ghost use Rattle.std.specs.Prelude.{◌≡◌, IfOk, string_bytes};
 ghost use Rattle.std.specs.Option.{option_map};
 ghost use Rattle.lab_trace.specs.Scenes.{has_effect};
-ghost use Rattle.lab_page.specs.Moments.{event_of, moment_by, moment_told, event_shown, moment_shown};
+ghost use Rattle.lab_page.specs.Moments.{event_of, moment_by, step_moment, event_shown, moment_shown};
 
 use crate::code::code_text;
 use crate::data::{Event, Moment};
@@ -64,7 +64,7 @@ fn has_effect(stepped: Stepped) -> bool
 }
 
 /// The moment after a step, by what the step was. One without an effect has none.
-pub fn moment_told(
+pub fn step_moment(
     alloc: Global,
     world: &World,
     whole: bool,
@@ -74,7 +74,7 @@ pub fn moment_told(
     line: String,
 ) -> Result<Option<Moment>, AllocError>
     ensures moment { IfOk result (λ m. option_map moment_shown m
-        ≡ moment_told whole stepped (string_bytes line) step pid world.now) }
+        ≡ step_moment whole stepped (string_bytes line) step pid world.now) }
 {
     if has_effect(stepped) {
         moment_by(alloc, world, whole, step, pid, line)

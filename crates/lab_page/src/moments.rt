@@ -13,7 +13,7 @@ ghost use Rattle.lab_page.specs.Moments.{moment_list, moment, moments, event_sho
 use crate::MOST_BYTES;
 use crate::data::{Event, Moment};
 use crate::fault::PageFault;
-use crate::moment::moment_told;
+use crate::moment::step_moment;
 use lab_sched::{Block, Stepped, World};
 use lab_trace::{Tally, Traced, Widths, steps_done, trace_step};
 use std::alloc::Global;
@@ -138,7 +138,7 @@ impl Moments {
             ++ moment widths whole (scene_at number world.old tally.old) pid)) }
     {
         let Traced { line, stepped } = trace_step(alloc, world, tally, widths, number, pid)?;
-        let moment = moment_told(alloc, world, whole, stepped, number, pid, line)?;
+        let moment = step_moment(alloc, world, whole, stepped, number, pid, line)?;
         self.push_some(moment)?;
         Ok(stepped)
     }

@@ -6,7 +6,7 @@ use crate::MOST_BYTES;
 use crate::data::Run;
 use crate::fault::PageFault;
 use crate::safe::push_safe;
-use crate::template::{push_after, push_before};
+use crate::template::{push_page_end, push_page_start};
 use std::alloc::{AllocError, Global};
 
 /// The page with these data, as JSON.
@@ -14,9 +14,9 @@ fn page_with(alloc: Global, json: &str) -> Result<Vec<u8>, AllocError>
     ensures page { IfOk result (λ v. v.items ≡ page_text json.now) }
 {
     let mut bytes = Vec::new(alloc);
-    push_before(&mut bytes)?;
+    push_page_start(&mut bytes)?;
     push_safe(&mut bytes, json.as_bytes())?;
-    push_after(&mut bytes)?;
+    push_page_end(&mut bytes)?;
     Ok(bytes)
 }
 

@@ -1,7 +1,7 @@
 //! The page around its data: the same text for every trace.
 
 ghost use Rattle.std.specs.Prelude.{◌≡◌, ◌++◌, OnOk};
-ghost use Rattle.lab_page.specs.Pages.{before, reading, limit, drawing, showing, after};
+ghost use Rattle.lab_page.specs.Pages.{page_start, reading_scripts, limit_script, drawing_scripts, showing_scripts, page_end};
 
 mod body;
 mod boxes;
@@ -63,9 +63,9 @@ fn push_part(bytes: &mut Vec<u8>, part: &str) -> Result<(), AllocError>
 }
 
 /// Adds the page before its data.
-#[tactic(auto, unfolding(crate::specs::Pages::before))]
-pub fn push_before(bytes: &mut Vec<u8>) -> Result<(), AllocError>
-    ensures bytes { OnOk result (bytes.new.items ≡ bytes.old.items ++ before) }
+#[tactic(auto, unfolding(crate::specs::Pages::page_start))]
+pub fn push_page_start(bytes: &mut Vec<u8>) -> Result<(), AllocError>
+    ensures bytes { OnOk result (bytes.new.items ≡ bytes.old.items ++ page_start) }
 {
     push_part(bytes, HEAD)?;
     push_part(bytes, STYLE)?;
@@ -76,9 +76,9 @@ pub fn push_before(bytes: &mut Vec<u8>) -> Result<(), AllocError>
 }
 
 /// Adds the scripts that read the data.
-#[tactic(auto, unfolding(crate::specs::Pages::reading))]
-fn push_reading(bytes: &mut Vec<u8>) -> Result<(), AllocError>
-    ensures bytes { OnOk result (bytes.new.items ≡ bytes.old.items ++ reading) }
+#[tactic(auto, unfolding(crate::specs::Pages::reading_scripts))]
+fn push_reading_scripts(bytes: &mut Vec<u8>) -> Result<(), AllocError>
+    ensures bytes { OnOk result (bytes.new.items ≡ bytes.old.items ++ reading_scripts) }
 {
     push_part(bytes, RECORDS)?;
     push_part(bytes, STATE)?;
@@ -87,9 +87,9 @@ fn push_reading(bytes: &mut Vec<u8>) -> Result<(), AllocError>
 }
 
 /// Adds the limit of steps that the scripts name.
-#[tactic(auto, unfolding(crate::specs::Pages::limit))]
-fn push_limit(bytes: &mut Vec<u8>) -> Result<(), AllocError>
-    ensures bytes { OnOk result (bytes.new.items ≡ bytes.old.items ++ limit) }
+#[tactic(auto, unfolding(crate::specs::Pages::limit_script))]
+fn push_limit_script(bytes: &mut Vec<u8>) -> Result<(), AllocError>
+    ensures bytes { OnOk result (bytes.new.items ≡ bytes.old.items ++ limit_script) }
 {
     let most = MOST_WHOLE;
     let text = format!(in *bytes.allocator(); "const MOST_WHOLE = {most};")?;
@@ -97,9 +97,9 @@ fn push_limit(bytes: &mut Vec<u8>) -> Result<(), AllocError>
 }
 
 /// Adds the scripts that draw.
-#[tactic(auto, unfolding(crate::specs::Pages::drawing))]
-fn push_drawing(bytes: &mut Vec<u8>) -> Result<(), AllocError>
-    ensures bytes { OnOk result (bytes.new.items ≡ bytes.old.items ++ drawing) }
+#[tactic(auto, unfolding(crate::specs::Pages::drawing_scripts))]
+fn push_drawing_scripts(bytes: &mut Vec<u8>) -> Result<(), AllocError>
+    ensures bytes { OnOk result (bytes.new.items ≡ bytes.old.items ++ drawing_scripts) }
 {
     push_part(bytes, LAYOUT)?;
     push_part(bytes, BOXES)?;
@@ -108,9 +108,9 @@ fn push_drawing(bytes: &mut Vec<u8>) -> Result<(), AllocError>
 }
 
 /// Adds the scripts of the panel and of the controls.
-#[tactic(auto, unfolding(crate::specs::Pages::showing))]
-fn push_showing(bytes: &mut Vec<u8>) -> Result<(), AllocError>
-    ensures bytes { OnOk result (bytes.new.items ≡ bytes.old.items ++ showing) }
+#[tactic(auto, unfolding(crate::specs::Pages::showing_scripts))]
+fn push_showing_scripts(bytes: &mut Vec<u8>) -> Result<(), AllocError>
+    ensures bytes { OnOk result (bytes.new.items ≡ bytes.old.items ++ showing_scripts) }
 {
     push_part(bytes, PANEL)?;
     push_part(bytes, MOVING)?;
@@ -119,15 +119,15 @@ fn push_showing(bytes: &mut Vec<u8>) -> Result<(), AllocError>
 }
 
 /// Adds the page behind its data.
-#[tactic(auto, unfolding(crate::specs::Pages::after))]
-pub fn push_after(bytes: &mut Vec<u8>) -> Result<(), AllocError>
-    ensures bytes { OnOk result (bytes.new.items ≡ bytes.old.items ++ after) }
+#[tactic(auto, unfolding(crate::specs::Pages::page_end))]
+pub fn push_page_end(bytes: &mut Vec<u8>) -> Result<(), AllocError>
+    ensures bytes { OnOk result (bytes.new.items ≡ bytes.old.items ++ page_end) }
 {
     push_part(bytes, SCRIPT)?;
-    push_reading(bytes)?;
-    push_limit(bytes)?;
-    push_drawing(bytes)?;
-    push_showing(bytes)?;
+    push_reading_scripts(bytes)?;
+    push_limit_script(bytes)?;
+    push_drawing_scripts(bytes)?;
+    push_showing_scripts(bytes)?;
     push_part(bytes, END)?;
     Ok(())
 }

@@ -9,28 +9,28 @@ use Rattle.lab_trace.specs.Answers.{result_of}
 use Rattle.lab_trace.specs.Events.{Event, local, calls, writes, ends}
 use Rattle.lab_trace.specs.Questions.{Question}
 use Rattle.lab_trace.specs.Tallies.{units_after}
-use Rattle.lab_trace.specs.Units.{most_units, is_of, no_units, units_of, with_count_at, with_count, is_there, remaining, one_taken, one_given, taken_in, given_in, units_after_call, moved_by, IsFew, AreFew, HasRoom}
+use Rattle.lab_trace.specs.Units.{most_units, is_of, no_units, units_of, units_with_at, units_with, is_there, remaining_units, count_after_wait, count_after_post, units_after_wait, units_after_post, units_after_success, units_after_call, IsFew, AreFew, HasRoom}
 use Rattle.lab_trace.specs.declared.units.UnitCount.{UnitCount}
 use Rattle.lab_trace.specs.declared.service.Service.{Service}
 use Rattle.lab_trace.specs.declared.service.Service.TheVariants.{MqOpen, MqClose, MqUnlink, MqSend, MqReceive, MqGetattr, MqSetattr, SemOpen, SemClose, SemUnlink, SemWait, SemTrywait, SemPost, SemGetvalue}
 
 -- the loop over the counts
-pub remaining-none : (k : KernelState) → remaining k [] ≡ []
-unfolding remaining
-remaining-none k = refl
+pub remaining_units-none : (k : KernelState) → remaining_units k [] ≡ []
+unfolding remaining_units
+remaining_units-none k = refl
 
-pub remaining-there : (k : KernelState) (c : UnitCount) → is_there k c ≡ true → remaining k (c ∷ []) ≡ c ∷ []
-unfolding remaining
-remaining-there k c e = rw e refl
+pub remaining_units-there : (k : KernelState) (c : UnitCount) → is_there k c ≡ true → remaining_units k (c ∷ []) ≡ c ∷ []
+unfolding remaining_units
+remaining_units-there k c e = rw e refl
 
-pub remaining-gone : (k : KernelState) (c : UnitCount) → is_there k c ≡ false → remaining k (c ∷ []) ≡ []
-unfolding remaining
-remaining-gone k c e = rw e refl
+pub remaining_units-gone : (k : KernelState) (c : UnitCount) → is_there k c ≡ false → remaining_units k (c ∷ []) ≡ []
+unfolding remaining_units
+remaining_units-gone k c e = rw e refl
 
-pub remaining-more : (k : KernelState) (cs : List UnitCount) (i : ℕ) (d : UnitCount) → i < length cs
-    → remaining k (take (i + 1) cs) ≡ remaining k (take i cs) ++ remaining k (get_or cs i d ∷ [])
-unfolding remaining
-remaining-more k cs i d h = ap (filter (is_there k)) (take_more cs i d h) ∙ filter-append (is_there k) (take i cs) (get_or cs i d ∷ [])
+pub remaining_units-more : (k : KernelState) (cs : List UnitCount) (i : ℕ) (d : UnitCount) → i < length cs
+    → remaining_units k (take (i + 1) cs) ≡ remaining_units k (take i cs) ++ remaining_units k (get_or cs i d ∷ [])
+unfolding remaining_units
+remaining_units-more k cs i d h = ap (filter (is_there k)) (take_more cs i d h) ∙ filter-append (is_there k) (take i cs) (get_or cs i d ∷ [])
 
 -- a count that is found is one of the list
 found-in : (n : ℕ) (c x : UnitCount) (rest : Option UnitCount) (b : Bool) → IsFew n x → IsFew n (unwrap_or rest c)
@@ -58,27 +58,27 @@ has_room n p cs some most hs place = few-within n most_units (units_of place p c
 pub few-more : (n : ℕ) (cs : List UnitCount) → AreFew n cs → AreFew (n + 1) cs
 few-more n cs hs i d h = let x = hs i d h in (omega (arith, x.0), omega (arith, x.1))
 
-put-few : (n : ℕ) (c : UnitCount) (cs : List UnitCount) (at : Option ℕ) → IsFew n c → AreFew n cs → AreFew n (with_count_at c cs at)
+put-few : (n : ℕ) (c : UnitCount) (cs : List UnitCount) (at : Option ℕ) → IsFew n c → AreFew n cs → AreFew n (units_with_at c cs at)
 put-few n c cs None h hs = All-append (IsFew n) cs (c ∷ []) hs (All-cons (IsFew n) c [] h (All-nil (IsFew n)))
 put-few n c cs (Some i) h hs = All-set (IsFew n) cs i c h hs
 
-counted-few : (n : ℕ) (c : UnitCount) (cs : List UnitCount) → IsFew n c → AreFew n cs → AreFew n (with_count c cs)
-unfolding with_count
+counted-few : (n : ℕ) (c : UnitCount) (cs : List UnitCount) → IsFew n c → AreFew n cs → AreFew n (units_with c cs)
+unfolding units_with
 counted-few n c cs h hs = put-few n c cs (position (is_of c.place c.pid) cs) h hs
 
-taken-few : (n p : ℕ) (place : Option ℕ) (cs : List UnitCount) → 0 < n → AreFew n cs → AreFew (n + 1) (taken_in p place cs)
+taken-few : (n p : ℕ) (place : Option ℕ) (cs : List UnitCount) → 0 < n → AreFew n cs → AreFew (n + 1) (units_after_wait p place cs)
 taken-few n p None cs some hs = few-more n cs hs
 taken-few n p (Some place) cs some hs =
     let x = units-few n place p cs some hs in
-    counted-few (n + 1) (one_taken (units_of place p cs)) cs (omega (arith, x.0), omega (arith, x.1)) (few-more n cs hs)
+    counted-few (n + 1) (count_after_wait (units_of place p cs)) cs (omega (arith, x.0), omega (arith, x.1)) (few-more n cs hs)
 
-given-few : (n p : ℕ) (place : Option ℕ) (cs : List UnitCount) → 0 < n → AreFew n cs → AreFew (n + 1) (given_in p place cs)
+given-few : (n p : ℕ) (place : Option ℕ) (cs : List UnitCount) → 0 < n → AreFew n cs → AreFew (n + 1) (units_after_post p place cs)
 given-few n p None cs some hs = few-more n cs hs
 given-few n p (Some place) cs some hs =
     let x = units-few n place p cs some hs in
-    counted-few (n + 1) (one_given (units_of place p cs)) cs (omega (arith, x.0), omega (arith, x.1)) (few-more n cs hs)
+    counted-few (n + 1) (count_after_post (units_of place p cs)) cs (omega (arith, x.0), omega (arith, x.1)) (few-more n cs hs)
 
-moved-few : (n p : ℕ) (place : Option ℕ) (s : Service) (cs : List UnitCount) → 0 < n → AreFew n cs → AreFew (n + 1) (units_after_call p place s cs)
+moved-few : (n p : ℕ) (place : Option ℕ) (s : Service) (cs : List UnitCount) → 0 < n → AreFew n cs → AreFew (n + 1) (units_after_success p place s cs)
 moved-few n p place SemWait cs some hs = taken-few n p place cs some hs
 moved-few n p place SemTrywait cs some hs = taken-few n p place cs some hs
 moved-few n p place SemPost cs some hs = given-few n p place cs some hs
@@ -94,18 +94,18 @@ moved-few n p place SemClose cs some hs = few-more n cs hs
 moved-few n p place SemUnlink cs some hs = few-more n cs hs
 moved-few n p place SemGetvalue cs some hs = few-more n cs hs
 
-moved_by-few : (n p : ℕ) (q : Question) (result : Option ℕ) (cs : List UnitCount) → 0 < n → AreFew n cs → AreFew (n + 1) (moved_by p q result cs)
-moved_by-few n p q None cs some hs = few-more n cs hs
-moved_by-few n p q (Some result) cs some hs = moved-few n p q.place q.service cs some hs
+units_after_call-few : (n p : ℕ) (q : Question) (result : Option ℕ) (cs : List UnitCount) → 0 < n → AreFew n cs → AreFew (n + 1) (units_after_call p q result cs)
+units_after_call-few n p q None cs some hs = few-more n cs hs
+units_after_call-few n p q (Some result) cs some hs = moved-few n p q.place q.service cs some hs
 
-remaining-few : (n : ℕ) (k : KernelState) (cs : List UnitCount) → AreFew n cs → AreFew n (remaining k cs)
-unfolding remaining
-remaining-few n k cs hs = All-filter (is_there k) (IsFew n) cs hs
+remaining_units-few : (n : ℕ) (k : KernelState) (cs : List UnitCount) → AreFew n cs → AreFew n (remaining_units k cs)
+unfolding remaining_units
+remaining_units-few n k cs hs = All-filter (is_there k) (IsFew n) cs hs
 
 -- after an event
 pub after-few : (n : ℕ) (k : KernelState) (p : ℕ) (u : Process) (e : Event) (cs : List UnitCount) → 0 < n → AreFew n cs → AreFew (n + 1) (units_after k p u e cs)
 after-few n k p u local cs some hs = few-more n cs hs
 after-few n k p u (calls q) cs some hs =
-    remaining-few (n + 1) k (moved_by p q (result_of u) cs) (moved_by-few n p q (result_of u) cs some hs)
+    remaining_units-few (n + 1) k (units_after_call p q (result_of u) cs) (units_after_call-few n p q (result_of u) cs some hs)
 after-few n k p u (writes bytes) cs some hs = few-more n cs hs
-after-few n k p u (ends how) cs some hs = remaining-few (n + 1) k cs (few-more n cs hs)
+after-few n k p u (ends how) cs some hs = remaining_units-few (n + 1) k cs (few-more n cs hs)

@@ -7,7 +7,7 @@ use Rattle.ipc_kernel.specs.Limits.{open_max}
 use Rattle.ipc_kernel.specs.Processes.{descriptor_of, slot_of, slot_refers}
 use Rattle.ipc_kernel.specs.declared.process.Descriptor.{Descriptor}
 use Rattle.lab_sched.specs.Worlds.{Process, Running, Waiting, Ended, WorldState}
-use Rattle.lab_debug.specs.Rows.{each}
+use Rattle.lab_debug.specs.Rows.{texts_below}
 use Rattle.lab_trace.specs.Calls.{call_text}
 use Rattle.lab_trace.specs.Objects.{held_place, level_text}
 use Rattle.lab_trace.specs.Services.{service_at}
@@ -37,7 +37,7 @@ has_queue k p place other = any_below open_max (λ d. can_do place other (descri
 abbrev pub has_semaphore : KernelState → ℕ → ℕ → Bool
 has_semaphore k p place = any_below open_max (λ s. slot_refers place (slot_of k.processes p s))
 
--- whether process p could serve a call on the object in a place: it has the queue open to send or to receive, or the semaphore
+-- whether process p could serve a call on an object: it has the queue open to send or to receive, or the semaphore
 abbrev pub has_open : KernelState → ℕ → Service → ℕ → Bool
 has_open k place MqReceive p = has_queue k p place 0
 has_open k place MqSend p = has_queue k p place 1
@@ -53,7 +53,7 @@ or_nobody found = if length found == 0 then codes " nobody" else found
 
 -- the other processes that could serve a call of process p
 unfoldable pub others_text : WorldState → ℕ → ℕ → Service → List ℕ
-others_text w p place s = or_nobody (each (length w.processes) (other_text w.kernel p place s))
+others_text w p place s = or_nobody (texts_below (length w.processes) (other_text w.kernel p place s))
 
 -- what stands before those who could serve a call
 abbrev pub others_title : Service → List ℕ
@@ -82,7 +82,7 @@ taker_text w cs place p = taker_of p (balance (units_of place p cs)) (slice_get 
 
 -- the processes that took more units of the semaphore in a place than they gave
 unfoldable pub takers_text : WorldState → List UnitCount → ℕ → List ℕ
-takers_text w cs place = or_nobody (each (length w.processes) (taker_text w cs place))
+takers_text w cs place = or_nobody (texts_below (length w.processes) (taker_text w cs place))
 
 -- who took units of the object that a call waits for; a queue has none
 abbrev pub takers_part : WorldState → List UnitCount → ℕ → Service → List ℕ
@@ -121,4 +121,4 @@ stand_line v w t p (Some s) = stand v w t p s
 
 -- where each process stands that hasn't ended
 unfoldable pub end_lines : Widths → WorldState → TallyState → List ℕ
-end_lines v w t = each (length w.processes) (λ p. stand_line v w t p (slice_get w.processes p))
+end_lines v w t = texts_below (length w.processes) (λ p. stand_line v w t p (slice_get w.processes p))

@@ -44,7 +44,7 @@ abbrev pub opened_place : KernelState → ℕ → Service → Option ℕ → Opt
 opened_place k p s None = None
 opened_place k p s (Some result) = held_place k p s result
 
--- the place of the object whose level is told behind a call, if one is: that of an open, or of a call that can change a level
+-- the place whose level is told behind a call, if one is: that of an open, or of a call that can change a level
 unfoldable pub told_place : KernelState → ℕ → Question → Process → Option ℕ
 told_place k p q after =
     if is_open q.service then opened_place k p q.service (result_of after) else
@@ -95,13 +95,13 @@ abbrev pub end_text : How → List ℕ
 end_text how = codes "ends " ++ how_text how
 
 -- what happened
-abbrev pub what : KernelState → Account → List Origin → ℕ → Before → Process → Event → List ℕ
-what k a os p b after local = []
-what k a os p b after (calls q) = call_line k a os p q after
-what k a os p b after (writes bytes) = output_text b.word bytes
-what k a os p b after (ends how) = end_text how
+abbrev pub event_text : KernelState → Account → List Origin → ℕ → Before → Process → Event → List ℕ
+event_text k a os p b after local = []
+event_text k a os p b after (calls q) = call_line k a os p q after
+event_text k a os p b after (writes bytes) = output_text b.word bytes
+event_text k a os p b after (ends how) = end_text how
 
 -- the line of process p in step n, where its event has one
 abbrev pub event_line : Widths → ℕ → KernelState → Account → List Origin → ℕ → Before → Process → Event → List ℕ
 event_line v n k a os p b after e =
-    if has_line e then head v (decimal n) p b.pc a.local ++ what k a os p b after e ++ codes "\n" else []
+    if has_line e then head v (decimal n) p b.pc a.local ++ event_text k a os p b after e ++ codes "\n" else []

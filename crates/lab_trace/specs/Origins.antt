@@ -20,16 +20,16 @@ abbrev pub is_below : ℕ → ℕ → Origin → Bool
 is_below place priority o = (o.place == place) && nat_lt o.priority priority
 
 -- a message goes before those of its queue that have a lesser priority
-unfoldable pub origins_after_send : Origin → List Origin → List Origin
-origins_after_send o os = insert os (position_or_len (is_below o.place o.priority) os) o
+unfoldable pub origins_with : Origin → List Origin → List Origin
+origins_with o os = insert os (position_or_len (is_below o.place o.priority) os) o
 
 -- the message of the queue in a place that is received first
 unfoldable pub first : ℕ → List Origin → Option Origin
 first place os = find (is_in place) os
 
 -- the origins without that of the message which is received first from the queue in a place
-unfoldable pub origins_after_receive : ℕ → List Origin → List Origin
-origins_after_receive place os = remove os (position_or_len (is_in place) os)
+unfoldable pub origins_without_first : ℕ → List Origin → List Origin
+origins_without_first place os = remove os (position_or_len (is_in place) os)
 
 -- the origins of messages in other queues
 unfoldable pub origins_without_queue : ℕ → List Origin → List Origin
@@ -41,26 +41,26 @@ origins_after_open k None os = os
 origins_after_open k (Some place) os = if length (queue_at k place).messages == 0 then origins_without_queue place os else os
 
 -- after process p sent a message in step n to the queue in a place, where there is one
-abbrev pub sent_to : ℕ → ℕ → ℕ → Option ℕ → List Origin → List Origin
-sent_to n p priority None os = os
-sent_to n p priority (Some place) os = origins_after_send (record { place = place; priority = priority; step = n; pid = p }) os
+abbrev pub origins_after_send : ℕ → ℕ → ℕ → Option ℕ → List Origin → List Origin
+origins_after_send n p priority None os = os
+origins_after_send n p priority (Some place) os = origins_with (record { place = place; priority = priority; step = n; pid = p }) os
 
 -- after a message was received from the queue in a place, where there is one
-abbrev pub received_in : Option ℕ → List Origin → List Origin
-received_in None os = os
-received_in (Some place) os = origins_after_receive place os
+abbrev pub origins_after_receive : Option ℕ → List Origin → List Origin
+origins_after_receive None os = os
+origins_after_receive (Some place) os = origins_without_first place os
 
 -- after a call of process p in step n that was answered and not refused; k is the kernel after it
-abbrev pub origins_after_call : KernelState → ℕ → ℕ → Question → Service → ℕ → List Origin → List Origin
-origins_after_call k n p q MqOpen result os = origins_after_open k (held_place k p MqOpen result) os
-origins_after_call k n p q MqSend result os = sent_to n p q.priority q.place os
-origins_after_call k n p q MqReceive result os = received_in q.place os
-origins_after_call k n p q other result os = os
+abbrev pub origins_after_success : KernelState → ℕ → ℕ → Question → Service → ℕ → List Origin → List Origin
+origins_after_success k n p q MqOpen result os = origins_after_open k (held_place k p MqOpen result) os
+origins_after_success k n p q MqSend result os = origins_after_send n p q.priority q.place os
+origins_after_success k n p q MqReceive result os = origins_after_receive q.place os
+origins_after_success k n p q other result os = os
 
 -- after a call of process p in step n; one that waits or was refused changes nothing
-abbrev pub changed_by : KernelState → ℕ → ℕ → Question → Option ℕ → List Origin → List Origin
-changed_by k n p q None os = os
-changed_by k n p q (Some result) os = origins_after_call k n p q q.service result os
+abbrev pub origins_after_call : KernelState → ℕ → ℕ → Question → Option ℕ → List Origin → List Origin
+origins_after_call k n p q None os = os
+origins_after_call k n p q (Some result) os = origins_after_success k n p q q.service result os
 
 -- the message that is received first from the queue in a place, where there is one
 abbrev pub first_in : Option ℕ → List Origin → Option Origin

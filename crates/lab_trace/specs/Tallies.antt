@@ -3,8 +3,8 @@ use Rattle.std.specs.Prelude.{ℕ, ◌+◌, ◌<◌, replicate, slice_set, Optio
 use Rattle.lab_sched.specs.Worlds.{Process, Running, Waiting, Ended}
 use Rattle.ipc_kernel.specs.Kernel.{KernelState}
 use Rattle.lab_trace.specs.Answers.{result_of}
-use Rattle.lab_trace.specs.Origins.{changed_by}
-use Rattle.lab_trace.specs.Units.{moved_by, remaining}
+use Rattle.lab_trace.specs.Origins.{origins_after_call}
+use Rattle.lab_trace.specs.Units.{units_after_call, remaining_units}
 use Rattle.lab_trace.specs.declared.origins.Origin.{Origin}
 use Rattle.lab_trace.specs.declared.units.UnitCount.{UnitCount}
 use Rattle.lab_trace.specs.Events.{Event, local, calls, writes, ends}
@@ -52,15 +52,15 @@ AreBelow n t = (p : ℕ) → (account_in t p).local < n
 
 -- the origins after an event of process p in step n; k is the kernel after it
 abbrev pub origins_after : KernelState → ℕ → ℕ → Process → Event → List Origin → List Origin
-origins_after k n p after (calls q) os = changed_by k n p q (result_of after) os
+origins_after k n p after (calls q) os = origins_after_call k n p q (result_of after) os
 origins_after k n p after e os = os
 
 -- the units after an event of process p; k is the kernel after it
 abbrev pub units_after : KernelState → ℕ → Process → Event → List UnitCount → List UnitCount
 units_after k p after local cs = cs
-units_after k p after (calls q) cs = remaining k (moved_by p q (result_of after) cs)
+units_after k p after (calls q) cs = remaining_units k (units_after_call p q (result_of after) cs)
 units_after k p after (writes bytes) cs = cs
-units_after k p after (ends how) cs = remaining k cs
+units_after k p after (ends how) cs = remaining_units k cs
 
 -- the tally after an event of process p in step n; k is the kernel after it
 abbrev pub tally_after : KernelState → ℕ → ℕ → Process → Event → TallyState → TallyState

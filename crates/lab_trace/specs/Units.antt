@@ -25,51 +25,51 @@ abbrev pub balance : UnitCount → ℕ
 balance c = c.taken - c.given
 
 -- a count in the place of the one that stands at this position, or behind the others where there is none
-abbrev pub with_count_at : UnitCount → List UnitCount → Option ℕ → List UnitCount
-with_count_at c cs None = cs ++ c ∷ []
-with_count_at c cs (Some i) = slice_set cs i c
+abbrev pub units_with_at : UnitCount → List UnitCount → Option ℕ → List UnitCount
+units_with_at c cs None = cs ++ c ∷ []
+units_with_at c cs (Some i) = slice_set cs i c
 
 -- another count of the same process for the same semaphore
-unfoldable pub with_count : UnitCount → List UnitCount → List UnitCount
-with_count c cs = with_count_at c cs (position (is_of c.place c.pid) cs)
+unfoldable pub units_with : UnitCount → List UnitCount → List UnitCount
+units_with c cs = units_with_at c cs (position (is_of c.place c.pid) cs)
 
 -- whether the semaphore of a count is there
 abbrev pub is_there : KernelState → UnitCount → Bool
 is_there k c = is_some (semaphore_value (place_at k.places c.place))
 
 -- the counts for semaphores that are there: those of an emptied place end with its semaphore
-unfoldable pub remaining : KernelState → List UnitCount → List UnitCount
-remaining k cs = filter (is_there k) cs
+unfoldable pub remaining_units : KernelState → List UnitCount → List UnitCount
+remaining_units k cs = filter (is_there k) cs
 
 -- the count after a unit more that the process took
-abbrev pub one_taken : UnitCount → UnitCount
-one_taken c = record c { taken = c.taken + 1 }
+abbrev pub count_after_wait : UnitCount → UnitCount
+count_after_wait c = record c { taken = c.taken + 1 }
 
 -- the count after a unit more that the process gave
-abbrev pub one_given : UnitCount → UnitCount
-one_given c = record c { given = c.given + 1 }
+abbrev pub count_after_post : UnitCount → UnitCount
+count_after_post c = record c { given = c.given + 1 }
 
 -- the counts after process p took a unit of the semaphore in a place, where there is one
-abbrev pub taken_in : ℕ → Option ℕ → List UnitCount → List UnitCount
-taken_in p None cs = cs
-taken_in p (Some place) cs = with_count (one_taken (units_of place p cs)) cs
+abbrev pub units_after_wait : ℕ → Option ℕ → List UnitCount → List UnitCount
+units_after_wait p None cs = cs
+units_after_wait p (Some place) cs = units_with (count_after_wait (units_of place p cs)) cs
 
 -- the counts after process p gave a unit to the semaphore in a place, where there is one
-abbrev pub given_in : ℕ → Option ℕ → List UnitCount → List UnitCount
-given_in p None cs = cs
-given_in p (Some place) cs = with_count (one_given (units_of place p cs)) cs
+abbrev pub units_after_post : ℕ → Option ℕ → List UnitCount → List UnitCount
+units_after_post p None cs = cs
+units_after_post p (Some place) cs = units_with (count_after_post (units_of place p cs)) cs
 
 -- after a call of process p that was answered and not refused
-abbrev pub units_after_call : ℕ → Option ℕ → Service → List UnitCount → List UnitCount
-units_after_call p place SemWait cs = taken_in p place cs
-units_after_call p place SemTrywait cs = taken_in p place cs
-units_after_call p place SemPost cs = given_in p place cs
-units_after_call p place other cs = cs
+abbrev pub units_after_success : ℕ → Option ℕ → Service → List UnitCount → List UnitCount
+units_after_success p place SemWait cs = units_after_wait p place cs
+units_after_success p place SemTrywait cs = units_after_wait p place cs
+units_after_success p place SemPost cs = units_after_post p place cs
+units_after_success p place other cs = cs
 
 -- after a call of process p; one that waits or was refused moves no unit
-abbrev pub moved_by : ℕ → Question → Option ℕ → List UnitCount → List UnitCount
-moved_by p q None cs = cs
-moved_by p q (Some result) cs = units_after_call p q.place q.service cs
+abbrev pub units_after_call : ℕ → Question → Option ℕ → List UnitCount → List UnitCount
+units_after_call p q None cs = cs
+units_after_call p q (Some result) cs = units_after_success p q.place q.service cs
 
 -- the most units that a count tells of a process: it has 32 bits
 abbrev pub most_units : ℕ

@@ -6,8 +6,8 @@ ghost use Rattle.lab_trace.specs.Answers.{result_of};
 ghost use Rattle.lab_trace.specs.Questions.{question_of, before_of};
 ghost use Rattle.lab_trace.specs.Events.{event_of};
 ghost use Rattle.lab_trace.specs.Tallies.{origins_after, units_after};
-ghost use Rattle.lab_trace.specs.Origins.{origins_after_open, sent_to, received_in, origins_after_call};
-ghost use Rattle.lab_trace.specs.Units.{HasRoom, taken_in, given_in, units_after_call, moved_by};
+ghost use Rattle.lab_trace.specs.Origins.{origins_after_open, origins_after_send, origins_after_receive, origins_after_success};
+ghost use Rattle.lab_trace.specs.Units.{HasRoom, units_after_wait, units_after_post, units_after_success, units_after_call};
 
 use crate::answers::result_of;
 use crate::asking::{Asking, Observed};
@@ -57,7 +57,7 @@ fn keep_sent(
     place: Option<u8>,
 ) -> Result<(), AllocError>
     ensures kept { OnOk result (tally.new ≡ record tally.old {
-      origins = sent_to number pid priority place tally.old.origins;
+      origins = origins_after_send number pid priority place tally.old.origins;
     }) }
 {
     match place {
@@ -73,7 +73,9 @@ fn keep_sent(
 
 /// Lets go of the message that was received.
 fn keep_received(tally: &mut Tally, place: Option<u8>)
-    ensures kept { tally.new ≡ record tally.old { origins = received_in place tally.old.origins } }
+    ensures kept { tally.new ≡ record tally.old {
+      origins = origins_after_receive place tally.old.origins;
+    } }
 {
     if let Some(place) = place {
         tally.receive(place);
@@ -91,7 +93,7 @@ fn keep_messages(
 ) -> Result<(), AllocError>
     requires process { pid < length kernel.now.processes }
     ensures kept { OnOk result (tally.new ≡ record tally.old {
-      origins = origins_after_call kernel.now number pid
+      origins = origins_after_success kernel.now number pid
           (question_of asking.now) asking.now.service word
           tally.old.origins;
     }) }
@@ -138,7 +140,7 @@ pub fn keep_origins(
 fn keep_taken(tally: &mut Tally, pid: usize, place: Option<u8>) -> Result<(), AllocError>
     requires room { HasRoom pid tally.old.units }
     ensures kept { OnOk result (tally.new ≡ record tally.old {
-      units = taken_in pid place tally.old.units;
+      units = units_after_wait pid place tally.old.units;
     }) }
 {
     match place {
@@ -151,7 +153,7 @@ fn keep_taken(tally: &mut Tally, pid: usize, place: Option<u8>) -> Result<(), Al
 fn keep_given(tally: &mut Tally, pid: usize, place: Option<u8>) -> Result<(), AllocError>
     requires room { HasRoom pid tally.old.units }
     ensures kept { OnOk result (tally.new ≡ record tally.old {
-      units = given_in pid place tally.old.units;
+      units = units_after_post pid place tally.old.units;
     }) }
 {
     match place {
@@ -164,7 +166,7 @@ fn keep_given(tally: &mut Tally, pid: usize, place: Option<u8>) -> Result<(), Al
 fn keep_moved(tally: &mut Tally, pid: usize, asking: &Asking) -> Result<(), AllocError>
     requires room { HasRoom pid tally.old.units }
     ensures kept { OnOk result (tally.new ≡ record tally.old {
-      units = units_after_call pid asking.now.place asking.now.service tally.old.units;
+      units = units_after_success pid asking.now.place asking.now.service tally.old.units;
     }) }
 {
     match asking.service {
@@ -183,7 +185,7 @@ fn keep_answered(
 ) -> Result<(), AllocError>
     requires room { HasRoom pid tally.old.units }
     ensures kept { OnOk result (tally.new ≡ record tally.old {
-      units = moved_by pid (question_of asking.now)
+      units = units_after_call pid (question_of asking.now)
           (result_of (process_view after.now)) tally.old.units;
     }) }
 {

@@ -1,7 +1,7 @@
 //! Where the messages in queues come from.
 ghost use Rattle.std.specs.Prelude.{◌≡◌, ◌≤◌, OnOk, IfOk, length, []};
 ghost use Rattle.std.specs.List.{position_or_len};
-ghost use Rattle.lab_trace.specs.Origins.{is_in, is_below, origins_after_send, first, origins_after_receive, origins_without_queue};
+ghost use Rattle.lab_trace.specs.Origins.{is_in, is_below, origins_with, first, origins_without_first, origins_without_queue};
 
 use std::alloc::{AllocError, Global};
 use std::marker::Model;
@@ -102,9 +102,9 @@ impl Origins {
     }
 
     /// Keeps where a message comes from that was sent.
-    #[tactic(auto, unfolding(crate::specs::Origins::origins_after_send))]
+    #[tactic(auto, unfolding(crate::specs::Origins::origins_with))]
     pub fn send(&mut self, origin: Origin) -> Result<(), AllocError>
-        ensures ok { OnOk result (self.new ≡ origins_after_send origin self.old) }
+        ensures ok { OnOk result (self.new ≡ origins_with origin self.old) }
     {
         let index = index_below(&self.list, origin.place, origin.priority);
         match self.list.insert(index, origin) {
@@ -114,9 +114,9 @@ impl Origins {
     }
 
     /// Lets go of the message that was received from the queue in a place.
-    #[tactic(auto, unfolding(crate::specs::Origins::origins_after_receive))]
+    #[tactic(auto, unfolding(crate::specs::Origins::origins_without_first))]
     pub fn receive(&mut self, place: u8)
-        ensures kept { self.new ≡ origins_after_receive place self.old }
+        ensures kept { self.new ≡ origins_without_first place self.old }
     {
         let index = index_in(&self.list, place);
         if index < self.list.len() {

@@ -7,7 +7,7 @@ ghost use Rattle.lab_trace.specs.Questions.{before_of};
 ghost use Rattle.lab_trace.specs.Events.{event_of, has_line};
 ghost use Rattle.lab_trace.specs.Tallies.{account_of, account_after, waits_from};
 ghost use Rattle.lab_trace.specs.Units.{AreFew};
-ghost use Rattle.lab_trace.specs.Lines.{what, event_line};
+ghost use Rattle.lab_trace.specs.Lines.{event_text, event_line};
 ghost use Rattle.lab_trace.specs.Scenes.{scene_at, has_effect, line_by, tally_by, line, next_tally};
 
 use crate::asking::{Observed, observe};
@@ -47,7 +47,7 @@ fn has_line(before: &Observed, after: &Process) -> bool
 }
 
 /// Adds what happened in a step.
-fn push_what(
+fn push_event(
     text: &mut String,
     kernel: &Kernel,
     tally: &Tally,
@@ -57,8 +57,9 @@ fn push_what(
 ) -> Result<(), AllocError>
     requires process { pid < length kernel.now.processes }
     ensures text { OnOk result (string_bytes text.new ≡ string_bytes text.old
-        ++ what kernel.now (account_of tally.now pid) tally.now.origins pid (before_of before.now)
-        (process_view after.now) (event_of (before_of before.now) (process_view after.now))) }
+        ++ event_text kernel.now (account_of tally.now pid) tally.now.origins pid
+        (before_of before.now) (process_view after.now)
+        (event_of (before_of before.now) (process_view after.now))) }
 {
     match (&before.asking, after) {
         (Some(asking), _) => push_call_line(text, kernel, tally, pid, asking, after),
@@ -98,7 +99,7 @@ fn line_of(
     let number = format!(in alloc; "{number}")?;
     let local = tally.account(pid).local;
     push_head(alloc, &mut line, widths, &number, pid, before.pc, local)?;
-    push_what(&mut line, kernel, tally, pid, before, after)?;
+    push_event(&mut line, kernel, tally, pid, before, after)?;
     line.push_str("\n")?;
     Ok(line)
 }

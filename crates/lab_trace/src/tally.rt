@@ -1,7 +1,7 @@
 //! What a trace keeps of each process beside the world.
 ghost use Rattle.std.specs.Prelude.{◌≡◌, ◌<◌, IfOk, OnOk, length, slice_set};
-ghost use Rattle.lab_trace.specs.Origins.{origins_after_send, first, origins_after_receive, origins_without_queue};
-ghost use Rattle.lab_trace.specs.Units.{most_units, units_of, balance, with_count, remaining, one_taken, one_given};
+ghost use Rattle.lab_trace.specs.Origins.{origins_with, first, origins_without_first, origins_without_queue};
+ghost use Rattle.lab_trace.specs.Units.{most_units, units_of, balance, units_with, remaining_units, count_after_wait, count_after_post};
 ghost use Rattle.lab_trace.specs.Tallies.{new_tally, account_of};
 
 use crate::origins::{Origin, Origins};
@@ -90,7 +90,7 @@ impl Tally {
     /// Keeps where a message comes from that was sent.
     pub fn send(&mut self, origin: Origin) -> Result<(), AllocError>
         ensures ok { OnOk result (self.new
-            ≡ record self.old { origins = origins_after_send origin self.old.origins }) }
+            ≡ record self.old { origins = origins_with origin self.old.origins }) }
     {
         self.origins.send(origin)
     }
@@ -98,7 +98,7 @@ impl Tally {
     /// Lets go of the message that was received from the queue in a place.
     pub fn receive(&mut self, place: u8)
         ensures kept { self.new
-            ≡ record self.old { origins = origins_after_receive place self.old.origins } }
+            ≡ record self.old { origins = origins_without_first place self.old.origins } }
     {
         self.origins.receive(place);
     }
@@ -122,7 +122,7 @@ impl Tally {
     pub fn take(&mut self, place: u8, pid: usize) -> Result<(), AllocError>
         requires room { (units_of place pid self.old.units).taken < most_units }
         ensures kept { OnOk result (self.new ≡ record self.old {
-          units = with_count (one_taken (units_of place pid self.old.units)) self.old.units;
+          units = units_with (count_after_wait (units_of place pid self.old.units)) self.old.units;
         }) }
     {
         self.units.take(place, pid)
@@ -132,7 +132,7 @@ impl Tally {
     pub fn give(&mut self, place: u8, pid: usize) -> Result<(), AllocError>
         requires room { (units_of place pid self.old.units).given < most_units }
         ensures kept { OnOk result (self.new ≡ record self.old {
-          units = with_count (one_given (units_of place pid self.old.units)) self.old.units;
+          units = units_with (count_after_post (units_of place pid self.old.units)) self.old.units;
         }) }
     {
         self.units.give(place, pid)
@@ -141,7 +141,7 @@ impl Tally {
     /// Lets go of the counts for semaphores that are no more.
     pub fn forget(&mut self, kernel: &Kernel) -> Result<(), AllocError>
         ensures kept { OnOk result (self.new ≡ record self.old {
-          units = remaining kernel.now self.old.units;
+          units = remaining_units kernel.now self.old.units;
         }) }
     {
         self.units.forget(kernel)

@@ -1,7 +1,7 @@
 //! Who took the units of semaphores, and who gave units.
 ghost use Rattle.std.specs.Prelude.{◌≡◌, ℕ, ◌<◌, OnOk, IfOk, IfSome, length, position, []};
 ghost use Rattle.std.specs.List.{find};
-ghost use Rattle.lab_trace.specs.Units.{most_units, is_of, is_there, units_of, balance, with_count, remaining, one_taken, one_given};
+ghost use Rattle.lab_trace.specs.Units.{most_units, is_of, is_there, units_of, balance, units_with, remaining_units, count_after_wait, count_after_post};
 
 use ipc_kernel::Kernel;
 use std::alloc::{AllocError, Global};
@@ -68,12 +68,12 @@ fn is_there(kernel: &Kernel, count: UnitCount) -> bool
 }
 
 /// The counts for semaphores that are there.
-fn remaining(
+fn remaining_units(
     alloc: Global,
     kernel: &Kernel,
     counts: &[UnitCount],
 ) -> Result<Vec<UnitCount>, AllocError>
-    ensures kept { IfOk result (λ v. v.items ≡ remaining kernel.now counts.now) }
+    ensures kept { IfOk result (λ v. v.items ≡ remaining_units kernel.now counts.now) }
 {
     let mut kept = Vec::new(alloc);
     for count in counts {
@@ -120,9 +120,9 @@ impl Units {
     }
 
     /// Keeps another count of the same process for the same semaphore.
-    #[tactic(auto, unfolding(crate::specs::Units::with_count))]
+    #[tactic(auto, unfolding(crate::specs::Units::units_with))]
     fn keep(&mut self, count: UnitCount) -> Result<(), AllocError>
-        ensures kept { OnOk result (self.new ≡ with_count count self.old) }
+        ensures kept { OnOk result (self.new ≡ units_with count self.old) }
     {
         match index_of(&self.list, count.place, count.pid) {
             Some(index) => {
@@ -140,7 +140,7 @@ impl Units {
     pub fn take(&mut self, place: u8, pid: usize) -> Result<(), AllocError>
         requires room { (units_of place pid self.old).taken < most_units }
         ensures kept { OnOk result (self.new
-            ≡ with_count (one_taken (units_of place pid self.old)) self.old) }
+            ≡ units_with (count_after_wait (units_of place pid self.old)) self.old) }
     {
         let count = self.of(place, pid);
         self.keep(UnitCount {
@@ -155,7 +155,7 @@ impl Units {
     pub fn give(&mut self, place: u8, pid: usize) -> Result<(), AllocError>
         requires room { (units_of place pid self.old).given < most_units }
         ensures kept { OnOk result (self.new
-            ≡ with_count (one_given (units_of place pid self.old)) self.old) }
+            ≡ units_with (count_after_post (units_of place pid self.old)) self.old) }
     {
         let count = self.of(place, pid);
         self.keep(UnitCount {
@@ -168,10 +168,10 @@ impl Units {
 
     /// Lets go of the counts for semaphores that are no more.
     pub fn forget(&mut self, kernel: &Kernel) -> Result<(), AllocError>
-        ensures kept { OnOk result (self.new ≡ remaining kernel.now self.old) }
+        ensures kept { OnOk result (self.new ≡ remaining_units kernel.now self.old) }
     {
         let alloc = *self.list.allocator();
-        let kept = remaining(alloc, kernel, &self.list)?;
+        let kept = remaining_units(alloc, kernel, &self.list)?;
         self.list = kept;
         Ok(())
     }

@@ -1,7 +1,7 @@
 use Rattle.std.proofs.Common.{ℕ, List, ◌++◌, ap, ◌∙◌, string_bytes}
 use Rattle.ipc_kernel.specs.Processes.{descriptor_of}
 use Rattle.lab_debug.specs.Objects.{descriptor_line}
-use Rattle.lab_debug.proofs.RowLemmas.{each_more}
+use Rattle.lab_debug.proofs.RowLemmas.{texts_below_more}
 use Rattle.lab_debug.proofs.descriptors.push_descriptors.Goals as goal
 
 pub loop-mqd-preserved : goal.loop-mqd-preserved
@@ -9,4 +9,4 @@ loop-mqd-preserved c =
     let text : ℕ → List ℕ = λ d. descriptor_line d (descriptor_of c.args.world.now.kernel.processes c.args.pid d) in
     let held = rw c.kernel-kernel.ensures.kernel at c.mqd.ensures.held in
     let wrote = rw held at c.in_ok-push_descriptor.ensures.text in
-    wrote ∙ ap (λ bytes. bytes ++ text c.loop-mqd.mqd) c.loop-mqd.invariant ∙ each_more (string_bytes c.args.text.now) text c.loop-mqd.mqd
+    wrote ∙ ap (λ bytes. bytes ++ text c.loop-mqd.mqd) c.loop-mqd.invariant ∙ texts_below_more (string_bytes c.args.text.now) text c.loop-mqd.mqd

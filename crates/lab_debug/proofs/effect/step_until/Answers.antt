@@ -1,5 +1,5 @@
 use Rattle.std.proofs.Common.{sym, ap, ◌∙◌, ◌-◌, ◌+◌}
-use Rattle.lab_debug.specs.Effects.{until}
+use Rattle.lab_debug.specs.Effects.{world_until}
 use Rattle.lab_debug.proofs.UntilLemmas.{until-halted, until-more, until-done, halted-at, halted-same, step-same, goes-on}
 use Rattle.lab_debug.proofs.effect.step_until.Goals as goal
 
@@ -20,7 +20,7 @@ returns-then-is_same c =
 pub loop-i-preserved : goal.loop-i-preserved
 loop-i-preserved c =
     let open_ = goes-on c.args.pid c.args.address c.loop-i.world (sym c.is_at.ensures.value ∙ c.if-is_at.false) (λ e. c.is_same.ensures.no c.if-is_same.false (c.in-Ok.ensures.told ∙ e)) in
-    ap (λ w. until c.args.pid c.args.address w (c.args.count - (c.loop-i.i + 1))) c.in-Ok.ensures.world
+    ap (λ w. world_until c.args.pid c.args.address w (c.args.count - (c.loop-i.i + 1))) c.in-Ok.ensures.world
     ∙ until-more c.args.pid c.args.address c.loop-i.world c.loop-i.i c.args.count c.loop-i-test.true open_ ∙ c.loop-i.invariant
 
 pub returns : goal.returns
