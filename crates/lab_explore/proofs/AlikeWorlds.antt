@@ -23,15 +23,15 @@ pub world_back : (w v : WorldState) → AreAlike w v → AreAlike v w
 world_back w v a = record { processes = sym a.processes; kernel = alike_back w.kernel v.kernel a.kernel }
 
 -- kernels that are alike give a process the same step
-pub turn_alike : (k j : KernelState) (p : ℕ) (o : Option Process) → IsConsistent k → IsAlike k j → step_effect j p o ≡ step_effect k p o
-turn_alike k j p None s a = refl
-turn_alike k j p (Some (Running m)) s a = by_act (next_action m)
+pub effect_alike : (k j : KernelState) (p : ℕ) (o : Option Process) → IsConsistent k → IsAlike k j → step_effect j p o ≡ step_effect k p o
+effect_alike k j p None s a = refl
+effect_alike k j p (Some (Running m)) s a = by_act (next_action m)
   where
     by_act : (x : NextAction) → first_try j p m x ≡ first_try k p m x
     by_act (moves n) = refl
     by_act (calls c) = ap (kernel_step m c) (sym (answers_alike k j p c s a).0)
-turn_alike k j p (Some (Waiting m c)) s a = ap (retry m c) (sym (answers_alike k j p c s a).0)
-turn_alike k j p (Some (Ended e)) s a = refl
+effect_alike k j p (Some (Waiting m c)) s a = ap (retry m c) (sym (answers_alike k j p c s a).0)
+effect_alike k j p (Some (Ended e)) s a = refl
 
 -- the kernels stay alike
 pub kernel_alike : (w v : WorldState) (p : ℕ) (t : StepEffect) → IsConsistent w.kernel → IsAlike w.kernel v.kernel → IsAlike (after w p t).kernel (after v p t).kernel
@@ -50,7 +50,7 @@ consistent_run [] w s = s
 consistent_run (p ∷ ps) w s = consistent_run ps (step w p) (consistent_after w p (step_effect_in w p) s)
 
 pub same_effect : (w v : WorldState) (p : ℕ) → IsConsistent w.kernel → AreAlike w v → step_effect_in v p ≡ step_effect_in w p
-same_effect w v p s a = ap (λ ps. step_effect v.kernel p (slice_get ps p)) a.processes ∙ turn_alike w.kernel v.kernel p (slice_get w.processes p) s a.kernel
+same_effect w v p s a = ap (λ ps. step_effect v.kernel p (slice_get ps p)) a.processes ∙ effect_alike w.kernel v.kernel p (slice_get w.processes p) s a.kernel
 
 processes_after : (w v : WorldState) (p : ℕ) (t : StepEffect) → v.processes ≡ w.processes → (after v p t).processes ≡ (after w p t).processes
 processes_after w v p nothing e = e

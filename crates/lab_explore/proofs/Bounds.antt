@@ -6,7 +6,7 @@ use Rattle.lab_sched.specs.Worlds.{Process, Running, Waiting, Ended, WorldState,
 use Rattle.lab_sched.specs.Execution.{AreEffective}
 use Rattle.lab_sched.specs.LocalRun.{AreLocal}
 use Rattle.lab_sched.proofs.ListPlaces.{get-set_same, get-set_other, get_past}
-use Rattle.lab_sched.proofs.Executions.{turn_local}
+use Rattle.lab_sched.proofs.Executions.{effect_local}
 use Rattle.lab_sched.proofs.OwnSteps.{first_local}
 use Rattle.lab_sched.proofs.Commutes.{after_other}
 use Rattle.lab_explore.specs.declared.store.Store.{Store}
@@ -17,7 +17,7 @@ use Rattle.lab_explore.proofs.AfterLocalSteps.{none_local}
 use Rattle.lab_explore.proofs.FirstWorlds.{at_unique}
 use Rattle.ipc_kernel.specs.Alike.{IsAlike, IsConsistent}
 use Rattle.ipc_kernel.proofs.Alikes.{alike_then}
-use Rattle.lab_explore.proofs.AlikeWorlds.{turn_alike, kernel_alike, consistent_after}
+use Rattle.lab_explore.proofs.AlikeWorlds.{effect_alike, kernel_alike, consistent_after}
 use Rattle.lab_explore.proofs.HeldAdvances.{same_after}
 
 -- the sum of a list
@@ -142,7 +142,7 @@ module _ (t : Store) (order : List ℕ) (start : WorldState) (searched : IsSearc
       let is = one.1 in
       let j = total (set left.taken p one.0) + 4294967296 * rank (length order) (slice_get order left.at) in
       let less : j < n = omega (arith, sums, most, is) in
-      let stepped : step w p ≡ after w p (local_step q) = ap (λ x. after w p x) (turn_local w p m q a e) in
+      let stepped : step w p ≡ after w p (local_step q) = ap (λ x. after w p x) (effect_local w p m q a e) in
       let now = get-set_same w.processes p (Running q) (get_past w.processes p (Running m) a) in
       let here : HasLeft t order (after w p (local_step q)) j = record {
         at = left.at;
@@ -179,20 +179,20 @@ module _ (t : Store) (order : List ℕ) (start : WorldState) (searched : IsSearc
       there : slice_get v.processes p ≡ Some s
       there = found.3 ∙ ap (λ x. Some x) (none_local found.0 s found.1 at found.4)
 
-      same_turn : step_effect_in v p ≡ step_effect_in w p
-      same_turn = turn_alike w.kernel v.kernel p (slice_get v.processes p) left.consistent left.kernel ∙ ap (λ o. step_effect w.kernel p o) (there ∙ sym a)
+      same_effect : step_effect_in v p ≡ step_effect_in w p
+      same_effect = effect_alike w.kernel v.kernel p (slice_get v.processes p) left.consistent left.kernel ∙ ap (λ o. step_effect w.kernel p o) (there ∙ sym a)
 
       edge : HasEdge t left.at v p
       edge =
           let done = searched.expanded left.at (get_past t.rows.items left.at left.here.0 left.here.1) in
           let same : v ≡ done.0 = at_unique t left.at v done.0 left.here done.1 in
-          subst (λ x. HasEdge t left.at x p) (sym same) (done.2 p (subst (λ x. IsEffective (step_effect_in x p)) same (subst IsEffective (sym same_turn) effective)))
+          subst (λ x. HasEdge t left.at x p) (sym same) (done.2 p (subst (λ x. IsEffective (step_effect_in x p)) same (subst IsEffective (sym same_effect) effective)))
 
       u : WorldState
       u = edge.2
 
       reached : AreReached (after v p (step_effect_in w p)) u
-      reached = subst (λ x. AreReached (after v p x) u) same_turn edge.6
+      reached = subst (λ x. AreReached (after v p x) u) same_effect edge.6
 
       stays : slice_get (step w p).processes p ≡ slice_get (after v p (step_effect_in w p)).processes p
       stays = same_after w v p s (step_effect_in w p) a there

@@ -6,11 +6,11 @@ use Rattle.ipc_kernel.specs.Alike.{IsConsistent}
 use Rattle.ipc_kernel.proofs.Alikes.{alike_then}
 use Rattle.lab_sched.specs.Worlds.{Process, Running, Waiting, Ended, WorldState, NextAction, moves, calls, next_action, StepEffect, nothing, local_step, kernel_step, step_effect, step_effect_in, process_after_answer, after, step, run, IsEffective}
 use Rattle.lab_sched.proofs.ListPlaces.{get-set_same, get_past}
-use Rattle.lab_sched.proofs.Executions.{turn_local}
+use Rattle.lab_sched.proofs.Executions.{effect_local}
 use Rattle.lab_sched.proofs.Commutes.{after_other}
 use Rattle.lab_explore.specs.Calls.{AreAlike, IsAhead, Both, IsAdvance}
 use Rattle.lab_explore.specs.Closed.{HasAdvance, IsClosed, AreAtRest, HoldsEveryEnd}
-use Rattle.lab_explore.proofs.AlikeWorlds.{turn_alike, kernel_alike, consistent_after}
+use Rattle.lab_explore.proofs.AlikeWorlds.{effect_alike, kernel_alike, consistent_after}
 use Rattle.lab_explore.proofs.AfterLocalSteps.{stays, ahead_moves, ahead_of_ahead, rest_stays}
 
 -- a step of the same kind leaves a process in the same state, whatever the rest of the world
@@ -73,7 +73,7 @@ step_advance start V closed w p consistent has = by (slice_get w.processes p) (s
     -- a process at a call makes the same step in both worlds
     at_call : (s : Process) → slice_get w.processes p ≡ Some s → slice_get v.processes p ≡ Some s → HasAdvance V (step w p)
     at_call s a b =
-        let same : step_effect_in v p ≡ step_effect_in w p = turn_alike w.kernel v.kernel p (slice_get v.processes p) consistent h.kernel ∙ ap (λ o. step_effect w.kernel p o) (b ∙ sym a) in
+        let same : step_effect_in v p ≡ step_effect_in w p = effect_alike w.kernel v.kernel p (slice_get v.processes p) consistent h.kernel ∙ ap (λ o. step_effect w.kernel p o) (b ∙ sym a) in
         elim (idle (step_effect_in w p)) [
           | inl none ↦ still none
           | inr effective ↦
@@ -84,7 +84,7 @@ step_advance start V closed w p consistent has = by (slice_get w.processes p) (s
 
     running : (m : Machine) (u : Process) (a : NextAction) → next_action m ≡ a → slice_get w.processes p ≡ Some (Running m) → slice_get v.processes p ≡ Some u → IsAhead (Running m) u → HasAdvance V (step w p)
     running m u (moves q) e a b i =
-        let here : step w p ≡ after w p (local_step q) = ap (λ t. after w p t) (turn_local w p m q a e) in
+        let here : step w p ≡ after w p (local_step q) = ap (λ t. after w p t) (effect_local w p m q a e) in
         (v, has.1, subst (λ x. IsAdvance x v) (sym here) (local_keeps w v p m q u a b e h i))
     running m u (calls c) e a b i = at_call (Running m) a (b ∙ ap (λ x. Some x) (stays (Running m) u (c, e) i))
 

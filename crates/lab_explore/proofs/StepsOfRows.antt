@@ -10,7 +10,7 @@ use Rattle.lab_sched.specs.declared.stepped.Stepped.{Stepped}
 use Rattle.lab_sched.specs.declared.stepped.Stepped.TheVariants as stepped
 use Rattle.lab_explore.specs.declared.trying.Made.{Made}
 use Rattle.ipc_kernel.specs.declared.call.Answer.TheVariants.{Done, Wait}
-use Rattle.lab_sched.proofs.WorldLemmas.{after_turn}
+use Rattle.lab_sched.proofs.WorldLemmas.{after_effect}
 use Rattle.lab_explore.specs.declared.store.Row.{Row}
 use Rattle.lab_explore.specs.declared.store.Store.{Store}
 use Rattle.lab_explore.specs.declared.store.Edge.{Edge}
@@ -64,8 +64,8 @@ moved t r r' w p i kernel state taken is row e m kernel-is states-is = (v, to, a
     here : slice_get w.processes p ≡ Some s
     here = (process_at t r w p i row e).1
 
-    turns : StepEffect
-    turns = step_effect w.kernel p (Some s)
+    effect : StepEffect
+    effect = step_effect w.kernel p (Some s)
 
     next : IsNext t w.kernel p s (To kernel state taken)
     next = next_of t r w p i (To kernel state taken) s row (process_at t r w p i row e).2 m
@@ -79,13 +79,13 @@ moved t r r' w p i kernel state taken is row e m kernel-is states-is = (v, to, a
       states = subst (λ xs. Alongside (IsState t) xs v.processes) (sym states-is) (alongside_set (IsState t) r.states.items w.processes p i state s next.0 e here row.states next.2);
     }
 
-    stepped_is : step w p ≡ record { processes = set w.processes p (process_after s turns); kernel = kernel_after w.kernel p turns }
-    stepped_is = ap (λ o. after w p (step_effect w.kernel p o)) here ∙ after_turn w p s turns here
+    stepped_is : step w p ≡ record { processes = set w.processes p (process_after s effect); kernel = kernel_after w.kernel p effect }
+    stepped_is = ap (λ o. after w p (step_effect w.kernel p o)) here ∙ after_effect w p s effect here
 
     ahead : AreReached (step w p) v
     ahead = subst (λ x. AreReached x v) (sym stepped_is) (record {
       kernel = next.1.2;
-      processes = alongside_set IsReached w.processes w.processes p s (process_after s turns) s next.0 here here (own_advance t r w is row) next.3;
+      processes = alongside_set IsReached w.processes w.processes p s (process_after s effect) s next.0 here here (own_advance t r w is row) next.3;
     })
 
 -- a process that does nothing

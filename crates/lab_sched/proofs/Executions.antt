@@ -45,102 +45,102 @@ pub count-replicate_other : (p q n : ℕ) → q ≢ p → count p (replicate n q
 count-replicate_other p q zero ne = refl
 count-replicate_other p q (suc n) ne = rw (false_from_ne_true (q == p) (λ e. ne (eqb-true q p e))) (count-replicate_other p q n ne)
 
-pub course_none : (w : WorldState) → IsExecution w [] w []
+pub execution_none : (w : WorldState) → IsExecution w [] w []
 unfolding entries
-course_none w = record { leads = run-none w; effective = tt; entered = refl }
+execution_none w = record { leads = run-none w; effective = tt; entered = refl }
 
-pub course-append : {w v u : WorldState} {ps qs : List ℕ} {es fs : List Entry} → IsExecution w ps v es → IsExecution v qs u fs → IsExecution w (ps ++ qs) u (es ++ fs)
-course-append {w} {v} {u} {ps} {qs} {es} {fs} a b = record {
+pub execution_append : {w v u : WorldState} {ps qs : List ℕ} {es fs : List Entry} → IsExecution w ps v es → IsExecution v qs u fs → IsExecution w (ps ++ qs) u (es ++ fs)
+execution_append {w} {v} {u} {ps} {qs} {es} {fs} a b = record {
   leads = run-append w ps qs ∙ ap (λ x. run x qs) a.leads ∙ b.leads;
   effective = effective-append w ps qs a.effective (subst (λ x. AreEffective x qs) (sym a.leads) b.effective);
   entered = entries-append w ps qs ∙ (rw (a.entered, a.leads, b.entered) refl);
 }
 
-pub course_step : (w : WorldState) (p : ℕ) (t : StepEffect) → step_effect_in w p ≡ t → IsEffective t → IsExecution w (p ∷ []) (after w p t) (entry_of p t)
+pub execution_step : (w : WorldState) (p : ℕ) (t : StepEffect) → step_effect_in w p ≡ t → IsEffective t → IsExecution w (p ∷ []) (after w p t) (entry_of p t)
 unfolding entries
-course_step w p t e h = record {
+execution_step w p t e h = record {
   leads = run-one w p ∙ ap (λ x. after w p x) e;
   effective = (subst IsEffective (sym e) h, tt);
   entered = append-nil (entry_of p (step_effect_in w p)) ∙ ap (λ x. entry_of p x) e;
 }
 
-pub turn_local : (w : WorldState) (p : ℕ) (m q : Machine) → slice_get w.processes p ≡ Some (Running m) → next_action m ≡ moves q → step_effect_in w p ≡ local_step q
-turn_local w p m q at e = ap (λ o. step_effect w.kernel p o) at ∙ ap (λ a. first_try w.kernel p m a) e
+pub effect_local : (w : WorldState) (p : ℕ) (m q : Machine) → slice_get w.processes p ≡ Some (Running m) → next_action m ≡ moves q → step_effect_in w p ≡ local_step q
+effect_local w p m q at e = ap (λ o. step_effect w.kernel p o) at ∙ ap (λ a. first_try w.kernel p m a) e
 
 unfoldable pub with_process : WorldState → ℕ → Process → WorldState
 with_process w p u = record w { processes = set w.processes p u }
 
 -- n local steps of a process
-pub course_local : (n : ℕ) (w : WorldState) (p : ℕ) (s u : Process) → slice_get w.processes p ≡ Some s → AreLocal n s u
+pub execution_local : (n : ℕ) (w : WorldState) (p : ℕ) (s u : Process) → slice_get w.processes p ≡ Some s → AreLocal n s u
     → IsExecution w (replicate n p) (with_process w p u) []
 unfolding with_process
-course_local zero w p s u at h =
+execution_local zero w p s u at h =
     let e : set w.processes p u ≡ w.processes = set_same w.processes p u (at ∙ ap (λ x. Some x) h) in
-    subst (λ x. IsExecution w [] x []) (ap (λ ps. record w { processes = ps }) (sym e)) (course_none w)
-course_local (suc n) w p (Running m) u at h =
+    subst (λ x. IsExecution w [] x []) (ap (λ ps. record w { processes = ps }) (sym e)) (execution_none w)
+execution_local (suc n) w p (Running m) u at h =
     let opened = first_local n m u h in
     let q = opened.0 in
-    let first = course_step w p (local_step q) (turn_local w p m q at opened.1) tt in
+    let first = execution_step w p (local_step q) (effect_local w p m q at opened.1) tt in
     let v = with_process w p (Running q) in
-    let rest = course_local n v p (Running q) u (get-set_same w.processes p (Running q) (get_past w.processes p (Running m) at)) opened.2 in
-    let both = course-append first rest in
+    let rest = execution_local n v p (Running q) u (get-set_same w.processes p (Running q) (get_past w.processes p (Running m) at)) opened.2 in
+    let both = execution_append first rest in
     subst (λ x. IsExecution w (p ∷ replicate n p) x []) (ap (λ ps. record w { processes = ps }) (set-set w.processes p (Running q) u)) both
-course_local (suc n) w p (Waiting m c) u at h = absurd h.1
-course_local (suc n) w p (Ended e) u at h = absurd h.1
+execution_local (suc n) w p (Waiting m c) u at h = absurd h.1
+execution_local (suc n) w p (Ended e) u at h = absurd h.1
 
 -- the step of a process that is told an answer
-turn_told : (w : WorldState) (p : ℕ) (x y : Process) (c : Call) (a : Answer) → slice_get w.processes p ≡ Some x → TakesAnswer x c a y → a ≡ (answer w.kernel p c).0
+effect_answered : (w : WorldState) (p : ℕ) (x y : Process) (c : Call) (a : Answer) → slice_get w.processes p ≡ Some x → TakesAnswer x c a y → a ≡ (answer w.kernel p c).0
     → (m : Machine) × (step_effect_in w p ≡ kernel_step m c a) × (process_after_answer m c a ≡ y)
-turn_told w p (Running m) y c a at h is =
+effect_answered w p (Running m) y c a at h is =
     (m, ap (λ o. step_effect w.kernel p o) at ∙ ap (λ q. first_try w.kernel p m q) h.0 ∙ ap (λ b. kernel_step m c b) (sym is), h.1)
-turn_told w p (Waiting m d) y c (Done r) at h is =
+effect_answered w p (Waiting m d) y c (Done r) at h is =
     (m, ap (λ o. step_effect w.kernel p o) at ∙ ap (λ q. retry m q (answer w.kernel p q).0) h.0 ∙ ap (λ b. retry m c b) (sym is), h.1)
-turn_told w p (Waiting m d) y c Wait at h is = absurd h
-turn_told w p (Ended e) y c a at h is = absurd h
+effect_answered w p (Waiting m d) y c Wait at h is = absurd h
+effect_answered w p (Ended e) y c a at h is = absurd h
 
 -- the world after a call of process p, which leaves it as y
 abbrev pub called : WorldState → ℕ → Call → Process → WorldState
 called w p c y = record { processes = set w.processes p y; kernel = (answer w.kernel p c).1 }
 
-pub course_told : (w : WorldState) (p : ℕ) (x y : Process) (c : Call) (a : Answer) → slice_get w.processes p ≡ Some x → TakesAnswer x c a y → a ≡ (answer w.kernel p c).0
+pub execution_answered : (w : WorldState) (p : ℕ) (x y : Process) (c : Call) (a : Answer) → slice_get w.processes p ≡ Some x → TakesAnswer x c a y → a ≡ (answer w.kernel p c).0
     → IsExecution w (p ∷ []) (called w p c y) (record { pid = p; call = c; answer = a } ∷ [])
-course_told w p x y c a at h is =
-    let t = turn_told w p x y c a at h is in
-    let first = course_step w p (kernel_step t.0 c a) t.1 tt in
+execution_answered w p x y c a at h is =
+    let t = effect_answered w p x y c a at h is in
+    let first = execution_step w p (kernel_step t.0 c a) t.1 tt in
     subst (λ z. IsExecution w (p ∷ []) (called w p c z) (record { pid = p; call = c; answer = a } ∷ [])) t.2 first
 
 -- the local steps before a call, and the call
-pub course_item : (w : WorldState) (p : ℕ) (s x y : Process) (t : TracedCall) → slice_get w.processes p ≡ Some s → AreLocal t.before s x → TakesAnswer x t.call t.answer y
+pub execution_of_call : (w : WorldState) (p : ℕ) (s x y : Process) (t : TracedCall) → slice_get w.processes p ≡ Some s → AreLocal t.before s x → TakesAnswer x t.call t.answer y
     → t.answer ≡ (answer w.kernel p t.call).0
     → IsExecution w (replicate (t.before + 1) p) (called w p t.call y) (record { pid = p; call = t.call; answer = t.answer } ∷ [])
 unfolding with_process
-course_item w p s x y t at locals h is =
+execution_of_call w p s x y t at locals h is =
     let within = get_past w.processes p s at in
-    let a = course_local t.before w p s x at locals in
-    let b = course_told (with_process w p x) p x y t.call t.answer (get-set_same w.processes p x within) h is in
-    let both = course-append a b in
+    let a = execution_local t.before w p s x at locals in
+    let b = execution_answered (with_process w p x) p x y t.call t.answer (get-set_same w.processes p x within) h is in
+    let both = execution_append a b in
     let es = record { pid = p; call = t.call; answer = t.answer } ∷ [] in
     subst (λ ps. IsExecution w ps (called w p t.call y) es) (replicate_more t.before p)
     (subst (λ ps. IsExecution w (replicate t.before p ++ p ∷ []) (record { processes = ps; kernel = (answer w.kernel p t.call).1 }) es) (set-set w.processes p x y) both)
 
 -- the kernel after an execution is the replay of its entries
-kernel_turn : (w : WorldState) (p : ℕ) (t : StepEffect) → (after w p t).kernel ≡ replay w.kernel (entry_of p t)
-kernel_turn w p nothing = refl
-kernel_turn w p (local_step q) = refl
-kernel_turn w p (kernel_step m c a) = refl
+kernel_effect : (w : WorldState) (p : ℕ) (t : StepEffect) → (after w p t).kernel ≡ replay w.kernel (entry_of p t)
+kernel_effect w p nothing = refl
+kernel_effect w p (local_step q) = refl
+kernel_effect w p (kernel_step m c a) = refl
 
 pub kernel_run : (w : WorldState) (ps : List ℕ) → (run w ps).kernel ≡ replay w.kernel (entries w ps)
 unfolding run entries
 kernel_run w [] = refl
 kernel_run w (p ∷ ps) =
-    kernel_run (step w p) ps ∙ ap (λ k. replay k (entries (step w p) ps)) (kernel_turn w p (step_effect_in w p))
+    kernel_run (step w p) ps ∙ ap (λ k. replay k (entries (step w p) ps)) (kernel_effect w p (step_effect_in w p))
     ∙ sym (replay-append w.kernel (entry_of p (step_effect_in w p)) (entries (step w p) ps))
 
-pub course_kernel : {w v : WorldState} {ps : List ℕ} {es : List Entry} → IsExecution w ps v es → v.kernel ≡ replay w.kernel es
-course_kernel {w} {v} {ps} {es} c = ap (λ (x : WorldState). x.kernel) (sym c.leads) ∙ kernel_run w ps ∙ ap (λ x. replay w.kernel x) c.entered
+pub execution_kernel : {w v : WorldState} {ps : List ℕ} {es : List Entry} → IsExecution w ps v es → v.kernel ≡ replay w.kernel es
+execution_kernel {w} {v} {ps} {es} c = ap (λ (x : WorldState). x.kernel) (sym c.leads) ∙ kernel_run w ps ∙ ap (λ x. replay w.kernel x) c.entered
 
-pub course_length : {w v : WorldState} {ps : List ℕ} {es : List Entry} → IsExecution w ps v es → length v.processes ≡ length w.processes
-course_length {w} {v} {ps} {es} c = ap (λ (x : WorldState). length x.processes) (sym c.leads) ∙ length-run w ps
+pub execution_length : {w v : WorldState} {ps : List ℕ} {es : List Entry} → IsExecution w ps v es → length v.processes ≡ length w.processes
+execution_length {w} {v} {ps} {es} c = ap (λ (x : WorldState). length x.processes) (sym c.leads) ∙ length-run w ps
 
 -- the entries of an execution are a legal history
 legal_try : (k : KernelState) (p : ℕ) (m : Machine) (a : NextAction) → IsLegal k (entry_of p (first_try k p m a))
@@ -151,18 +151,18 @@ legal_retry : (k : KernelState) (p : ℕ) (m : Machine) (c : Call) (a : Answer) 
 legal_retry k p m c Wait is = tt
 legal_retry k p m c (Done r) is = (is, tt)
 
-legal_turn : (k : KernelState) (p : ℕ) (o : Option Process) → IsLegal k (entry_of p (step_effect k p o))
-legal_turn k p None = tt
-legal_turn k p (Some (Running m)) = legal_try k p m (next_action m)
-legal_turn k p (Some (Waiting m c)) = legal_retry k p m c (answer k p c).0 refl
-legal_turn k p (Some (Ended e)) = tt
+legal_effect : (k : KernelState) (p : ℕ) (o : Option Process) → IsLegal k (entry_of p (step_effect k p o))
+legal_effect k p None = tt
+legal_effect k p (Some (Running m)) = legal_try k p m (next_action m)
+legal_effect k p (Some (Waiting m c)) = legal_retry k p m c (answer k p c).0 refl
+legal_effect k p (Some (Ended e)) = tt
 
 pub legal_run : (w : WorldState) (ps : List ℕ) → IsLegal w.kernel (entries w ps)
 unfolding entries
 legal_run w [] = tt
 legal_run w (p ∷ ps) =
-    legal-append w.kernel (entry_of p (step_effect_in w p)) (entries (step w p) ps) (legal_turn w.kernel p (slice_get w.processes p))
-    (subst (λ k. IsLegal k (entries (step w p) ps)) (kernel_turn w p (step_effect_in w p)) (legal_run (step w p) ps))
+    legal-append w.kernel (entry_of p (step_effect_in w p)) (entries (step w p) ps) (legal_effect w.kernel p (slice_get w.processes p))
+    (subst (λ k. IsLegal k (entries (step w p) ps)) (kernel_effect w p (step_effect_in w p)) (legal_run (step w p) ps))
 
-pub course_legal : {w v : WorldState} {ps : List ℕ} {es : List Entry} → IsExecution w ps v es → IsLegal w.kernel es
-course_legal {w} {v} {ps} {es} c = subst (λ x. IsLegal w.kernel x) c.entered (legal_run w ps)
+pub execution_legal : {w v : WorldState} {ps : List ℕ} {es : List Entry} → IsExecution w ps v es → IsLegal w.kernel es
+execution_legal {w} {v} {ps} {es} c = subst (λ x. IsLegal w.kernel x) c.entered (legal_run w ps)

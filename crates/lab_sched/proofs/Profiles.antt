@@ -66,15 +66,15 @@ retried m c Wait = refl
 retried m c (Done r) = told_profile m c (Done r)
 
 -- a step keeps the profile
-pub turn_profile : (k : KernelState) (p : ℕ) (s : Process) → profile_of (process_after s (step_effect k p (Some s))) ≡ profile_of s
-turn_profile k p (Running m) = first-try k p m (next_action m) (act_keeps m)
-turn_profile k p (Waiting m c) = retried m c (answer k p c).0
-turn_profile k p (Ended e) = refl
+pub effect_profile : (k : KernelState) (p : ℕ) (s : Process) → profile_of (process_after s (step_effect k p (Some s))) ≡ profile_of s
+effect_profile k p (Running m) = first-try k p m (next_action m) (act_keeps m)
+effect_profile k p (Waiting m c) = retried m c (answer k p c).0
+effect_profile k p (Ended e) = refl
 
 -- so does one that may be refused memory
 pub step_profile : (k k' : KernelState) (p : ℕ) (s s' : Process) {E : Type 0} (result : Result Stepped E)
     → IfOk result (HasStepped k p s k' s') → OnErr result (s' ≡ s) → profile_of s' ≡ profile_of s
-step_profile k k' p s s' (Ok process_after_answer) is same = ap (λ (x : StepResult). profile_of x.process) is ∙ turn_profile k p s
+step_profile k k' p s s' (Ok process_after_answer) is same = ap (λ (x : StepResult). profile_of x.process) is ∙ effect_profile k p s
 step_profile k k' p s s' (Err e) is same = ap profile_of same
 
 -- local steps keep the profile

@@ -23,23 +23,23 @@ use Rattle.lab_sched.specs.Execution.{IsExecution}
 use Rattle.lab_sched.specs.Settled.{Report, report, IsAdded, IsSettled, HasStopped, IsShort}
 use Rattle.lab_sched.specs.Settling.{AsksFor, IsNext, AsksIn, IsNextIn, IsTaken}
 use Rattle.lab_sched.proofs.Runs.{run-none}
-use Rattle.lab_sched.proofs.Executions.{course_none, course-append, course_step, course_length, course_local, with_process, count-append, count-replicate_same, count-replicate_other}
+use Rattle.lab_sched.proofs.Executions.{execution_none, execution_append, execution_step, execution_length, execution_local, with_process, count-append, count-replicate_same, count-replicate_other}
 use Rattle.lab_sched.proofs.Commutes.{after_other}
 use Rattle.lab_sched.proofs.WorldLemmas.{seen_at, same_world}
 
 pub added_none : (r : Report) → IsAdded r [] r
-added_none r = record { told = []; execution = course_none r.world; steps = sym (append-nil r.steps); entries = sym (append-nil r.entries) }
+added_none r = record { told = []; execution = execution_none r.world; steps = sym (append-nil r.steps); entries = sym (append-nil r.entries) }
 
 pub added-append : {r q t : Report} {ps qs : List ℕ} → IsAdded r ps q → IsAdded q qs t → IsAdded r (ps ++ qs) t
 added-append {r} {q} {t} {ps} {qs} a b = record {
   told = a.told ++ b.told;
-  execution = course-append a.execution b.execution;
+  execution = execution_append a.execution b.execution;
   steps = b.steps ∙ ap (λ xs. xs ++ qs) a.steps ∙ append_assoc r.steps ps qs;
   entries = b.entries ∙ ap (λ xs. xs ++ b.told) a.entries ∙ append_assoc r.entries a.told b.told;
 }
 
 pub added_length : {r q : Report} {ps : List ℕ} → IsAdded r ps q → length q.world.processes ≡ length r.world.processes
-added_length a = course_length a.execution
+added_length a = execution_length a.execution
 
 pub added_more : {r q t : Report} (n k p : ℕ) → IsAdded r (replicate n p) q → IsAdded q (replicate k p) t → IsAdded r (replicate (n + k) p) t
 added_more {r} {q} {t} n k p a b = subst (λ ps. IsAdded r ps t) (replicate-append-replicate n k p) (added-append a b)
@@ -134,7 +134,7 @@ pub short_more : {r q : Report} (left : List ℕ) (bits bits' : ℕ) {short : Bo
 short_more {r} {q} left bits bits' {short} i k added within len clear only mine old p is_set = pick (only p is_set)
   where
     lengths : length q.world.processes ≡ length r.world.processes
-    lengths = course_length added.execution
+    lengths = execution_length added.execution
 
     pick : ((bit_at bits p ≡ 1) ⊎ ((p ≡ i) × (short ≡ true))) → IsShort q.world (set left i (get_or left i 0 - k)) p
     pick (inl was) =
@@ -160,7 +160,7 @@ short_more {r} {q} left bits bits' {short} i k added within len clear only mine 
 
 next_seen : (w : WorldState) (p most : ℕ) (s u : Process) (n : Next) (v : WorldState) → slice_get w.processes p ≡ Some s → (u ≡ s → v ≡ w) → with_process w p u ≡ v
     → IsNext s most n u → IsNextIn w p most n v
-next_seen w p most s u (next.Moved n) v at same is h = (h.1, subst (λ x. IsExecution w (replicate n p) x []) is (course_local n w p s u at h.2))
+next_seen w p most s u (next.Moved n) v at same is h = (h.1, subst (λ x. IsExecution w (replicate n p) x []) is (execution_local n w p s u at h.2))
 next_seen w p most s u (next.Asks c) v at same is h = (same h.0, (s, at, h.1))
 next_seen w p most s u next.Ended v at same is h = same h.0
 next_seen w p most s u next.Short v at same is h = same h
@@ -183,7 +183,7 @@ next_in ps ps' k w p most s s' n same within read ps-is found =
 pub taken_none : (w v : WorldState) (es fs : List Entry) (p : ℕ) → v ≡ w → fs ≡ es → IsTaken w es (replicate 0 p) v fs
 taken_none w v es fs p w-is es-is = record {
   told = [];
-  execution = subst (λ x. IsExecution w [] x []) (sym w-is) (course_none w);
+  execution = subst (λ x. IsExecution w [] x []) (sym w-is) (execution_none w);
   entries = es-is ∙ sym (append-nil es);
 }
 
@@ -208,7 +208,7 @@ taken_call w v es fs p c a h asks a-is v-is fs-is =
     let told : List Entry = record { pid = p; call = c; answer = a } ∷ [] in
     record {
       told = told;
-      execution = subst (λ x. IsExecution w (p ∷ []) x told) (sym (v-is ∙ ap (λ x. after w p x) is)) (course_step w p (kernel_step t.0 c a) is tt);
+      execution = subst (λ x. IsExecution w (p ∷ []) x told) (sym (v-is ∙ ap (λ x. after w p x) is)) (execution_step w p (kernel_step t.0 c a) is tt);
       entries = fs-is;
     }
 

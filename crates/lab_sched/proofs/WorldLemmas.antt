@@ -17,7 +17,7 @@ use Rattle.ipc_kernel.specs.Processes.{closed_process}
 use Rattle.lc3_machine.specs.Process.{Process as Machine, start}
 use Rattle.lab_sched.specs.declared.fresh.Program.{Program}
 use Rattle.lab_sched.specs.LocalRun.{AreLocal}
-use Rattle.lab_sched.proofs.Executions.{course_local, with_process}
+use Rattle.lab_sched.proofs.Executions.{execution_local, with_process}
 use Rattle.lab_sched.proofs.Runs.{run-none}
 use Rattle.lab_sched.specs.Worlds.{profile_of, HasProfile, first_profile, HaveOneProfile, Process, Running, WorldState, run, StepEffect, step_effect, step_effect_in, process_made, process_after, kernel_after, processes_with, after, step}
 use Rattle.lab_sched.specs.Held.{process_view, IsHeld, IsWorld, stepped_of, StepResult, HasStepped}
@@ -30,9 +30,9 @@ replaced_at ps p s None at = sym (set_same ps p s at)
 replaced_at ps p s (Some u) at = refl
 
 -- the world after a step of process p, where that is s
-pub after_turn : (w : WorldState) (p : ℕ) (s : Process) (t : StepEffect) → slice_get w.processes p ≡ Some s
+pub after_effect : (w : WorldState) (p : ℕ) (s : Process) (t : StepEffect) → slice_get w.processes p ≡ Some s
     → after w p t ≡ record { processes = set w.processes p (process_after s t); kernel = kernel_after w.kernel p t }
-after_turn w p s t at = ap (λ ps. record { processes = ps; kernel = kernel_after w.kernel p t }) (replaced_at w.processes p s (process_made t) at)
+after_effect w p s t at = ap (λ ps. record { processes = ps; kernel = kernel_after w.kernel p t }) (replaced_at w.processes p s (process_made t) at)
 
 pub seen_at : (ps : List Kept) (p : ℕ) (s : Kept) → p < length ps → s ≡ get_or ps p s → slice_get (map process_view ps) p ≡ Some (process_view s)
 seen_at ps p s within read = slice_get-map process_view ps p ∙ ap (λ o. option_map process_view o) (slice_get_read ps (length ps) p s refl within read)
@@ -50,7 +50,7 @@ stepped_world ps ps' k k' w p s s' told same within read ps-is is =
     let left : record { processes = map process_view ps'; kernel = k' } ≡ record { processes = set (map process_view ps) p (process_after (process_view s) t); kernel = kernel_after k p t } =
     ap (λ xs. record { processes = xs; kernel = k' }) moved ∙ ap (λ (x : StepResult). record { processes = set (map process_view ps) p (process_after (process_view s) t); kernel = x.kernel }) is in
     let right : step v p ≡ record { processes = set (map process_view ps) p (process_after (process_view s) t); kernel = kernel_after k p t } =
-    ap (λ o. after v p (step_effect k p o)) at ∙ after_turn v p (process_view s) t at in
+    ap (λ o. after v p (step_effect k p o)) at ∙ after_effect v p (process_view s) t at in
     subst (λ x. record { processes = map process_view ps'; kernel = k' } ≡ step x p) same (left ∙ sym right)
 
 -- what the step was
@@ -121,7 +121,7 @@ ran_locally ps ps' k w p n s s' same within read ps-is local =
     let v : WorldState = record { processes = map process_view ps; kernel = k } in
     subst (λ x. record { processes = map process_view ps'; kernel = k } ≡ run x (replicate n p)) same
     (ap (λ xs. record { processes = xs; kernel = k }) (ap (λ xs. map process_view xs) ps-is ∙ map-set process_view ps p s')
-    ∙ sym (course_local n v p (process_view s) (process_view s') (seen_at ps p s within read) local).leads)
+    ∙ sym (execution_local n v p (process_view s) (process_view s') (seen_at ps p s within read) local).leads)
 
 -- a process more at its start
 pub started_more : (profile : Profile) (ks new : List Kept) (ps : List Program) (i : ℕ) (p : Program) (m : Machine) → map process_view ks ≡ map (start_of profile) (take i ps) → i < length ps

@@ -19,7 +19,7 @@ use Rattle.lab_sched.specs.declared.entry.Entry.{Entry}
 use Rattle.lab_sched.specs.declared.process.Process.{Process as ProcessValue}
 use Rattle.lab_sched.specs.declared.trace.TracedCall.{TracedCall}
 use Rattle.lab_sched.proofs.ListPlaces.{get-set_same, get-set_other}
-use Rattle.lab_sched.proofs.Executions.{count-append, count-replicate_same, count-replicate_other, course_none, course-append, course_item, course_local, with_process, called, course_kernel}
+use Rattle.lab_sched.proofs.Executions.{count-append, count-replicate_same, count-replicate_other, execution_none, execution_append, execution_of_call, execution_local, with_process, called, execution_kernel}
 use Rattle.lab_threads.specs.declared.worker_result.WorkerResult.{WorkerResult}
 use Rattle.lab_threads.specs.Private.WorkerResults.{AreWorkerResults}
 use Rattle.lab_threads.specs.Private.Merged.{final_world, IsFound, IsItem, AreLeft, IsMerged, AreCounted}
@@ -33,7 +33,7 @@ pub merged_none : (starts : List ProcessValue) (workers : List WorkerResult) (ne
     → AreWorkerResults limit starts workers → IsLegal (empty_kernel (length starts)) history → ((p : ℕ) → get_or next p 0 ≡ 0) → ps ≡ [] → IsMerged starts workers next ps [] history
 merged_none starts workers next ps limit history are legal zeros none = record {
   world = initial_world starts;
-  execution = subst (λ qs. IsExecution (initial_world starts) qs (initial_world starts) []) (sym none) (course_none (initial_world starts));
+  execution = subst (λ qs. IsExecution (initial_world starts) qs (initial_world starts) []) (sym none) (execution_none (initial_world starts));
   legal = legal;
   len = length-map starts process_view ∙ sym are.len;
   left = λ p x k at_x at_k.
@@ -79,13 +79,13 @@ merged_more starts workers next ps done rest e k t is at_k within at_t same_call
     subst (λ ts. Leads x ts k.trace.after (process_view k.process)) (drop_get k.trace.calls.items (get_or next e.pid 0) t at_t) (is.left e.pid x k at_x at_k) in
     let y = leads.1 in
     let answered : t.answer ≡ (answer w.kernel e.pid t.call).0 = same_answer ∙ is.legal.0 ∙ ap (λ c. (answer w.kernel e.pid c).0) (sym same_call) in
-    let item = course_item w e.pid x leads.0 y t at_x leads.2 leads.3 answered in
+    let item = execution_of_call w e.pid x leads.0 y t at_x leads.2 leads.3 answered in
     let entry : IsExecution w (replicate (t.before + 1) e.pid) (called w e.pid t.call y) (e ∷ []) =
     subst (λ c. IsExecution w (replicate (t.before + 1) e.pid) (called w e.pid t.call y) (record { pid = e.pid; call = c; answer = e.answer } ∷ [])) same_call
     (subst (λ a. IsExecution w (replicate (t.before + 1) e.pid) (called w e.pid t.call y) (record { pid = e.pid; call = t.call; answer = a } ∷ [])) same_answer item) in
     record {
       world = called w e.pid t.call y;
-      execution = course-append is.execution entry;
+      execution = execution_append is.execution entry;
       legal = subst (λ c. IsLegal (answer w.kernel e.pid c).1 rest) (sym same_call) is.legal.1;
       len = length-set w.processes e.pid y ∙ is.len;
       left = left_more w.processes workers next is.left e.pid k y at_k below within leads.4;
@@ -137,9 +137,9 @@ ending_more starts workers next ps history i k is at_k whole =
     let at_x : slice_get w.processes i ≡ Some x = slice_get-get_or w.processes i u below in
     let none : drop (get_or next i 0) k.trace.calls.items ≡ [] = drop_all (get_or next i 0) k.trace.calls.items (omega (arith, whole)) in
     let locals : AreLocal k.trace.after x u = subst (λ ts. Leads x ts k.trace.after u) none (is.left i x k (omega arith) at_x at_k) in
-    let execution = course_local k.trace.after w i x u at_x locals in
+    let execution = execution_local k.trace.after w i x u at_x locals in
     let both : IsExecution (initial_world starts) (ps ++ replicate k.trace.after i) (with_process w i u) history =
-    subst (λ es. IsExecution (initial_world starts) (ps ++ replicate k.trace.after i) (with_process w i u) es) (append-nil history) (course-append is.execution execution) in
+    subst (λ es. IsExecution (initial_world starts) (ps ++ replicate k.trace.after i) (with_process w i u) es) (append-nil history) (execution_append is.execution execution) in
     record {
       world = with_process w i u;
       execution = both;
@@ -171,7 +171,7 @@ pub ending_all : (starts : List ProcessValue) (workers : List WorkerResult) (nex
 ending_all starts workers next ps history is =
     let w = is.world in
     let processes : w.processes ≡ map (λ k. process_view k.process) workers = same_processes w.processes workers is.len (λ p x k at_x at_k. is.done p x k (slice_get_within workers p k at_k) at_x at_k) in
-    let e : w ≡ final_world (length starts) workers history = ap (λ xs. record { processes = xs; kernel = w.kernel }) processes ∙ ap (λ k. record { processes = map (λ k. process_view k.process) workers; kernel = k }) (course_kernel is.execution) in
+    let e : w ≡ final_world (length starts) workers history = ap (λ xs. record { processes = xs; kernel = w.kernel }) processes ∙ ap (λ k. record { processes = map (λ k. process_view k.process) workers; kernel = k }) (execution_kernel is.execution) in
     subst (λ v. IsExecution (initial_world starts) ps v history) e is.execution
 
 -- the counts once the traces below i have ended
@@ -201,7 +201,7 @@ ended_more workers next ps i k is at_k whole =
           rw (other p ne) (is.left p l (omega arith) at_l);
     }
 
--- a turn of the loop over the history
+-- one pass of the loop over the history
 pub counted_step : {workers : List WorkerResult} {next next' ps ps' : List ℕ} {e : Entry} {n before : ℕ}
     → next' ≡ next → IsItem workers next' e before → e.pid < length next' → n ≡ get_or next e.pid n
     → ps' ≡ ps ++ replicate (before + 1) e.pid → AreCounted workers next ps
@@ -232,7 +232,7 @@ merged_step {starts} {workers} {next} {next'} {ps} {ps'} {done} {done'} {rest} {
     (subst (λ qs. P (get_or next e.pid 0) qs done') same
     (subst (λ es. P (get_or next e.pid 0) (ps ++ replicate (t.before + 1) e.pid) es) (sym done-is) more))
 
--- a turn of the loop over the workers
+-- one pass of the loop over the workers
 pub ending_step : {starts : List ProcessValue} {workers : List WorkerResult} {next ps ps' : List ℕ} {history : List Entry} {i : ℕ} (k : WorkerResult) → slice_get workers i ≡ Some k
     → get_or next i 0 ≡ length k.trace.calls.items → ps' ≡ ps ++ replicate k.trace.after i → IsEnding starts workers next ps history i
     → IsEnding starts workers next ps' history (i + 1)

@@ -17,7 +17,7 @@ use Rattle.lab_sched.specs.Starts.{Runs}
 use Rattle.lab_sched.specs.Finished.{IsAtRest, IsFinished}
 use Rattle.lab_sched.specs.declared.entry.Entry.{Entry}
 use Rattle.lab_sched.specs.declared.process.Process.{Process as ProcessValue}
-use Rattle.lab_sched.proofs.Executions.{count-append, course-append}
+use Rattle.lab_sched.proofs.Executions.{count-append, execution_append}
 use Rattle.lab_sched.proofs.ReportAdditions.{added_length}
 use Rattle.lab_sched.proofs.IneffectiveProcesses.{at_rest}
 use Rattle.lab_sched.proofs.Profiles.{alone_profile, one_of}
@@ -42,7 +42,7 @@ pub settled_execution : (b w v : WorldState) (ss ss' left rest : List ℕ) (h h'
     → IsSettled (report w ss h) (report v ss' h') left rest → IsExecution b ss' v h'
 settled_execution b w v ss ss' left rest h h' execution settled =
     let added = settled.added in
-    let both = course-append execution added.execution in
+    let both = execution_append execution added.execution in
     subst (λ es. IsExecution b ss' v es) (sym added.entries) (subst (λ ps. IsExecution b ps v (h ++ added.told)) (sym added.steps) both)
 
 rested : (v : WorldState) (p : ℕ) (s : Process) (ss' rest : List ℕ) (refused limit : ℕ) → slice_get v.processes p ≡ Some s → refused ≡ 0

@@ -1,4 +1,4 @@
-use Rattle.lab_sched.proofs.Executions.{course_kernel, course_legal}
+use Rattle.lab_sched.proofs.Executions.{execution_kernel, execution_legal}
 use Rattle.lab_threads.proofs.ReportedSteps.{workers_held, workers_profile}
 use Rattle.lab_threads.proofs.Merges.{ok_then}
 use Rattle.lab_threads.proofs.reports.run_starts.Goals as goal
@@ -17,8 +17,8 @@ returns-clause-finished g c = ok_then c.report_of_workers.result c.report_of_wor
 
 pub returns-clause-legal : goal.returns-clause-legal
 returns-clause-legal g c =
-    ok_then c.report_of_workers.result c.report_of_workers.ensures.execution (λ r execution. course_legal (execution c.args.starts.items c.in_ok-workers.ensures.results))
+    ok_then c.report_of_workers.result c.report_of_workers.ensures.execution (λ r execution. execution_legal (execution c.args.starts.items c.in_ok-workers.ensures.results))
 
 pub returns-clause-kernel : goal.returns-clause-kernel
 returns-clause-kernel g c =
-    ok_then c.report_of_workers.result c.report_of_workers.ensures.execution (λ r execution. course_kernel (execution c.args.starts.items c.in_ok-workers.ensures.results))
+    ok_then c.report_of_workers.result c.report_of_workers.ensures.execution (λ r execution. execution_kernel (execution c.args.starts.items c.in_ok-workers.ensures.results))
