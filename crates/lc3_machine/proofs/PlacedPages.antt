@@ -5,7 +5,7 @@ use Rattle.std.proofs.lemmas.Bool.Decides.{nat_tests}
 use Rattle.std.proofs.lemmas.List.{ext_get_or, get_or-drop, get_or-set_same, get_or-set_other, get_or-map, get_or-replicate, get_or_append_left, get_or-append-add, take_all, length-drop, length-map, length-replicate, length-set, map-set}
 use Rattle.std.proofs.lemmas.List.Elements.{All-replicate, All-same, All-set}
 use Rattle.lc3_machine.specs.Process.{zeros}
-use Rattle.lc3_machine.specs.Private.Pages.{PageWords, AreWhole, ArePages, IsStart, absent, page_at, pages_at, page_made, page_written}
+use Rattle.lc3_machine.specs.Private.Pages.{PageWords, AreWhole, ArePages, IsStart, absent_page, page_at, pages_at, page_made, page_written}
 use Rattle.lc3_machine.proofs.MemoryLemmas.{length-zeros}
 
 -- a word of a page
@@ -114,11 +114,11 @@ apart-words ws starts i j k m inv hi hj hk hm some other e =
 pub pages-written : (ws starts : List ℕ) (i k w : ℕ) (d : PageWords) → ArePages ws starts → i < 256 → k < 256 → 0 < get_or starts i 0
     → pages_at (set ws (get_or starts i 0 + k) w) starts ≡ set (pages_at ws starts) i (page_written (get_or (pages_at ws starts) i d) k w)
 pages-written ws starts i k w d inv h below some =
-    ext_get_or absent (pages_at (set ws (get_or starts i 0 + k) w) starts) (set (pages_at ws starts) i new)
+    ext_get_or absent_page (pages_at (set ws (get_or starts i 0 + k) w) starts) (set (pages_at ws starts) i new)
     (length-map starts (page_at (set ws (get_or starts i 0 + k) w)) ∙ sym (length-set (pages_at ws starts) i new ∙ length-map starts (page_at ws)))
     (λ j inside.
     let few : j < 256 = omega (arith, inside, length-map starts (page_at (set ws (get_or starts i 0 + k) w)), inv.count) in
-    get_or-map (page_at (set ws (get_or starts i 0 + k) w)) starts j 0 absent (omega (arith, inv.count, few)) ∙ at j few)
+    get_or-map (page_at (set ws (get_or starts i 0 + k) w)) starts j 0 absent_page (omega (arith, inv.count, few)) ∙ at j few)
   where
     new : PageWords
     new = page_written (get_or (pages_at ws starts) i d) k w
@@ -132,16 +132,16 @@ pages-written ws starts i k w d inv h below some =
         (window-set ws (get_or starts i 0) k w begin.inside below ∙ ap (λ p. set p.words k w) (sym (page-is ws starts i d inv h)))
         (grind (arith, nat_tests))
 
-    at : (j : ℕ) → j < 256 → page_at (set ws (get_or starts i 0 + k) w) (get_or starts j 0) ≡ get_or (set (pages_at ws starts) i new) j absent
+    at : (j : ℕ) → j < 256 → page_at (set ws (get_or starts i 0 + k) w) (get_or starts j 0) ≡ get_or (set (pages_at ws starts) i new) j absent_page
     at j few = elim (cases_eq j i) [
       | inl same ↦ (
           ap (λ n. page_at (set ws (get_or starts i 0 + k) w) (get_or starts n 0)) same ∙ here
-          ∙ sym (ap (λ n. get_or (set (pages_at ws starts) i new) n absent) same ∙ get_or-set_same (pages_at ws starts) i new absent (omega (arith, pages-count ws starts inv, h)))
+          ∙ sym (ap (λ n. get_or (set (pages_at ws starts) i new) n absent_page) same ∙ get_or-set_same (pages_at ws starts) i new absent_page (omega (arith, pages-count ws starts inv, h)))
           )
       | inr other ↦ (
           ap (λ ms. page ms (nat_lt 0 (get_or starts j 0)))
           (window-other ws (get_or starts j 0) (get_or starts i 0 + k) w (start-of ws starts j inv few).inside (λ m hm. apart-words ws starts i j k m inv h few below hm some other))
-          ∙ sym (get_or-set_other (pages_at ws starts) i j new absent other ∙ page-is ws starts j absent inv few)
+          ∙ sym (get_or-set_other (pages_at ws starts) i j new absent_page other ∙ page-is ws starts j absent_page inv few)
           )
     ]
 
@@ -173,12 +173,12 @@ pages-made ws starts i inv h =
   where
     kept : pages_at (ws ++ zeros 256) starts ≡ pages_at ws starts
     kept =
-        ext_get_or absent (pages_at (ws ++ zeros 256) starts) (pages_at ws starts) (length-map starts (page_at (ws ++ zeros 256)) ∙ sym (length-map starts (page_at ws)))
+        ext_get_or absent_page (pages_at (ws ++ zeros 256) starts) (pages_at ws starts) (length-map starts (page_at (ws ++ zeros 256)) ∙ sym (length-map starts (page_at ws)))
         (λ j inside.
         let few : j < 256 = omega (arith, inside, length-map starts (page_at (ws ++ zeros 256)), inv.count) in
-        get_or-map (page_at (ws ++ zeros 256)) starts j 0 absent (omega (arith, inv.count, few))
+        get_or-map (page_at (ws ++ zeros 256)) starts j 0 absent_page (omega (arith, inv.count, few))
         ∙ ap (λ ms. page ms (nat_lt 0 (get_or starts j 0))) (window-append ws (zeros 256) (get_or starts j 0) (start-of ws starts j inv few).inside)
-        ∙ sym (page-is ws starts j absent inv few))
+        ∙ sym (page-is ws starts j absent_page inv few))
 
     made : page_at (ws ++ zeros 256) (length ws) ≡ record { words = zeros 256; made = true }
     made =
@@ -231,10 +231,10 @@ unfolding zeros
 zeros-is n = refl
 
 -- where no page is made
-pub pages-absent : (ws starts : List ℕ) → ws ≡ zeros 256 → starts ≡ replicate 256 0 → pages_at ws starts ≡ replicate 256 absent
-unfolding absent
+pub pages-absent : (ws starts : List ℕ) → ws ≡ zeros 256 → starts ≡ replicate 256 0 → pages_at ws starts ≡ replicate 256 absent_page
+unfolding absent_page
 pages-absent ws starts blank none =
-    let first : take 256 (drop 0 ws) ≡ replicate 256 0 = take_all 256 ws (omega (arith, ap length blank, length-zeros 256)) ∙ blank ∙ zeros-is 256 in
+    let first : take 256 (drop 0 ws) ≡ zeros 256 = take_all 256 ws (omega (arith, ap length blank, length-zeros 256)) ∙ blank in
     ap (λ ss. map (page_at ws) ss) none ∙ map-same (page_at ws) 256 0 ∙ ap (λ ms. replicate 256 (page ms false)) first
 
 pub absent-pages : (ws starts : List ℕ) → ws ≡ zeros 256 → starts ≡ replicate 256 0 → ArePages ws starts

@@ -32,7 +32,7 @@ low_byte w = w % 256
 
 -- the bytes of a word of a packed string: the low one, then the high one if it is not zero
 abbrev pub packed_bytes : ℕ → List ℕ
-packed_bytes w = if w / 256 == 0 then w % 256 ∷ [] else w % 256 ∷ w / 256 ∷ []
+packed_bytes w = if w / 256 == 0 then low_byte w ∷ [] else low_byte w ∷ w / 256 ∷ []
 
 -- GETC: the next byte of the input into R0
 abbrev pub getc : Process → List ℕ → Outcome

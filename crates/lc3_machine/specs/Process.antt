@@ -101,7 +101,7 @@ at_routine p routine = at_address (with_reg p 7 (next_pc p)) routine
 
 -- the process with a result in a register, and the condition code of that result
 abbrev pub with_result : Process → ℕ → ℕ → Process
-with_result p r value = record p { regs = slice_set p.regs r value; cc = cc_of value }
+with_result p r value = record (with_reg p r value) { cc = cc_of value }
 
 -- the process with a word of memory set
 abbrev pub with_word : Process → ℕ → ℕ → Process

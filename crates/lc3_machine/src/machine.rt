@@ -42,7 +42,7 @@ impl Model for Machine {
     ghost view = { held_of_parts };
 }
 
-/// What local steps came to.
+/// The result of local steps.
 #[derive(Clone, Copy, Debug, PartialEq, Eq)]
 pub enum Progress {
     /// All are done.

@@ -1,7 +1,7 @@
 //! The pages of a memory.
 
 ghost use Rattle.std.specs.Prelude.{◌≡◌, ◌↔◌, ◌<◌, true, false, length, replicate, slice_index, IfOk, IsOk, IsTrue, OnErr, OnOk};
-ghost use Rattle.lc3_machine.specs.Private.Pages.{PageWords, AreWhole, absent, memory_of_pages, words_in, is_made_in, with_made, with_written};
+ghost use Rattle.lc3_machine.specs.Private.Pages.{PageWords, AreWhole, absent_page, memory_of_pages, words_in, is_made_in, with_made, with_written};
 ghost use Rattle.lc3_machine.specs.Process.{zeros};
 
 use std::alloc::{AllocError, Global};
@@ -57,7 +57,7 @@ fn blank(alloc: Global) -> Result<Vec<u16>, AllocError>
 impl Pages {
     /// Pages that were never written.
     pub(crate) fn absent(alloc: Global) -> Result<Pages, AllocError>
-        ensures absent { IfOk result (λ pages. pages ≡ replicate 256 absent) }
+        ensures absent { IfOk result (λ pages. pages ≡ replicate 256 absent_page) }
     {
         Ok(Pages {
             words: blank(alloc)?,
@@ -187,7 +187,7 @@ impl Pages {
         ensures same { (d : PageWords) → IsTrue result
             ↔ (words_in self.now page d ≡ words_in other.now page d) }
     {
-        // What is known of the pages is known where a field is named.
+        // A proof has the invariant of the pages where one of their fields is named.
         let _ = &self.words;
         let _ = &other.words;
         if !self.is_made(page) && !other.is_made(page) {
@@ -201,7 +201,7 @@ impl Pages {
         ensures same { IsTrue result ↔
             ((memory_of_pages self.now).words ≡ (memory_of_pages other.now).words) }
     {
-        // What is known of the pages is known where a field is named.
+        // A proof has the invariant of the pages where one of their fields is named.
         let _ = &self.words;
         let _ = &other.words;
         for page in 0..PAGES {

@@ -1,5 +1,5 @@
 -- Memory as a table of pages of 256 words.
-use Rattle.std.specs.Prelude.{◌≡◌, ℕ, ◌+◌, ◌*◌, ◌<◌, ◌≤◌, nat_lt, Bool, true, false, List, All, length, take, drop, get_or, slice_index_or, slice_set, map, flat_map, replicate}
+use Rattle.std.specs.Prelude.{◌≡◌, ℕ, ◌+◌, ◌*◌, ◌<◌, ◌≤◌, nat_lt, Bool, true, false, List, All, length, take, drop, get_or, slice_index_or, slice_set, map, flat_map}
 use Rattle.lc3_machine.specs.Process.{zeros}
 use Rattle.lc3_machine.specs.Memory.{Store}
 
@@ -9,8 +9,8 @@ pub record PageWords : Type 0 where
   pub made : Bool
 
 -- a page that isn't made
-unfoldable pub absent : PageWords
-absent = record { words = replicate 256 0; made = false }
+unfoldable pub absent_page : PageWords
+absent_page = record { words = zeros 256; made = false }
 
 -- the page that begins at a place among words: at 0 is the one that stands for all that aren't made
 abbrev pub page_at : List ℕ → ℕ → PageWords

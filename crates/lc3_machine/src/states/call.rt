@@ -41,7 +41,7 @@ impl AtCall {
         self.machine.is_writable(at, len)
     }
 
-    /// The process as it was before it came to stand here.
+    /// The process as it was before its call.
     #[inline(always)]
     pub fn back(self) -> Running
         ensures process { result ≡ self.process }

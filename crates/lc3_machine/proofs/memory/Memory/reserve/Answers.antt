@@ -1,7 +1,7 @@
 use Rattle.std.proofs.Common.{◌≡◌, ℕ, ◌<◌, ◌≤◌, ◌+◌, ◌-◌, ◌/◌, ◌∙◌, List, Some, true, get_or, slice_get, refl, ap, sym, subst, length, arith}
 use Rattle.std.proofs.lemmas.List.{get_or_default}
 use Rattle.lc3_machine.specs.Memory.{IsReadyAt, StaysReady}
-use Rattle.lc3_machine.specs.Private.Pages.{PageWords, absent, memory_of_pages, page_made}
+use Rattle.lc3_machine.specs.Private.Pages.{PageWords, absent_page, memory_of_pages, page_made}
 use Rattle.lc3_machine.proofs.PageLemmas.{same-joined, StaysReady-set, made-more}
 use Rattle.lc3_machine.proofs.memory.Memory.reserve.Goals as goal
 
@@ -9,10 +9,10 @@ pub loop-i-preserved : goal.loop-i-preserved
 loop-i-preserved c =
     let ps = c.loop-i.self-inside.pages in
     let last = c.requires.below_devices (c.args.len - 1) (omega arith) in
-    let page = get_or ps c.loop-i.i absent in
+    let page = get_or ps c.loop-i.i absent_page in
     let inside : c.loop-i.i < length c.loop-i.self-inside.pages = omega (arith, c.make.ensures.count) in
-    let is = get_or_default ps c.loop-i.i absent (get_or ps c.loop-i.i absent) inside in
-    let made = c.in_ok-make.ensures.ok absent in
+    let is = get_or_default ps c.loop-i.i absent_page (get_or ps c.loop-i.i absent_page) inside in
+    let made = c.in_ok-make.ensures.ok absent_page in
     let stays : StaysReady ((memory_of_pages c.loop-i.self-inside.pages).ready) ((memory_of_pages c.make.new.self).ready) =
     subst (λ qs. StaysReady ((memory_of_pages c.loop-i.self-inside.pages).ready) ((memory_of_pages qs).ready)) (sym made) (StaysReady-set ps c.loop-i.i page (page_made page) inside is (λ _. refl)) in
     record {
