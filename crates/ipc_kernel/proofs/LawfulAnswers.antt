@@ -1,9 +1,9 @@
 -- What holds of every answer, whatever the kernel and the call.
-use Rattle.std.proofs.Common.{◌≡◌, ℕ, ◌&&◌, ◌||◌, Bool, true, false, cond, not, nat_lt, nat_le, ◌==◌, List, [], ◌∷◌, length, Option, Some, None, Result, Ok, Err, IfOk, IsTrue, ◌≤◌, ◌<◌, refl, sym, subst, arith, IsSomeAnd, unwrap_or, length-set, position}
+use Rattle.std.proofs.Common.{◌≡◌, ℕ, ◌&&◌, ◌||◌, Bool, true, false, cond, not, nat_lt, nat_le, ◌==◌, List, [], ◌∷◌, length, Option, Some, None, Result, Ok, Err, IfOk, IsTrue, ◌<◌, refl, sym, subst, arith, IsSomeAnd, unwrap_or, length-set, position}
 use Rattle.ipc_names.specs.declared.errno.Errno.{Errno}
 use Rattle.ipc_names.specs.declared.flags.Flags.{Flags}
 use Rattle.ipc_names.specs.Flags.{flags_read, o_creat}
-use Rattle.ipc_objects.specs.Limits.{mq_prio_max, mq_msgsize_max, sem_value_max}
+use Rattle.ipc_objects.specs.Limits.{mq_prio_max, sem_value_max}
 use Rattle.ipc_objects.specs.declared.queue.Message.{Message}
 use Rattle.ipc_objects.specs.Queue.{QueueState, empty_queue}
 use Rattle.ipc_kernel.specs.declared.place.Place.{Place}
@@ -13,25 +13,25 @@ use Rattle.ipc_kernel.specs.declared.process.Descriptor.{Descriptor}
 use Rattle.ipc_kernel.specs.declared.call.Call.{Call}
 use Rattle.ipc_kernel.specs.declared.call.Call.TheVariants.{MqOpen, MqClose, MqUnlink, MqSend, MqReceive, MqGetattr, MqSetattr, SemOpen, SemClose, SemUnlink, SemWait, SemTrywait, SemPost, SemGetvalue, Exit}
 use Rattle.ipc_kernel.specs.declared.call.Reply.{Reply}
-use Rattle.ipc_kernel.specs.declared.call.Reply.TheVariants.{Plain, Message as received, Attr, Value}
+use Rattle.ipc_kernel.specs.declared.call.Reply.TheVariants.{Plain, Message as received}
 use Rattle.ipc_kernel.specs.declared.call.Answer.{Answer}
 use Rattle.ipc_kernel.specs.declared.call.Answer.TheVariants.{Done, Wait}
 use Rattle.ipc_kernel.specs.Kernel.{KernelState}
 use Rattle.ipc_kernel.specs.Processes.{descriptor_of, slot_of, slot_for, free_descriptor_of, free_slot_of}
 use Rattle.ipc_kernel.specs.Places.{is_empty, are_sizes, queue_named, semaphore_named, queue_in, place_at, HasMessage}
-use Rattle.ipc_kernel.specs.Private.Decisions.{outcome_of, reply_with_first, decision_receives, decision_may_grow, decision_may_share, IsPossible}
+use Rattle.ipc_kernel.specs.Private.Decisions.{outcome_of, reply_with_first, decision_receives, decision_may_grow, decision_may_share, IsPossible, FitsBuffer, FitsLimit}
 use Rattle.ipc_kernel.specs.declared.kernel.decision.Decision.{Decision}
 use Rattle.ipc_kernel.specs.declared.kernel.decision.Decision.TheVariants.{Refused, Waits, Receives, Answered}
 use Rattle.ipc_kernel.specs.Outcomes.{Outcome, waiting, wait_or_again, open_queue, open_semaphore, unlink}
 use Rattle.ipc_kernel.specs.Queues.{mq_send, take_first, mq_receive, mq_getattr, mq_setattr, mq_close, sizes_asked, new_descriptor, mq_create_at, mq_create, mq_look_up, mq_open}
 use Rattle.ipc_kernel.specs.Semaphores.{sem_getvalue, sem_post, sem_wait, sem_trywait, sem_close, new_slot, one_more_open, sem_open_place, sem_create_at, sem_create, sem_look_up, sem_open}
 use Rattle.ipc_names.specs.Flags.{has_flag}
-use Rattle.ipc_kernel.specs.Replies.{IsReplyTo, IsAnswerTo, message_length}
+use Rattle.ipc_kernel.specs.Replies.{IsReplyTo, IsAnswerTo}
 use Rattle.ipc_kernel.specs.Answer.{answer, may_grow, may_wait, is_receive}
 
 -- a message that a receive answers is no longer than what was asked for, and than a message can be
 abbrev pub IsShort : Call → Answer → Type 0
-IsShort call a = (d len : ℕ) → call ≡ MqReceive d len → (message_length a ≤ len) × (message_length a ≤ mq_msgsize_max)
+IsShort call a = FitsBuffer call a × FitsLimit call a
 
 -- the answer is one of the call, a wait is one of a call that can wait and changes nothing, and the processes stay as many
 record IsLawful (call : Call) (k : KernelState) (o : Outcome) : Type 0 where
@@ -72,7 +72,7 @@ lawful_sent c k priority words (Some held) can =
 
 lawful_first : (m len : ℕ) (k : KernelState) (d : Descriptor) (q : QueueState) (ms : List Message) → IsLawful (MqReceive m len) k (take_first k d q ms)
 lawful_first m len k d q [] = lawful_blocked (MqReceive m len) k d refl
-lawful_first m len k d q (x ∷ rest) = lawful_done (MqReceive m len) k _ _ _ (λ s. s m len refl) refl
+lawful_first m len k d q (x ∷ rest) = lawful_done (MqReceive m len) k _ _ _ (λ s. (s.0 m len refl, s.1 m len refl)) refl
 
 lawful_received : (m len : ℕ) (k : KernelState) (o : Option (Descriptor × QueueState)) → IsLawful (MqReceive m len) k (mq_receive k len o)
 lawful_received m len k None = lawful_refused (MqReceive m len) k _
@@ -199,22 +199,22 @@ answer_count k p c = (lawful k p c).count
 
 -- what a decision gives is an answer of its call, where a message is short
 pub decided_form : (k : KernelState) (p : ℕ) (c : Call) (d : Decision) → outcome_of k p d ≡ answer k p c
-    → ((m len : ℕ) → c ≡ MqReceive m len → message_length (answer k p c).0 ≤ len) → ((m len : ℕ) → c ≡ MqReceive m len → message_length (answer k p c).0 ≤ mq_msgsize_max) → IsAnswerTo c (outcome_of k p d).0
-decided_form k p c d same size limit = subst (λ (o : Outcome). IsAnswerTo c o.0) (sym same) (answer_form k p c (λ m len e. (size m len e, limit m len e)))
+    → FitsBuffer c (answer k p c).0 → FitsLimit c (answer k p c).0 → IsAnswerTo c (outcome_of k p d).0
+decided_form k p c d same size limit = subst (λ (o : Outcome). IsAnswerTo c o.0) (sym same) (answer_form k p c (size, limit))
 
 pub previewed_form : {E : Type 0} (r : Result Answer E) (k : KernelState) (p : ℕ) (c : Call) (d : Decision) → outcome_of k p d ≡ answer k p c
-    → ((m len : ℕ) → c ≡ MqReceive m len → message_length (answer k p c).0 ≤ len) → ((m len : ℕ) → c ≡ MqReceive m len → message_length (answer k p c).0 ≤ mq_msgsize_max) → IfOk r (λ a. a ≡ (outcome_of k p d).0) → IfOk r (λ a. IsAnswerTo c a)
+    → FitsBuffer c (answer k p c).0 → FitsLimit c (answer k p c).0 → IfOk r (λ a. a ≡ (outcome_of k p d).0) → IfOk r (λ a. IsAnswerTo c a)
 previewed_form (Err e) k p c d same size limit is = tt
 previewed_form (Ok a) k p c d same size limit is = subst (λ x. IsAnswerTo c x) (sym is) (decided_form k p c d same size limit)
 
 pub carried_form : {E : Type 0} (r : Result Answer E) (k new : KernelState) (p : ℕ) (c : Call) (d : Decision) → outcome_of k p d ≡ answer k p c
-    → ((m len : ℕ) → c ≡ MqReceive m len → message_length (answer k p c).0 ≤ len) → ((m len : ℕ) → c ≡ MqReceive m len → message_length (answer k p c).0 ≤ mq_msgsize_max) → IfOk r (λ a. (a, new) ≡ outcome_of k p d) → IfOk r (λ a. IsAnswerTo c a)
+    → FitsBuffer c (answer k p c).0 → FitsLimit c (answer k p c).0 → IfOk r (λ a. (a, new) ≡ outcome_of k p d) → IfOk r (λ a. IsAnswerTo c a)
 carried_form (Err e) k new p c d same size limit is = tt
 carried_form (Ok a) k new p c d same size limit is = subst (λ (o : Outcome). IsAnswerTo c o.0) (sym is) (decided_form k p c d same size limit)
 
 -- the same of an answer with a copy
 pub carried_copy_form : {E : Type 0} (r : Result (Answer × Answer) E) (k new : KernelState) (p : ℕ) (c : Call) (d : Decision) → outcome_of k p d ≡ answer k p c
-    → ((m len : ℕ) → c ≡ MqReceive m len → message_length (answer k p c).0 ≤ len) → ((m len : ℕ) → c ≡ MqReceive m len → message_length (answer k p c).0 ≤ mq_msgsize_max) → IfOk r (λ a. (a.0, new) ≡ outcome_of k p d) → IfOk r (λ a. IsAnswerTo c a.0)
+    → FitsBuffer c (answer k p c).0 → FitsLimit c (answer k p c).0 → IfOk r (λ a. (a.0, new) ≡ outcome_of k p d) → IfOk r (λ a. IsAnswerTo c a.0)
 carried_copy_form (Err e) k new p c d same size limit is = tt
 carried_copy_form (Ok a) k new p c d same size limit is = subst (λ (o : Outcome). IsAnswerTo c o.0) (sym is) (decided_form k p c d same size limit)
 

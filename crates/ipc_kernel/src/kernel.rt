@@ -1,16 +1,14 @@
 //! The kernel, and how it answers calls.
-ghost use Rattle.std.specs.Prelude.{◌≡◌, ℕ, ◌<◌, ◌≤◌, ◌-◌, ◌||◌, length, Some, IfSome, IfOk, OnErr, IsErr, IsTrue};
+ghost use Rattle.std.specs.Prelude.{◌≡◌, ◌<◌, ◌≤◌, ◌-◌, ◌||◌, length, Some, IfSome, IfOk, OnErr, IsErr, IsTrue};
 ghost use Rattle.std.specs.Option.{option_map, option_copied};
 ghost use Rattle.ipc_names.specs.Errno.{number_of};
-ghost use Rattle.ipc_objects.specs.Limits.{sem_value_max, mq_msgsize_max};
+ghost use Rattle.ipc_objects.specs.Limits.{sem_value_max};
 ghost use Rattle.ipc_kernel.specs.Limits.{object_places, open_max, process_max};
 ghost use Rattle.ipc_kernel.specs.Kernel.{KernelState};
-ghost use Rattle.ipc_kernel.specs.Private.Decisions.{outcome_of, IsPossible, decision_may_grow};
+ghost use Rattle.ipc_kernel.specs.Private.Decisions.{outcome_of, IsPossible, decision_may_grow, FitsBuffer, FitsLimit};
 ghost use Rattle.ipc_kernel.specs.Places.{place_at, queue_in, queue_and_name, semaphore_value, value_and_name};
-ghost use Rattle.ipc_kernel.specs.Replies.{message_length};
 ghost use Rattle.ipc_kernel.specs.declared.call.Answer.TheVariants.{Done};
 ghost use Rattle.ipc_kernel.specs.declared.call.Reply.TheVariants.{Plain};
-ghost use Rattle.ipc_kernel.specs.declared.call.Call.TheVariants.{MqReceive};
 
 use crate::places::Places;
 use crate::processes::Processes;
@@ -173,10 +171,8 @@ impl Kernel {
         requires outcome { outcome_of self.old pid decision ≡ answer self.old pid call.now }
         requires possible { IsPossible self.old decision }
         requires memory { IsTrue (decision_may_grow decision) → IsTrue (may_grow call.now) }
-        requires size { (d len : ℕ) → call.now ≡ MqReceive d len →
-            message_length (answer self.old pid call.now).0 ≤ len }
-        requires limit { (d len : ℕ) → call.now ≡ MqReceive d len →
-            message_length (answer self.old pid call.now).0 ≤ mq_msgsize_max }
+        requires size { FitsBuffer call.now (answer self.old pid call.now).0 }
+        requires limit { FitsLimit call.now (answer self.old pid call.now).0 }
         ensures answered { IfOk result (λ a. (a, self.new) ≡ answer self.old pid call.now) }
         ensures form { IfOk result (λ a. IsAnswerTo call.now a) }
         ensures err { OnErr result (self.new ≡ self.old) }
@@ -242,10 +238,8 @@ impl Kernel {
         ensures outcome { outcome_of self.now pid result ≡ answer self.now pid call.now }
         ensures possible { IsPossible self.now result }
         ensures memory { IsTrue (decision_may_grow result) → IsTrue (may_grow call.now) }
-        ensures size { (d len : ℕ) → call.now ≡ MqReceive d len →
-            message_length (answer self.now pid call.now).0 ≤ len }
-        ensures limit { (d len : ℕ) → call.now ≡ MqReceive d len →
-            message_length (answer self.now pid call.now).0 ≤ mq_msgsize_max }
+        ensures size { FitsBuffer call.now (answer self.now pid call.now).0 }
+        ensures limit { FitsLimit call.now (answer self.now pid call.now).0 }
     {
         match call {
             Call::MqOpen { name, flags, attr } => self.decide_mq_open(pid, name, *flags, *attr),

@@ -2,13 +2,16 @@
 use Rattle.std.specs.Prelude.{◌≡◌, ℕ, ◌+◌, ◌-◌, ◌<◌, ◌≤◌, ◌||◌, Bool, true, false, List, [], ◌∷◌, Some, None, slice_set, IfSome, IsSomeAnd, IsTrue}
 use Rattle.ipc_objects.specs.declared.queue.Message.{Message}
 use Rattle.ipc_objects.specs.Queue.{empty_queue, with_message, without_first}
-use Rattle.ipc_objects.specs.Limits.{sem_value_max, mq_prio_max}
+use Rattle.ipc_objects.specs.Limits.{sem_value_max, mq_prio_max, mq_msgsize_max}
 use Rattle.ipc_kernel.specs.Limits.{object_places, open_max}
 use Rattle.ipc_kernel.specs.declared.place.Place.{Place}
 use Rattle.ipc_kernel.specs.declared.place.Place.TheVariants.{Empty, Mq, Sem}
 use Rattle.ipc_kernel.specs.declared.process.OpenTables.{OpenTables}
+use Rattle.ipc_kernel.specs.declared.call.Call.{Call}
+use Rattle.ipc_kernel.specs.declared.call.Call.TheVariants.{MqReceive}
 use Rattle.ipc_kernel.specs.declared.call.Reply.{Reply}
 use Rattle.ipc_kernel.specs.declared.call.Reply.TheVariants.{Plain, Attr, Value, Message as received}
+use Rattle.ipc_kernel.specs.declared.call.Answer.{Answer}
 use Rattle.ipc_kernel.specs.declared.kernel.decision.ShortReply.{ShortReply}
 use Rattle.ipc_kernel.specs.declared.kernel.decision.ShortReply.TheVariants as short
 use Rattle.ipc_kernel.specs.declared.kernel.decision.Change.{Change}
@@ -19,6 +22,7 @@ use Rattle.ipc_kernel.specs.declared.kernel.decision.NewSemaphore.{NewSemaphore}
 use Rattle.ipc_kernel.specs.declared.kernel.decision.Decision.TheVariants.{Refused, Waits, Receives, Answered}
 use Rattle.ipc_kernel.specs.Processes.{closed_process, with_descriptor, with_slot}
 use Rattle.ipc_kernel.specs.Places.{place_at, queue_in, semaphore_value, without_name_in, queue_named, semaphore_named, are_sizes, HasRoomFor, HasMessage}
+use Rattle.ipc_kernel.specs.Replies.{message_length}
 use Rattle.ipc_kernel.specs.Kernel.{KernelState}
 use Rattle.ipc_kernel.specs.Outcomes.{Outcome, refusal, waiting, completion, queue_at, with_queue_at, with_value_at}
 
@@ -123,6 +127,14 @@ decision_may_grow other = false
 -- whether a decision can take memory, or its reply has the words of a message, which a copy shares
 abbrev pub decision_may_share : Decision → Bool
 decision_may_share d = decision_receives d || decision_may_grow d
+
+-- the message with which mq_receive is answered has at most the words that the buffer holds
+abbrev pub FitsBuffer : Call → Answer → Type 0
+FitsBuffer call a = (d len : ℕ) → call ≡ MqReceive d len → message_length a ≤ len
+
+-- the message with which mq_receive is answered has at most mq_msgsize_max words
+abbrev pub FitsLimit : Call → Answer → Type 0
+FitsLimit call a = (d len : ℕ) → call ≡ MqReceive d len → message_length a ≤ mq_msgsize_max
 
 -- whether a change leaves each name, and what is open, as they were
 abbrev pub keeps_references : Change → Bool
