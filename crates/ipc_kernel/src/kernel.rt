@@ -292,7 +292,7 @@ impl Kernel {
     {
         match self.processes.slot(pid, slot) {
             None => None,
-            Some(held) => match self.places.value(held.place) {
+            Some(held) => match self.places.semaphore_value(held.place) {
                 None => None,
                 Some(value) => Some((held, value)),
             },

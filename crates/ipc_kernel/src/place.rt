@@ -48,7 +48,7 @@ impl Place {
 
     /// The value of the semaphore.
     #[inline(always)]
-    pub(crate) fn value(&self) -> Option<u16>
+    pub(crate) fn semaphore_value(&self) -> Option<u16>
         ensures value { result ≡ semaphore_value self.now }
         ensures bound { IfSome result (λ value. value ≤ sem_value_max) }
     {

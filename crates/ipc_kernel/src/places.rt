@@ -125,7 +125,7 @@ fn put_semaphore_at(places: &mut Vec<Place>, place: u8, name: Name, value: u16)
 }
 
 /// An empty queue of sizes in their ranges.
-fn new_queue(alloc: Global, max_messages: u16, message_size: u16) -> Result<Queue, AllocError>
+fn empty_queue(alloc: Global, max_messages: u16, message_size: u16) -> Result<Queue, AllocError>
     requires sizes { IsTrue (are_sizes (max_messages, message_size)) }
     ensures empty { IfOk result (λ q. q ≡ empty_queue (max_messages, message_size)) }
 {
@@ -189,7 +189,7 @@ impl Places {
         }
     }
 
-    pub(crate) fn find_queue(&self, name: &Name) -> Option<u8>
+    pub(crate) fn queue_named(&self, name: &Name) -> Option<u8>
         ensures found { result ≡ queue_named self.now name.now }
         ensures range { IfSome result (λ i. i < object_places) }
         ensures only { (i : ℕ) → queue_name (place_at self.now i) ≡ Some name.now
@@ -198,7 +198,7 @@ impl Places {
         self.queue_names.find(name)
     }
 
-    pub(crate) fn find_semaphore(&self, name: &Name) -> Option<u8>
+    pub(crate) fn semaphore_named(&self, name: &Name) -> Option<u8>
         ensures found { result ≡ semaphore_named self.now name.now }
         ensures range { IfSome result (λ i. i < object_places) }
         ensures only { (i : ℕ) → semaphore_name (place_at self.now i) ≡ Some name.now
@@ -209,12 +209,12 @@ impl Places {
 
     /// The value of the semaphore in a place.
     #[inline(always)]
-    pub(crate) fn value(&self, place: u8) -> Option<u16>
+    pub(crate) fn semaphore_value(&self, place: u8) -> Option<u16>
         ensures value { result ≡ semaphore_value (place_at self.now place) }
         ensures bound { IfSome result (λ value. value ≤ sem_value_max) }
     {
         match self.places.get(place as usize) {
-            Some(place) => place.value(),
+            Some(place) => place.semaphore_value(),
             None => None,
         }
     }
@@ -337,7 +337,7 @@ impl Places {
             (Mq (Some name.now) (empty_queue (max_messages, message_size)))) }
         ensures err { OnErr result (self.new ≡ self.old) }
     {
-        let queue = new_queue(self.alloc, max_messages, message_size)?;
+        let queue = empty_queue(self.alloc, max_messages, message_size)?;
         let kept = name.copy()?;
         self.queue_names.put(self.alloc, name, place)?;
         put_queue_at(&mut self.places, place, kept, queue);

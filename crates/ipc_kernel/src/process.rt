@@ -32,7 +32,7 @@ pub struct OpenTables {
     pub slots: [Option<Slot>; OPEN_MAX],
 }
 
-pub(crate) fn slot_refers_to(slot: &Option<Slot>, place: u8) -> bool
+pub(crate) fn slot_refers(slot: &Option<Slot>, place: u8) -> bool
     ensures refers { result ≡ slot_refers place slot.now }
 {
     match slot {
@@ -83,7 +83,7 @@ pub(crate) fn first_that_refers(slots: &[Option<Slot>], place: u8) -> Option<usi
     ensures first { result ≡ position (slot_refers place) slots.now }
     ensures range { IfSome result (λ i. i < length slots.now) }
 {
-    slots.iter().position(|slot| slot_refers_to(slot, place))
+    slots.iter().position(|slot| slot_refers(slot, place))
 }
 
 pub(crate) fn write_slot(tables: &mut Vec<OpenTables>, pid: usize, slot: usize, value: Option<Slot>)

@@ -6,7 +6,7 @@ use crate::limits::OBJECT_PLACES;
 
 /// Where a list of numbers takes a place; one behind its end stays.
 #[inline(always)]
-pub(crate) fn renamed(to: &[u8], place: u8) -> u8
+pub(crate) fn renamed_by(to: &[u8], place: u8) -> u8
     ensures renamed { result ≡ renamed_by to.now place }
 {
     match to.get(place as usize) {

@@ -150,7 +150,7 @@ impl Kernel {
             Decision::Refused(errno) => Ok((refusal(errno), refusal(errno))),
             Decision::Waits => Ok((Answer::Wait, Answer::Wait)),
             Decision::Receives(place) => {
-                let copy = self.first_message(place)?;
+                let copy = self.reply_with_first(place)?;
                 let reply = self.receive(place);
                 Ok((Answer::Done(reply), Answer::Done(copy)))
             }
@@ -171,13 +171,13 @@ impl Kernel {
         match decision {
             Decision::Refused(errno) => Ok(refusal(errno)),
             Decision::Waits => Ok(Answer::Wait),
-            Decision::Receives(place) => Ok(Answer::Done(self.first_message(place)?)),
+            Decision::Receives(place) => Ok(Answer::Done(self.reply_with_first(place)?)),
             Decision::Answered(reply, _) => Ok(Answer::Done(reply.reply())),
         }
     }
 
     /// The first message of the queue in a place, with shared words.
-    fn first_message(&self, place: u8) -> Result<Reply, AllocError>
+    fn reply_with_first(&self, place: u8) -> Result<Reply, AllocError>
         requires message { IsSomeAnd (queue_in (place_at self.now.places place)) HasMessage }
         ensures first { IfOk result (λ r. r ≡ reply_with_first (queue_at self.now place).messages) }
     {

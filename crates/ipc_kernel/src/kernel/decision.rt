@@ -116,7 +116,7 @@ pub(super) enum Decision<'a> {
 
 /// What becomes of a call that finds its queue full or empty.
 #[inline(always)]
-pub(super) fn block<'a>(descriptor: Descriptor) -> Decision<'a>
+pub(super) fn wait_or_again<'a>(descriptor: Descriptor) -> Decision<'a>
     ensures outcome { (k : KernelState) (p : ℕ) → outcome_of k p result
         ≡ wait_or_again k descriptor }
     ensures possible { (k : KernelState) → IsPossible k result }

@@ -11,7 +11,7 @@ ghost use Rattle.ipc_kernel.specs.Queues.{attributes, descriptor_for, sizes_aske
 ghost use Rattle.ipc_kernel.specs.Replies.{message_length};
 
 use super::Kernel;
-use super::decision::{Change, Decision, NewQueue, ShortReply, block};
+use super::decision::{Change, Decision, NewQueue, ShortReply, wait_or_again};
 use crate::Descriptor;
 use ipc_names::{Errno, Flags, Name, O_NONBLOCK};
 use ipc_objects::{
@@ -104,7 +104,7 @@ impl Kernel {
             (queue_named self.now.places name.now) }
         ensures possible { IsPossible self.now result }
     {
-        match self.places.find_queue(name) {
+        match self.places.queue_named(name) {
             Some(place) => {
                 if flags.create && flags.excl {
                     return Decision::Refused(Errno::Exists);
@@ -203,7 +203,7 @@ impl Kernel {
         ensures possible { IsPossible self.now result }
         ensures memory { decision_may_grow result ≡ false }
     {
-        match self.places.find_queue(name) {
+        match self.places.queue_named(name) {
             None => Decision::Refused(Errno::NoEntry),
             Some(place) => {
                 Decision::Answered(ShortReply::Plain(0), Change::UnnameQueue { place, name })
@@ -238,7 +238,7 @@ impl Kernel {
             return Decision::Refused(Errno::MessageSize);
         }
         if count >= max {
-            return block(descriptor);
+            return wait_or_again(descriptor);
         }
         let place = descriptor.place;
         Decision::Answered(ShortReply::Plain(0), Change::Send { place, words, prio })
@@ -266,7 +266,7 @@ impl Kernel {
             return Decision::Refused(Errno::MessageSize);
         }
         if count == 0 {
-            return block(descriptor);
+            return wait_or_again(descriptor);
         }
         Decision::Receives(descriptor.place)
     }

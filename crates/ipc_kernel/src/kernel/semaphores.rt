@@ -55,7 +55,7 @@ impl Kernel {
             (semaphore_named self.now.places name.now) }
         ensures possible { IsPossible self.now result }
     {
-        match self.places.find_semaphore(name) {
+        match self.places.semaphore_named(name) {
             Some(place) => {
                 if create && exclusive {
                     return Decision::Refused(Errno::Exists);
@@ -195,7 +195,7 @@ impl Kernel {
         ensures possible { IsPossible self.now result }
         ensures memory { decision_may_grow result ≡ false }
     {
-        match self.places.find_semaphore(name) {
+        match self.places.semaphore_named(name) {
             None => Decision::Refused(Errno::NoEntry),
             Some(place) => {
                 Decision::Answered(

@@ -7,7 +7,7 @@ ghost use Rattle.ipc_kernel.specs.Alike.{IsPermutation, Permutes, Follows, renam
 use super::Places;
 use crate::limits::OBJECT_PLACES;
 use crate::place::Place;
-use crate::renaming::{Renaming, renamed};
+use crate::renaming::{Renaming, renamed_by};
 
 /// Whether a place holds what another holds; one behind the end is empty.
 fn is_same_at(places: &[Place], at: u8, others: &[Place], other: u8) -> bool
@@ -26,7 +26,7 @@ fn are_renamed(places: &[Place], others: &[Place], to: &[u8]) -> bool
         → place_at others.now (renamed_by to.now i) ≡ place_at places.now i) }
 {
     for at in 0..OBJECT_PLACES as u8 {
-        if !is_same_at(places, at, others, renamed(to, at)) {
+        if !is_same_at(places, at, others, renamed_by(to, at)) {
             return false;
         }
     }
@@ -56,13 +56,13 @@ impl Places {
                     name: Some(name),
                     ..
                 },
-            ) => other.find_queue(name),
+            ) => other.queue_named(name),
             Some(
                 Place::Sem {
                     name: Some(name),
                     ..
                 },
-            ) => other.find_semaphore(name),
+            ) => other.semaphore_named(name),
             _ => None,
         }
     }

@@ -9,7 +9,7 @@ ghost use Rattle.ipc_kernel.specs.Alike.{renamed_descriptor, renamed_slot, renam
 
 use super::Processes;
 use crate::process::{Descriptor, OpenTables, Slot};
-use crate::renaming::{Renaming, renamed};
+use crate::renaming::{Renaming, renamed_by};
 
 fn is_renamed_descriptor(held: &Option<Descriptor>, other: &Option<Descriptor>, to: &[u8]) -> bool
     ensures renamed { IsTrue result ↔ (other.now
@@ -17,7 +17,7 @@ fn is_renamed_descriptor(held: &Option<Descriptor>, other: &Option<Descriptor>, 
 {
     match (held, other) {
         (Some(held), Some(other)) => {
-            other.place == renamed(to, held.place)
+            other.place == renamed_by(to, held.place)
                 && other.access == held.access
                 && other.nonblock == held.nonblock
         }
@@ -32,7 +32,7 @@ fn is_renamed_slot(held: &Option<Slot>, other: &Option<Slot>, to: &[u8]) -> bool
 {
     match (held, other) {
         (Some(held), Some(other)) => {
-            other.place == renamed(to, held.place) && other.opens == held.opens
+            other.place == renamed_by(to, held.place) && other.opens == held.opens
         }
         (None, None) => true,
         _ => false,

@@ -4,7 +4,7 @@ use Rattle.ipc_kernel.proofs.AnswerLemmas.{first_short}
 use Rattle.ipc_kernel.proofs.kernel.Kernel.decide_mq_receive.Goals as goal
 
 pub returns-then-count-eq0-clause-possible : goal.returns-then-count-eq0-clause-possible
-returns-then-count-eq0-clause-possible c = c.block.ensures.possible c.args.self.now
+returns-then-count-eq0-clause-possible c = c.wait_or_again.ensures.possible c.args.self.now
 
 pub returns-clause-size : goal.returns-clause-size
 returns-clause-size c =

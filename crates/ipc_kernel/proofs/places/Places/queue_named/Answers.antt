@@ -1,7 +1,7 @@
 use Rattle.std.proofs.Common.{refl, ap, ◌∙◌}
 use Rattle.ipc_kernel.specs.Places.{place_at, queue_name}
 use Rattle.ipc_kernel.proofs.IndexLemmas.{place_named-get, found_range}
-use Rattle.ipc_kernel.proofs.places.Places.find_queue.Goals as goal
+use Rattle.ipc_kernel.proofs.places.Places.queue_named.Goals as goal
 
 pub returns-clause-found : goal.returns-clause-found
 returns-clause-found c = c.find.ensures.place ∙ rw (← c.self.view_is) (place_named-get queue_name c.self.inside.places.items c.self.inside.queue_names c.args.name.now refl c.self.invariant.queue_index)
