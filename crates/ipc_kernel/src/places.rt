@@ -295,30 +295,26 @@ impl Places {
         take_at(&mut self.places, place, value);
     }
 
-    /// Removes a name from its queue, and answers the place.
-    pub(crate) fn unname_queue(&mut self, name: &Name) -> Option<u8>
-        ensures found { result ≡ queue_named self.old name.now }
-        ensures unnamed { IfSome result (λ place. self.new ≡ without_name_in self.old place) }
-        ensures none { IfNone result (self.new ≡ self.old) }
+    /// Removes a name from its queue, if it is there.
+    pub(crate) fn unname_queue(&mut self, name: &Name)
+        ensures unnamed { IfSome (queue_named self.old name.now)
+            (λ place. self.new ≡ without_name_in self.old place) }
+        ensures none { IfNone (queue_named self.old name.now) (self.new ≡ self.old) }
     {
-        let taken = self.queue_names.take(name);
-        if let Some(place) = taken {
+        if let Some(place) = self.queue_names.take(name) {
             unname_at(&mut self.places, place);
         }
-        taken
     }
 
-    /// Removes a name from its semaphore, and answers the place.
-    pub(crate) fn unname_semaphore(&mut self, name: &Name) -> Option<u8>
-        ensures found { result ≡ semaphore_named self.old name.now }
-        ensures unnamed { IfSome result (λ place. self.new ≡ without_name_in self.old place) }
-        ensures none { IfNone result (self.new ≡ self.old) }
+    /// Removes a name from its semaphore, if it is there.
+    pub(crate) fn unname_semaphore(&mut self, name: &Name)
+        ensures unnamed { IfSome (semaphore_named self.old name.now)
+            (λ place. self.new ≡ without_name_in self.old place) }
+        ensures none { IfNone (semaphore_named self.old name.now) (self.new ≡ self.old) }
     {
-        let taken = self.semaphore_names.take(name);
-        if let Some(place) = taken {
+        if let Some(place) = self.semaphore_names.take(name) {
             unname_at(&mut self.places, place);
         }
-        taken
     }
 
     /// Puts a new queue with a name that is free into an empty place.

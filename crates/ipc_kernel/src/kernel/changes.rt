@@ -45,12 +45,8 @@ fn apply(
             places.put_semaphore(place, new.name, new.value)?;
             processes.set_slot(pid, new.slot, Some(Slot { place, opens: 1 }));
         }
-        Change::UnnameQueue { name, .. } => {
-            places.unname_queue(name);
-        }
-        Change::UnnameSemaphore { name, .. } => {
-            places.unname_semaphore(name);
-        }
+        Change::UnnameQueue { name, .. } => places.unname_queue(name),
+        Change::UnnameSemaphore { name, .. } => places.unname_semaphore(name),
         Change::Send { place, words, prio } => places.send(place, prio, words)?,
         Change::Take { place, value } => places.take(place, value),
         Change::Post { place, value } => places.post(place, value),
