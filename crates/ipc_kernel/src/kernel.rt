@@ -79,16 +79,16 @@ impl Kernel {
 
     /// The queue in a place, with its name or none.
     pub fn queue_at(&self, place: u8) -> Option<(Option<&Name>, &Queue)>
-        ensures held { option_map (λ r. (option_copied r.0, r.1.now)) result ≡
-            queue_and_name (place_at self.now.places place) }
+        ensures held { option_map (λ r. (option_copied r.0, r.1.now)) result
+            ≡ queue_and_name (place_at self.now.places place) }
     {
         self.places.queue_and_name(place)
     }
 
     /// The value of the semaphore in a place, 0 to 32,767, with its name or none.
     pub fn semaphore_at(&self, place: u8) -> Option<(Option<&Name>, u16)>
-        ensures held { option_map (λ r. (option_copied r.0, r.1)) result ≡
-            value_and_name (place_at self.now.places place) }
+        ensures held { option_map (λ r. (option_copied r.0, r.1)) result
+            ≡ value_and_name (place_at self.now.places place) }
     {
         self.places.value_and_name(place)
     }

@@ -71,8 +71,8 @@ impl Place {
 
     /// The queue, with its name or none.
     pub(crate) fn queue_and_name(&self) -> Option<(Option<&Name>, &Queue)>
-        ensures held { option_map (λ r. (option_copied r.0, r.1.now)) result ≡
-            queue_and_name self.now }
+        ensures held { option_map (λ r. (option_copied r.0, r.1.now)) result
+            ≡ queue_and_name self.now }
     {
         match self {
             Place::Mq { name, queue } => Some((name.as_ref(), queue)),
@@ -95,8 +95,8 @@ impl Place {
     pub(crate) fn send(&mut self, priority: u16, words: Words) -> Result<(), AllocError>
         requires queue { IsSomeAnd (queue_in self.old) (HasRoomFor words) }
         requires priority { priority < mq_prio_max }
-        ensures ok { OnOk result ((q : QueueState) → queue_in self.old ≡ Some q →
-            self.new ≡ with_queue (with_message priority words q) self.old) }
+        ensures ok { OnOk result ((q : QueueState) → queue_in self.old ≡ Some q
+            → self.new ≡ with_queue (with_message priority words q) self.old) }
         ensures err { OnErr result (self.new ≡ self.old) }
     {
         if let Place::Mq { queue, .. } = self {
@@ -111,10 +111,10 @@ impl Place {
     #[inline(always)]
     pub(crate) fn receive(&mut self) -> (u16, Words)
         requires message { IsSomeAnd (queue_in self.old) HasMessage }
-        ensures first { (q : QueueState) → queue_in self.old ≡ Some q →
-            q.messages ≡ record { priority = result.0; words = result.1 } ∷ drop 1 q.messages }
-        ensures rest { (q : QueueState) → queue_in self.old ≡ Some q →
-            self.new ≡ with_queue (without_first q) self.old }
+        ensures first { (q : QueueState) → queue_in self.old ≡ Some q
+            → q.messages ≡ record { priority = result.0; words = result.1 } ∷ drop 1 q.messages }
+        ensures rest { (q : QueueState) → queue_in self.old ≡ Some q
+            → self.new ≡ with_queue (without_first q) self.old }
     {
         match self {
             Place::Mq { queue, .. } => queue.receive(),

@@ -50,9 +50,10 @@ fn send_at(
 ) -> Result<(), AllocError>
     requires queue { IsSomeAnd (queue_in (place_at places.old.items place)) (HasRoomFor words.now) }
     requires priority { priority < mq_prio_max }
-    ensures ok { OnOk result ((q : QueueState) →
-        queue_in (place_at places.old.items place) ≡ Some q → places.new.items ≡
-        with_queue_in places.old.items place (with_message priority words.now q)) }
+    ensures ok { OnOk result ((q : QueueState)
+        → queue_in (place_at places.old.items place) ≡ Some q
+        → places.new.items ≡ with_queue_in places.old.items place
+        (with_message priority words.now q)) }
     ensures err { OnErr result (places.new.items ≡ places.old.items) }
 {
     let words = words.copy()?;
@@ -64,10 +65,10 @@ fn send_at(
 #[inline(always)]
 fn receive_at(places: &mut Vec<Place>, place: u8) -> (u16, Words)
     requires message { IsSomeAnd (queue_in (place_at places.old.items place)) HasMessage }
-    ensures first { (q : QueueState) → queue_in (place_at places.old.items place) ≡ Some q →
-        q.messages ≡ record { priority = result.0; words = result.1 } ∷ drop 1 q.messages }
-    ensures rest { (q : QueueState) → queue_in (place_at places.old.items place) ≡ Some q →
-        places.new.items ≡ with_queue_in places.old.items place (without_first q) }
+    ensures first { (q : QueueState) → queue_in (place_at places.old.items place) ≡ Some q
+        → q.messages ≡ record { priority = result.0; words = result.1 } ∷ drop 1 q.messages }
+    ensures rest { (q : QueueState) → queue_in (place_at places.old.items place) ≡ Some q
+        → places.new.items ≡ with_queue_in places.old.items place (without_first q) }
 {
     let place = &mut places[place as usize];
     place.receive()
@@ -232,8 +233,8 @@ impl Places {
 
     /// The queue in a place, with its name or none.
     pub(crate) fn queue_and_name(&self, place: u8) -> Option<(Option<&Name>, &Queue)>
-        ensures held { option_map (λ r. (option_copied r.0, r.1.now)) result ≡
-            queue_and_name (place_at self.now place) }
+        ensures held { option_map (λ r. (option_copied r.0, r.1.now)) result
+            ≡ queue_and_name (place_at self.now place) }
     {
         match self.places.get(place as usize) {
             Some(place) => place.queue_and_name(),
@@ -243,8 +244,8 @@ impl Places {
 
     /// The value of the semaphore in a place, with its name or none.
     pub(crate) fn value_and_name(&self, place: u8) -> Option<(Option<&Name>, u16)>
-        ensures held { option_map (λ r. (option_copied r.0, r.1)) result ≡
-            value_and_name (place_at self.now place) }
+        ensures held { option_map (λ r. (option_copied r.0, r.1)) result
+            ≡ value_and_name (place_at self.now place) }
     {
         match self.places.get(place as usize) {
             Some(place) => place.value_and_name(),
@@ -257,8 +258,8 @@ impl Places {
     pub(crate) fn send(&mut self, place: u8, priority: u16, words: &Words) -> Result<(), AllocError>
         requires queue { IsSomeAnd (queue_in (place_at self.old place)) (HasRoomFor words.now) }
         requires priority { priority < mq_prio_max }
-        ensures ok { OnOk result ((q : QueueState) → queue_in (place_at self.old place) ≡ Some q →
-            self.new ≡ with_queue_in self.old place (with_message priority words.now q)) }
+        ensures ok { OnOk result ((q : QueueState) → queue_in (place_at self.old place) ≡ Some q
+            → self.new ≡ with_queue_in self.old place (with_message priority words.now q)) }
         ensures err { OnErr result (self.new ≡ self.old) }
     {
         send_at(&mut self.places, place, priority, words)
@@ -268,10 +269,10 @@ impl Places {
     #[inline(always)]
     pub(crate) fn receive(&mut self, place: u8) -> (u16, Words)
         requires message { IsSomeAnd (queue_in (place_at self.old place)) HasMessage }
-        ensures first { (q : QueueState) → queue_in (place_at self.old place) ≡ Some q →
-            q.messages ≡ record { priority = result.0; words = result.1 } ∷ drop 1 q.messages }
-        ensures rest { (q : QueueState) → queue_in (place_at self.old place) ≡ Some q →
-            self.new ≡ with_queue_in self.old place (without_first q) }
+        ensures first { (q : QueueState) → queue_in (place_at self.old place) ≡ Some q
+            → q.messages ≡ record { priority = result.0; words = result.1 } ∷ drop 1 q.messages }
+        ensures rest { (q : QueueState) → queue_in (place_at self.old place) ≡ Some q
+            → self.new ≡ with_queue_in self.old place (without_first q) }
     {
         receive_at(&mut self.places, place)
     }

@@ -25,8 +25,8 @@ fn apply(
 ) -> Result<(), AllocError>
     requires process { pid < length processes.old }
     requires possible { CanChange (kernel_of places.old processes.old) change }
-    ensures ok { OnOk result (kernel_of places.new processes.new ≡
-        after_change (kernel_of places.old processes.old) pid change.entry) }
+    ensures ok { OnOk result (kernel_of places.new processes.new
+        ≡ after_change (kernel_of places.old processes.old) pid change.entry) }
     ensures same_places { OnErr result (places.new ≡ places.old) }
     ensures same_processes { OnErr result (processes.new ≡ processes.old) }
     ensures memory { IsErr result → IsTrue (change_may_grow change.entry) }
@@ -118,8 +118,8 @@ impl Kernel {
     #[inline(always)]
     fn receive(&mut self, place: u8) -> Reply
         requires message { IsSomeAnd (queue_in (place_at self.old.places place)) HasMessage }
-        ensures outcome { (p : ℕ) →
-            (Done result, self.new) ≡ outcome_of self.old p (Receives place) }
+        ensures outcome { (p : ℕ)
+            → (Done result, self.new) ≡ outcome_of self.old p (Receives place) }
         ensures count { length self.new.processes ≡ length self.old.processes }
     {
         let (prio, words) = self.places.receive(place);
@@ -160,8 +160,8 @@ impl Kernel {
     /// What a decision answers. Takes no memory: the words of a message are shared.
     pub(super) fn preview(&self, decision: Decision<'_>) -> Result<Answer, AllocError>
         requires possible { IsPossible self.now decision }
-        ensures outcome { (p : ℕ) →
-            IfOk result (λ a. a ≡ (outcome_of self.now p decision.entry).0) }
+        ensures outcome { (p : ℕ)
+            → IfOk result (λ a. a ≡ (outcome_of self.now p decision.entry).0) }
         ensures memory { IsErr result → IsTrue (decision_receives decision.entry) }
     {
         match decision {

@@ -72,8 +72,8 @@ impl Kernel {
         attr: Option<[u16; 4]>,
     ) -> Decision<'a>
         requires process { pid < length self.now.processes }
-        ensures outcome { outcome_of self.now pid result ≡
-            mq_open self.now pid name.now (sizes_asked attr) (flags_read flags) }
+        ensures outcome { outcome_of self.now pid result
+            ≡ mq_open self.now pid name.now (sizes_asked attr) (flags_read flags) }
         ensures possible { IsPossible self.now result }
     {
         let flags = match Flags::read(flags) {
@@ -99,8 +99,8 @@ impl Kernel {
     ) -> Decision<'a>
         requires process { pid < length self.now.processes }
         requires sizes { IsTrue flags.create → IsTrue (are_sizes (max_messages, message_size)) }
-        ensures outcome { outcome_of self.now pid result ≡
-            mq_look_up self.now pid name.now (max_messages, message_size) flags
+        ensures outcome { outcome_of self.now pid result
+            ≡ mq_look_up self.now pid name.now (max_messages, message_size) flags
             (queue_named self.now.places name.now) }
         ensures possible { IsPossible self.now result }
     {
@@ -134,8 +134,8 @@ impl Kernel {
         requires process { pid < length self.now.processes }
         requires sizes { IsTrue (are_sizes (max_messages, message_size)) }
         requires absent { queue_named self.now.places name.now ≡ None }
-        ensures outcome { outcome_of self.now pid result ≡
-            mq_create self.now pid name.now (max_messages, message_size) flags
+        ensures outcome { outcome_of self.now pid result
+            ≡ mq_create self.now pid name.now (max_messages, message_size) flags
             (free_descriptor_of self.now.processes pid) }
         ensures possible { IsPossible self.now result }
     {
@@ -160,8 +160,8 @@ impl Kernel {
     fn decide_new_descriptor<'a>(&self, pid: usize, place: u8, flags: Flags) -> Decision<'a>
         requires process { pid < length self.now.processes }
         requires place { place < object_places }
-        ensures outcome { outcome_of self.now pid result ≡
-            new_descriptor self.now pid place flags (free_descriptor_of self.now.processes pid) }
+        ensures outcome { outcome_of self.now pid result
+            ≡ new_descriptor self.now pid place flags (free_descriptor_of self.now.processes pid) }
         ensures possible { IsPossible self.now result }
     {
         match self.processes.free_descriptor(pid) {
@@ -179,8 +179,8 @@ impl Kernel {
     #[inline(always)]
     pub(super) fn decide_mq_close<'a>(&self, pid: usize, mqd: u16) -> Decision<'a>
         requires process { pid < length self.now.processes }
-        ensures outcome { outcome_of self.now pid result ≡
-            mq_close self.now pid mqd (descriptor_of self.now.processes pid mqd) }
+        ensures outcome { outcome_of self.now pid result
+            ≡ mq_close self.now pid mqd (descriptor_of self.now.processes pid mqd) }
         ensures possible { IsPossible self.now result }
         ensures memory { decision_may_grow result ≡ false }
     {
@@ -198,8 +198,8 @@ impl Kernel {
 
     #[inline(always)]
     pub(super) fn decide_mq_unlink<'a>(&self, name: &'a Name) -> Decision<'a>
-        ensures outcome { (p : ℕ) → outcome_of self.now p result ≡
-            unlink self.now (queue_named self.now.places name.now) }
+        ensures outcome { (p : ℕ) → outcome_of self.now p result
+            ≡ unlink self.now (queue_named self.now.places name.now) }
         ensures possible { IsPossible self.now result }
         ensures memory { decision_may_grow result ≡ false }
     {
@@ -220,8 +220,8 @@ impl Kernel {
         prio: u16,
     ) -> Decision<'a>
         requires process { pid < length self.now.processes }
-        ensures outcome { outcome_of self.now pid result ≡
-            mq_send self.now prio words.now (open_queue self.now pid mqd) }
+        ensures outcome { outcome_of self.now pid result
+            ≡ mq_send self.now prio words.now (open_queue self.now pid mqd) }
         ensures possible { IsPossible self.now result }
     {
         let Some((descriptor, queue)) = self.open_queue(pid, mqd) else {
@@ -248,8 +248,8 @@ impl Kernel {
     #[inline(always)]
     pub(super) fn decide_mq_receive<'a>(&self, pid: usize, mqd: u16, len: u16) -> Decision<'a>
         requires process { pid < length self.now.processes }
-        ensures outcome { outcome_of self.now pid result ≡
-            mq_receive self.now len (open_queue self.now pid mqd) }
+        ensures outcome { outcome_of self.now pid result
+            ≡ mq_receive self.now len (open_queue self.now pid mqd) }
         ensures possible { IsPossible self.now result }
         ensures memory { decision_may_grow result ≡ false }
         ensures size { message_length (outcome_of self.now pid result).0 ≤ len }
@@ -274,8 +274,8 @@ impl Kernel {
     #[inline(always)]
     pub(super) fn decide_mq_getattr<'a>(&self, pid: usize, mqd: u16) -> Decision<'a>
         requires process { pid < length self.now.processes }
-        ensures outcome { outcome_of self.now pid result ≡
-            mq_getattr self.now (open_queue self.now pid mqd) }
+        ensures outcome { outcome_of self.now pid result
+            ≡ mq_getattr self.now (open_queue self.now pid mqd) }
         ensures possible { IsPossible self.now result }
         ensures memory { decision_may_grow result ≡ false }
     {
@@ -293,8 +293,8 @@ impl Kernel {
     #[inline(always)]
     pub(super) fn decide_mq_setattr<'a>(&self, pid: usize, mqd: u16, flags: u16) -> Decision<'a>
         requires process { pid < length self.now.processes }
-        ensures outcome { outcome_of self.now pid result ≡
-            mq_setattr self.now pid mqd flags (open_queue self.now pid mqd) }
+        ensures outcome { outcome_of self.now pid result
+            ≡ mq_setattr self.now pid mqd flags (open_queue self.now pid mqd) }
         ensures possible { IsPossible self.now result }
         ensures memory { decision_may_grow result ≡ false }
     {

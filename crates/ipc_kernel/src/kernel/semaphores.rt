@@ -26,8 +26,8 @@ impl Kernel {
         value: u16,
     ) -> Decision<'a>
         requires process { pid < length self.now.processes }
-        ensures outcome { outcome_of self.now pid result ≡
-            sem_open self.now pid name.now flags value }
+        ensures outcome { outcome_of self.now pid result
+            ≡ sem_open self.now pid name.now flags value }
         ensures possible { IsPossible self.now result }
     {
         let create = flags & O_CREAT != 0;
@@ -50,8 +50,8 @@ impl Kernel {
     ) -> Decision<'a>
         requires process { pid < length self.now.processes }
         requires value { IsTrue create → value ≤ sem_value_max }
-        ensures outcome { outcome_of self.now pid result ≡
-            sem_look_up self.now pid name.now create exclusive value
+        ensures outcome { outcome_of self.now pid result
+            ≡ sem_look_up self.now pid name.now create exclusive value
             (semaphore_named self.now.places name.now) }
         ensures possible { IsPossible self.now result }
     {
@@ -78,8 +78,8 @@ impl Kernel {
         requires process { pid < length self.now.processes }
         requires value { value ≤ sem_value_max }
         requires absent { semaphore_named self.now.places name.now ≡ None }
-        ensures outcome { outcome_of self.now pid result ≡
-            sem_create self.now pid name.now value (free_slot_of self.now.processes pid) }
+        ensures outcome { outcome_of self.now pid result
+            ≡ sem_create self.now pid name.now value (free_slot_of self.now.processes pid) }
         ensures possible { IsPossible self.now result }
     {
         let Some(slot) = self.processes.free_slot(pid) else {
@@ -102,8 +102,8 @@ impl Kernel {
     fn decide_sem_open_place<'a>(&self, pid: usize, place: u8) -> Decision<'a>
         requires process { pid < length self.now.processes }
         requires place { place < object_places }
-        ensures outcome { outcome_of self.now pid result ≡
-            sem_open_place self.now pid place (slot_for self.now.processes pid place) }
+        ensures outcome { outcome_of self.now pid result
+            ≡ sem_open_place self.now pid place (slot_for self.now.processes pid place) }
         ensures possible { IsPossible self.now result }
     {
         match self.processes.slot_for(pid, place) {
@@ -117,8 +117,8 @@ impl Kernel {
     fn decide_new_slot<'a>(&self, pid: usize, place: u8) -> Decision<'a>
         requires process { pid < length self.now.processes }
         requires place { place < object_places }
-        ensures outcome { outcome_of self.now pid result ≡
-            new_slot self.now pid place (free_slot_of self.now.processes pid) }
+        ensures outcome { outcome_of self.now pid result
+            ≡ new_slot self.now pid place (free_slot_of self.now.processes pid) }
         ensures possible { IsPossible self.now result }
     {
         match self.processes.free_slot(pid) {
@@ -138,8 +138,8 @@ impl Kernel {
     fn decide_one_more_open<'a>(&self, pid: usize, slot: usize) -> Decision<'a>
         requires process { pid < length self.now.processes }
         requires slot { slot < open_max }
-        ensures outcome { outcome_of self.now pid result ≡
-            one_more_open self.now pid slot (slot_of self.now.processes pid slot) }
+        ensures outcome { outcome_of self.now pid result
+            ≡ one_more_open self.now pid slot (slot_of self.now.processes pid slot) }
         ensures possible { IsPossible self.now result }
     {
         match self.processes.slot(pid, slot as u16) {
@@ -166,8 +166,8 @@ impl Kernel {
     #[inline(always)]
     pub(super) fn decide_sem_close<'a>(&self, pid: usize, slot: u16) -> Decision<'a>
         requires process { pid < length self.now.processes }
-        ensures outcome { outcome_of self.now pid result ≡
-            sem_close self.now pid slot (slot_of self.now.processes pid slot) }
+        ensures outcome { outcome_of self.now pid result
+            ≡ sem_close self.now pid slot (slot_of self.now.processes pid slot) }
         ensures possible { IsPossible self.now result }
         ensures memory { decision_may_grow result ≡ false }
     {
@@ -190,8 +190,8 @@ impl Kernel {
 
     #[inline(always)]
     pub(super) fn decide_sem_unlink<'a>(&self, name: &'a Name) -> Decision<'a>
-        ensures outcome { (p : ℕ) → outcome_of self.now p result ≡
-            unlink self.now (semaphore_named self.now.places name.now) }
+        ensures outcome { (p : ℕ) → outcome_of self.now p result
+            ≡ unlink self.now (semaphore_named self.now.places name.now) }
         ensures possible { IsPossible self.now result }
         ensures memory { decision_may_grow result ≡ false }
     {
@@ -209,8 +209,8 @@ impl Kernel {
     #[inline(always)]
     pub(super) fn decide_sem_wait<'a>(&self, pid: usize, slot: u16) -> Decision<'a>
         requires process { pid < length self.now.processes }
-        ensures outcome { outcome_of self.now pid result ≡
-            sem_wait self.now (open_semaphore self.now pid slot) }
+        ensures outcome { outcome_of self.now pid result
+            ≡ sem_wait self.now (open_semaphore self.now pid slot) }
         ensures possible { IsPossible self.now result }
         ensures memory { decision_may_grow result ≡ false }
     {
@@ -227,8 +227,8 @@ impl Kernel {
     #[inline(always)]
     pub(super) fn decide_sem_trywait<'a>(&self, pid: usize, slot: u16) -> Decision<'a>
         requires process { pid < length self.now.processes }
-        ensures outcome { outcome_of self.now pid result ≡
-            sem_trywait self.now (open_semaphore self.now pid slot) }
+        ensures outcome { outcome_of self.now pid result
+            ≡ sem_trywait self.now (open_semaphore self.now pid slot) }
         ensures possible { IsPossible self.now result }
         ensures memory { decision_may_grow result ≡ false }
     {
@@ -245,8 +245,8 @@ impl Kernel {
     #[inline(always)]
     pub(super) fn decide_sem_post<'a>(&self, pid: usize, slot: u16) -> Decision<'a>
         requires process { pid < length self.now.processes }
-        ensures outcome { outcome_of self.now pid result ≡
-            sem_post self.now (open_semaphore self.now pid slot) }
+        ensures outcome { outcome_of self.now pid result
+            ≡ sem_post self.now (open_semaphore self.now pid slot) }
         ensures possible { IsPossible self.now result }
         ensures memory { decision_may_grow result ≡ false }
     {
@@ -263,8 +263,8 @@ impl Kernel {
     #[inline(always)]
     pub(super) fn decide_sem_getvalue<'a>(&self, pid: usize, slot: u16) -> Decision<'a>
         requires process { pid < length self.now.processes }
-        ensures outcome { outcome_of self.now pid result ≡
-            sem_getvalue self.now (open_semaphore self.now pid slot) }
+        ensures outcome { outcome_of self.now pid result
+            ≡ sem_getvalue self.now (open_semaphore self.now pid slot) }
         ensures possible { IsPossible self.now result }
         ensures memory { decision_may_grow result ≡ false }
     {
