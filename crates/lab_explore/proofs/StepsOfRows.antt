@@ -4,12 +4,11 @@ use Rattle.std.specs.Option.{option_map}
 use Rattle.std.proofs.lemmas.Bool.{cases_lt}
 use Rattle.std.proofs.lemmas.Option.{slice_get_past}
 use Rattle.ipc_kernel.specs.Kernel.{KernelState}
-use Rattle.lab_sched.specs.Worlds.{Process, WorldState, StepEffect, nothing, local_step, kernel_step, step_effect, step_effect_in, process_after, kernel_after, after, step, IsEffective}
-use Rattle.lab_sched.specs.Held.{process_view, stepped_of, StepResult, HasStepped}
+use Rattle.lab_sched.specs.Worlds.{Process, WorldState, StepEffect, nothing, step_effect, step_effect_in, process_after, kernel_after, after, step, IsEffective}
+use Rattle.lab_sched.specs.Held.{process_view, StepResult, HasStepped}
 use Rattle.lab_sched.specs.declared.stepped.Stepped.{Stepped}
 use Rattle.lab_sched.specs.declared.stepped.Stepped.TheVariants as stepped
 use Rattle.lab_explore.specs.declared.trying.Made.{Made}
-use Rattle.ipc_kernel.specs.declared.call.Answer.TheVariants.{Done, Wait}
 use Rattle.lab_sched.proofs.WorldLemmas.{after_effect}
 use Rattle.lab_explore.specs.declared.store.Row.{Row}
 use Rattle.lab_explore.specs.declared.store.Store.{Store}

@@ -1,6 +1,6 @@
 //! The order of worlds along the edges between them, and cycles. That an order is one is checked; a
 //! cycle is run again (`rounds`).
-ghost use Rattle.std.specs.Prelude.{◌≡◌, ◌<◌, ◌≤◌, ℕ, Some, IsTrue, length, slice_get};
+ghost use Rattle.std.specs.Prelude.{◌<◌, Some, IsTrue};
 ghost use Rattle.lab_explore.specs.Rounds.{IsRising, Rises};
 
 use crate::store::Edge;

@@ -1,5 +1,5 @@
 //! Numbers by hashes. Nothing that is proved rests on what stands here.
-ghost use Rattle.std.specs.Prelude.{◌≡◌, ◌<◌};
+ghost use Rattle.std.specs.Prelude.{◌<◌};
 
 use std::alloc::{AllocError, Global};
 

@@ -1,9 +1,7 @@
 //! What a search keeps.
-ghost use Rattle.std.specs.Prelude.{◌≡◌, ◌<◌, ℕ, Some, IsTrue, true, length, slice_get, IfOk, IfSome, OnOk};
-ghost use Rattle.std.specs.Option.{option_map};
-ghost use Rattle.lab_sched.specs.Worlds.{WorldState};
-ghost use Rattle.lab_sched.specs.Held.{process_view, IsHeld};
-ghost use Rattle.lab_explore.specs.Private.Stored.{IsState, IsKernel, IsRow, IsAt, Holds, IsReady, IsStore, Grows, IsMove, IsTried, IsExpanded};
+ghost use Rattle.std.specs.Prelude.{◌≡◌, ◌<◌, Some, IfOk, IfSome, OnOk};
+ghost use Rattle.lab_sched.specs.Held.{process_view};
+ghost use Rattle.lab_explore.specs.Private.Stored.{IsState, IsKernel, IsReady, IsStore, Grows};
 
 use crate::index::Index;
 use ipc_kernel::Kernel;

@@ -1,5 +1,4 @@
-use Rattle.std.proofs.Common.{ap, map, length, refl, sym, subst, IfSome, arith, ◌≡◌, ◌∙◌}
-use Rattle.ipc_kernel.specs.Kernel.{empty_kernel}
+use Rattle.std.proofs.Common.{ap, map, length, sym, subst, IfSome, arith, ◌≡◌, ◌∙◌}
 use Rattle.lab_sched.specs.Worlds.{WorldState}
 use Rattle.lab_sched.specs.Held.{process_view}
 use Rattle.lab_sched.specs.Starts.{AreStarts, initial_world}
