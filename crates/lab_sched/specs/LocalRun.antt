@@ -1,5 +1,5 @@
 -- A process by itself: where its local steps and the answers to its calls lead it, whatever the kernel is.
-use Rattle.std.specs.Prelude.{ℕ, zero, suc, ◌+◌, ◌≡◌, List, [], ◌∷◌}
+use Rattle.std.specs.Prelude.{ℕ, ◌+◌, ◌≡◌, List, [], ◌∷◌}
 use Rattle.lc3_machine.specs.Process.{Process as Machine}
 use Rattle.lc3_machine.specs.Steps.{AreSteps}
 use Rattle.ipc_kernel.specs.declared.call.Call.{Call}
