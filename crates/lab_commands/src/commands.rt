@@ -43,7 +43,8 @@ pub const FAULT: u8 = 1;
 pub const USAGE: u8 = 2;
 
 /// Does what the words after the program's name ask for, and answers the exit status. Without words it reads an image
-/// as hexadecimal words and writes the report of its run. A fault goes to `errors`, on one line. A long run shows on `progress` how far it is.
+/// as hexadecimal words and writes the report of its run. A fault goes to `errors`, on one line. A long run shows on
+/// `progress` how far it is.
 pub fn command<T: Files + Threads + Wait + Clock + Sync, R: Read, W: Write, E: Write, P: Progress>(
     rt: &T,
     alloc: Global,

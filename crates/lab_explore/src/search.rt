@@ -147,8 +147,8 @@ fn fill<O: Observer>(
 ) -> Result<(Vec<u32>, bool), ExploreFault>
     requires store { IsStore store.old }
     requires held { All IsHeld processes.now }
-    ensures complete { IfOk result (λ r. IsTrue r.1 →
-        IsSearched (record { processes = map process_view processes.now; kernel = kernel }) store.new) }
+    ensures complete { IfOk result (λ r. IsTrue r.1 → IsSearched
+        (record { processes = map process_view processes.now; kernel = kernel }) store.new) }
 {
     let kernel = store.keep_kernel(kernel)?;
     let Some(begun) = store.begin(alloc, processes, limits.steps)? else {
@@ -179,8 +179,8 @@ pub(crate) fn search_all<O: Observer>(
     observer: &mut O,
 ) -> Result<Search, ExploreFault>
     requires held { All IsHeld processes.now }
-    ensures complete { IfOk result (λ s. IsTrue s.complete →
-        IsSearched (record { processes = map process_view processes.now; kernel = kernel }) s.store) }
+    ensures complete { IfOk result (λ s. IsTrue s.complete → IsSearched
+        (record { processes = map process_view processes.now; kernel = kernel }) s.store) }
 {
     let mut store = match Store::new(alloc) {
         Ok(store) => store,
