@@ -2,7 +2,7 @@
 
 ghost use Rattle.std.specs.Prelude.{◌≡◌, ◌++◌, OnOk, IfOk, string_bytes};
 ghost use Rattle.lc3_asm.specs.Texts.{Program};
-ghost use Rattle.lc3_asm.specs.Listings.{word_line, words_text, rows_text, symbols_text, listing_text};
+ghost use Rattle.lc3_asm.specs.Listings.{word_line, words_text, rows_text, listing_text};
 
 use crate::symbols::Symbols;
 use lc3_table::WordText;

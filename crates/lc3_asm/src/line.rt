@@ -1,6 +1,6 @@
 //! A line of a source text.
 
-ghost use Rattle.std.specs.Prelude.{◌≡◌, option_map, string_bytes, map, IsTrue, true, ◌≤◌, ◌^◌, IfOk, None};
+ghost use Rattle.std.specs.Prelude.{◌≡◌, option_map, string_bytes, map, ◌≤◌, ◌^◌, IfOk, None};
 ghost use Rattle.lc3_asm.specs.Private.Views.{token_of, Gives, seen_line};
 ghost use Rattle.lc3_table.specs.Statements.{label_defined, begins_with_dot, operation_order, order_fault, with_operands, unless, Operates, line_of, line};
 
@@ -128,7 +128,7 @@ pub fn read_line(alloc: Global, started: bool, bytes: &[u8]) -> Result<Line, Lin
 
 impl Line {
     ghost use Rattle.lc3_table.specs.Meaning.{size};
-    ghost use Rattle.lc3_asm.specs.Texts.{label_of, is_origin, is_end, origin_named};
+    ghost use Rattle.lc3_asm.specs.Texts.{label_of, is_end, origin_named};
 
     /// How many words the line makes.
     pub fn size(&self) -> u64

@@ -1,6 +1,6 @@
 //! The two passes over a source text.
 
-ghost use Rattle.std.specs.Prelude.{◌≡◌, ◌<◌, ◌∷◌, [], Ok, IfOk, IfErr, IfSome, length, ◌≤◌, ◌==◌};
+ghost use Rattle.std.specs.Prelude.{◌≡◌, ◌<◌, ◌∷◌, Ok, IfOk, IfErr, IfSome, length, ◌≤◌, ◌==◌};
 ghost use Rattle.std.specs.List.{position_or_len};
 ghost use Rattle.lc3_asm.specs.Texts.{lines, lines_read, program_of, program, IsFault};
 ghost use Rattle.lc3_asm.specs.Private.Drafts.{lines_if};

@@ -1,6 +1,6 @@
 //! Operands of a statement.
 
-ghost use Rattle.std.specs.Prelude.{◌≡◌, ◌<◌, ◌≤◌, ℕ, IfOk, string_bytes, map, IsAscii, is_some, option_map, List, Option, Some, None, IfSome, IfNone, nat_abs, true, nat_le, ◌&&◌, length, ◌||◌, ◌-ℤ◌, pos};
+ghost use Rattle.std.specs.Prelude.{◌≡◌, ◌<◌, ◌≤◌, IfOk, string_bytes, map, IsAscii, is_some, option_map, Option, Some, None, IfSome, IfNone, nat_abs, true, nat_le, ◌&&◌, length, ◌||◌, ◌-ℤ◌, pos};
 ghost use Rattle.lc3_asm.specs.Private.Views.{token_of, seen_operand, Gives};
 ghost use Rattle.lc3_table.specs.Words.{upper, register};
 ghost use Rattle.std.specs.List.{list_all};

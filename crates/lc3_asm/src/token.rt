@@ -1,6 +1,6 @@
 //! Words and strings of a source line.
 
-ghost use Rattle.std.specs.Prelude.{◌≡◌, ◌↔◌, ◌<◌, ◌≤◌, IsTrue, true, false, slice_index, IfNone, IfSome, IfOk, MatchOption, List, [], ◌∷◌, length, map};
+ghost use Rattle.std.specs.Prelude.{◌≡◌, ◌<◌, ◌≤◌, IsTrue, true, false, slice_index, IfNone, IfSome, IfOk, [], ◌∷◌, length, map};
 ghost use Rattle.std.specs.List.{prefix_len};
 ghost use Rattle.lc3_table.specs.Tokens.{is_separator, is_word_byte, starts_with_word, tokens, tokens_from, Inside};
 ghost use Rattle.lc3_asm.specs.Private.Views.{token_of};

@@ -1,8 +1,8 @@
 //! What a word of a source line is: a register, an operation, a label.
 
-ghost use Rattle.std.specs.Prelude.{◌≡◌, ◌↔◌, IsTrue, true, map, IfOk, string_bytes, find, IsAscii};
+ghost use Rattle.std.specs.Prelude.{◌≡◌, true, find, IsAscii};
 ghost use Rattle.std.specs.List.{list_all};
-ghost use Rattle.lc3_table.specs.Words.{register, operation, operations, same_name, name, is_label, is_label_byte, begins_with_digit, has_label_form, is_taken, upper};
+ghost use Rattle.lc3_table.specs.Words.{register, operation, operations, same_name, name, is_label, is_label_byte, begins_with_digit, has_label_form, is_taken};
 
 use lc3_table::{Operation, operations};
 use lc3_word::{Reg, number_of};

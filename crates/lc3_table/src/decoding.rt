@@ -1,6 +1,6 @@
 //! From words to instructions.
 
-ghost use Rattle.std.specs.Prelude.{◌≡◌, ◌≢◌, ◌/◌, ◌%◌, ◌↔◌, IfSome, IfNone};
+ghost use Rattle.std.specs.Prelude.{◌≡◌, ◌≢◌, ◌/◌, ◌%◌, IfSome, IfNone};
 ghost use Rattle.lc3_table.specs.declared.instr.Instr.{Instr};
 ghost use Rattle.lc3_table.specs.declared.instr.Operand.{Operand};
 ghost use Rattle.lc3_table.specs.Decoding.{instruction_at};

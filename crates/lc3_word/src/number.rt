@@ -1,6 +1,6 @@
 //! Signed numbers in fields, and sums of words.
 
-ghost use Rattle.std.specs.Prelude.{◌≡◌, ℕ, ℤ, ◌+◌, ◌%◌, ◌^◌, ◌<◌, ◌≤◌, ◌↔◌, Some, IsSome, IfSome};
+ghost use Rattle.std.specs.Prelude.{◌≡◌, ℤ, ◌+◌, ◌%◌, ◌^◌, ◌<◌, ◌≤◌, ◌↔◌, Some, IsSome, IfSome};
 ghost use Rattle.lc3_word.specs.Words.{IsSigned, low_bits, signed_value, number_text};
 
 use std::fmt;
