@@ -9,7 +9,7 @@ use Rattle.ipc_kernel.specs.declared.call.Call.{Call}
 use Rattle.ipc_kernel.specs.declared.call.Call.TheVariants.{MqUnlink, SemOpen, SemUnlink}
 use Rattle.ipc_kernel.specs.declared.call.Reply.{Reply}
 use Rattle.ipc_kernel.specs.declared.call.Reply.TheVariants.{Plain, Message, Attr, Value}
-use Rattle.ipc_traps.specs.Asked.{Request, Local, Refuses, Calls, Ends, next_request, outcome_asks, trap_asks, within, request_for_name, name_at}
+use Rattle.ipc_traps.specs.Asked.{Request, Local, Refuses, Calls, Ends, next_request, outcome_request, trap_request, request_within, request_for_name, name_at}
 use Rattle.ipc_traps.specs.Reply.{process_after_reply, process_after_trap_reply, vector_in}
 
 -- the process after a local step has the profile of the one before
@@ -28,7 +28,7 @@ unfolding Keeps
 keeps-named p call (Err e) = tt
 keeps-named p call (Ok name) = tt
 
-keeps-within : (p : Process) (inside : Bool) (request : Request) → Keeps p request → Keeps p (within inside request)
+keeps-within : (p : Process) (inside : Bool) (request : Request) → Keeps p request → Keeps p (request_within inside request)
 unfolding Keeps
 keeps-within p true request h = h
 keeps-within p false request h = tt
@@ -38,8 +38,8 @@ unfolding Keeps
 keeps-call p call = tt
 
 -- a trap is no local step
-keeps-trap : (v : ℕ) (p : Process) → Keeps p (trap_asks v p)
-unfolding trap_asks
+keeps-trap : (v : ℕ) (p : Process) → Keeps p (trap_request v p)
+unfolding trap_request
 keeps-trap v p =
     keeps-if p (v == 0x40) _ _ (keeps-within p _ _ (keeps-named p _ (name_at p)))
     (keeps-if p (v == 0x41) _ _ (keeps-call p _)
@@ -56,7 +56,7 @@ keeps-trap v p =
     (keeps-if p (v == 0x55) _ _ (keeps-call p _)
     (keeps-if p (v == 0x56) _ _ (keeps-within p _ _ (keeps-call p _)) (keeps-call p _))))))))))))))
 
-keeps-outcome : (p : Process) (outcome : Outcome) → next_step p ≡ outcome → Keeps p (outcome_asks p outcome)
+keeps-outcome : (p : Process) (outcome : Outcome) → next_step p ≡ outcome → Keeps p (outcome_request p outcome)
 unfolding Keeps
 keeps-outcome p (GoesOn q) is = next_profile p q is
 keeps-outcome p (Stops (Trap v)) is = keeps-trap v p

@@ -10,7 +10,7 @@ use Rattle.ipc_kernel.specs.declared.call.Call.{Call}
 use Rattle.ipc_kernel.specs.declared.call.Call.TheVariants.{MqUnlink, MqReceive, MqGetattr, MqSetattr, SemOpen, SemUnlink, SemGetvalue}
 use Rattle.ipc_kernel.specs.declared.call.Reply.{Reply}
 use Rattle.ipc_kernel.specs.declared.call.Reply.TheVariants.{Plain, Message, Attr, Value}
-use Rattle.ipc_traps.specs.Asked.{Request, Refuses, Calls, next_request, trap_asks, within, request_for_name, name_at}
+use Rattle.ipc_traps.specs.Asked.{Request, Refuses, Calls, next_request, trap_request, request_within, request_for_name, name_at}
 use Rattle.ipc_traps.specs.Reply.{CanReply, HasRoomFor, IsPrepared}
 
 -- a plain word
@@ -46,7 +46,7 @@ plain-named : (call : List ℕ → Call) (read : Result (List ℕ) Errno) → ((
 plain-named call (Err e) only = plain-refusal e
 plain-named call (Ok name) only = only name
 
-plain-within : (inside : Bool) (request : Request) → OnlyPlain request → OnlyPlain (within inside request)
+plain-within : (inside : Bool) (request : Request) → OnlyPlain request → OnlyPlain (request_within inside request)
 plain-within true request only = only
 plain-within false request only = plain-refusal Fault
 
@@ -58,8 +58,8 @@ plain-room v h (Attr words) plain = absurd plain
 plain-room v h (Value value) plain = absurd plain
 
 -- only a plain word answers the traps but four
-plain-trap : (v : ℕ) (p : Process) → (v ≡ 68 → ⊥) → (v ≡ 69 → ⊥) → (v ≡ 70 → ⊥) → (v ≡ 86 → ⊥) → OnlyPlain (trap_asks v p)
-unfolding trap_asks is_reader
+plain-trap : (v : ℕ) (p : Process) → (v ≡ 68 → ⊥) → (v ≡ 69 → ⊥) → (v ≡ 70 → ⊥) → (v ≡ 86 → ⊥) → OnlyPlain (trap_request v p)
+unfolding trap_request is_reader
 plain-trap v p not68 not69 not70 not86 =
     plain-if (v == 64) _ _ (λ _. plain-within _ _ (plain-named _ (name_at p) (λ name. plain-call _ refl))) (λ _.
     plain-if (v == 65) _ _ (λ _. plain-call _ refl) (λ _.
@@ -85,5 +85,5 @@ only-reply request only = only
 pub prepared-plain : (h : Held) (v : ℕ) → next_step h.process ≡ Stops (Trap v) → (v ≡ 68 → ⊥) → (v ≡ 69 → ⊥) → (v ≡ 70 → ⊥) → (v ≡ 86 → ⊥) → IsPrepared h
 unfolding IsPrepared next_request
 prepared-plain h v stands not68 not69 not70 not86 =
-    let only = only-reply (trap_asks v h.process) (plain-trap v h.process not68 not69 not70 not86) in
+    let only = only-reply (trap_request v h.process) (plain-trap v h.process not68 not69 not70 not86) in
     λ reply can. plain-room _ h reply (only reply (rw stands at can))

@@ -23,8 +23,8 @@ pub data Request : Type 0 where
   Ends : How → Request
 
 -- a call whose memory ranges must lie below the device registers, else EFAULT
-abbrev pub within : Bool → Request → Request
-within inside request = if inside then request else Refuses Fault
+abbrev pub request_within : Bool → Request → Request
+request_within inside request = if inside then request else Refuses Fault
 
 -- the request for a call by a name that was read
 abbrev pub request_for_name : (List ℕ → Call) → Result (List ℕ) Errno → Request
@@ -36,8 +36,8 @@ unfoldable pub name_at : Process → Result (List ℕ) Errno
 name_at p = if reaches_devices p.memory (reg p 0) then Err Fault else name_read (name_words p.memory (reg p 0))
 
 -- a call by that name; its other memory ranges are looked at before the name's length and form
-abbrev pub by_name : Process → Bool → (List ℕ → Call) → Request
-by_name p inside call = within inside (request_for_name call (name_at p))
+abbrev pub request_by_name : Process → Bool → (List ℕ → Call) → Request
+request_by_name p inside call = request_within inside (request_for_name call (name_at p))
 
 -- whether mq_open is given attributes: O_CREAT is set, and their address in R2 is not 0
 abbrev pub has_attributes : Process → Bool
@@ -50,51 +50,52 @@ attributes p = if has_attributes p then Some (words_at p.memory (reg p 2) 4) els
 -- mq_open: name at R0, flags R1, attributes at R2
 abbrev pub mq_open_request : Process → Request
 mq_open_request p =
-    by_name p (not (has_attributes p) || is_in_memory (reg p 2) 4)
+    request_by_name p (not (has_attributes p) || is_in_memory (reg p 2) 4)
     (λ name. MqOpen name (reg p 1) (attributes p))
 
 -- sem_open: name at R0, flags R1, first value R2
 abbrev pub sem_open_request : Process → Request
-sem_open_request p = by_name p true (λ name. SemOpen name (reg p 1) (reg p 2))
+sem_open_request p = request_by_name p true (λ name. SemOpen name (reg p 1) (reg p 2))
 
 -- mq_send: descriptor R0, buffer at R1, length R2, priority R3
 abbrev pub mq_send_request : Process → Request
 mq_send_request p =
-    within (is_in_memory (reg p 1) (reg p 2)) (Calls (MqSend (reg p 0) (words_at p.memory (reg p 1) (reg p 2)) (reg p 3)))
+    request_within (is_in_memory (reg p 1) (reg p 2))
+    (Calls (MqSend (reg p 0) (words_at p.memory (reg p 1) (reg p 2)) (reg p 3)))
 
 -- mq_receive: descriptor R0, buffer at R1, length R2, the priority goes to R3 unless that is 0
 abbrev pub mq_receive_request : Process → Request
 mq_receive_request p =
-    within (is_in_memory (reg p 1) (reg p 2) && ((reg p 3 == 0) || is_in_memory (reg p 3) 1))
+    request_within (is_in_memory (reg p 1) (reg p 2) && ((reg p 3 == 0) || is_in_memory (reg p 3) 1))
     (Calls (MqReceive (reg p 0) (reg p 2)))
 
 -- mq_getattr: descriptor R0, attributes go to R1
 abbrev pub mq_getattr_request : Process → Request
-mq_getattr_request p = within (is_in_memory (reg p 1) 4) (Calls (MqGetattr (reg p 0)))
+mq_getattr_request p = request_within (is_in_memory (reg p 1) 4) (Calls (MqGetattr (reg p 0)))
 
 -- mq_setattr: descriptor R0, new attributes at R1, the old ones go to R2 unless that is 0
 abbrev pub mq_setattr_request : Process → Request
 mq_setattr_request p =
-    within (is_in_memory (reg p 1) 4 && ((reg p 2 == 0) || is_in_memory (reg p 2) 4))
+    request_within (is_in_memory (reg p 1) 4 && ((reg p 2 == 0) || is_in_memory (reg p 2) 4))
     (Calls (MqSetattr (reg p 0) (slice_index p.memory (reg p 1))))
 
 -- sem_getvalue: slot R0, the value goes to R1
 abbrev pub sem_getvalue_request : Process → Request
-sem_getvalue_request p = within (is_in_memory (reg p 1) 1) (Calls (SemGetvalue (reg p 0)))
+sem_getvalue_request p = request_within (is_in_memory (reg p 1) 1) (Calls (SemGetvalue (reg p 0)))
 
 -- what a trap of the kernel asks for, by its vector; before any other trap a process is at its end
-unfoldable pub trap_asks : ℕ → Process → Request
-trap_asks v p =
+unfoldable pub trap_request : ℕ → Process → Request
+trap_request v p =
     if v == 0x40 then mq_open_request p else
     if v == 0x41 then Calls (MqClose (reg p 0)) else
-    if v == 0x42 then by_name p true MqUnlink else
+    if v == 0x42 then request_by_name p true MqUnlink else
     if v == 0x43 then mq_send_request p else
     if v == 0x44 then mq_receive_request p else
     if v == 0x45 then mq_getattr_request p else
     if v == 0x46 then mq_setattr_request p else
     if v == 0x50 then sem_open_request p else
     if v == 0x51 then Calls (SemClose (reg p 0)) else
-    if v == 0x52 then by_name p true SemUnlink else
+    if v == 0x52 then request_by_name p true SemUnlink else
     if v == 0x53 then Calls (SemWait (reg p 0)) else
     if v == 0x54 then Calls (SemTrywait (reg p 0)) else
     if v == 0x55 then Calls (SemPost (reg p 0)) else
@@ -102,14 +103,14 @@ trap_asks v p =
     Calls Exit
 
 -- what an outcome of the machine asks for
-abbrev pub outcome_asks : Process → Outcome → Request
-outcome_asks p (GoesOn q) = Local q
-outcome_asks p (Stops (Trap v)) = trap_asks v p
-outcome_asks p (Stops (End how)) = Ends how
+abbrev pub outcome_request : Process → Outcome → Request
+outcome_request p (GoesOn q) = Local q
+outcome_request p (Stops (Trap v)) = trap_request v p
+outcome_request p (Stops (End how)) = Ends how
 
 -- what the next step of a process asks for
 unfoldable pub next_request : Process → Request
-next_request p = outcome_asks p (next_step p)
+next_request p = outcome_request p (next_step p)
 
 -- what a process asks by a trap, as it was read
 abbrev pub request_of : Asked → Request

@@ -23,8 +23,8 @@ abbrev pub unless_zero : ℕ → Option ℕ
 unless_zero a = if a == 0 then None else Some a
 
 -- where a trap wants the attributes of a queue written: mq_setattr at R2, if that is not 0, and mq_getattr at R1
-abbrev pub four_words_go : ℕ → Process → Option ℕ
-four_words_go v p = if v == 0x46 then unless_zero (reg p 2) else Some (reg p 1)
+abbrev pub four_words_address : ℕ → Process → Option ℕ
+four_words_address v p = if v == 0x46 then unless_zero (reg p 2) else Some (reg p 1)
 
 -- the process after its trap, with a result in R0 and this memory
 abbrev pub after_call : Process → ℕ → List ℕ → Process
@@ -35,7 +35,7 @@ abbrev pub process_after_trap_reply : ℕ → Process → Reply → Process
 process_after_trap_reply v p (Plain r) = after_call p r p.memory
 process_after_trap_reply v p (Message words prio) =
     after_call p (length words) (with_words_if (with_words p.memory (reg p 1) words) (unless_zero (reg p 3)) (prio ∷ []))
-process_after_trap_reply v p (Attr words) = after_call p 0 (with_words_if p.memory (four_words_go v p) words)
+process_after_trap_reply v p (Attr words) = after_call p 0 (with_words_if p.memory (four_words_address v p) words)
 process_after_trap_reply v p (Value value) = after_call p 0 (with_words p.memory (reg p 1) (value ∷ []))
 
 -- the process after the reply to its call
@@ -47,7 +47,7 @@ abbrev pub HasRoomFor : ℕ → Held → Reply → Type 0
 HasRoomFor v h (Plain r) = Unit {0}
 HasRoomFor v h (Message words prio) =
     IsWritable h.ready (reg h.process 1) (length words) × IsWritableIf h.ready (unless_zero (reg h.process 3)) 1
-HasRoomFor v h (Attr words) = IsWritableIf h.ready (four_words_go v h.process) 4
+HasRoomFor v h (Attr words) = IsWritableIf h.ready (four_words_address v h.process) 4
 HasRoomFor v h (Value value) = IsWritable h.ready (reg h.process 1) 1
 
 -- the same for the call that a process stands before

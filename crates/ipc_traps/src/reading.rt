@@ -5,7 +5,7 @@ ghost use Rattle.lc3_machine.specs.Process.{reg};
 ghost use Rattle.lc3_machine.specs.Steps.{AsksTrap};
 ghost use Rattle.ipc_kernel.specs.declared.call.Call.TheVariants.{MqUnlink, SemUnlink};
 ghost use Rattle.ipc_traps.specs.Names.{is_in_memory, words_at};
-ghost use Rattle.ipc_traps.specs.Asked.{IsAsked, request_of, next_request, trap_asks, name_at, by_name, has_attributes, attributes, mq_open_request, sem_open_request, mq_send_request, mq_receive_request, mq_getattr_request, mq_setattr_request, sem_getvalue_request};
+ghost use Rattle.ipc_traps.specs.Asked.{IsAsked, request_of, next_request, trap_request, name_at, request_by_name, has_attributes, attributes, mq_open_request, sem_open_request, mq_send_request, mq_receive_request, mq_getattr_request, mq_setattr_request, sem_getvalue_request};
 
 use crate::Asked;
 use crate::memory::{is_in_memory, name_length, read_few, read_four, read_words, register};
@@ -31,10 +31,10 @@ pub fn read_call(alloc: Global, call: &AtCall) -> Result<Asked, AllocError>
 }
 
 /// What the trap with this vector asks for.
-#[tactic(auto, unfolding(crate::specs::Asked::trap_asks))]
+#[tactic(auto, unfolding(crate::specs::Asked::trap_request))]
 #[inline(always)]
 fn read_trap(alloc: Global, machine: &Machine, vector: u8) -> Result<Asked, AllocError>
-    ensures request { IfOk result (λ a. request_of a ≡ trap_asks vector machine.now.process) }
+    ensures request { IfOk result (λ a. request_of a ≡ trap_request vector machine.now.process) }
 {
     let first = register(machine, 0);
     match vector {
@@ -108,7 +108,8 @@ fn read_open(alloc: Global, machine: &Machine) -> Result<Asked, AllocError>
 
 /// mq_unlink
 fn read_unlink(alloc: Global, machine: &Machine) -> Result<Asked, AllocError>
-    ensures request { IfOk result (λ a. request_of a ≡ by_name machine.now.process true MqUnlink) }
+    ensures request { IfOk result (λ a. request_of a
+        ≡ request_by_name machine.now.process true MqUnlink) }
 {
     match read_name(alloc, machine)? {
         Err(e) => Ok(Asked::Refused(e)),
@@ -132,7 +133,8 @@ fn read_sem_open(alloc: Global, machine: &Machine) -> Result<Asked, AllocError>
 
 /// sem_unlink
 fn read_sem_unlink(alloc: Global, machine: &Machine) -> Result<Asked, AllocError>
-    ensures request { IfOk result (λ a. request_of a ≡ by_name machine.now.process true SemUnlink) }
+    ensures request { IfOk result (λ a. request_of a
+        ≡ request_by_name machine.now.process true SemUnlink) }
 {
     match read_name(alloc, machine)? {
         Err(e) => Ok(Asked::Refused(e)),

@@ -5,7 +5,7 @@ ghost use Rattle.lc3_machine.specs.Effects.{next_step};
 ghost use Rattle.lc3_machine.specs.Memory.{StaysReady};
 ghost use Rattle.lc3_machine.specs.Reply.{CanTake, process_after_effect};
 ghost use Rattle.ipc_traps.specs.Asked.{mq_receive_request, mq_getattr_request, mq_setattr_request, sem_getvalue_request};
-ghost use Rattle.ipc_traps.specs.Reply.{vector_in, unless_zero, four_words_go, process_after_reply, process_after_trap_reply, HasRoom, IsPrepared, IsPreparedFor};
+ghost use Rattle.ipc_traps.specs.Reply.{vector_in, unless_zero, four_words_address, process_after_reply, process_after_trap_reply, HasRoom, IsPrepared, IsPreparedFor};
 
 use crate::memory::{is_in_memory, register};
 use ipc_kernel::Reply;
@@ -21,9 +21,9 @@ fn unless_zero(address: u16) -> Option<u16>
 }
 
 /// Where the call wants the attributes of a queue written.
-fn four_words_go(call: &AtCall) -> Option<u16>
+fn four_words_address(call: &AtCall) -> Option<u16>
     ensures address { result
-        ≡ four_words_go (vector_in (next_step call.now.process)) call.now.process }
+        ≡ four_words_address (vector_in (next_step call.now.process)) call.now.process }
 {
     match call.want() {
         Want::Trap(0x46) => unless_zero(register(call.machine(), 2)),
@@ -48,7 +48,7 @@ pub fn effect_of<'a>(call: &AtCall, reply: &'a Reply) -> Effect<'a>
             prio: *prio,
         },
         Reply::Attr(words) => Effect::Four {
-            at: four_words_go(call),
+            at: four_words_address(call),
             words: *words,
         },
         Reply::Value(word) => Effect::One {
@@ -61,7 +61,7 @@ pub fn effect_of<'a>(call: &AtCall, reply: &'a Reply) -> Effect<'a>
 /// Makes writable each word that a reply to the call may write, of a buffer for a message the first
 /// `MQ_MSGSIZE_MAX` words at most.
 /// An error is want of memory: some of the words may be writable then.
-#[tactic(auto, unfolding(crate::specs::Reply::IsPrepared, crate::specs::Reply::HasRoom, crate::specs::Asked::next_request, crate::specs::Asked::trap_asks))]
+#[tactic(auto, unfolding(crate::specs::Reply::IsPrepared, crate::specs::Reply::HasRoom, crate::specs::Asked::next_request, crate::specs::Asked::trap_request))]
 #[inline(always)]
 pub fn prepare(call: &mut AtCall) -> Result<(), AllocError>
     ensures process { call.new.process ≡ call.old.process }
