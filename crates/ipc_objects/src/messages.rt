@@ -1,4 +1,4 @@
-//! Messages in the order of receive, those of the greatest priority at hand.
+//! Messages in the order of receive, those of the greatest priority in a bucket by themselves.
 ghost use Rattle.std.specs.Prelude.{◌≡◌, ◌<◌, [], ◌∷◌, length, slice_get, Some, IfSome, IfOk, IfErr, OnOk, OnErr, All};
 ghost use Rattle.std.specs.Option.{option_copied};
 ghost use Rattle.ipc_objects.specs.Queue.{after_send};
@@ -65,8 +65,8 @@ fn take_last(greatest: &mut Option<(u16, Bucket)>, lesser: &mut Buckets) -> Mess
     requires below { AreBelow greatest.old lesser.old }
     requires only { IfSome greatest.old (λ e. length e.1 ≡ 1) }
     requires some { 0 < length (after_greatest greatest.old lesser.old) }
-    ensures first { after_greatest greatest.old lesser.old ≡
-        result ∷ after_greatest greatest.new lesser.new }
+    ensures first { after_greatest greatest.old lesser.old
+        ≡ result ∷ after_greatest greatest.new lesser.new }
     ensures below { AreBelow greatest.new lesser.new }
 {
     match replace(greatest, lesser.pop_greatest()) {
@@ -79,8 +79,8 @@ fn take_last(greatest: &mut Option<(u16, Bucket)>, lesser: &mut Buckets) -> Mess
 fn take_first(greatest: &mut Option<(u16, Bucket)>, lesser: &mut Buckets) -> Message
     requires below { AreBelow greatest.old lesser.old }
     requires some { 0 < length (after_greatest greatest.old lesser.old) }
-    ensures first { after_greatest greatest.old lesser.old ≡
-        result ∷ after_greatest greatest.new lesser.new }
+    ensures first { after_greatest greatest.old lesser.old
+        ≡ result ∷ after_greatest greatest.new lesser.new }
     ensures below { AreBelow greatest.new lesser.new }
 {
     if let Some((_, bucket)) = greatest {

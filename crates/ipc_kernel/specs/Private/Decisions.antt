@@ -30,7 +30,7 @@ use Rattle.ipc_kernel.specs.Outcomes.{Outcome, refusal, waiting, completion, que
 abbrev pub kernel_of : List Place → List OpenTables → KernelState
 kernel_of places processes = record { places = places; processes = processes }
 
--- the reply that hands the first of these messages, where there is one
+-- the reply with the first of these messages, where there is one
 abbrev pub reply_with_first : List Message → Reply
 reply_with_first [] = Plain 0
 reply_with_first (m ∷ rest) = received m.words m.priority
