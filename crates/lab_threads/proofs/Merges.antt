@@ -201,7 +201,7 @@ ended_more workers next ps i k is at_k whole =
           rw (other p ne) (is.left p l (omega arith) at_l);
     }
 
--- one pass of the loop over the history
+-- one more entry of the history
 pub counted_step : {workers : List WorkerResult} {next next' ps ps' : List ℕ} {e : Entry} {n before : ℕ}
     → next' ≡ next → IsItem workers next' e before → e.pid < length next' → n ≡ get_or next e.pid n
     → ps' ≡ ps ++ replicate (before + 1) e.pid → AreCounted workers next ps
@@ -232,7 +232,7 @@ merged_step {starts} {workers} {next} {next'} {ps} {ps'} {done} {done'} {rest} {
     (subst (λ qs. P (get_or next e.pid 0) qs done') same
     (subst (λ es. P (get_or next e.pid 0) (ps ++ replicate (t.before + 1) e.pid) es) (sym done-is) more))
 
--- one pass of the loop over the workers
+-- one more worker whose trace has ended
 pub ending_step : {starts : List ProcessValue} {workers : List WorkerResult} {next ps ps' : List ℕ} {history : List Entry} {i : ℕ} (k : WorkerResult) → slice_get workers i ≡ Some k
     → get_or next i 0 ≡ length k.trace.calls.items → ps' ≡ ps ++ replicate k.trace.after i → IsEnding starts workers next ps history i
     → IsEnding starts workers next ps' history (i + 1)

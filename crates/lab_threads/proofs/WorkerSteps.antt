@@ -9,13 +9,12 @@ use Rattle.ipc_kernel.specs.declared.call.Call.{Call}
 use Rattle.ipc_kernel.specs.declared.call.Call.TheVariants.{Exit}
 use Rattle.ipc_kernel.specs.declared.call.Reply.{Reply}
 use Rattle.ipc_kernel.specs.declared.call.Answer.TheVariants.{Done, Wait}
-use Rattle.ipc_kernel.specs.Replies.{IsReplyTo}
 use Rattle.ipc_traps.specs.Asked.{Calls, Ends, next_request}
 use Rattle.ipc_traps.proofs.Laws.{asked_end}
 use Rattle.lab_sched.specs.LocalRun.{AreLocal, TakesAnswer}
 use Rattle.lab_sched.specs.Held.{process_view, IsHeld}
 use Rattle.lab_sched.specs.Settling.{AsksFor}
-use Rattle.lab_sched.specs.Stepping.{CanTakeReply, IsAsking, StandsBefore, StopsBy, after_end, after_reply, before_wait}
+use Rattle.lab_sched.specs.Stepping.{IsAsking, StandsBefore, StopsBy, after_end, after_reply, before_wait}
 use Rattle.lab_sched.specs.Verdicts.{IsRunning, IsWaiting}
 use Rattle.lab_sched.specs.Worlds.{Process, Running, Waiting, Ended, next_action, action_for, process_after_answer, process_after_answer_to}
 use Rattle.lab_sched.specs.declared.process.Process.{Process as Kept}
