@@ -19,19 +19,19 @@ pub fn is_same_file<T: Files>(rt: &T, one: &str, other: &str) -> bool {
     }
 }
 
-/// The text of a source file.
+/// The text of a source file, which is UTF-8 of at most 4,000,000 bytes.
 pub fn read_source<T: Files>(rt: &T, alloc: Global, name: &str) -> Result<String, Reason> {
     let bytes = read_file(rt, alloc, name)?;
     String::from_utf8(bytes).map_err(|_| Reason::NotUtf8)
 }
 
-/// The image in an object file.
+/// The image in an object file of at most 4,000,000 bytes.
 pub fn read_object<T: Files>(rt: &T, alloc: Global, name: &str) -> Result<Image, Reason> {
     let bytes = read_file(rt, alloc, name)?;
     Ok(read_image(alloc, bytes.as_slice())?)
 }
 
-/// The bytes of a file.
+/// The bytes of a file, at most 4,000,000: a file with more is refused as too large.
 pub fn read_file<T: Files>(rt: &T, alloc: Global, name: &str) -> Result<Vec<u8>, Reason> {
     match fs::open(rt, name) {
         Ok(file) => Ok(read_whole(alloc, &mut Input::new(file))?),

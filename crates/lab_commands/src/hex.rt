@@ -7,7 +7,12 @@ use crate::fault::CliFault;
 use lc3_word::{Image, WHITE_SPACE, unsigned, words_between};
 use std::alloc::{AllocError, Global};
 
-/// The image that a text of hexadecimal words says.
+/// The image that a text of hexadecimal words says, of which the first is the origin.
+///
+/// # Errors
+///
+/// `BadWord` tells the first word that isn't one to four digits, counted from 1; `Empty` that there is no word; `TooLong`
+/// that the image doesn't end below xFE00. `NoMemory` where memory is refused.
 #[tactic(auto, unfolding(crate::specs::Hex::image_of))]
 pub fn read_text(alloc: Global, text: &[u8]) -> Result<Image, CliFault>
     ensures ok { IfOk result (λ image. image_of text.now ≡ Ok image) }

@@ -19,7 +19,7 @@ use std::io::{Read, Write};
 /// The number of steps.
 const STEPS: u32 = 100_000;
 
-/// The world of an image by itself after 100,000 steps.
+/// The world of an image by itself after 100,000 steps, as process 0 of profile a.
 pub fn run_alone(alloc: Global, image: Image) -> Result<World, CliFault>
     ensures world { IfOk result (λ world. world ≡ world_after 100000 image) }
     ensures err { IfErr result (λ fault. fault ≡ CliFault.NoMemory) }

@@ -13,6 +13,10 @@ pub const INPUT_LIMIT: usize = 4_000_000;
 const CHUNK: usize = 8192;
 
 /// All the bytes that an input has left.
+///
+/// # Errors
+///
+/// `TooLarge` where it has more than [`INPUT_LIMIT`] bytes, `Read` where a read fails, `NoMemory` where memory is refused.
 pub fn read_whole<R: Read>(alloc: Global, input: &mut Input<R>) -> Result<Vec<u8>, CliFault>
     requires healthy_before { input.old.failed ≡ false }
     ensures bytes { IfOk result

@@ -41,7 +41,7 @@ fn read_program<'a, T: Files>(
     Ok(Program { image, input })
 }
 
-/// The laboratory of programs on machines of a profile, before its first step.
+/// The laboratory of 1 to 64 programs on machines of a profile, before its first step.
 pub fn laboratory(
     alloc: Global,
     programs: &[Program],
