@@ -1,4 +1,10 @@
 //! The words of the command line, read by a parser of commands.
+ghost use Rattle.std.specs.Prelude.{◌≡◌, ℕ, List, None, Some, IfOk, codes};
+ghost use Rattle.clap.specs.Words.{first_value, found_of, one_text};
+ghost use Rattle.lc3_table.specs.declared.profile.Profile.TheVariants.{A, B};
+ghost use Rattle.lab_arguments.specs.Private.Options.{IsNumber};
+ghost use Rattle.lab_arguments.specs.declared.request.Rest.TheVariants.{Ended, Stuck};
+
 use crate::request::{Page, Question, Refusal, Request, Rest, Setup};
 use crate::{MOST_LOCAL_STEPS, MOST_STEPS_EACH, MOST_WORLDS, examples};
 use clap::builder::ValueParser;
@@ -229,6 +235,24 @@ fn number<'a>(alloc: Global, name: &'a str, value: &'a str, most: u32, help: &'a
         .help(help)
 }
 
+/// The number that the words give to an option of this name, where they give one.
+fn number_of(words: &ArgMatches<'_>, name: &str) -> Option<u32>
+    ensures none { one_text (found_of words.now) name.now ≡ None → result ≡ None }
+    ensures some { (text : List ℕ) (n : ℕ) → one_text (found_of words.now) name.now ≡ Some text
+        → IsNumber text n → result ≡ Some n }
+{
+    words.get_one::<u32>(name)
+}
+
+/// The number that the words give to an option of this name, or the most where they give none.
+fn limit_of(words: &ArgMatches<'_>, name: &str, most: u32) -> u32
+    ensures most { one_text (found_of words.now) name.now ≡ None → result ≡ most }
+    ensures given { (text : List ℕ) (n : ℕ) → one_text (found_of words.now) name.now ≡ Some text
+        → IsNumber text n → result ≡ n }
+{
+    number_of(words, name).unwrap_or(most)
+}
+
 /// The parser has made sure that each required word is there.
 fn request_of<'a>(alloc: Global, matches: &ArgMatches<'a>) -> Result<Request<'a>, Refusal> {
     let request = match matches.subcommand() {
@@ -247,8 +271,8 @@ fn request_of<'a>(alloc: Global, matches: &ArgMatches<'a>) -> Result<Request<'a>
         },
         Some(("run", words)) => Request::Run {
             setup: setup_of(alloc, words)?,
-            limit: words.get_one::<u32>("limit").unwrap_or(MOST_STEPS_EACH),
-            mix: words.get_one::<u32>("mix"),
+            limit: limit_of(words, "limit", MOST_STEPS_EACH),
+            mix: number_of(words, "mix"),
         },
         Some(("explore", words)) => Request::Explore {
             setup: setup_of(alloc, words)?,
@@ -275,21 +299,42 @@ fn page_of<'a>(alloc: Global, words: &ArgMatches<'a>) -> Result<Option<Page<'a>>
 }
 
 /// What the words of `explore` ask of the exploration.
-fn question_of(words: &ArgMatches<'_>) -> Question {
+fn question_of(words: &ArgMatches<'_>) -> Question
+    ensures worlds { (text : List ℕ) (n : ℕ)
+        → one_text (found_of words.now) (codes "worlds") ≡ Some text
+        → IsNumber text n → result.worlds ≡ n }
+    ensures steps { (text : List ℕ) (n : ℕ)
+        → one_text (found_of words.now) (codes "limit") ≡ Some text
+        → IsNumber text n → result.steps ≡ n }
+    ensures schedule { (text : List ℕ) (n : ℕ)
+        → one_text (found_of words.now) (codes "schedule") ≡ Some text
+        → IsNumber text n → result.schedule ≡ Some n }
+    ensures any { first_value (found_of words.now) (codes "require") ≡ None
+        → result.required ≡ None }
+    ensures ended { first_value (found_of words.now) (codes "require") ≡ Some (codes "ended")
+        → result.required ≡ Some Ended }
+    ensures stuck { first_value (found_of words.now) (codes "require") ≡ Some (codes "stuck")
+        → result.required ≡ Some Stuck }
+{
     Question {
-        worlds: words.get_one::<u32>("worlds").unwrap_or(MOST_WORLDS),
-        steps: words.get_one::<u32>("limit").unwrap_or(MOST_LOCAL_STEPS),
+        worlds: limit_of(words, "worlds", MOST_WORLDS),
+        steps: limit_of(words, "limit", MOST_LOCAL_STEPS),
         required: match words.get_str("require") {
             Some("ended") => Some(Rest::Ended),
             Some(_) => Some(Rest::Stuck),
             None => None,
         },
-        schedule: words.get_one::<u32>("schedule"),
+        schedule: number_of(words, "schedule"),
     }
 }
 
 /// The programs and the profile that the words of a command name.
-fn setup_of<'a>(alloc: Global, words: &ArgMatches<'a>) -> Result<Setup<'a>, AllocError> {
+fn setup_of<'a>(alloc: Global, words: &ArgMatches<'a>) -> Result<Setup<'a>, AllocError>
+    ensures profile_a { IfOk result (λ s.
+        first_value (found_of words.now) (codes "profile") ≡ Some (codes "a") → s.profile ≡ A) }
+    ensures profile_b { IfOk result (λ s.
+        first_value (found_of words.now) (codes "profile") ≡ Some (codes "b") → s.profile ≡ B) }
+{
     Ok(Setup {
         programs: words.get_strs("PROGRAM").unwrap_or_default().to_vec(alloc)?,
         profile: match words.get_str("profile") {
