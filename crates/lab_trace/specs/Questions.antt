@@ -11,8 +11,8 @@ use Rattle.lab_trace.specs.declared.service.Service.{Service}
 use Rattle.lab_trace.specs.declared.asking.Asking.{Asking}
 use Rattle.lab_trace.specs.declared.asking.Observed.{Observed}
 
--- a call that a process is about to make: its text, what stands behind its result, the place of the object that it is on, and
--- the priority of a message that is sent
+-- a call that a process is about to make: its text, what stands behind its result, the place of its object, and the priority
+-- of a message that is sent
 pub record Question : Type 0 where
   pub service : Service
   pub call : List ℕ
