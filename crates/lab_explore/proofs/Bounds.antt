@@ -12,7 +12,8 @@ use Rattle.lab_sched.proofs.Commutes.{after_other}
 use Rattle.lab_explore.specs.declared.store.Store.{Store}
 use Rattle.lab_explore.specs.Calls.{IsAtCall, IsAhead, Both, Alongside}
 use Rattle.lab_explore.specs.Private.Stored.{IsAt, IsReached, AreReached, HasEdge, IsSearched}
-use Rattle.lab_explore.specs.Rounds.{Rises, AreRising, AreBounded}
+use Rattle.lab_explore.specs.Rounds.{IsRising, Rises, AreRising, AreBounded}
+use Rattle.lab_explore.proofs.Pushes.{all_at}
 use Rattle.lab_explore.proofs.AfterLocalSteps.{none_local}
 use Rattle.lab_explore.proofs.FirstWorlds.{at_unique}
 use Rattle.ipc_kernel.specs.Alike.{IsAlike, IsConsistent}
@@ -232,7 +233,7 @@ module _ (t : Store) (order : List ℕ) (start : WorldState) (searched : IsSearc
 
       less : j < n
       less =
-          let rise = rises edge.0 edge.1 edge.3 in
+          let rise = all_at (IsRising order) t.edges.items edge.0 edge.1 rises edge.3 in
           let from : slice_get order left.at ≡ Some rise.before = ap (λ i. slice_get order i) (sym edge.4) ∙ rise.from in
           let sums = total_set left.taken p found.0 next.0 found.2 in
           let none = none_taken found.0 s found.1 at found.4 in

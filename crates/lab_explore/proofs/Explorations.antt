@@ -23,7 +23,7 @@ use Rattle.lab_explore.specs.Closed.{IsClosed, AreAtRest}
 use Rattle.lab_explore.specs.Private.Stored.{IsAt, IsLike, Holds, Keeps}
 use Rattle.lab_explore.specs.Private.Walked.{HaveRowEnds}
 use Rattle.lab_explore.specs.Ends.{IsWalk, IsEnd, AreEnds, HasEnd, HaveAllEnds, NoneStuck, NeverStuck}
-use Rattle.lab_explore.proofs.Pushes.{get_pushed}
+use Rattle.lab_explore.proofs.Pushes.{get_pushed, all_at}
 use Rattle.lab_explore.proofs.FirstWorlds.{at_unique}
 use Rattle.lab_explore.proofs.HeldAdvances.{has_every_end, idle}
 
@@ -43,7 +43,7 @@ all_ends fresh start t ends same consistent each closed all =
     let held = has_every_end start (Holds t) consistent closed ps rest in
     let found = all held.1.0 held.0 held.1.1 (rest_alike w held.0 (consistent_run ps start consistent) held.2 rest) in
     let alike = world_then w held.0 found.1.world held.2 found.3 in
-    let end = subst (λ s. AreEnds s ends) same each found.0 found.1 found.2 in
+    let end = all_at (IsEnd start) ends found.0 found.1 (subst (λ s. AreEnds s ends) same each) found.2 in
     let there = subst (λ (x : WorldState). IsConsistent x.kernel) end.leads (consistent_run (steps_of found.1.schedule) start consistent) in
     (found.0, found.1, found.2, alike, one_verdict found.1.world w found.1.verdict there (world_back w found.1.world alike) end.verdict))
 
@@ -98,7 +98,7 @@ stuck_verdict w verdict.Open stuck h = absurd (h.1 stuck)
 pub never_stuck : (start : WorldState) (ends : List End) → HaveAllEnds start ends → NoneStuck ends → NeverStuck start
 never_stuck start ends all none ps stuck =
     let has = all ps (verdict_rests (run start ps) verdict.Stuck stuck (λ e. absurd (cc))) in
-    none has.0 has.1 has.2 (stuck_verdict (run start ps) has.1.verdict stuck has.4)
+    all_at (λ e. e.verdict ≡ verdict.Stuck → ⊥) ends has.0 has.1 none has.2 (stuck_verdict (run start ps) has.1.verdict stuck has.4)
 
 -- the kernel of a laboratory before its first step is consistent
 pub fresh_consistent : (w : WorldState) (n : ℕ) → w.kernel ≡ empty_kernel n → IsConsistent w.kernel

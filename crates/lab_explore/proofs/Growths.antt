@@ -1,5 +1,5 @@
 -- Stores that grow.
-use Rattle.std.proofs.Common.{ℕ, ◌≡◌, List, [], ◌∷◌, ◌++◌, Option, Some, None, refl, sym, ap, subst, ◌∙◌, slice_get, length}
+use Rattle.std.proofs.Common.{All, ℕ, ◌≡◌, List, [], ◌∷◌, ◌++◌, Option, Some, None, refl, sym, ap, subst, ◌∙◌, slice_get, length}
 use Rattle.std.specs.Option.{option_map}
 use Rattle.ipc_kernel.specs.Kernel.{KernelState}
 use Rattle.ipc_kernel.specs.Alike.{IsAlike}
@@ -17,8 +17,8 @@ use Rattle.lab_explore.specs.Private.Known.{AreKnown}
 use Rattle.lab_explore.specs.Calls.{Alongside}
 use Rattle.lab_explore.specs.Closed.{HasAdvance}
 use Rattle.lab_explore.specs.Private.Stored.{IsState, IsKernel, IsRow, IsAt, Holds, IsReady, IsStore, Grows, IsNext, IsMove, HasEdge, IsTried, IsExpanded}
-use Rattle.lab_explore.specs.Ends.{Each}
-use Rattle.lab_explore.proofs.Pushes.{both_weaker, keeps_push, each_push, get_pushed}
+use Rattle.std.proofs.lemmas.List.Elements.{All-push, All-weaker}
+use Rattle.lab_explore.proofs.Pushes.{both_weaker, keeps_push, get_pushed}
 
 pub grows_more : (t u v : Store) → Grows t u → Grows u v → Grows t v
 grows_more t u v g h = record {
@@ -76,11 +76,16 @@ tried_grows t u i w p g h e = edge_grows t u i w p g (h e)
 pub expanded_grows : (t u : Store) (i : ℕ) → Grows t u → IsExpanded t i → IsExpanded u i
 expanded_grows t u i g h = (h.0, at_grows t u i h.0 g h.1, λ p. tried_grows t u i h.0 p g (h.2 p))
 
+-- each row of a store stands for the world that it stood for
+rows_grow : (t u : Store) → IsStore t → Grows t u → All (λ r. (w : WorldState) × IsRow u r w) t.rows.items
+rows_grow t u s g =
+    All-weaker (λ r. (w : WorldState) × IsRow t r w) (λ r. (w : WorldState) × IsRow u r w) (λ r h. (h.0, row_grows t u r h.0 g h.1)) t.rows.items s.rows
+
 -- a store that has more kernels, or more states
-pub store_grows : (t u : Store) → IsStore t → Grows t u → Each IsReady u.states.items → u.rows.items ≡ t.rows.items → IsStore u
+pub store_grows : (t u : Store) → IsStore t → Grows t u → All IsReady u.states.items → u.rows.items ≡ t.rows.items → IsStore u
 store_grows t u s g ready same = record {
   states = ready;
-  rows = λ i r e. let h = s.rows i r (subst (λ xs. slice_get xs i ≡ Some r) same e) in (h.0, row_grows t u r h.0 g h.1);
+  rows = subst (λ xs. All (λ r. (w : WorldState) × IsRow u r w) xs) (sym same) (rows_grow t u s g);
 }
 
 -- one state more
@@ -93,7 +98,7 @@ states_pushed t u k s ready states kernels rows edges =
       rows = λ i x e. subst (λ xs. slice_get xs i ≡ Some x) (sym rows) e;
       edges = λ i x e. subst (λ xs. slice_get xs i ≡ Some x) (sym edges) e;
     } in
-    (g, store_grows t u s g (subst (λ xs. Each IsReady xs) (sym states) (each_push IsReady t.states.items k s.states ready)) rows)
+    (g, store_grows t u s g (subst (λ xs. All IsReady xs) (sym states) (All-push IsReady t.states.items k s.states ready)) rows)
 
 pub state_pushed : (xs ys : List Kept) (k : Kept) (i : ℕ) → ys ≡ xs ++ k ∷ [] → i ≡ length xs → option_map process_view (slice_get ys i) ≡ Some (process_view k)
 state_pushed xs ys k i states is =
@@ -110,7 +115,7 @@ kernels_pushed t u k s kernels states rows edges =
       rows = λ i x e. subst (λ xs. slice_get xs i ≡ Some x) (sym rows) e;
       edges = λ i x e. subst (λ xs. slice_get xs i ≡ Some x) (sym edges) e;
     } in
-    (g, store_grows t u s g (subst (λ xs. Each IsReady xs) (sym states) s.states) rows)
+    (g, store_grows t u s g (subst (λ xs. All IsReady xs) (sym states) s.states) rows)
 
 pub kernel_pushed : (xs ys : List KernelState) (k : KernelState) (i : ℕ) → ys ≡ xs ++ k ∷ [] → i ≡ length xs → (j : KernelState) × (slice_get ys i ≡ Some j) × IsAlike k j
 kernel_pushed xs ys k i kernels is =
@@ -130,11 +135,11 @@ rows_pushed t u r s stands rows kernels states edges =
       edges = λ i x e. subst (λ xs. slice_get xs i ≡ Some x) (sym edges) e;
     } in
     let here : (w : WorldState) × IsRow u r w = (stands.0, row_grows t u r stands.0 g stands.1) in
-    let old : Each (λ q. (w : WorldState) × IsRow u q w) t.rows.items = λ i q e. let h = s.rows i q e in (h.0, row_grows t u q h.0 g h.1) in (
+    let old = rows_grow t u s g in (
       g,
       record {
-        states = subst (λ xs. Each IsReady xs) (sym states) s.states;
-        rows = subst (λ xs. Each (λ q. (w : WorldState) × IsRow u q w) xs) (sym rows) (each_push (λ q. (w : WorldState) × IsRow u q w) t.rows.items r old here);
+        states = subst (λ xs. All IsReady xs) (sym states) s.states;
+        rows = subst (λ xs. All (λ q. (w : WorldState) × IsRow u q w) xs) (sym rows) (All-push (λ q. (w : WorldState) × IsRow u q w) t.rows.items r old here);
       },
     )
 
@@ -152,7 +157,7 @@ edges_pushed t u e s edges kernels states rows =
       rows = λ i x h. subst (λ xs. slice_get xs i ≡ Some x) (sym rows) h;
       edges = λ i x h. subst (λ xs. slice_get xs i ≡ Some x) (sym edges) (keeps_push t.edges.items e i x h);
     } in
-    (g, store_grows t u s g (subst (λ xs. Each IsReady xs) (sym states) s.states) rows)
+    (g, store_grows t u s g (subst (λ xs. All IsReady xs) (sym states) s.states) rows)
 
 -- rows of the same places stand for the same world
 pub same_row : (t : Store) (a b : Row) (w : WorldState) → a.kernel ≡ b.kernel → a.states.items ≡ b.states.items → IsRow t b w → IsRow t a w
@@ -163,4 +168,6 @@ same_row t a b w kernel states h = record {
 
 -- moves that are known stay so
 pub known_grows : (t u : Store) (ms : Moves) → Grows t u → AreKnown t ms → AreKnown u ms
-known_grows t u ms g h i m e = move_grows t u m.kernel m.pid m.state m.next g (h i m e)
+known_grows t u ms g h =
+    All-weaker (λ m. IsMove t m.kernel m.pid m.state m.next) (λ m. IsMove u m.kernel m.pid m.state m.next)
+    (λ m old. move_grows t u m.kernel m.pid m.state m.next g old) ms.made.items h

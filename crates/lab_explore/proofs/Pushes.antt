@@ -1,11 +1,10 @@
 -- Lists with one more element, and pairs of lists.
-use Rattle.std.proofs.Common.{ℕ, zero, suc, ◌≡◌, ◌<◌, get_or, List, [], ◌∷◌, ◌++◌, Option, Some, None, refl, sym, subst, slice_get, length, set, inl, inr}
+use Rattle.std.proofs.Common.{ℕ, zero, suc, ◌≡◌, ◌<◌, get_or, All, List, [], ◌∷◌, ◌++◌, Option, Some, None, refl, sym, subst, slice_get, length, set, inl, inr}
 use Rattle.std.proofs.lemmas.Bool.Decides.{eqb_tells}
-use Rattle.std.proofs.lemmas.Option.{slice_get_read}
+use Rattle.std.proofs.lemmas.Option.{slice_get_read, slice_get_within, get_or_from_slice_get}
 use Rattle.lab_sched.proofs.ListPlaces.{get-set_same, get-set_other, get_past}
 use Rattle.lab_explore.specs.Calls.{Both, Alongside}
 use Rattle.lab_explore.specs.Private.Stored.{Keeps}
-use Rattle.lab_explore.specs.Ends.{Each}
 
 pub keeps_push : {A : Type 0} (xs : List A) (x : A) → Keeps xs (xs ++ x ∷ [])
 keeps_push [] x i y e = absurd (cc)
@@ -16,11 +15,9 @@ pub get_pushed : {A : Type 0} (xs : List A) (x : A) → slice_get (xs ++ x ∷ [
 get_pushed [] x = refl
 get_pushed (z ∷ zs) x = get_pushed zs x
 
-pub each_push : {A : Type 0} (P : A → Type 0) (xs : List A) (x : A) → Each P xs → P x → Each P (xs ++ x ∷ [])
-each_push P [] x h p zero y e = let same : x ≡ y = cc in subst P same p
-each_push P [] x h p (suc i) y e = absurd (cc)
-each_push P (z ∷ zs) x h p zero y e = h zero y e
-each_push P (z ∷ zs) x h p (suc i) y e = each_push P zs x (λ j. h (suc j)) p i y e
+-- what holds of each element holds of the one at a place
+pub all_at : {A : Type 0} (P : A → Type 0) (xs : List A) (i : ℕ) (x : A) → All P xs → slice_get xs i ≡ Some x → P x
+all_at P xs i x h e = subst P (get_or_from_slice_get xs i x x e) (h i x (slice_get_within xs i x e))
 
 pub both_weaker : {A B : Type 0} (R Q : A → B → Type 0) → ((x : A) (y : B) → R x y → Q x y) → (a : Option A) (b : Option B) → Both R a b → Both Q a b
 both_weaker R Q w None None h = tt

@@ -16,8 +16,8 @@ use Rattle.lab_explore.specs.declared.store.Edge.{Edge}
 use Rattle.lab_explore.specs.declared.store.Next.{Next}
 use Rattle.lab_explore.specs.declared.store.Next.TheVariants.{Nothing, To}
 use Rattle.lab_explore.specs.Calls.{IsAtCall, IsAhead, Both, Alongside}
-use Rattle.lab_explore.specs.Private.Stored.{IsState, IsRow, IsAt, IsStore, Grows, IsNext, IsMove, IsReached, AreReached, HasEdge, IsTried, IsExpanded, IsRun}
-use Rattle.lab_explore.proofs.Pushes.{alongside_set, get_pushed}
+use Rattle.lab_explore.specs.Private.Stored.{IsReady, IsState, IsRow, IsAt, IsStore, Grows, IsNext, IsMove, IsReached, AreReached, HasEdge, IsTried, IsExpanded, IsRun}
+use Rattle.lab_explore.proofs.Pushes.{alongside_set, get_pushed, all_at}
 use Rattle.lab_explore.proofs.Growths.{state_kept, at_grows, row_grows}
 
 pub both_left : {A B : Type 0} (R : A → B → Type 0) (x : A) (o : Option B) → Both R (Some x) o → (y : B) × (o ≡ Some y) × R x y
@@ -38,7 +38,7 @@ own_at t is None (Some y) h = absurd h
 own_at t is (Some i) None h = absurd h
 own_at t is (Some i) (Some s) h =
     let k = state_kept t i s h in
-    let ahead : IsAhead s s = record { taken = zero; local = refl; at_call = subst IsAtCall k.2 (is.states i k.0 k.1).1 } in
+    let ahead : IsAhead s s = record { taken = zero; local = refl; at_call = subst IsAtCall k.2 (all_at IsReady t.states.items i k.0 is.states k.1).1 } in
     record { ahead = ahead; few = omega arith }
 
 -- a world that a row stands for is its own advance
@@ -136,7 +136,7 @@ moved_at t w at p i old kernel state taken next r' is here placed m next-is kern
 pub all_tried : (t u : Store) (at count pid : ℕ) → IsStore t → Grows t u → ((r : Row) × (slice_get t.rows.items at ≡ Some r) × (count ≡ length r.states.items)) → count ≤ pid
     → ((w : WorldState) → IsAt t at w → (p : ℕ) → p < pid → IsTried u at w p) → IsExpanded u at
 all_tried t u at count pid is g row all tried =
-    let w = is.rows at row.0 row.1 in
+    let w = all_at (λ r. (v : WorldState) × IsRow t r v) t.rows.items at row.0 is.rows row.1 in
     let here : IsAt t at w.0 = (row.0, row.1, w.1) in
     let there = at_grows t u at w.0 g here in (
       w.0,

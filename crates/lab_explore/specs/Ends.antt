@@ -1,5 +1,5 @@
 -- The ends of an exploration.
-use Rattle.std.specs.Prelude.{ℕ, ◌≡◌, List, Some, slice_get}
+use Rattle.std.specs.Prelude.{ℕ, ◌≡◌, List, Some, All, slice_get}
 use Rattle.lab_sched.specs.Worlds.{WorldState, run}
 use Rattle.lab_sched.specs.Execution.{AreEffective}
 use Rattle.lab_sched.specs.Schedules.{steps_of}
@@ -9,10 +9,6 @@ use Rattle.lab_explore.specs.declared.ends.End.{End}
 use Rattle.lab_explore.specs.declared.ends.Walk.{Walk}
 use Rattle.lab_explore.specs.Calls.{AreAlike}
 use Rattle.lab_explore.specs.Closed.{AreAtRest}
-
--- P holds of each element
-abbrev pub Each : {A : Type 0} → (A → Type 0) → List A → Type 0
-Each {A} P xs = (i : ℕ) (x : A) → slice_get xs i ≡ Some x → P x
 
 -- effective steps lead from the start to the world
 pub record IsWalk (start : WorldState) (w : Walk) : Type 0 where
@@ -30,7 +26,7 @@ pub record IsEnd (start : WorldState) (e : End) : Type 0 where
 
 -- each is an end from the start
 abbrev pub AreEnds : WorldState → List End → Type 0
-AreEnds start ends = Each (IsEnd start) ends
+AreEnds start ends = All (IsEnd start) ends
 
 -- one of the ends is in a world alike: with the same processes, over a kernel that is alike
 abbrev pub HasEnd : List End → WorldState → Type 0
@@ -48,7 +44,7 @@ HaveAllEnds start ends = (ps : List ℕ) → AreAtRest (run start ps) → IsRepo
 
 -- no end is stuck
 abbrev pub NoneStuck : List End → Type 0
-NoneStuck ends = Each (λ e. e.verdict ≡ Stuck → ⊥) ends
+NoneStuck ends = All (λ e. e.verdict ≡ Stuck → ⊥) ends
 
 -- whatever steps are taken from the start, effective or not, the world after them isn't stuck
 abbrev pub NeverStuck : WorldState → Type 0

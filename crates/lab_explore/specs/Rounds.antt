@@ -1,13 +1,12 @@
 -- Runs that never end: rounds, by which steps lead from a world to one alike, and what shows that
 -- there is none.
-use Rattle.std.specs.Prelude.{ℕ, ◌≡◌, ◌<◌, ◌≤◌, List, Some, length, slice_get}
+use Rattle.std.specs.Prelude.{ℕ, ◌≡◌, ◌<◌, ◌≤◌, List, Some, All, length, slice_get}
 use Rattle.lab_sched.specs.Worlds.{WorldState, run}
 use Rattle.lab_sched.specs.Execution.{AreEffective}
 use Rattle.lab_sched.specs.Schedules.{steps_of}
 use Rattle.lab_explore.specs.declared.store.Edge.{Edge}
 use Rattle.lab_explore.specs.declared.rounds.Round.{Round}
 use Rattle.lab_explore.specs.Calls.{AreAlike}
-use Rattle.lab_explore.specs.Ends.{Each}
 
 -- effective steps lead from the start to a world, and others, at least one, from that world to one
 -- alike
@@ -38,7 +37,7 @@ pub record IsRising (order : List ℕ) (e : Edge) : Type 0 where
 
 -- each edge does
 abbrev pub Rises : List ℕ → List Edge → Type 0
-Rises order edges = Each (IsRising order) edges
+Rises order edges = All (IsRising order) edges
 
 -- the rows have such numbers
 abbrev pub AreRising : List Edge → Type 0

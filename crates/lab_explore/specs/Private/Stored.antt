@@ -1,5 +1,5 @@
 -- What a search keeps: kernels, states of processes, and worlds as places among these.
-use Rattle.std.specs.Prelude.{ℕ, ◌≡◌, ◌<◌, ◌^◌, List, Option, Some, None, length, slice_get}
+use Rattle.std.specs.Prelude.{ℕ, ◌≡◌, ◌<◌, ◌^◌, List, Option, Some, None, All, length, slice_get}
 use Rattle.std.specs.Option.{option_map}
 use Rattle.ipc_kernel.specs.Kernel.{KernelState}
 use Rattle.ipc_kernel.specs.Alike.{IsAlike}
@@ -16,7 +16,6 @@ use Rattle.lab_explore.specs.declared.trying.Tried.{Tried}
 use Rattle.lab_explore.specs.declared.trying.Tried.TheVariants.{Still, Runs, Came}
 use Rattle.lab_explore.specs.Calls.{AreAlike, IsAtCall, IsAhead, Alongside}
 use Rattle.lab_explore.specs.Closed.{HasAdvance}
-use Rattle.lab_explore.specs.Ends.{Each}
 
 -- what stands at a place of the one stands there in the other
 abbrev pub Keeps : {A : Type 0} → List A → List A → Type 0
@@ -49,8 +48,8 @@ IsReady s = IsHeld s × IsAtCall (process_view s)
 
 -- each row stands for a world
 pub record IsStore (t : Store) : Type 0 where
-  pub states : Each IsReady t.states.items
-  pub rows : Each (λ r. (w : WorldState) × IsRow t r w) t.rows.items
+  pub states : All IsReady t.states.items
+  pub rows : All (λ r. (w : WorldState) × IsRow t r w) t.rows.items
 
 -- nothing is lost
 pub record Grows (t u : Store) : Type 0 where

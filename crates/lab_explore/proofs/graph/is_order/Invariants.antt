@@ -1,7 +1,6 @@
-use Rattle.std.proofs.Common.{◌≡◌, ◌<◌, ℕ, Some, slice_get}
-use Rattle.lab_explore.specs.declared.store.Edge.{Edge}
+use Rattle.std.specs.List.{AllWithin}
 use Rattle.lab_explore.specs.Rounds.{IsRising}
 use Rattle.lab_explore.proofs.graph.is_order.Given as goal
 
 abbrev pub invariant-loop-edge : goal.invariant-loop-edge
-invariant-loop-edge l = (i : ℕ) → i < l.edge-index → (e : Edge) → slice_get l.edges i ≡ Some e → IsRising l.order e
+invariant-loop-edge l = AllWithin (IsRising l.order) l.edges 0 l.edge-index

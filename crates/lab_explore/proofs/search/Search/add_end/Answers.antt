@@ -1,15 +1,16 @@
-use Rattle.std.proofs.Common.{subst, sym}
+use Rattle.std.proofs.Common.{All, subst, sym}
+use Rattle.std.proofs.lemmas.List.Elements.{All-push}
 use Rattle.lab_explore.specs.Private.Stored.{Keeps}
 use Rattle.lab_sched.specs.Starts.{initial_world}
-use Rattle.lab_explore.specs.Ends.{Each, IsEnd}
-use Rattle.lab_explore.proofs.Pushes.{each_push, keeps_push}
+use Rattle.lab_explore.specs.Ends.{IsEnd}
+use Rattle.lab_explore.proofs.Pushes.{keeps_push}
 use Rattle.lab_explore.proofs.Explorations.{end_pushed}
 use Rattle.lab_explore.proofs.search.Search.add_end.Goals as goal
 
 pub returns-clause-each : goal.returns-clause-each
 returns-clause-each c old =
     let start = initial_world c.args.processes.now in
-    subst (λ xs. Each (IsEnd start) xs) (sym c.in_ok-push.ensures.items) (each_push (IsEnd start) c.args.ends.now.items c.in_ok-end.end old c.in_ok-end.ensures.end)
+    subst (λ xs. All (IsEnd start) xs) (sym c.in_ok-push.ensures.items) (All-push (IsEnd start) c.args.ends.now.items c.in_ok-end.end old c.in_ok-end.ensures.end)
 
 pub returns-clause-keeps : goal.returns-clause-keeps
 returns-clause-keeps c = subst (λ xs. Keeps c.args.ends.now.items xs) (sym c.in_ok-push.ensures.items) (keeps_push c.args.ends.now.items c.in_ok-end.end)

@@ -1,6 +1,6 @@
 use Rattle.std.proofs.Common.{refl, subst, sym}
 use Rattle.lab_explore.specs.Private.Stored.{IsAt}
-use Rattle.lab_explore.proofs.Growths.{edges_pushed}
+use Rattle.lab_explore.proofs.Growths.{edges_pushed, grows_more}
 use Rattle.lab_explore.proofs.StepsOfRows.{edge_made}
 use Rattle.lab_explore.proofs.store.Store.keep_edge.Goals as goal
 
@@ -11,3 +11,12 @@ returns-clause-edge c is w v row reached =
     let g = (edges_pushed t _ e c.in_ok-to.ensures.store c.in_ok-push.ensures.items refl refl refl).0 in
     edge_made t _ w v c.args.at c.args.pid e g c.in_ok-push.ensures.items c.in-Some-edge_of.ensures.from
     (subst (λ n. IsAt t n v) (sym c.in-Some-edge_of.ensures.to) ((rw c.in-Some.is at c.in_ok-to.ensures.kept) v row)) reached
+
+pub returns-clause-store : goal.returns-clause-store
+returns-clause-store c =
+    (edges_pushed c.keep_row.new.self _ c.in-Some-edge_of.edge c.in_ok-to.ensures.store c.in_ok-push.ensures.items refl refl refl).1
+
+pub returns-clause-grows : goal.returns-clause-grows
+returns-clause-grows c =
+    grows_more c.args.self.now c.keep_row.new.self _ c.in_ok-to.ensures.grows
+    (edges_pushed c.keep_row.new.self _ c.in-Some-edge_of.edge c.in_ok-to.ensures.store c.in_ok-push.ensures.items refl refl refl).0

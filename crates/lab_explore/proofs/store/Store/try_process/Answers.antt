@@ -1,3 +1,6 @@
+use Rattle.lab_sched.specs.Worlds.{WorldState}
+use Rattle.lab_explore.specs.Private.Stored.{IsRow}
+use Rattle.lab_explore.proofs.Pushes.{all_at}
 use Rattle.lab_explore.proofs.Growths.{at_grows, known_grows}
 use Rattle.lab_explore.proofs.StepsOfRows.{placed_grows, moved_at}
 use Rattle.lab_explore.proofs.store.Store.try_process.Goals as goal
@@ -6,7 +9,7 @@ pub keep_edge-requires-clause-row : goal.keep_edge-requires-clause-row
 keep_edge-requires-clause-row c =
     let t = c.next.new.self in
     let placed = placed_grows c.args.self.now t c.args.at c.args.pid c.in-Some.kernel c.in-Some.state c.in_ok-next.ensures.grows c.in-Some.ensures.places in
-    let w = c.in_ok-next.ensures.store.rows c.args.at placed.0 placed.1 in
+    let w = all_at (λ r. (v : WorldState) × IsRow t r v) t.rows.items c.args.at placed.0 c.in_ok-next.ensures.store.rows placed.1 in
     let m = moved_at t w.0 c.args.at c.args.pid c.in-Some.state c.in-Some.kernel c.in-To.kernel c.in-To.state c.in-To.taken c.in_ok-next.field-0 c.in_ok-row-in-To.row c.in_ok-next.ensures.store
     (placed.0, placed.1, w.1) placed c.in_ok-next.ensures.next c.in-To.is c.in_ok-row-in-To.ensures.kernel c.in_ok-row-in-To.ensures.states in
     (m.0, m.1)
