@@ -7,7 +7,7 @@ pub record SlowReader : Type 0 where
   pub per_call : ℕ
   pub before_failure : ℕ
 
--- a slow writer: what was written to the front of its slice, what stands in the slice after that, how many bytes a call moves at most, and how many all calls move before they fail
+-- a slow writer: the bytes written, the rest of its slice, the most that a call moves, and that all calls move until they fail
 pub record SlowWriter : Type 0 where
   pub written : List ℕ
   pub rest : List ℕ
