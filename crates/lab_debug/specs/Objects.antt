@@ -1,7 +1,7 @@
 -- The texts that show the kernel of a world.
 use Rattle.std.specs.Prelude.{ℕ, Bool, true, false, ◌==◌, nat_lt, if◌then◌else◌, Option, Some, None, List, [], ◌++◌, length, codes, flat_map}
 use Rattle.std.specs.Fmt.{decimal}
-use Rattle.lc3_word.specs.Words.{hex_text}
+use Rattle.lc3_word.specs.Words.{hexadecimal_text}
 use Rattle.ipc_objects.specs.Queue.{QueueState}
 use Rattle.ipc_objects.specs.declared.queue.Message.{Message}
 use Rattle.ipc_kernel.specs.Limits.{object_places, open_max}
@@ -33,7 +33,7 @@ queue_line place name q = object_part place name ++ sizes_part q
 
 -- a word of a message, after a blank
 abbrev pub word_part : ℕ → List ℕ
-word_part w = codes " x" ++ hex_text w
+word_part w = codes " " ++ hexadecimal_text w
 
 -- priority and words of a message
 unfoldable pub message_line : Message → List ℕ

@@ -1,11 +1,11 @@
 -- The texts that show the processes of a world.
 use Rattle.std.specs.Prelude.{ℕ, Bool, ◌+◌, ◌/◌, ◌%◌, ◌==◌, ◌&&◌, not, nat_le, nat_lt, if◌then◌else◌, true, Option, Some, None, List, [], ◌∷◌, ◌++◌, length, codes, flat_map, slice_get, slice_index}
 use Rattle.std.specs.Fmt.{decimal, digit_glyph}
-use Rattle.lc3_word.specs.Words.{hex_text, register_text}
+use Rattle.lc3_word.specs.Words.{hexadecimal_text, register_text}
 use Rattle.lc3_word.specs.declared.code.Cc.{Cc}
 use Rattle.lc3_word.specs.declared.code.Cc.TheVariants.{N, Z, P}
 use Rattle.lc3_word.specs.Segment.{first_device}
-use Rattle.lc3_table.specs.Profiles.{letter}
+use Rattle.lc3_table.specs.Profiles.{profile_letter}
 use Rattle.lc3_table.specs.Text.{word_text, line_text}
 use Rattle.lc3_machine.specs.declared.want.How.{How}
 use Rattle.lc3_machine.specs.declared.want.How.TheVariants.{Halt, Illegal, Device, BadTrap, NoInput}
@@ -26,19 +26,15 @@ how_text Device = codes "device"
 how_text BadTrap = codes "badtrap"
 how_text NoInput = codes "noinput"
 
--- a word or an address as four hexadecimal digits after x
-abbrev pub address_text : ℕ → List ℕ
-address_text a = codes "x" ++ hex_text a
-
 -- the word at the program counter, or a dash in the device register page
 unfoldable pub place_text : Machine → List ℕ
 place_text m = if nat_lt m.pc first_device then word_text (slice_index m.memory m.pc) else codes "-"
 
 -- where a process stands
 abbrev pub state_text : Process → List ℕ
-state_text (Running m) = codes "running " ++ address_text m.pc ++ codes " " ++ place_text m
-state_text (Waiting m c) = codes "waiting " ++ address_text m.pc ++ codes " " ++ place_text m
-state_text (Ended e) = codes "ended " ++ address_text e.process.pc ++ codes " " ++ how_text e.how
+state_text (Running m) = codes "running " ++ hexadecimal_text m.pc ++ codes " " ++ place_text m
+state_text (Waiting m c) = codes "waiting " ++ hexadecimal_text m.pc ++ codes " " ++ place_text m
+state_text (Ended e) = codes "ended " ++ hexadecimal_text e.process.pc ++ codes " " ++ how_text e.how
 
 -- the number of a process and where it stands
 unfoldable pub status_line : ℕ → Process → List ℕ
@@ -54,7 +50,7 @@ procs_text w = texts_below (length w.processes) (λ pid. status_text pid w)
 
 -- the profile that the processes have
 abbrev pub profile_text : WorldState → List ℕ
-profile_text w = codes "profile " ++ letter (first_profile w.processes) ++ codes "\n"
+profile_text w = codes "profile " ++ profile_letter (first_profile w.processes) ++ codes "\n"
 
 -- the letter of a condition code
 abbrev pub code_text : Cc → List ℕ
@@ -64,11 +60,11 @@ code_text P = codes "P"
 
 -- a register and a blank
 unfoldable pub register_part : Machine → ℕ → List ℕ
-register_part m r = register_text r ++ codes " " ++ address_text (reg m r) ++ codes " "
+register_part m r = register_text r ++ codes " " ++ hexadecimal_text (reg m r) ++ codes " "
 
 -- the program counter and the condition code
 unfoldable pub counter_part : Machine → List ℕ
-counter_part m = codes "PC " ++ address_text m.pc ++ codes " CC " ++ code_text m.cc ++ codes "\n"
+counter_part m = codes "PC " ++ hexadecimal_text m.pc ++ codes " CC " ++ code_text m.cc ++ codes "\n"
 
 -- R0 to R7, the program counter and the condition code
 abbrev pub regs_line : Machine → List ℕ
@@ -80,7 +76,7 @@ regs_text pid w = text_of (λ s. regs_line (machine_of s)) (slice_get w.processe
 
 -- an address and its word
 unfoldable pub word_line : ℕ → ℕ → List ℕ
-word_line a w = address_text a ++ codes " " ++ address_text w ++ codes "\n"
+word_line a w = hexadecimal_text a ++ codes " " ++ hexadecimal_text w ++ codes "\n"
 
 -- n words of memory from an address on, each on a line
 abbrev pub memory_lines : (ℕ → ℕ → List ℕ) → ℕ → ℕ → Machine → List ℕ

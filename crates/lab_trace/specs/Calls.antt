@@ -5,7 +5,7 @@ use Rattle.lc3_machine.specs.Process.{Process as Machine, reg}
 use Rattle.ipc_names.specs.Flags.{has_flag, o_creat}
 use Rattle.ipc_kernel.specs.Kernel.{KernelState}
 use Rattle.ipc_traps.specs.Names.{is_in_memory, words_at}
-use Rattle.lab_debug.specs.Texts.{address_text}
+use Rattle.lc3_word.specs.Words.{hexadecimal_text}
 use Rattle.lab_trace.specs.Attributes.{sizes_text, flags_text}
 use Rattle.lab_trace.specs.Words.{pointer_text, name_text, message_text}
 use Rattle.lab_trace.specs.Flags.{mq_flags, sem_flags}
@@ -23,7 +23,7 @@ unfoldable pub attributes_asked : Machine → ℕ → List ℕ
 attributes_asked m at =
     if at == 0 then codes "NULL" else
     if is_in_memory at 4 then sizes_text (slice_index m.memory (at + 1)) (slice_index m.memory (at + 2)) else
-    address_text at
+    hexadecimal_text at
 
 -- mq_open: name, flags, and with O_CREAT the attributes
 unfoldable pub mq_open_arguments : Machine → List ℕ
@@ -38,19 +38,19 @@ sem_open_arguments m =
 
 -- the message in a buffer that lies in memory, else its address
 unfoldable pub buffer_text : Machine → ℕ → ℕ → List ℕ
-buffer_text m at len = if is_in_memory at len then message_text (words_at m.memory at len) else address_text at
+buffer_text m at len = if is_in_memory at len then message_text (words_at m.memory at len) else hexadecimal_text at
 
 -- the new mq_flags, where the four words of the attributes lie in memory, else their address
 unfoldable pub flags_asked : Machine → ℕ → List ℕ
-flags_asked m at = if is_in_memory at 4 then flags_text (slice_index m.memory at) else address_text at
+flags_asked m at = if is_in_memory at 4 then flags_text (slice_index m.memory at) else hexadecimal_text at
 
 -- what stands behind the descriptor or the slot
 unfoldable pub further_arguments : Machine → Service → List ℕ
 further_arguments m MqSend = comma ++ buffer_text m (reg m 1) (reg m 2) ++ comma ++ decimal (reg m 2) ++ comma ++ decimal (reg m 3)
-further_arguments m MqReceive = comma ++ address_text (reg m 1) ++ comma ++ decimal (reg m 2) ++ comma ++ pointer_text (reg m 3)
-further_arguments m MqGetattr = comma ++ address_text (reg m 1)
+further_arguments m MqReceive = comma ++ hexadecimal_text (reg m 1) ++ comma ++ decimal (reg m 2) ++ comma ++ pointer_text (reg m 3)
+further_arguments m MqGetattr = comma ++ hexadecimal_text (reg m 1)
 further_arguments m MqSetattr = comma ++ flags_asked m (reg m 1) ++ comma ++ pointer_text (reg m 2)
-further_arguments m SemGetvalue = comma ++ address_text (reg m 1)
+further_arguments m SemGetvalue = comma ++ hexadecimal_text (reg m 1)
 further_arguments m other = []
 
 -- the arguments of a call of process p

@@ -1,7 +1,7 @@
 -- Flags by their names in POSIX.1-2017, <fcntl.h>.
 use Rattle.std.specs.Prelude.{ℕ, ◌+◌, ◌-◌, ◌==◌, Bool, true, false, if◌then◌else◌, List, [], ◌++◌, codes, bit_and}
 use Rattle.ipc_names.specs.Flags.{has_flag, o_accmode, o_creat, o_excl, o_nonblock, unnamed_flags}
-use Rattle.lab_debug.specs.Texts.{address_text}
+use Rattle.lc3_word.specs.Words.{hexadecimal_text}
 
 -- what stands between two flags
 abbrev pub bar : Bool → List ℕ
@@ -14,7 +14,7 @@ flag_part begun flag name w = if has_flag flag w then bar begun ++ name else []
 
 -- the bits of a word that have no name, as one word, where there are any
 unfoldable pub rest_part : Bool → ℕ → ℕ → List ℕ
-rest_part begun unnamed w = if has_flag unnamed w then bar begun ++ address_text (bit_and w unnamed) else []
+rest_part begun unnamed w = if has_flag unnamed w then bar begun ++ hexadecimal_text (bit_and w unnamed) else []
 
 -- the access that bits 1 and 0 ask for
 abbrev pub access_text : ℕ → List ℕ

@@ -5,7 +5,8 @@ use Rattle.lc3_table.specs.Text.{word_text}
 use Rattle.lc3_machine.specs.declared.want.How.{How}
 use Rattle.ipc_kernel.specs.Kernel.{KernelState}
 use Rattle.lab_sched.specs.Worlds.{Process}
-use Rattle.lab_debug.specs.Texts.{address_text, how_text}
+use Rattle.lc3_word.specs.Words.{hexadecimal_text}
+use Rattle.lab_debug.specs.Texts.{how_text}
 use Rattle.lab_trace.specs.Words.{bytes_text, at_left, at_right}
 use Rattle.lab_trace.specs.Answers.{answer_text, result_of}
 use Rattle.lab_trace.specs.Objects.{held_place, level_text}
@@ -37,7 +38,7 @@ local_column count = at_right 5 (codes "+" ++ decimal count) ++ codes " "
 -- the columns before what happened: step, process, address, and the counted steps of the process since its last line
 unfoldable pub head : Widths → List ℕ → ℕ → ℕ → ℕ → List ℕ
 head v step p address count =
-    at_right v.step step ++ codes " " ++ process_column v.process p ++ address_text address ++ codes " " ++ local_column count
+    at_right v.step step ++ codes " " ++ process_column v.process p ++ hexadecimal_text address ++ codes " " ++ local_column count
 
 -- the place of the object whose level is told: of an open that isn't refused the one that it opened
 abbrev pub opened_place : KernelState → ℕ → Service → Option ℕ → Option ℕ

@@ -3,11 +3,12 @@ use Rattle.std.specs.Prelude.{ℕ, ◌-◌, ◌==◌, ◌&&◌, nat_le, nat_lt, 
 use Rattle.std.specs.List.{list_any}
 use Rattle.std.specs.Fmt.{decimal}
 use Rattle.ipc_traps.specs.Names.{window, words_at}
-use Rattle.lab_debug.specs.Texts.{address_text, is_plain, escape_text}
+use Rattle.lc3_word.specs.Words.{hexadecimal_text}
+use Rattle.lab_debug.specs.Texts.{is_plain, escape_text}
 
 -- an address, of which 0 stands for none
 abbrev pub pointer_text : ℕ → List ℕ
-pointer_text a = if a == 0 then codes "NULL" else address_text a
+pointer_text a = if a == 0 then codes "NULL" else hexadecimal_text a
 
 -- a word as a signed number
 unfoldable pub signed_text : ℕ → List ℕ
@@ -19,7 +20,7 @@ is_quotable c = is_plain c && not (c == 34)
 
 -- a word between quotation marks: its character, or four hexadecimal digits
 unfoldable pub character_text : ℕ → List ℕ
-character_text w = if is_quotable w then w ∷ [] else codes "\\" ++ address_text w
+character_text w = if is_quotable w then w ∷ [] else codes "\\" ++ hexadecimal_text w
 
 -- a byte between quotation marks: itself, or two hexadecimal digits
 unfoldable pub byte_text : ℕ → List ℕ
@@ -39,7 +40,7 @@ name_end memory at = position (λ w. w == 0) (window memory at)
 
 -- a name of so many words, or its address where no zero word ends it
 abbrev pub name_of : List ℕ → ℕ → Option ℕ → List ℕ
-name_of memory at None = address_text at
+name_of memory at None = hexadecimal_text at
 name_of memory at (Some len) = string_text (words_at memory at len)
 
 -- the name at an address
@@ -48,12 +49,12 @@ name_text memory at = name_of memory at (name_end memory at)
 
 -- a word behind a blank
 abbrev pub further_word : ℕ → List ℕ
-further_word w = codes " " ++ address_text w
+further_word w = codes " " ++ hexadecimal_text w
 
 -- words with a blank between each two
 abbrev pub words_text : List ℕ → List ℕ
 words_text [] = []
-words_text (w ∷ ws) = address_text w ++ flat_map further_word ws
+words_text (w ∷ ws) = hexadecimal_text w ++ flat_map further_word ws
 
 -- whether a word is a character that can be printed
 unfoldable pub is_printable : ℕ → Bool

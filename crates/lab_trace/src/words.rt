@@ -2,7 +2,7 @@
 ghost use Rattle.std.specs.Prelude.{◌≡◌, ◌<◌, ◌++◌, true, IfOk, IfSome, OnOk, IsTrue, string_bytes, flat_map};
 ghost use Rattle.lab_sched.specs.Held.{process_view};
 ghost use Rattle.lab_sched.specs.Worlds.{machine_of};
-ghost use Rattle.lab_debug.specs.Texts.{address_text};
+ghost use Rattle.lc3_word.specs.Words.{hexadecimal_text};
 ghost use Rattle.lc3_machine.specs.Process.{reg};
 ghost use Rattle.ipc_traps.specs.Names.{is_in_memory, words_at};
 ghost use Rattle.lab_trace.specs.Words.{pointer_text, signed_text, is_quotable, character_text, string_text, byte_text, bytes_text, name_end, name_text, blanks, at_left, at_right};
@@ -33,7 +33,7 @@ pub fn is_in_memory(at: u16, len: u16) -> bool
 /// Adds an address.
 pub fn push_address(text: &mut String, address: u16) -> Result<(), AllocError>
     ensures text { OnOk result (string_bytes text.new ≡ string_bytes text.old
-        ++ address_text address) }
+        ++ hexadecimal_text address) }
 {
     let address = Hex(address);
     match write!(text, "{address}") {

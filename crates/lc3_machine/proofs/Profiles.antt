@@ -4,9 +4,10 @@ use Rattle.lc3_table.specs.declared.profile.Profile.{Profile}
 use Rattle.lc3_table.specs.declared.instr.Instr.{Instr}
 use Rattle.lc3_table.specs.declared.instr.Instr.TheVariants as instr
 use Rattle.lc3_table.specs.Decoding.{instruction_at}
+use Rattle.lc3_word.specs.Words.{word_sum}
 use Rattle.lc3_machine.specs.declared.want.How.{How}
 use Rattle.lc3_machine.specs.declared.want.How.TheVariants as how
-use Rattle.lc3_machine.specs.Process.{Process, Outcome, GoesOn, Stops, at_word, outcome_of_store, target, reg, word_sum, signed_word, at_next_instruction, at_address, with_result}
+use Rattle.lc3_machine.specs.Process.{Process, Outcome, GoesOn, Stops, at_word, outcome_of_store, target, reg, signed_word, at_next_instruction, at_address, with_result}
 use Rattle.lc3_machine.specs.Console.{getc, outcome_of_in, outcome_of_string, low_byte, packed_bytes, string_at}
 use Rattle.lc3_machine.specs.Effects.{effect, effect_of_word, outcome_of_trap, next_step, is_among, is_kernel_trap}
 use Rattle.lc3_machine.specs.Reply.{process_after_end}

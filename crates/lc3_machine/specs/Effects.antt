@@ -9,9 +9,11 @@ use Rattle.lc3_table.specs.declared.instr.Instr.TheVariants as instr
 use Rattle.lc3_table.specs.Decoding.{instruction_at}
 use Rattle.lc3_table.specs.declared.profile.Profile.{Profile}
 use Rattle.lc3_table.specs.declared.profile.Profile.TheVariants as profile
+use Rattle.lc3_word.specs.Words.{word_sum}
+use Rattle.lc3_word.specs.Codes.{cc_of}
 use Rattle.lc3_machine.specs.declared.want.Want.TheVariants.{Trap, End}
 use Rattle.lc3_machine.specs.declared.want.How.TheVariants.{Halt, Illegal, BadTrap}
-use Rattle.lc3_machine.specs.Process.{Process, Outcome, GoesOn, Stops, word_sum, signed_word, cc_of, reg, target, at_next_instruction, at_address, with_reg, with_result, at_routine, at_word, outcome_of_load, outcome_of_store}
+use Rattle.lc3_machine.specs.Process.{Process, Outcome, GoesOn, Stops, signed_word, reg, target, at_next_instruction, at_address, with_reg, with_result, at_routine, at_word, outcome_of_load, outcome_of_store}
 use Rattle.lc3_machine.specs.Console.{getc, out, puts, outcome_of_in, putsp}
 
 -- whether the condition code that is set is among the three flags of a branch (A.3: BR)

@@ -1,10 +1,10 @@
 -- What a process of the machine is: its registers, its memory and what stands on its console.
 -- Sections A.1 to A.3 are those of Patt and Patel, Introduction to Computing Systems, 2nd edition, appendix A.
-use Rattle.std.specs.Prelude.{ℕ, ℤ, Bool, true, false, ◌+◌, ◌++◌, ◌-◌, ◌%◌, List, [], length, replicate, slice_index, slice_set, nat_lt, if◌then◌else◌}
+use Rattle.std.specs.Prelude.{ℕ, ℤ, Bool, true, false, ◌+◌, ◌++◌, ◌-◌, List, [], length, replicate, slice_index, slice_set, nat_lt, if◌then◌else◌}
 use Rattle.lc3_word.specs.declared.code.Cc.{Cc}
 use Rattle.lc3_word.specs.declared.code.Cc.TheVariants.{Z}
-use Rattle.lc3_word.specs.Words.{low_bits, signed_value}
-use Rattle.lc3_word.specs.Codes.{code_of}
+use Rattle.lc3_word.specs.Words.{low_bits, word_sum}
+use Rattle.lc3_word.specs.Codes.{cc_of}
 use Rattle.lc3_word.specs.Segment.{first_device}
 use Rattle.lc3_table.specs.declared.profile.Profile.{Profile}
 use Rattle.lc3_machine.specs.declared.want.Want.{Want}
@@ -59,17 +59,9 @@ start profile origin words input =
       output = [];
     }
 
--- the sum of two words, modulo 65,536
-abbrev pub word_sum : ℕ → ℕ → ℕ
-word_sum a b = (a + b) % 65536
-
 -- a sign-extended number, as a word (A.2: SEXT)
 abbrev pub signed_word : ℤ → ℕ
 signed_word z = low_bits 16 z
-
--- the condition code of a word as a signed number (A.2: setcc)
-unfoldable pub cc_of : ℕ → Cc
-cc_of w = code_of (signed_value 16 w)
 
 -- a register
 abbrev pub reg : Process → ℕ → ℕ

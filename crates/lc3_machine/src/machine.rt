@@ -1,6 +1,7 @@
 ghost use Rattle.std.specs.Prelude.{◌≡◌, ◌↔◌, ℕ, ◌+◌, ◌<◌, ◌≤◌, IsTrue, OnOk, IfOk, length, slice_index};
 ghost use Rattle.lc3_word.specs.Segment.{first_device};
-ghost use Rattle.lc3_machine.specs.Process.{start, reg, next_pc, word_sum, at_next_instruction};
+ghost use Rattle.lc3_machine.specs.Process.{start, reg, next_pc, at_next_instruction};
+ghost use Rattle.lc3_word.specs.Words.{word_sum};
 ghost use Rattle.lc3_machine.specs.Console.{after_trap};
 ghost use Rattle.lc3_machine.specs.Memory.{IsWritable, StaysReady};
 ghost use Rattle.lc3_machine.specs.Reply.{CanTake, process_after_effect, process_after_end};
@@ -55,7 +56,7 @@ pub enum Progress {
 
 impl Machine {
     /// A process at its start.
-    #[tactic(auto, unfolding(crate::specs::Process::cc_of))]
+    #[tactic(auto, unfolding(lc3_word::specs::Codes::cc_of))]
     pub(crate) fn load(
         alloc: Global,
         profile: Profile,
@@ -101,7 +102,7 @@ impl Machine {
 
     /// The condition code that is set, one of the three.
     #[inline(always)]
-    #[tactic(auto, unfolding(crate::specs::Process::cc_of))]
+    #[tactic(auto, unfolding(lc3_word::specs::Codes::cc_of))]
     pub fn cc(&self) -> Cc
         ensures value { result ≡ self.now.process.cc }
     {

@@ -6,6 +6,6 @@ use Rattle.lc3_table.specs.declared.profile.Profile.{Profile}
 use Rattle.lc3_table.specs.declared.profile.Profile.TheVariants.{A, B}
 
 -- the letter that names a profile
-abbrev pub letter : Profile → List ℕ
-letter A = codes "a"
-letter B = codes "b"
+abbrev pub profile_letter : Profile → List ℕ
+profile_letter A = codes "a"
+profile_letter B = codes "b"

@@ -1,7 +1,7 @@
 //! The profiles of the machine.
 
 ghost use Rattle.std.specs.Prelude.{Some};
-ghost use Rattle.lc3_table.specs.Profiles.{letter};
+ghost use Rattle.lc3_table.specs.Profiles.{profile_letter};
 
 use std::fmt;
 
@@ -16,7 +16,7 @@ pub enum Profile {
 }
 
 impl fmt::Display for Profile {
-    ghost output = { λ p. Some (letter p) };
+    ghost output = { λ p. Some (profile_letter p) };
 
     fn fmt<W: fmt::Write>(&self, f: &mut fmt::Formatter<W>) -> fmt::Result {
         match *self {

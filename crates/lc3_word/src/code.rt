@@ -1,8 +1,7 @@
 //! Condition codes.
 
 ghost use Rattle.std.specs.Prelude.{◌≡◌};
-ghost use Rattle.lc3_word.specs.Codes.{code_of};
-ghost use Rattle.lc3_word.specs.Words.{signed_value};
+ghost use Rattle.lc3_word.specs.Codes.{cc_of};
 
 /// The condition code that is set: negative, zero or positive. Exactly one is (Patt and Patel, appendix A.1).
 #[derive(Clone, Copy, Debug, PartialEq, Eq)]
@@ -13,9 +12,10 @@ pub enum Cc {
 }
 
 /// The condition code for a word that was written to a register: negative, zero or positive as its signed value.
+#[tactic(auto, unfolding(crate::specs::Codes::cc_of))]
 #[inline(always)]
 pub fn cc_of(word: u16) -> Cc
-    ensures code { result ≡ code_of (signed_value 16 word) }
+    ensures code { result ≡ cc_of word }
 {
     if word >> 15 == 1 {
         Cc::N

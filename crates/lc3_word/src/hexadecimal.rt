@@ -1,7 +1,7 @@
 //! Words as hexadecimal digits.
 
 ghost use Rattle.std.specs.Prelude.{◌≡◌, ◌<◌, ◌++◌, true, Some, codes};
-ghost use Rattle.lc3_word.specs.Words.{hex_text};
+ghost use Rattle.lc3_word.specs.Words.{hex_text, hexadecimal_text};
 ghost use Rattle.std.specs.Fmt.{digit_glyph};
 
 use std::fmt;
@@ -11,7 +11,7 @@ use std::fmt;
 pub struct Hex(pub u16);
 
 impl fmt::Display for Hex {
-    ghost output = { λ h. Some (codes "x" ++ hex_text h.0) };
+    ghost output = { λ h. Some (hexadecimal_text h.0) };
 
     #[tactic(auto, using(crate::proofs::FourDigits::hex_padded))]
     fn fmt<W: fmt::Write>(&self, f: &mut fmt::Formatter<W>) -> fmt::Result {

@@ -1,7 +1,7 @@
 //! Signed numbers in fields, and sums of words.
 
 ghost use Rattle.std.specs.Prelude.{◌≡◌, ℤ, ◌+◌, ◌%◌, ◌^◌, ◌<◌, ◌≤◌, ◌↔◌, Some, IsSome, IfSome};
-ghost use Rattle.lc3_word.specs.Words.{IsSigned, low_bits, signed_value, number_text};
+ghost use Rattle.lc3_word.specs.Words.{IsSigned, low_bits, signed_value, word_sum, number_text};
 
 use std::fmt;
 use std::marker::Model;
@@ -89,7 +89,7 @@ impl<const B: u32> fmt::Display for Off<B> {
 /// The sum of two words modulo 65,536, as the machine adds them.
 #[inline(always)]
 pub fn add(a: u16, b: u16) -> u16
-    ensures sum { result ≡ (a + b) % 65536 }
+    ensures sum { result ≡ word_sum a b }
 {
     a.wrapping_add(b)
 }

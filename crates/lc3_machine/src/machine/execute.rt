@@ -1,7 +1,7 @@
 //! The effect of each instruction.
 
 ghost use Rattle.std.specs.Prelude.{◌≡◌, ◌<◌, ◌≤◌, ◌-◌, ℕ, if◌then◌else◌};
-ghost use Rattle.lc3_machine.specs.Process.{GoesOn, word_sum, at_next_instruction, at_address, with_result, at_routine, at_word, outcome_of_load, outcome_of_store};
+ghost use Rattle.lc3_machine.specs.Process.{GoesOn, at_next_instruction, at_address, with_result, at_routine, at_word, outcome_of_load, outcome_of_store};
 ghost use Rattle.lc3_machine.specs.Effects.{effect, next_step, is_among, process_after_branch, operand_value, with_address};
 ghost use Rattle.lc3_machine.specs.Steps.{CarriedOut, HasRun};
 
@@ -63,7 +63,7 @@ impl Machine {
     }
 
     /// Whether the code that is set is among these. It is asked of the last result, which takes fewer comparisons.
-    #[tactic(auto, unfolding(crate::specs::Process::cc_of))]
+    #[tactic(auto, unfolding(lc3_word::specs::Codes::cc_of))]
     #[inline(always)]
     fn is_among(&self, n: bool, z: bool, p: bool) -> bool
         ensures value { result ≡ is_among self.now.process.cc n z p }
