@@ -1,8 +1,15 @@
 //! The laboratory's program.
 #![tactic(auto)]
 
-use lab_commands::{FAULT, Progress, USAGE, command, prompt_of};
+mod command;
+mod page;
+mod prompts;
+mod trace;
+
+use command::{FAULT, USAGE, command};
+use lab_commands::Progress;
 use lab_io::{Input, Output, Prompt, Prompted};
+use prompts::prompt_of;
 use std::env;
 use std::io::{ErrorKind, IsTerminal, Stderr, Write};
 use std::process::ExitCode;

@@ -1,13 +1,13 @@
 //! What the program says of a fault.
-use crate::fault::CliFault;
 use lab_debug::SessionFault;
 use lab_explore::ExploreFault;
+use lab_hex::CliFault;
 use lab_sched::{RunStop, SchedFault, StepFault, Verdict};
 use lab_threads::RunFault;
-use lab_trace::TraceFault;
 use lc3_asm::AsmFault;
 use lc3_obj::ObjFault;
 use lc3_table::Fault;
+use std::alloc::{AllocError, AllocFailed};
 use std::fmt;
 
 /// A fault, as the program names it.
@@ -55,6 +55,33 @@ impl Reason {
             reason: self,
             explanation: None,
         }
+    }
+}
+
+/// An outcome whose fault can be told with a place.
+pub trait At<T> {
+    /// The outcome, where a fault becomes the complaint about it at a place.
+    fn at(self, place: &str) -> Result<T, Complaint<'_>>;
+}
+
+impl<T, E: Into<Reason>> At<T> for Result<T, E> {
+    fn at(self, place: &str) -> Result<T, Complaint<'_>> {
+        match self {
+            Ok(value) => Ok(value),
+            Err(fault) => Err(fault.into().at(place)),
+        }
+    }
+}
+
+impl From<AllocError> for Reason {
+    fn from(_refused: AllocError) -> Reason {
+        Reason::NoMemory
+    }
+}
+
+impl<T: Drop> From<AllocFailed<T>> for Reason {
+    fn from(_refused: AllocFailed<T>) -> Reason {
+        Reason::NoMemory
     }
 }
 
@@ -142,16 +169,6 @@ impl From<SessionFault> for Reason {
             SessionFault::TooManyLines => Reason::TooManyLines,
             SessionFault::LineTooLong => Reason::LineTooLong,
             SessionFault::NoMemory => Reason::NoMemory,
-        }
-    }
-}
-
-impl From<TraceFault> for Reason {
-    fn from(fault: TraceFault) -> Reason {
-        match fault {
-            TraceFault::NoProcess { done } => Reason::NoProcess { done },
-            TraceFault::Write => Reason::CannotWrite,
-            TraceFault::NoMemory => Reason::NoMemory,
         }
     }
 }

@@ -19,7 +19,10 @@ pub fn explanation(
         underline(&mut lines, text, mark)?;
         lines.push('\n')?;
     }
-    let forms = mark.map_or(&[][..], |mark| mark.forms);
+    let forms = match mark {
+        Some(mark) => mark.forms,
+        None => &[],
+    };
     tell(&mut lines, kind, forms)?;
     Ok(lines)
 }

@@ -1,6 +1,6 @@
 //! Files that are read or written whole.
 use crate::complaint::{Complaint, Reason};
-use crate::input::read_whole;
+use lab_hex::read_whole;
 use lab_io::{Input, Output};
 use lc3_obj::{read_image, write_image};
 use lc3_word::Image;

@@ -1,5 +1,5 @@
 //! The programs of a laboratory, as the command line names them.
-use crate::complaint::{Complaint, Reason};
+use crate::complaint::{At, Complaint, Reason};
 use crate::files::{read_file, read_object};
 use lab_sched::{Fresh, FreshFault, Program};
 use lc3_table::Profile;
@@ -16,9 +16,7 @@ pub fn read_programs<'a, T: Files>(
     let mut programs = Vec::new(alloc);
     for word in words {
         let program = read_program(rt, alloc, word)?;
-        programs
-            .push(program)
-            .map_err(|_| Reason::NoMemory.at("run"))?;
+        programs.push(program).at("run")?;
     }
     Ok(programs)
 }
@@ -30,14 +28,14 @@ fn read_program<'a, T: Files>(
     word: &'a str,
 ) -> Result<Program, Complaint<'a>> {
     let Some((object, input)) = word.split_once('=') else {
-        let image = read_object(rt, alloc, word).map_err(|reason| reason.at(word))?;
+        let image = read_object(rt, alloc, word).at(word)?;
         return Ok(Program {
             image,
             input: Vec::new(alloc),
         });
     };
-    let image = read_object(rt, alloc, object).map_err(|reason| reason.at(object))?;
-    let input = read_file(rt, alloc, input).map_err(|reason| reason.at(input))?;
+    let image = read_object(rt, alloc, object).at(object)?;
+    let input = read_file(rt, alloc, input).at(input)?;
     Ok(Program { image, input })
 }
 
@@ -47,8 +45,9 @@ pub fn laboratory(
     programs: &[Program],
     profile: Profile,
 ) -> Result<Fresh, Complaint<'static>> {
-    Fresh::new(alloc, programs, profile).map_err(|fault| match fault {
-        FreshFault::Count => Reason::Count.at("programs"),
-        FreshFault::NoMemory => Reason::NoMemory.at("run"),
-    })
+    match Fresh::new(alloc, programs, profile) {
+        Ok(fresh) => Ok(fresh),
+        Err(FreshFault::Count) => Err(Reason::Count.at("programs")),
+        Err(FreshFault::NoMemory) => Err(Reason::NoMemory.at("run")),
+    }
 }

@@ -23,20 +23,6 @@ pub trait Progress: Sync {
     fn show(&self, text: &str);
 }
 
-/// Nobody looks.
-#[derive(Clone, Copy, Debug, PartialEq, Eq)]
-pub struct Unshown;
-
-impl Progress for Unshown {
-    fn is_shown(&self) -> bool {
-        false
-    }
-
-    fn show(&self, text: &str) {
-        let _ = text;
-    }
-}
-
 /// Shows how many steps of a schedule are done.
 #[derive(Drop)]
 pub struct StepCount<'a, P> {

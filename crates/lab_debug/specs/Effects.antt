@@ -10,10 +10,10 @@ use Rattle.lab_debug.specs.declared.command.Refusal.{Refusal}
 use Rattle.lab_debug.specs.declared.command.Refusal.TheVariants.{UnknownCommand, BadOperands, NoProcess}
 use Rattle.lab_debug.specs.Commands.{words_of, command_of, step_count_max}
 use Rattle.lab_debug.specs.Script.{Effect, Script, script}
-use Rattle.lab_debug.specs.Texts.{status_text, procs_text, profile_text, regs_text, mem_text, dis_text, out_text}
-use Rattle.lab_debug.specs.Objects.{mqs_text, sems_text, fds_text}
+use Rattle.lab_texts.specs.Texts.{status_text, procs_text, profile_text, regs_text, mem_text, dis_text, out_text}
+use Rattle.lab_texts.specs.Objects.{mqs_text, sems_text, fds_text}
 use Rattle.lab_sched.specs.Verdicts.{is_nothing}
-use Rattle.lab_debug.specs.Verdicts.{verdict_text}
+use Rattle.lab_texts.specs.Verdicts.{verdict_text}
 
 -- the line that tells why a line is refused
 abbrev pub refusal_text : Refusal → List ℕ

@@ -1,10 +1,5 @@
 pub mod Lines
 pub mod Script
-pub mod Rows
-pub mod Texts
-pub mod Objects
-pub mod Verdicts
-pub mod Reports
 pub mod Commands
 pub mod Effects
 pub mod Private

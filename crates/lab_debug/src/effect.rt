@@ -6,18 +6,18 @@ ghost use Rattle.lab_sched.specs.Worlds.{run};
 ghost use Rattle.lab_sched.specs.Schedules.{steps_of};
 ghost use Rattle.lab_sched.specs.declared.stepped.Stepped.TheVariants.{Same};
 ghost use Rattle.lab_debug.specs.Commands.{step_count_max};
-ghost use Rattle.lab_debug.specs.Texts.{status_text};
-ghost use Rattle.lab_debug.specs.Verdicts.{verdict_text};
+ghost use Rattle.lab_texts.specs.Texts.{status_text};
+ghost use Rattle.lab_texts.specs.Verdicts.{verdict_text};
 ghost use Rattle.lab_debug.specs.Private.Replies.{effect_of};
 ghost use Rattle.lab_debug.specs.Effects.{IsCommand, is_at, world_until, is_there, are_there, accepted_effect, command_effect, line_effect, refusal_text};
 
 use crate::command::{Command, Refusal, read_command};
 use crate::operands::split_words;
-use crate::texts::{
+use lab_sched::{Block, Schedule, Stepped, World};
+use lab_texts::{
     dis_text, fds_text, mem_text, mqs_text, out_text, procs_text, profile_text, regs_text,
     sems_text, status_text, verdict_text,
 };
-use lab_sched::{Block, Schedule, Stepped, World};
 use std::alloc::{AllocError, Global};
 
 /// What a line answers: its text, and whether it ends the session.

@@ -6,8 +6,8 @@ use Rattle.lc3_word.specs.Segment.{first_device}
 use Rattle.lab_sched.specs.Worlds.{Process, WorldState, step_effect_in, step, machine_of}
 use Rattle.lab_sched.specs.Held.{stepped_of}
 use Rattle.lab_sched.specs.declared.stepped.Stepped.{Stepped}
-use Rattle.lab_debug.specs.Texts.{regs_text, dis_text}
-use Rattle.lab_debug.specs.Objects.{fds_text, mqs_text, sems_text}
+use Rattle.lab_texts.specs.Texts.{regs_text, dis_text}
+use Rattle.lab_texts.specs.Objects.{fds_text, mqs_text, sems_text}
 use Rattle.lab_trace.specs.Lines.{widths_for}
 use Rattle.lab_trace.specs.Scenes.{Scene, first_scene, has_effect, line, next}
 use Rattle.lab_trace.specs.declared.lines.Widths.{Widths}

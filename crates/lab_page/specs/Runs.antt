@@ -8,7 +8,7 @@ use Rattle.lab_sched.specs.Schedules.{steps_of}
 use Rattle.lab_sched.specs.ScheduleTexts.{schedule_text}
 use Rattle.lab_sched.specs.Worlds.{WorldState}
 use Rattle.lab_sched.specs.declared.schedule.block.Block.{Block}
-use Rattle.lab_debug.specs.Texts.{regs_text}
+use Rattle.lab_texts.specs.Texts.{regs_text}
 use Rattle.lab_trace.specs.Lines.{widths_for}
 use Rattle.lab_trace.specs.Scenes.{Scene, first_scene, scene_after}
 use Rattle.lab_trace.specs.Traces.{ending}

@@ -2,8 +2,8 @@
 ghost use Rattle.std.specs.Prelude.{◌≡◌, IfOk, string_bytes};
 ghost use Rattle.lab_page.specs.Moments.{code_around, code_text};
 
-use lab_debug::dis_text;
 use lab_sched::World;
+use lab_texts::dis_text;
 use lc3_word::FIRST_DEVICE;
 use std::alloc::{AllocError, Global};
 

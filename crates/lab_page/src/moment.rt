@@ -6,8 +6,8 @@ ghost use Rattle.lab_page.specs.Moments.{event_of, moment_by, step_moment, event
 
 use crate::code::code_text;
 use crate::data::{Event, Moment};
-use lab_debug::{fds_text, mqs_text, regs_text, sems_text};
 use lab_sched::{Stepped, World};
+use lab_texts::{fds_text, mqs_text, regs_text, sems_text};
 use std::alloc::{AllocError, Global};
 
 /// The event of a step of process `pid` with this line, by the world after it.

@@ -4,8 +4,8 @@ ghost use Rattle.lab_page.specs.Runs.{start, starts, start_shown};
 
 use crate::code::code_text;
 use crate::data::Start;
-use lab_debug::regs_text;
 use lab_sched::World;
+use lab_texts::regs_text;
 use std::alloc::{AllocError, Global};
 
 /// Process `pid` before its first step.

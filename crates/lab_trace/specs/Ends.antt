@@ -7,7 +7,7 @@ use Rattle.ipc_kernel.specs.Limits.{open_max}
 use Rattle.ipc_kernel.specs.Processes.{descriptor_of, slot_of, slot_refers}
 use Rattle.ipc_kernel.specs.declared.process.Descriptor.{Descriptor}
 use Rattle.lab_sched.specs.Worlds.{Process, Running, Waiting, Ended, WorldState}
-use Rattle.lab_debug.specs.Rows.{texts_below}
+use Rattle.lab_texts.specs.Rows.{texts_below}
 use Rattle.lab_trace.specs.Calls.{call_text}
 use Rattle.lab_trace.specs.Objects.{held_place, level_text}
 use Rattle.lab_trace.specs.Services.{service_at}

@@ -6,7 +6,7 @@ use Rattle.lc3_machine.specs.declared.want.How.{How}
 use Rattle.ipc_kernel.specs.Kernel.{KernelState}
 use Rattle.lab_sched.specs.Worlds.{Process}
 use Rattle.lc3_word.specs.Words.{hexadecimal_text}
-use Rattle.lab_debug.specs.Texts.{how_text}
+use Rattle.lab_texts.specs.Texts.{how_text}
 use Rattle.lab_trace.specs.Words.{bytes_text, at_left, at_right}
 use Rattle.lab_trace.specs.Answers.{answer_text, result_of}
 use Rattle.lab_trace.specs.Objects.{held_place, level_text}

@@ -3,7 +3,7 @@ use Rattle.std.specs.Prelude.{◌≡◌, ◌<◌, ℕ, nat_le, slice_index_or, B
 use Rattle.lab_sched.specs.Worlds.{WorldState}
 use Rattle.lab_sched.specs.Schedules.{block}
 use Rattle.lab_sched.specs.declared.schedule.block.Block.{Block}
-use Rattle.lab_debug.specs.Reports.{report_text}
+use Rattle.lab_texts.specs.Reports.{report_text}
 use Rattle.lab_trace.specs.Lines.{widths_for}
 use Rattle.lab_trace.specs.Scenes.{Scene, first_scene, events, scene_after}
 use Rattle.lab_trace.specs.Ends.{end_lines}

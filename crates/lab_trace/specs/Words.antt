@@ -4,7 +4,7 @@ use Rattle.std.specs.List.{list_any}
 use Rattle.std.specs.Fmt.{decimal}
 use Rattle.ipc_traps.specs.Names.{window, words_at}
 use Rattle.lc3_word.specs.Words.{hexadecimal_text}
-use Rattle.lab_debug.specs.Texts.{is_plain, escape_text}
+use Rattle.lab_texts.specs.Texts.{is_plain, escape_text}
 
 -- an address, of which 0 stands for none
 abbrev pub pointer_text : ℕ → List ℕ

@@ -129,7 +129,7 @@ fn push_stand_line(
 }
 
 /// Adds where each process stands that hasn't ended.
-#[tactic(auto, using(lab_debug::proofs::RowLemmas::texts_below_none), unfolding(crate::specs::Ends::end_lines))]
+#[tactic(auto, using(lab_texts::proofs::RowLemmas::texts_below_none), unfolding(crate::specs::Ends::end_lines))]
 pub fn push_ends(
     alloc: Global,
     text: &mut String,

@@ -1,7 +1,7 @@
 //! Who has an object open.
 ghost use Rattle.std.specs.Prelude.{◌≡◌, ◌<◌, ◌++◌, OnOk, IfOk, length, string_bytes};
 ghost use Rattle.ipc_kernel.specs.Processes.{slot_refers};
-ghost use Rattle.lab_debug.specs.Rows.{texts_below};
+ghost use Rattle.lab_texts.specs.Rows.{texts_below};
 ghost use Rattle.lab_trace.specs.Ends.{can_do, has_queue, has_semaphore, has_open, other_text, or_nobody, others_text, others_title};
 
 use crate::service::Service;
@@ -98,7 +98,7 @@ fn push_other(
 }
 
 /// The other processes that could serve a call of process `pid`, each with a blank before it.
-#[tactic(auto, unfolding(lab_debug::specs::Rows::texts_below))]
+#[tactic(auto, unfolding(lab_texts::specs::Rows::texts_below))]
 fn others(
     alloc: Global,
     world: &World,

@@ -2,7 +2,7 @@
 ghost use Rattle.std.specs.Prelude.{◌≡◌, ◌++◌, OnOk, IfOk, length, string_bytes, slice_get};
 ghost use Rattle.std.specs.Option.{option_map, option_copied};
 ghost use Rattle.lab_sched.specs.Held.{process_view};
-ghost use Rattle.lab_debug.specs.Rows.{texts_below};
+ghost use Rattle.lab_texts.specs.Rows.{texts_below};
 ghost use Rattle.lab_trace.specs.Ends.{times_text, ended_text, taker_of, taker_text, takers_text, takers_part};
 
 use crate::others::push_or_nobody;
@@ -56,7 +56,7 @@ fn push_taker(
 }
 
 /// The processes that took more units of the semaphore in a place than they gave, each with a blank before it.
-#[tactic(auto, unfolding(lab_debug::specs::Rows::texts_below))]
+#[tactic(auto, unfolding(lab_texts::specs::Rows::texts_below))]
 fn takers(alloc: Global, world: &World, tally: &Tally, place: u8) -> Result<String, AllocError>
     ensures found { IfOk result (λ s. string_bytes s
         ≡ texts_below (length world.now.processes) (taker_text world.now tally.now.units place)) }

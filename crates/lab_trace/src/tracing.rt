@@ -14,9 +14,9 @@ use crate::fault::TraceFault;
 use crate::lines::Widths;
 use crate::step::trace_step;
 use crate::tally::Tally;
-use lab_debug::report_text;
 use lab_io::Output;
 use lab_sched::{Block, Schedule, Stepped, World};
+use lab_texts::report_text;
 use std::alloc::{AllocError, Global};
 use std::io::Write;
 

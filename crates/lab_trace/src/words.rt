@@ -7,8 +7,8 @@ ghost use Rattle.lc3_machine.specs.Process.{reg};
 ghost use Rattle.ipc_traps.specs.Names.{is_in_memory, words_at};
 ghost use Rattle.lab_trace.specs.Words.{pointer_text, signed_text, is_quotable, character_text, string_text, byte_text, bytes_text, name_end, name_text, blanks, at_left, at_right};
 
-use lab_debug::Escape;
 use lab_sched::Process;
+use lab_texts::Escape;
 use lc3_word::{FIRST_DEVICE, Hex, Reg};
 use std::alloc::{AllocError, Global};
 
@@ -72,7 +72,7 @@ pub fn push_signed(text: &mut String, word: u16) -> Result<(), AllocError>
 }
 
 /// Whether a character stands for itself between quotation marks.
-#[tactic(auto, unfolding(crate::specs::Words::is_quotable, lab_debug::specs::Texts::is_plain))]
+#[tactic(auto, unfolding(crate::specs::Words::is_quotable, lab_texts::specs::Texts::is_plain))]
 pub fn is_quotable(word: u16) -> bool
     ensures value { result ≡ is_quotable word }
     ensures ascii { IsTrue result → word < 128 }

@@ -5,11 +5,11 @@
 #[cfg(test)]
 mod books;
 #[cfg(test)]
-mod commands;
-#[cfg(test)]
 mod devices;
 #[cfg(test)]
 mod gates;
+#[cfg(test)]
+mod hexadecimal;
 #[cfg(test)]
 mod programs;
 #[cfg(test)]

@@ -1,6 +1,6 @@
 use Rattle.std.proofs.Common.{ℕ, List, ◌++◌, ap, ◌∙◌, slice_get, string_bytes}
 use Rattle.lab_trace.specs.Ends.{stand_line}
-use Rattle.lab_debug.proofs.RowLemmas.{texts_below_more}
+use Rattle.lab_texts.proofs.RowLemmas.{texts_below_more}
 use Rattle.lab_trace.proofs.ends.push_ends.Goals as goal
 
 pub loop-pid-preserved : goal.loop-pid-preserved

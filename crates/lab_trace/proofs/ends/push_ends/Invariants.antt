@@ -1,5 +1,5 @@
 use Rattle.std.proofs.Common.{◌≡◌, ◌++◌, slice_get, string_bytes}
-use Rattle.lab_debug.specs.Rows.{texts_below}
+use Rattle.lab_texts.specs.Rows.{texts_below}
 use Rattle.lab_trace.specs.Ends.{stand_line}
 use Rattle.lab_trace.proofs.ends.push_ends.Given as goal
 

@@ -1,6 +1,6 @@
 use Rattle.std.proofs.Common.{ℕ, List, [], ◌++◌, ap, ◌∙◌}
 use Rattle.lab_trace.specs.Ends.{other_text}
-use Rattle.lab_debug.proofs.RowLemmas.{texts_below_more}
+use Rattle.lab_texts.proofs.RowLemmas.{texts_below_more}
 use Rattle.lab_trace.proofs.others.others.Goals as goal
 
 pub loop-other-preserved : goal.loop-other-preserved

@@ -1,5 +1,5 @@
 use Rattle.std.proofs.Common.{◌≡◌, string_bytes}
-use Rattle.lab_debug.specs.Rows.{texts_below}
+use Rattle.lab_texts.specs.Rows.{texts_below}
 use Rattle.lab_trace.specs.Ends.{taker_text}
 use Rattle.lab_trace.proofs.takers.takers.Given as goal
 

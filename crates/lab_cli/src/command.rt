@@ -1,0 +1,146 @@
+//! What the words of the command line ask for, done.
+ghost use Rattle.std.specs.Prelude.{◌≡◌, false};
+
+use crate::trace::trace_programs;
+use lab_arguments::{Refusal, Request, read_words};
+use lab_commands::{
+    Complaint, Progress, Reason, Sheet, assemble_file, debug_programs, disassemble_file,
+    explore_programs, run_programs, step_programs, write_text,
+};
+use lab_hex::{CliFault, hex_run};
+use lab_io::{Input, Output};
+use std::alloc::Global;
+use std::io::{Read, Write};
+use std::rt::Files;
+use std::sync::Wait;
+use std::thread::Threads;
+use std::time::Clock;
+
+/// The program did what its words ask for.
+pub const SUCCESS: u8 = 0;
+
+/// A file, a text or a run had a fault.
+pub const FAULT: u8 = 1;
+
+/// The words of the command line are wrong.
+pub const USAGE: u8 = 2;
+
+/// Does what the words after the program's name ask for, and answers the exit status. Without words it reads an image
+/// as hexadecimal words and writes the report of its run. A fault goes to `errors`, on one line. A long run shows on
+/// `progress` how far it is.
+pub fn command<T: Files + Threads + Wait + Clock + Sync, R: Read, W: Write, E: Write, P: Progress>(
+    rt: &T,
+    alloc: Global,
+    words: &[String],
+    input: &mut Input<R>,
+    output: &mut Output<W>,
+    errors: &mut Output<E>,
+    progress: &P,
+) -> u8
+    requires input_healthy { input.old.failed ≡ false }
+    requires output_healthy { output.old.failed ≡ false }
+    requires errors_healthy { errors.old.failed ≡ false }
+{
+    if words.is_empty() {
+        let outcome = match hex_run(alloc, input, output) {
+            Ok(()) => Ok(()),
+            Err(fault) => Err(complaint(fault)),
+        };
+        return status(alloc, outcome, errors);
+    }
+    match read_words(alloc, words) {
+        Ok(request) => {
+            let outcome = perform(rt, alloc, &request, input, output, progress);
+            status(alloc, outcome, errors)
+        }
+        Err(refusal) => explain(alloc, &refusal, output, errors),
+    }
+}
+
+/// A fault of the run over hexadecimal words, with its place.
+fn complaint(fault: CliFault) -> Complaint<'static> {
+    match fault {
+        CliFault::Write | CliFault::NoMemory => Reason::from(fault).at("run"),
+        _ => Reason::from(fault).at("standard input"),
+    }
+}
+
+/// Does what a request asks for.
+fn perform<'a, T: Files + Threads + Wait + Clock + Sync, R: Read, W: Write, P: Progress>(
+    rt: &T,
+    alloc: Global,
+    request: &Request<'a>,
+    input: &mut Input<R>,
+    output: &mut Output<W>,
+    progress: &P,
+) -> Result<(), Complaint<'a>>
+    requires input_healthy { input.old.failed ≡ false }
+    requires output_healthy { output.old.failed ≡ false }
+{
+    match *request {
+        Request::Assemble {
+            source,
+            object,
+            list,
+            explain,
+        } => {
+            let sheet = Sheet { list, explain };
+            assemble_file(rt, alloc, source, object, sheet, output)
+        }
+        Request::Disassemble { object } => disassemble_file(rt, alloc, object, output),
+        Request::Step { ref setup } => step_programs(rt, alloc, setup, input, output, progress),
+        Request::Run {
+            ref setup,
+            limit,
+            mix,
+        } => run_programs(rt, alloc, setup, limit, mix, output, progress),
+        Request::Trace {
+            ref setup,
+            ref page,
+        } => trace_programs(rt, alloc, setup, page.as_ref(), input, output),
+        Request::Explore {
+            ref setup,
+            question,
+        } => explore_programs(rt, alloc, setup, question, output, progress),
+        Request::Debug { ref setup } => debug_programs(rt, alloc, setup, input, output),
+    }
+}
+
+/// Help goes to the output, and what is wrong with the words to the errors.
+fn explain<W: Write, E: Write>(
+    alloc: Global,
+    refusal: &Refusal,
+    output: &mut Output<W>,
+    errors: &mut Output<E>,
+) -> u8 {
+    let outcome = match refusal {
+        Refusal::Usage(text) => {
+            let _ = errors.write_all(text.as_bytes());
+            return USAGE;
+        }
+        Refusal::Help(text) => write_text(text, output),
+        Refusal::NoMemory => Err(Reason::NoMemory.at("run")),
+    };
+    status(alloc, outcome, errors)
+}
+
+/// The exit status; a complaint is written on one line.
+fn status<E: Write>(
+    alloc: Global,
+    outcome: Result<(), Complaint<'_>>,
+    errors: &mut Output<E>,
+) -> u8 {
+    let Err(complaint) = outcome else {
+        return SUCCESS;
+    };
+    let written = match format!(in alloc; "{complaint}\n") {
+        Ok(line) => errors.write_all(line.as_bytes()),
+        Err(_) => errors.write_all(b"lc3lab: run: out of memory\n"),
+    };
+    let _ = written;
+    if complaint.is_of_words() {
+        USAGE
+    } else {
+        FAULT
+    }
+}

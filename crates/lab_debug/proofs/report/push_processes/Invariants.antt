@@ -1,8 +1,0 @@
-use Rattle.std.proofs.Common.{◌≡◌, ◌++◌, string_bytes}
-use Rattle.lab_debug.specs.Reports.{process_report}
-use Rattle.lab_debug.specs.Rows.{texts_below}
-use Rattle.lab_debug.proofs.report.push_processes.Given as goal
-
--- the texts so far are added
-abbrev pub invariant-loop-pid : goal.invariant-loop-pid
-invariant-loop-pid l = string_bytes l.text ≡ string_bytes l.initial.text ++ texts_below l.pid (λ pid. process_report pid l.world)

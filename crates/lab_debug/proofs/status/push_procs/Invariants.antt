@@ -1,8 +1,0 @@
-use Rattle.std.proofs.Common.{◌≡◌, ◌++◌, string_bytes}
-use Rattle.lab_debug.specs.Texts.{status_text}
-use Rattle.lab_debug.specs.Rows.{texts_below}
-use Rattle.lab_debug.proofs.status.push_procs.Given as goal
-
--- the texts so far are added
-abbrev pub invariant-loop-pid : goal.invariant-loop-pid
-invariant-loop-pid l = string_bytes l.text ≡ string_bytes l.initial.text ++ texts_below l.pid (λ pid. status_text pid l.world)

@@ -1,0 +1,48 @@
+//! Why a run over hexadecimal words stops.
+ghost use Rattle.std.specs.Prelude.{◌≡◌};
+ghost use Rattle.lab_hex.specs.declared.fault.CliFault.TheVariants.{NoMemory};
+
+use std::alloc::{AllocError, AllocFailed};
+use thiserror::Error;
+
+/// A fault of the text, of the input or of the output.
+#[derive(Clone, Copy, Debug, PartialEq, Eq, Error)]
+pub enum CliFault {
+    /// The text has no word.
+    #[error("there is no word")]
+    Empty,
+    /// The word with this number, from 1 on, isn't one to four hexadecimal digits after an optional `x`.
+    #[error("word {at} is not hexadecimal")]
+    BadWord { at: usize },
+    /// The words would reach the device register page, which begins at xFE00.
+    #[error("the words reach the device registers")]
+    TooLong,
+    /// The input has more than 4,000,000 bytes.
+    #[error("the input is too large")]
+    TooLarge,
+    /// The input failed.
+    #[error("the input cannot be read")]
+    Read,
+    /// The output failed.
+    #[error("the output cannot be written")]
+    Write,
+    /// There is no memory for the run.
+    #[error("out of memory")]
+    NoMemory,
+}
+
+impl From<AllocError> for CliFault {
+    ghost from_gives = { λ _ e. e ≡ NoMemory };
+
+    fn from(_refused: AllocError) -> CliFault {
+        CliFault::NoMemory
+    }
+}
+
+impl<T: Drop> From<AllocFailed<T>> for CliFault {
+    ghost from_gives = { λ _ e. e ≡ NoMemory };
+
+    fn from(_refused: AllocFailed<T>) -> CliFault {
+        CliFault::NoMemory
+    }
+}

@@ -1,0 +1,5 @@
+pub mod Rows
+pub mod Texts
+pub mod Objects
+pub mod Verdicts
+pub mod Reports

@@ -1,0 +1,97 @@
+//! Descriptors and slots.
+ghost use Rattle.std.specs.Prelude.{◌≡◌, ◌<◌, OnOk, length};
+ghost use Rattle.lab_texts.specs.Rows.{Adds};
+ghost use Rattle.lab_texts.specs.Objects.{access_text, mode_text, descriptor_line, slot_line, descriptor_lines, slot_lines, fds_text};
+
+use ipc_kernel::{Descriptor, OPEN_MAX, Slot};
+use lab_sched::World;
+use std::alloc::AllocError;
+
+/// To receive, to send, or both.
+fn access_name(access: u8) -> &'static str
+    ensures text { result.now ≡ access_text access }
+{
+    match access {
+        0 => "r",
+        1 => "w",
+        _ => "rw",
+    }
+}
+
+/// Whether a call that would wait is refused.
+fn mode_name(nonblock: bool) -> &'static str
+    ensures text { result.now ≡ mode_text nonblock }
+{
+    if nonblock { "nonblock" } else { "block" }
+}
+
+/// Adds the line of a descriptor, where it is open.
+#[tactic(auto, unfolding(crate::specs::Objects::descriptor_line))]
+fn push_descriptor(text: &mut String, mqd: u16, held: Option<Descriptor>) -> Result<(), AllocError>
+    ensures text { OnOk result (Adds text.old text.new (descriptor_line mqd held)) }
+{
+    let Some(held) = held else {
+        return Ok(());
+    };
+    let place = held.place;
+    let access = access_name(held.access);
+    let mode = mode_name(held.nonblock);
+    match write!(text, "mq {mqd} {place} {access} {mode}\n") {
+        Ok(()) => Ok(()),
+        Err(error) => Err(error),
+    }
+}
+
+/// Adds the line of a slot, where it is open.
+#[tactic(auto, unfolding(crate::specs::Objects::slot_line))]
+fn push_slot(text: &mut String, slot: u16, held: Option<Slot>) -> Result<(), AllocError>
+    ensures text { OnOk result (Adds text.old text.new (slot_line slot held)) }
+{
+    let Some(held) = held else {
+        return Ok(());
+    };
+    let place = held.place;
+    let opens = held.opens;
+    match write!(text, "sem {slot} {place} {opens}\n") {
+        Ok(()) => Ok(()),
+        Err(error) => Err(error),
+    }
+}
+
+/// Adds the open descriptors of a process.
+#[tactic(auto, using(crate::proofs::RowLemmas::texts_below_none))]
+fn push_descriptors(text: &mut String, world: &World, pid: usize) -> Result<(), AllocError>
+    requires process { pid < length world.now.processes }
+    ensures text { OnOk result (Adds text.old text.new (descriptor_lines pid world.now)) }
+{
+    let kernel = world.kernel();
+    for mqd in 0..OPEN_MAX as u16 {
+        push_descriptor(text, mqd, kernel.mqd(pid, mqd))?;
+    }
+    Ok(())
+}
+
+/// Adds the open slots of a process.
+#[tactic(auto, using(crate::proofs::RowLemmas::texts_below_none))]
+fn push_slots(text: &mut String, world: &World, pid: usize) -> Result<(), AllocError>
+    requires process { pid < length world.now.processes }
+    ensures text { OnOk result (Adds text.old text.new (slot_lines pid world.now)) }
+{
+    let kernel = world.kernel();
+    for slot in 0..OPEN_MAX as u16 {
+        push_slot(text, slot, kernel.slot(pid, slot))?;
+    }
+    Ok(())
+}
+
+/// Adds the open descriptors and then the open slots of process `pid`, where it is there.
+pub fn push_fds(text: &mut String, world: &World, pid: usize) -> Result<(), AllocError>
+    ensures text { OnOk result (Adds text.old text.new (fds_text pid world.now)) }
+{
+    if pid < world.count() {
+        push_descriptors(text, world, pid)?;
+        push_slots(text, world, pid)
+    } else {
+        Ok(())
+    }
+}

@@ -1,0 +1,82 @@
+//! What processes have written.
+ghost use Rattle.std.specs.Prelude.{◌≡◌, ◌<◌, Some, OnOk, IsTrue, flat_map};
+ghost use Rattle.lab_sched.specs.Held.{process_view};
+ghost use Rattle.lab_sched.specs.Worlds.{machine_of};
+ghost use Rattle.lab_texts.specs.Rows.{Adds};
+ghost use Rattle.lab_texts.specs.Texts.{is_plain, escape_text, escape_of, out_line, out_text};
+
+use lab_sched::World;
+use std::alloc::AllocError;
+use std::fmt;
+
+/// Whether a byte is shown as it is.
+#[tactic(auto, unfolding(crate::specs::Texts::is_plain))]
+fn is_plain_byte(byte: u8) -> bool
+    ensures value { result ≡ is_plain byte }
+    ensures ascii { IsTrue result → byte < 128 }
+{
+    32 <= byte && byte <= 126 && byte != b'\\'
+}
+
+/// A byte by its two hexadecimal digits.
+#[derive(Clone, Copy)]
+pub struct Escape(pub u8);
+
+impl fmt::Display for Escape {
+    ghost output = { λ e. Some (escape_text e.0) };
+
+    #[tactic(auto, using(std::proofs::lemmas::Fmt::hex_byte))]
+    fn fmt<W: fmt::Write>(&self, f: &mut fmt::Formatter<W>) -> fmt::Result {
+        let byte = self.0;
+        write!(f, "\\x{byte:02X}")
+    }
+}
+
+/// Adds a byte so that it can be printed.
+#[tactic(auto, unfolding(crate::specs::Texts::escape_of))]
+fn push_byte(text: &mut String, byte: u8) -> Result<(), AllocError>
+    ensures text { OnOk result (Adds text.old text.new (escape_of byte)) }
+{
+    if is_plain_byte(byte) {
+        text.push(char::from(byte))
+    } else {
+        let escape = Escape(byte);
+        match write!(text, "{escape}") {
+            Ok(()) => Ok(()),
+            Err(error) => Err(error),
+        }
+    }
+}
+
+/// Adds bytes so that each can be printed.
+fn push_escaped(text: &mut String, bytes: &[u8]) -> Result<(), AllocError>
+    ensures text { OnOk result (Adds text.old text.new (flat_map escape_of bytes.now)) }
+{
+    for byte in bytes {
+        push_byte(text, *byte)?;
+    }
+    Ok(())
+}
+
+/// Adds an output line.
+#[tactic(auto, unfolding(crate::specs::Texts::out_line))]
+fn push_line(text: &mut String, pid: usize, bytes: &[u8]) -> Result<(), AllocError>
+    ensures text { OnOk result (Adds text.old text.new (out_line pid bytes.now)) }
+{
+    write!(text, "out {pid}")?;
+    if !bytes.is_empty() {
+        text.push_str(" ")?;
+        push_escaped(text, bytes)?;
+    }
+    text.push_str("\n")
+}
+
+/// Adds the output line of process `pid`, where it is there.
+pub fn push_out(text: &mut String, world: &World, pid: usize) -> Result<(), AllocError>
+    ensures text { OnOk result (Adds text.old text.new (out_text pid world.now)) }
+{
+    match world.process(pid) {
+        Some(process) => push_line(text, pid, process.machine().output()),
+        None => Ok(()),
+    }
+}

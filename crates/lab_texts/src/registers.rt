@@ -1,0 +1,79 @@
+//! Registers, program counter and condition code.
+ghost use Rattle.std.specs.Prelude.{◌≡◌, Some, OnOk};
+ghost use Rattle.lab_sched.specs.Held.{process_view};
+ghost use Rattle.lab_sched.specs.Worlds.{machine_of};
+ghost use Rattle.lab_texts.specs.Rows.{Adds, texts_below};
+ghost use Rattle.lab_texts.specs.Texts.{code_text, register_part, counter_part, regs_line, regs_text};
+
+use lab_sched::{Process, World};
+use lc3_word::{Cc, Hex, Reg};
+use std::alloc::AllocError;
+
+/// A condition code by its letter.
+fn code_name(code: Cc) -> &'static str
+    ensures text { result.now ≡ code_text code }
+{
+    match code {
+        Cc::N => "N",
+        Cc::Z => "Z",
+        Cc::P => "P",
+    }
+}
+
+/// Adds a register and a blank.
+#[tactic(auto, unfolding(crate::specs::Texts::register_part))]
+fn push_register(text: &mut String, process: &Process, r: Reg) -> Result<(), AllocError>
+    ensures text { OnOk result (Adds text.old text.new
+        (register_part (machine_of (process_view process.now)) r)) }
+{
+    let word = Hex(process.machine().reg(r));
+    match write!(text, "{r} {word} ") {
+        Ok(()) => Ok(()),
+        Err(error) => Err(error),
+    }
+}
+
+/// Adds R0 to R7, each with a blank.
+#[tactic(auto, using(crate::proofs::RowLemmas::texts_below_none, crate::proofs::RowLemmas::texts_below_more))]
+fn push_registers(text: &mut String, process: &Process) -> Result<(), AllocError>
+    ensures text { OnOk result (Adds text.old text.new
+        (texts_below 8 (register_part (machine_of (process_view process.now))))) }
+{
+    for number in 0..8u16 {
+        push_register(text, process, Reg::of_low_bits(number))?;
+    }
+    Ok(())
+}
+
+/// Adds the program counter and the condition code.
+#[tactic(auto, unfolding(crate::specs::Texts::counter_part))]
+fn push_counter(text: &mut String, process: &Process) -> Result<(), AllocError>
+    ensures text { OnOk result (Adds text.old text.new
+        (counter_part (machine_of (process_view process.now)))) }
+{
+    let pc = Hex(process.machine().pc());
+    let code = code_name(process.machine().cc());
+    match write!(text, "PC {pc} CC {code}\n") {
+        Ok(()) => Ok(()),
+        Err(error) => Err(error),
+    }
+}
+
+/// Adds the line of a process's registers.
+fn push_line(text: &mut String, process: &Process) -> Result<(), AllocError>
+    ensures text { OnOk result (Adds text.old text.new
+        (regs_line (machine_of (process_view process.now)))) }
+{
+    push_registers(text, process)?;
+    push_counter(text, process)
+}
+
+/// Adds the registers of process `pid`, where it is there.
+pub fn push_regs(text: &mut String, world: &World, pid: usize) -> Result<(), AllocError>
+    ensures text { OnOk result (Adds text.old text.new (regs_text pid world.now)) }
+{
+    match world.process(pid) {
+        Some(process) => push_line(text, process),
+        None => Ok(()),
+    }
+}

@@ -1,0 +1,100 @@
+//! Status lines.
+ghost use Rattle.std.specs.Prelude.{◌≡◌, Some, OnOk};
+ghost use Rattle.lab_sched.specs.Held.{process_view};
+ghost use Rattle.lab_sched.specs.Worlds.{machine_of};
+ghost use Rattle.lab_texts.specs.Rows.{Adds};
+ghost use Rattle.lab_texts.specs.Texts.{how_text, place_text, state_text, status_line, status_text, procs_text};
+
+use lab_sched::{Process, World};
+use lc3_machine::How;
+use lc3_table::WordText;
+use lc3_word::{FIRST_DEVICE, Hex};
+use std::alloc::AllocError;
+use std::fmt;
+
+/// The word at the program counter, or a dash in the device register page.
+#[derive(Drop)]
+struct Place<'a>(&'a Process);
+
+impl fmt::Display for Place<'_> {
+    ghost output = { λ p. Some (place_text (machine_of (process_view p.0.now))) };
+
+    #[tactic(auto, unfolding(crate::specs::Texts::place_text))]
+    fn fmt<W: fmt::Write>(&self, f: &mut fmt::Formatter<W>) -> fmt::Result {
+        let pc = self.0.machine().pc();
+        if pc < FIRST_DEVICE {
+            let word = WordText(self.0.machine().word(pc));
+            write!(f, "{word}")
+        } else {
+            write!(f, "-")
+        }
+    }
+}
+
+/// How a process ended, in a word.
+pub fn how_name(how: How) -> &'static str
+    ensures text { result.now ≡ how_text how }
+{
+    match how {
+        How::Halt => "halt",
+        How::Illegal => "illegal",
+        How::Device => "device",
+        How::BadTrap => "badtrap",
+        How::NoInput => "noinput",
+    }
+}
+
+/// Where a process stands.
+#[derive(Drop)]
+struct State<'a>(&'a Process);
+
+impl fmt::Display for State<'_> {
+    ghost output = { λ s. Some (state_text (process_view s.0.now)) };
+
+    fn fmt<W: fmt::Write>(&self, f: &mut fmt::Formatter<W>) -> fmt::Result {
+        let pc = Hex(self.0.machine().pc());
+        let place = Place(self.0);
+        match self.0 {
+            Process::Running(_) => write!(f, "running {pc} {place}"),
+            Process::Waiting(_, _) => write!(f, "waiting {pc} {place}"),
+            Process::Ended(ended) => {
+                let how = how_name(ended.how());
+                write!(f, "ended {pc} {how}")
+            }
+        }
+    }
+}
+
+/// Adds the status line of a process.
+#[tactic(auto, unfolding(crate::specs::Texts::status_line))]
+fn push_line(text: &mut String, pid: usize, process: &Process) -> Result<(), AllocError>
+    ensures text { OnOk result
+        (Adds text.old text.new (status_line pid (process_view process.now))) }
+{
+    let state = State(process);
+    match write!(text, "{pid} {state}\n") {
+        Ok(()) => Ok(()),
+        Err(error) => Err(error),
+    }
+}
+
+/// Adds the status line of process `pid`, where it is there.
+pub fn push_status(text: &mut String, world: &World, pid: usize) -> Result<(), AllocError>
+    ensures text { OnOk result (Adds text.old text.new (status_text pid world.now)) }
+{
+    match world.process(pid) {
+        Some(process) => push_line(text, pid, process),
+        None => Ok(()),
+    }
+}
+
+/// Adds each status line.
+#[tactic(auto, using(crate::proofs::RowLemmas::texts_below_none))]
+pub fn push_procs(text: &mut String, world: &World) -> Result<(), AllocError>
+    ensures text { OnOk result (Adds text.old text.new (procs_text world.now)) }
+{
+    for pid in 0..world.count() {
+        push_status(text, world, pid)?;
+    }
+    Ok(())
+}
