@@ -253,7 +253,7 @@ fn limit_of(words: &ArgMatches<'_>, name: &str, most: u32) -> u32
     number_of(words, name).unwrap_or(most)
 }
 
-/// The parser has made sure that each required word is there.
+/// What the parser's matches ask for. It has made sure that there is a command, and each required word.
 fn request_of<'a>(alloc: Global, matches: &ArgMatches<'a>) -> Result<Request<'a>, Refusal> {
     let request = match matches.subcommand() {
         Some(("asm", words)) => Request::Assemble {
@@ -261,6 +261,9 @@ fn request_of<'a>(alloc: Global, matches: &ArgMatches<'a>) -> Result<Request<'a>
             object: words.get_str("OBJECT").unwrap_or_default(),
             list: words.get_flag("list"),
             explain: words.get_flag("explain"),
+        },
+        Some(("dis", words)) => Request::Disassemble {
+            object: words.get_str("OBJECT").unwrap_or_default(),
         },
         Some(("step", words)) => Request::Step {
             setup: setup_of(alloc, words)?,
@@ -281,10 +284,7 @@ fn request_of<'a>(alloc: Global, matches: &ArgMatches<'a>) -> Result<Request<'a>
         Some(("debug", words)) => Request::Debug {
             setup: setup_of(alloc, words)?,
         },
-        Some((_, words)) => Request::Disassemble {
-            object: words.get_str("OBJECT").unwrap_or_default(),
-        },
-        None => Request::Disassemble { object: "" },
+        _ => return Err(Refusal::Usage(String::from_str(alloc, "error: no such command\n")?)),
     };
     Ok(request)
 }
