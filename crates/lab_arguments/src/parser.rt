@@ -6,6 +6,7 @@ ghost use Rattle.lab_arguments.specs.Private.Options.{IsNumber};
 ghost use Rattle.lab_arguments.specs.declared.request.Rest.TheVariants.{Ended, Stuck};
 
 use crate::request::{Page, Question, Refusal, Request, Rest, Setup};
+use crate::shown::Shown;
 use crate::{MOST_LOCAL_STEPS, MOST_STEPS_EACH, MOST_WORLDS, examples};
 use clap::builder::ValueParser;
 use clap::error::ErrorKind;
@@ -23,8 +24,25 @@ const VERDICTS: &[&str] = &["ended", "stuck"];
 pub fn read_words<'a>(alloc: Global, words: &'a [String]) -> Result<Request<'a>, Refusal> {
     match program(alloc)?.try_get_matches_from(words) {
         Ok(matches) => request_of(alloc, &matches),
-        Err(error) => Err(refusal_of(alloc, &error)),
+        Err(error) => Err(refusal_of(alloc, &shown_error(alloc, words, error)?)),
     }
+}
+
+/// The parser's error about words, with the words as messages show them: it repeats them in its text.
+fn shown_error(alloc: Global, words: &[String], error: Error) -> Result<Error, AllocError> {
+    let shown = shown_words(alloc, words)?;
+    let again = program(alloc)?.try_get_matches_from(shown.as_slice());
+    Ok(again.err().unwrap_or(error))
+}
+
+/// The words as messages show them.
+fn shown_words(alloc: Global, words: &[String]) -> Result<Vec<String>, AllocError> {
+    let mut shown = Vec::new(alloc);
+    for word in words {
+        let word = Shown(word);
+        shown.push(format!(in alloc; "{word}")?)?;
+    }
+    Ok(shown)
 }
 
 /// The text of help, or of what is wrong with the words.
