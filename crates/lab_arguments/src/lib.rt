@@ -4,9 +4,11 @@
 mod examples;
 mod parser;
 mod request;
+mod shown;
 
 pub use parser::read_words;
 pub use request::{Page, Question, Refusal, Request, Rest, Setup};
+pub use shown::Shown;
 
 /// The most steps of each process that can be asked for.
 pub const MOST_STEPS_EACH: u32 = 10_000_000;

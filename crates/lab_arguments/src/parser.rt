@@ -6,6 +6,7 @@ ghost use Rattle.lab_arguments.specs.Private.Options.{IsNumber};
 ghost use Rattle.lab_arguments.specs.declared.request.Rest.TheVariants.{Ended, Stuck};
 
 use crate::request::{Page, Question, Refusal, Request, Rest, Setup};
+use crate::shown::Shown;
 use crate::{MOST_LOCAL_STEPS, MOST_STEPS_EACH, MOST_WORLDS, examples};
 use clap::builder::ValueParser;
 use clap::error::ErrorKind;
@@ -23,8 +24,25 @@ const VERDICTS: &[&str] = &["ended", "stuck"];
 pub fn read_words<'a>(alloc: Global, words: &'a [String]) -> Result<Request<'a>, Refusal> {
     match program(alloc)?.try_get_matches_from(words) {
         Ok(matches) => request_of(alloc, &matches),
-        Err(error) => Err(refusal_of(alloc, &error)),
+        Err(error) => Err(refusal_of(alloc, &shown_error(alloc, words, error)?)),
     }
+}
+
+/// The parser's error about words, with the words as messages show them: it repeats them in its text.
+fn shown_error(alloc: Global, words: &[String], error: Error) -> Result<Error, AllocError> {
+    let shown = shown_words(alloc, words)?;
+    let again = program(alloc)?.try_get_matches_from(shown.as_slice());
+    Ok(again.err().unwrap_or(error))
+}
+
+/// The words as messages show them.
+fn shown_words(alloc: Global, words: &[String]) -> Result<Vec<String>, AllocError> {
+    let mut shown = Vec::new(alloc);
+    for word in words {
+        let word = Shown(word);
+        shown.push(format!(in alloc; "{word}")?)?;
+    }
+    Ok(shown)
 }
 
 /// The text of help, or of what is wrong with the words.
@@ -253,7 +271,7 @@ fn limit_of(words: &ArgMatches<'_>, name: &str, most: u32) -> u32
     number_of(words, name).unwrap_or(most)
 }
 
-/// The parser has made sure that each required word is there.
+/// What the parser's matches ask for. It has made sure that there is a command, and each required word.
 fn request_of<'a>(alloc: Global, matches: &ArgMatches<'a>) -> Result<Request<'a>, Refusal> {
     let request = match matches.subcommand() {
         Some(("asm", words)) => Request::Assemble {
@@ -261,6 +279,9 @@ fn request_of<'a>(alloc: Global, matches: &ArgMatches<'a>) -> Result<Request<'a>
             object: words.get_str("OBJECT").unwrap_or_default(),
             list: words.get_flag("list"),
             explain: words.get_flag("explain"),
+        },
+        Some(("dis", words)) => Request::Disassemble {
+            object: words.get_str("OBJECT").unwrap_or_default(),
         },
         Some(("step", words)) => Request::Step {
             setup: setup_of(alloc, words)?,
@@ -281,10 +302,7 @@ fn request_of<'a>(alloc: Global, matches: &ArgMatches<'a>) -> Result<Request<'a>
         Some(("debug", words)) => Request::Debug {
             setup: setup_of(alloc, words)?,
         },
-        Some((_, words)) => Request::Disassemble {
-            object: words.get_str("OBJECT").unwrap_or_default(),
-        },
-        None => Request::Disassemble { object: "" },
+        _ => return Err(Refusal::Usage(String::from_str(alloc, "error: no such command\n")?)),
     };
     Ok(request)
 }

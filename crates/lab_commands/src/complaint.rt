@@ -1,4 +1,5 @@
 //! What the program says of a fault.
+use lab_arguments::Shown;
 use lab_debug::SessionFault;
 use lab_explore::ExploreFault;
 use lab_hex::CliFault;
@@ -246,7 +247,7 @@ impl<'a> Complaint<'a> {
 
 impl fmt::Display for Complaint<'_> {
     fn fmt<W: fmt::Write>(&self, f: &mut fmt::Formatter<W>) -> fmt::Result {
-        let place = self.place;
+        let place = Shown(self.place);
         let reason = self.reason;
         if self.is_of_words() {
             return write!(f, "error: {reason}: {place}");

@@ -63,10 +63,7 @@ pub fn write_whole<T: Files>(
             bytes,
         );
     }
-    let Ok(beside) = format!(in alloc; "{name}.part") else {
-        return Err(Reason::NoMemory);
-    };
-    let file = File::create_new(rt, beside.as_str()).map_err(|error| not_made(&error))?;
+    let (file, beside) = create_beside(rt, alloc, name)?;
     let written = write_bytes(file, bytes).and_then(|()| fs::rename(
         rt,
         beside.as_str(),
@@ -76,6 +73,22 @@ pub fn write_whole<T: Files>(
         let _ = fs::remove_file(rt, beside.as_str());
     }
     written
+}
+
+/// A new file beside one of this name, and its own name: `NAME.part1`, or with the next number that no file has. So it isn't
+/// that of another call, nor one that a call left when it was killed.
+fn create_beside<T: Files>(rt: &T, alloc: Global, name: &str) -> Result<(T::File, String), Reason> {
+    for number in 1..u32::MAX {
+        let Ok(beside) = format!(in alloc; "{name}.part{number}") else {
+            return Err(Reason::NoMemory);
+        };
+        match File::create_new(rt, beside.as_str()) {
+            Ok(file) => return Ok((file, beside)),
+            Err(error) if error.kind() == ErrorKind::AlreadyExists => {}
+            Err(error) => return Err(not_made(&error)),
+        }
+    }
+    Err(Reason::CannotWrite)
 }
 
 /// Why a file couldn't be made.
