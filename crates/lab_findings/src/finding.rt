@@ -1,0 +1,79 @@
+//! Findings: an exploration, and the text that tells it.
+ghost use Rattle.std.specs.Prelude.{◌≡◌, ◌↔◌, None, map, string_bytes, IfOk, IfSome};
+ghost use Rattle.lab_sched.specs.ScheduleTexts.{schedule_text};
+ghost use Rattle.lab_explore.specs.Ends.{AreEnds, NeverStuck};
+ghost use Rattle.lab_explore.specs.Rounds.{IsRound, AreBounded};
+ghost use Rattle.lab_findings.specs.Texts.{told_ends, findings_text};
+ghost use Rattle.lab_findings.specs.Shortfalls.{ShowsRequired, IsShortfallOf};
+ghost use Rattle.lab_findings.specs.Programs.{SaysComplete, SaysEndless, SaysStuck, TellsEveryEnd, ComeTo};
+
+use crate::Shortfall;
+use crate::shortfall::shortfall_of;
+use crate::texts::{push_extent, push_round};
+use crate::told::{Told, told_of};
+use lab_explore::{Exploration, ExploreFault, Limits, Observer, explore};
+use lab_sched::{Fresh, Verdict};
+use std::alloc::{AllocError, Global};
+
+/// What was found of the programs of a laboratory, the text that tells it, the texts of the
+/// schedules of the ends that are told, and why the programs may come to another verdict than the
+/// one that is required, if they may.
+#[derive(Drop)]
+pub struct Findings {
+    pub exploration: Exploration,
+    pub text: String,
+    pub schedules: Vec<String>,
+    pub shortfall: Option<Shortfall>,
+}
+
+/// Tells an exploration.
+fn tell(alloc: Global, found: &Exploration) -> Result<Told, AllocError>
+    ensures text { IfOk result (λ told. string_bytes told.text ≡ findings_text found.now) }
+    ensures schedules { IfOk result (λ told. map string_bytes told.schedules.items
+        ≡ map (λ e. schedule_text e.schedule) (told_ends found.now.ends.items)) }
+{
+    let mut told = told_of(alloc, &found.ends)?;
+    push_round(alloc, &mut told.text, &found.round)?;
+    push_extent(&mut told.text, found.complete, found.worlds)?;
+    Ok(told)
+}
+
+/// Explores the programs of a laboratory, as far as the limits allow, and tells what was found: each
+/// end once, as a number, the report on it and a schedule that leads to it; a round, if there is
+/// one; and whether these are all ends. The shortfall is none exactly where no verdict is required,
+/// or the exploration shows that the programs always come to the one that is.
+pub fn find<O: Observer>(
+    alloc: Global,
+    fresh: Fresh,
+    limits: Limits,
+    required: Option<Verdict>,
+    observer: &mut O,
+) -> Result<Findings, ExploreFault>
+    ensures text { IfOk result (λ f. string_bytes f.text ≡ findings_text f.exploration) }
+    ensures schedules { IfOk result (λ f. map string_bytes f.schedules.items
+        ≡ map (λ e. schedule_text e.schedule) (told_ends f.exploration.ends.items)) }
+    ensures sound { IfOk result (λ f. AreEnds fresh f.exploration.ends.items) }
+    ensures round { IfOk result (λ f. IfSome f.exploration.round (λ r. IsRound fresh r)) }
+    ensures complete { IfOk result (λ f.
+        SaysComplete (string_bytes f.text) → TellsEveryEnd fresh (string_bytes f.text)) }
+    ensures free { IfOk result (λ f. SaysComplete (string_bytes f.text)
+        → ¬ SaysStuck (string_bytes f.text) → NeverStuck fresh) }
+    ensures bounded { IfOk result (λ f. SaysComplete (string_bytes f.text)
+        → ¬ SaysEndless (string_bytes f.text) → AreBounded fresh) }
+    ensures shortfall { IfOk result (λ f.
+        (f.shortfall ≡ None) ↔ ShowsRequired required f.exploration) }
+    ensures why { IfOk result (λ f.
+        IfSome f.shortfall (λ s. IsShortfallOf required f.exploration s)) }
+    ensures passes { IfOk result (λ f.
+        IfSome required (λ verdict. f.shortfall ≡ None → ComeTo verdict fresh)) }
+{
+    let exploration = explore(alloc, fresh, limits, observer)?;
+    let told = tell(alloc, &exploration)?;
+    let shortfall = shortfall_of(&exploration, required);
+    Ok(Findings {
+        exploration,
+        text: told.text,
+        schedules: told.schedules,
+        shortfall,
+    })
+}
