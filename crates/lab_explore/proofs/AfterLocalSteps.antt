@@ -2,13 +2,10 @@
 use Rattle.std.proofs.Common.{ℕ, zero, suc, ◌+◌, ◌≡◌, List, [], ◌∷◌, Option, Some, None, refl, sym, ap, subst, ◌∙◌, slice_get}
 use Rattle.lc3_machine.specs.Process.{Process as Machine}
 use Rattle.lc3_machine.proofs.Runs.{steps_append}
-use Rattle.ipc_kernel.specs.Kernel.{KernelState}
-use Rattle.lab_sched.specs.Worlds.{Process, Running, Waiting, Ended, WorldState, moves, next_action}
+use Rattle.lab_sched.specs.Worlds.{Process, Running, Waiting, Ended, moves, next_action}
 use Rattle.lab_sched.specs.LocalRun.{IsLocalStep, AreLocal}
-use Rattle.lab_sched.specs.Finished.{IsAtRest}
 use Rattle.lab_sched.proofs.OwnSteps.{first_local}
-use Rattle.lab_explore.specs.Calls.{AreAlike, IsAtCall, IsAhead, Both, IsAdvance}
-use Rattle.lab_explore.specs.Closed.{AreAtRest}
+use Rattle.lab_explore.specs.Calls.{IsAtCall, IsAhead, Both}
 
 -- a process at a call has no local step
 pub none_local : (n : ℕ) (s u : Process) → IsAtCall s → AreLocal n s u → u ≡ s
@@ -44,12 +41,6 @@ ahead_of_ahead (Some x) (Some y) (Some z) h i = record {
   at_call = i.at_call;
 }
 
--- a process at rest is at a call
-rest_at_call : (k : KernelState) (p : ℕ) (s : Process) → IsAtRest k p s → IsAtCall s
-rest_at_call k p (Running m) h = absurd h
-rest_at_call k p (Waiting m c) h = tt
-rest_at_call k p (Ended e) h = tt
-
 -- lists with the same elements at the same places
 pub same_by_gets : {A : Type 0} (xs ys : List A) → ((i : ℕ) → slice_get xs i ≡ slice_get ys i) → xs ≡ ys
 same_by_gets [] [] f = refl
@@ -60,16 +51,3 @@ same_by_gets {A} (x ∷ xs) (y ∷ ys) f =
     let same : x ≡ y = cc in
     let tail = same_by_gets xs ys (λ i. f (suc i)) in
     ap (λ z. z ∷ xs) same ∙ ap (λ zs. y ∷ zs) tail
-
-rest_at : (k : KernelState) (p : ℕ) (a b : Option Process) → ((s : Process) → a ≡ Some s → IsAtRest k p s) → Both IsAhead a b → b ≡ a
-rest_at k p None None rest h = refl
-rest_at k p None (Some u) rest h = absurd h
-rest_at k p (Some s) None rest h = absurd h
-rest_at k p (Some s) (Some u) rest h = ap (λ x. Some x) (stays s u (rest_at_call k p s (rest s refl)) h)
-
--- a world at rest has the processes of its advance
-pub rest_stays : (w v : WorldState) → AreAtRest w → IsAdvance w v → AreAlike w v
-rest_stays w v rest h = record {
-  processes = same_by_gets v.processes w.processes (λ p. rest_at w.kernel p (slice_get w.processes p) (slice_get v.processes p) (rest p) (h.processes p));
-  kernel = h.kernel;
-}

@@ -6,11 +6,9 @@ use Rattle.ipc_kernel.proofs.Alikes.{alike_itself, alike_then, alike_back}
 use Rattle.ipc_kernel.proofs.LikeAnswers.{answers_alike, stays_consistent}
 use Rattle.lab_sched.specs.Worlds.{Process, Running, Waiting, Ended, WorldState, NextAction, moves, calls, next_action, StepEffect, nothing, local_step, kernel_step, step_effect, step_effect_in, process_after_answer, after, step, run, first_try, retry, IsEffective}
 use Rattle.lab_sched.specs.Execution.{AreEffective}
-use Rattle.lab_sched.specs.Finished.{IsAtRest}
 use Rattle.lab_sched.specs.Verdicts.{HaveEnded, AreStuck}
 use Rattle.lab_sched.specs.declared.verdict.Verdict.TheVariants as verdict
 use Rattle.lab_explore.specs.Calls.{AreAlike}
-use Rattle.lab_explore.specs.Closed.{AreAtRest}
 use Rattle.lab_explore.specs.Alikes.{StepsAlike, OneVerdict}
 
 pub world_itself : (w : WorldState) → AreAlike w w
@@ -75,14 +73,6 @@ pub run_alike : (ps : List ℕ) (w v : WorldState) → IsConsistent w.kernel →
 unfolding run
 run_alike [] w v s a = a
 run_alike (p ∷ ps) w v s a = run_alike ps (step w p) (step v p) (consistent_after w p (step_effect_in w p) s) (step_alike w v p s a)
-
-rests_alike : (k j : KernelState) (p : ℕ) (s : Process) → IsConsistent k → IsAlike k j → IsAtRest k p s → IsAtRest j p s
-rests_alike k j p (Running m) s a h = h
-rests_alike k j p (Waiting m c) s a h = sym (answers_alike k j p c s a).0 ∙ h
-rests_alike k j p (Ended e) s a h = h
-
-pub rest_alike : (w v : WorldState) → IsConsistent w.kernel → AreAlike w v → AreAtRest w → AreAtRest v
-rest_alike w v s a h p x at = rests_alike w.kernel v.kernel p x s a.kernel (h p x (ap (λ ps. slice_get ps p) (sym a.processes) ∙ at))
 
 ended_alike : (w v : WorldState) → v.processes ≡ w.processes → HaveEnded w → HaveEnded v
 ended_alike w v e h p s at = h p s (ap (λ ps. slice_get ps p) (sym e) ∙ at)

@@ -2,7 +2,13 @@
 use Rattle.std.proofs.Common.{ℕ, zero, suc, ◌+◌, ◌-◌, ◌*◌, ◌<◌, ◌≤◌, ◌≡◌, List, [], ◌∷◌, Option, Some, None, refl, sym, ap, subst, ◌∙◌, arith, length, slice_get, set, inl, inr}
 use Rattle.std.proofs.lemmas.Bool.Decides.{eqb_tells}
 use Rattle.lc3_machine.specs.Process.{Process as Machine}
-use Rattle.lab_sched.specs.Worlds.{Process, Running, Waiting, Ended, WorldState, NextAction, moves, calls, next_action, process_after_answer, StepEffect, nothing, local_step, kernel_step, step_effect, step_effect_in, after, step, IsEffective}
+use Rattle.lab_sched.specs.Worlds.{Process, Running, Waiting, Ended, WorldState, NextAction, moves, calls, next_action, process_after_answer, StepEffect, nothing, local_step, kernel_step, step_effect, step_effect_in, first_try, retry, after, step, IsEffective}
+use Rattle.ipc_kernel.specs.declared.call.Call.{Call}
+use Rattle.ipc_kernel.specs.declared.call.Answer.{Answer}
+use Rattle.ipc_kernel.specs.declared.call.Answer.TheVariants.{Done, Wait}
+use Rattle.ipc_kernel.specs.Answer.{answer}
+use Rattle.lab_explore.specs.Untried.{GoesOn, untried, AskAgain}
+use Rattle.lab_explore.proofs.UntriedWorlds.{tells, same_step, still_untried, goes_untried, asks_on}
 use Rattle.lab_sched.specs.Execution.{AreEffective}
 use Rattle.lab_sched.specs.LocalRun.{AreLocal}
 use Rattle.lab_sched.proofs.ListPlaces.{get-set_same, get-set_other, get_past}
@@ -31,6 +37,79 @@ unfolding total
 total_set [] p k j e = absurd (cc)
 total_set (x ∷ ks) zero k j e = let same : x ≡ k = cc in omega arith
 total_set (x ∷ ks) (suc p) k j e = omega (arith, total_set ks p k j e)
+
+-- 1 of a process that runs, and 0 of another
+one_running : Process → ℕ
+one_running (Running m) = 1
+one_running (Waiting m c) = 0
+one_running (Ended e) = 0
+
+count_running : List Process → ℕ
+count_running [] = 0
+count_running (s ∷ ss) = one_running s + count_running ss
+
+-- how many processes run
+running : WorldState → ℕ
+running w = count_running w.processes
+
+one_most : (s : Process) → one_running s ≤ 1
+unfolding one_running
+one_most (Running m) = omega arith
+one_most (Waiting m c) = omega arith
+one_most (Ended e) = omega arith
+
+count_set : (ss : List Process) (p : ℕ) (s u : Process) → slice_get ss p ≡ Some s → count_running (set ss p u) + one_running s ≡ count_running ss + one_running u
+unfolding count_running
+count_set [] p s u e = absurd (cc)
+count_set (x ∷ ss) zero s u e = let same : one_running x ≡ one_running s = ap one_running (some_is x s e) in omega (arith, same)
+  where
+    some_is : (x s : Process) → Some x ≡ Some s → x ≡ s
+    some_is x s e = cc
+count_set (x ∷ ss) (suc p) s u e = omega (arith, count_set ss p s u e)
+
+set_more : (ss : List Process) (p : ℕ) (u : Process) → count_running (set ss p u) ≤ count_running ss + 1
+unfolding count_running
+set_more [] p u = omega arith
+set_more (x ∷ ss) zero u = omega (arith, one_most u)
+set_more (x ∷ ss) (suc p) u = omega (arith, set_more ss p u)
+
+-- at most one process more runs after a step
+running_goes : (w : WorldState) (p : ℕ) → running (step w p) ≤ running w + 1
+unfolding running
+running_goes w p = by (step_effect_in w p)
+  where
+    by : (t : StepEffect) → count_running (after w p t).processes ≤ count_running w.processes + 1
+    by nothing = omega arith
+    by (local_step n) = set_more w.processes p (Running n)
+    by (kernel_step m c a) = set_more w.processes p (process_after_answer m c a)
+
+-- where a process begins to wait, it runs no more
+running_waits : (w : WorldState) (p : ℕ) → IsEffective (step_effect_in w p) → (GoesOn (step_effect_in w p) → ⊥) → running (step w p) + 1 ≡ running w
+unfolding running one_running process_after_answer
+running_waits w p h g = by (slice_get w.processes p) refl
+  where
+    effect_at : (o : Option Process) → slice_get w.processes p ≡ o → step_effect_in w p ≡ step_effect w.kernel p o
+    effect_at o a = ap (λ x. step_effect w.kernel p x) a
+
+    tried : (m : Machine) (c : Call) (a : Answer) → slice_get w.processes p ≡ Some (Running m) → step_effect_in w p ≡ kernel_step m c a → count_running (step w p).processes + 1 ≡ count_running w.processes
+    tried m c Wait at e =
+        let sums : count_running (set w.processes p (Waiting m c)) + 1 ≡ count_running w.processes + 0 = count_set w.processes p (Running m) (Waiting m c) at in
+        ap (λ t. count_running (after w p t).processes + 1) e ∙ (omega (arith, sums))
+    tried m c (Done r) at e = absurd (g (subst GoesOn (sym e) tt))
+
+    again : (m : Machine) (c : Call) (a : Answer) → step_effect_in w p ≡ retry m c a → count_running (step w p).processes + 1 ≡ count_running w.processes
+    again m c Wait e = absurd (subst IsEffective e h)
+    again m c (Done r) e = absurd (g (subst GoesOn (sym e) tt))
+
+    runs : (m : Machine) (a : NextAction) → next_action m ≡ a → slice_get w.processes p ≡ Some (Running m) → count_running (step w p).processes + 1 ≡ count_running w.processes
+    runs m (moves q) e at = absurd (g (subst GoesOn (sym (effect_at (Some (Running m)) at ∙ ap (first_try w.kernel p m) e)) tt))
+    runs m (calls c) e at = tried m c (answer w.kernel p c).0 at (effect_at (Some (Running m)) at ∙ ap (first_try w.kernel p m) e)
+
+    by : (o : Option Process) → slice_get w.processes p ≡ o → count_running (step w p).processes + 1 ≡ count_running w.processes
+    by None a = absurd (subst IsEffective (effect_at None a) h)
+    by (Some (Running m)) a = runs m (next_action m) refl a
+    by (Some (Waiting m c)) a = again m c (answer w.kernel p c).0 (effect_at (Some (Waiting m c)) a)
+    by (Some (Ended e)) a = absurd (subst IsEffective (effect_at (Some (Ended e)) a) h)
 
 -- a process takes so many local steps to the state in which it is at a call
 abbrev TakesAt : Option ℕ → Option Process → Option Process → Type 0
@@ -167,7 +246,7 @@ module _ (t : Store) (order : List ℕ) (start : WorldState) (searched : IsSearc
       (j, less, subst (λ x. HasLeft t order x j) (sym stepped) here)
 
   -- after a step of the kernel less is left
-  call_left : (w : WorldState) (p n : ℕ) (s : Process) → slice_get w.processes p ≡ Some s → IsAtCall s → IsEffective (step_effect_in w p) → HasLeft t order w n
+  call_left : (w : WorldState) (p n : ℕ) (s : Process) → slice_get w.processes p ≡ Some s → IsAtCall s → GoesOn (step_effect_in w p) → HasLeft t order w n
       → (j : ℕ) × (j < n) × HasLeft t order (step w p) j
   call_left w p n s a at effective left = (j, less, now)
     where
@@ -187,7 +266,7 @@ module _ (t : Store) (order : List ℕ) (start : WorldState) (searched : IsSearc
       edge =
           let done = searched.expanded left.at (get_past t.rows.items left.at left.here.0 left.here.1) in
           let same : v ≡ done.0 = at_unique t left.at v done.0 left.here done.1 in
-          subst (λ x. HasEdge t left.at x p) (sym same) (done.2 p (subst (λ x. IsEffective (step_effect_in x p)) same (subst IsEffective (sym same_effect) effective)))
+          subst (λ x. HasEdge t left.at x p) (sym same) (done.2 p (subst (λ x. GoesOn (step_effect_in x p)) same (subst GoesOn (sym same_effect) effective)))
 
       u : WorldState
       u = edge.2
@@ -244,7 +323,7 @@ module _ (t : Store) (order : List ℕ) (start : WorldState) (searched : IsSearc
           falls : (x y i k l a b n : ℕ) → y + k ≡ x + i → k ≡ 0 → i < 4294967296 → a < b → b ≤ l → x + 4294967296 * (l - a) ≡ n → y + 4294967296 * (l - b) < n
           falls x y i k l a b n sums none few rise within old = omega arith
 
-  step_left : (w : WorldState) (p n : ℕ) → IsEffective (step_effect_in w p) → HasLeft t order w n → (j : ℕ) × (j < n) × HasLeft t order (step w p) j
+  step_left : (w : WorldState) (p n : ℕ) → GoesOn (step_effect_in w p) → HasLeft t order w n → (j : ℕ) × (j < n) × HasLeft t order (step w p) j
   step_left w p n effective left = by (slice_get w.processes p) refl
     where
       running : (m : Machine) (a : NextAction) → next_action m ≡ a → slice_get w.processes p ≡ Some (Running m) → (j : ℕ) × (j < n) × HasLeft t order (step w p) j
@@ -252,21 +331,33 @@ module _ (t : Store) (order : List ℕ) (start : WorldState) (searched : IsSearc
       running m (calls c) e a = call_left w p n (Running m) a (c, e) effective left
 
       by : (o : Option Process) → slice_get w.processes p ≡ o → (j : ℕ) × (j < n) × HasLeft t order (step w p) j
-      by None a = absurd (subst (λ o. IsEffective (step_effect w.kernel p o)) a effective)
+      by None a = absurd (subst (λ o. GoesOn (step_effect w.kernel p o)) a effective)
       by (Some (Running m)) a = running m (next_action m) refl a
       by (Some (Waiting m c)) a = call_left w p n (Waiting m c) a tt effective left
       by (Some (Ended e)) a = call_left w p n (Ended e) a tt effective left
 
-  within : (ps : List ℕ) (w : WorldState) (n : ℕ) → HasLeft t order w n → AreEffective w ps → length ps ≤ n
-  within [] w n left h = omega arith
-  within (p ∷ ps) w n left h =
-      let next = step_left w p n h.0 left in
-      let rest = within ps (step w p) next.0 next.2 h.1 in
-      let less = next.1 in
-      omega arith
+  -- a step by which a process goes on leaves less where none has begun to wait, and one process more
+  -- may begin to; another step is the beginning of a wait
+  within : (ps : List ℕ) (w : WorldState) (n : ℕ) → AskAgain w → HasLeft t order (untried w) n → AreEffective w ps → length ps ≤ 2 * n + running w
+  within [] w n asks left h = omega arith
+  within (p ∷ ps) w n asks left h = elim (tells (step_effect_in w p)) [
+    | inl goes ↦
+        let next = step_left (untried w) p n (subst GoesOn (sym (same_step w p asks goes)) goes) left in
+        let rest = within ps (step w p) next.0 (asks_on w p asks) (subst (λ x. HasLeft t order x next.0) (sym (goes_untried w p asks goes)) next.2) h.1 in
+        more next.0 n (running w) (running (step w p)) (length ps) next.1 (running_goes w p) rest
+    | inr none ↦
+        let rest = within ps (step w p) n (asks_on w p asks) (subst (λ x. HasLeft t order x n) (sym (still_untried w p none)) left) h.1 in
+        fewer n (running w) (running (step w p)) (length ps) (running_waits w p h.0 none) rest
+  ]
+    where
+      more : (j n r s l : ℕ) → j < n → s ≤ r + 1 → l ≤ 2 * j + s → suc l ≤ 2 * n + r
+      more j n r s l a b c = omega arith
 
-  bounded : IsConsistent start.kernel → AreBounded start
-  bounded consistent =
+      fewer : (n r s l : ℕ) → s + 1 ≡ r → l ≤ 2 * n + s → suc l ≤ 2 * n + r
+      fewer n r s l a b = omega arith
+
+  bounded : IsConsistent start.kernel → AskAgain start → untried start ≡ start → AreBounded start
+  bounded consistent asks same =
       let begun = searched.begins in
       let taken = taken_of start.processes begun.0.processes begun.2.processes in
       let n = total taken.0 + 4294967296 * rank (length order) (slice_get order begun.1.0) in
@@ -280,8 +371,8 @@ module _ (t : Store) (order : List ℕ) (start : WorldState) (searched : IsSearc
         processes = taken.1;
         most = refl;
       } in
-      (n, λ ps h. within ps start n left h)
+      (2 * n + running start, λ ps h. within ps start n asks (subst (λ x. HasLeft t order x n) (sym same) left) h)
 
 -- where the rows are searched, and all edges rise, each list of effective steps has at most so many
-pub searched_bounded : (t : Store) (start : WorldState) → IsConsistent start.kernel → IsSearched start t → AreRising t.edges.items → AreBounded start
-searched_bounded t start consistent searched rising = bounded t rising.0 start searched rising.1 consistent
+pub searched_bounded : (t : Store) (start : WorldState) → IsConsistent start.kernel → AskAgain start → untried start ≡ start → IsSearched start t → AreRising t.edges.items → AreBounded start
+searched_bounded t start consistent asks same searched rising = bounded t rising.0 start searched rising.1 consistent asks same

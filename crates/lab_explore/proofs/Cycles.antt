@@ -5,30 +5,29 @@ use Rattle.lab_sched.specs.Worlds.{WorldState, run}
 use Rattle.lab_sched.specs.Execution.{AreEffective}
 use Rattle.lab_sched.specs.Schedules.{steps_of}
 use Rattle.lab_sched.proofs.Executions.{effective-append}
-use Rattle.lab_explore.specs.declared.ends.Walk.{Walk}
+use Rattle.lab_explore.specs.declared.walking.Walk.{Walk}
 use Rattle.lab_explore.specs.declared.rounds.Round.{Round}
 use Rattle.lab_explore.specs.declared.store.Store.{Store}
 use Rattle.lab_explore.specs.Private.Stored.{IsLike}
 use Rattle.ipc_kernel.specs.Alike.{IsConsistent}
 use Rattle.lab_explore.specs.Calls.{AreAlike}
 use Rattle.lab_explore.proofs.AlikeWorlds.{world_itself, world_then, world_back, run_alike, effective_alike, consistent_run}
-use Rattle.lab_explore.specs.Ends.{IsWalk}
+use Rattle.lab_explore.specs.Private.Walked.{IsWalk}
 use Rattle.lab_explore.specs.Rounds.{IsRound, AreEndless}
 use Rattle.lab_explore.proofs.FirstWorlds.{at_unique}
 
 -- a walk to the world of a row, and one from there to the world of that row
-pub walk_round : (start : WorldState) (first second : Walk) (t : Store) (i : ℕ) (r : Round) → IsWalk start first → IsLike t i first.world → IsWalk first.world second → IsLike t i second.world
-    → r.schedule ≡ first.schedule → r.steps ≡ second.schedule → 1 ≤ length (steps_of r.steps) → IsRound start r
-walk_round start first second t i r h here k there schedule-is steps-is some =
-    let led : run start (steps_of r.schedule) ≡ first.world = ap (λ s. run start (steps_of s)) schedule-is ∙ h.leads in
+pub walk_round : (start : WorldState) (first second : Walk) (t : Store) (i : ℕ) → IsWalk start first → IsLike t i first.world → IsWalk first.world second → IsLike t i second.world
+    → 1 ≤ length (steps_of second.schedule) → IsRound start (record { schedule = first.schedule; steps = second.schedule })
+walk_round start first second t i h here k there some =
     let same : there.0 ≡ here.0 = at_unique t i there.0 here.0 there.1 here.1 in
     let alike : AreAlike first.world second.world = world_then first.world here.0 second.world (world_back here.0 first.world here.2) (subst (λ v. AreAlike v second.world) same there.2) in
-    let round : run (run start (steps_of r.schedule)) (steps_of r.steps) ≡ second.world = ap (λ w. run w (steps_of r.steps)) led ∙ ap (λ s. run first.world (steps_of s)) steps-is ∙ k.leads in
+    let round : run (run start (steps_of first.schedule)) (steps_of second.schedule) ≡ second.world = ap (λ w. run w (steps_of second.schedule)) h.leads ∙ k.leads in
     record {
-      effective = subst (λ s. AreEffective start (steps_of s)) (sym schedule-is) h.effective;
+      effective = h.effective;
       some = some;
-      goes_on = subst (λ w. AreEffective w (steps_of r.steps)) (sym led) (subst (λ s. AreEffective first.world (steps_of s)) (sym steps-is) k.effective);
-      returns = subst (λ w. AreAlike w (run (run start (steps_of r.schedule)) (steps_of r.steps))) (sym led) (subst (λ w. AreAlike first.world w) (sym round) alike);
+      goes_on = subst (λ w. AreEffective w (steps_of second.schedule)) (sym h.leads) k.effective;
+      returns = subst (λ w. AreAlike w (run (run start (steps_of first.schedule)) (steps_of second.schedule))) (sym h.leads) (subst (λ w. AreAlike first.world w) (sym round) alike);
     }
 
 -- the round so many times, from a world alike

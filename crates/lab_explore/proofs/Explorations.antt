@@ -1,15 +1,15 @@
 -- Explorations: what the parts of one say together.
-use Rattle.std.proofs.Common.{ℕ, ◌≡◌, ◌++◌, [], ◌∷◌, slice_get, List, refl, sym, ap, subst, ◌∙◌, length, map, inl, inr}
+use Rattle.std.proofs.Common.{ℕ, All, ◌≡◌, ◌++◌, [], ◌∷◌, slice_get, List, Option, Some, None, refl, sym, ap, subst, ◌∙◌, length, map, inl, inr}
 use Rattle.ipc_kernel.specs.Kernel.{KernelState, empty_kernel}
 use Rattle.lab_sched.specs.declared.process.Process.{Process as Kept}
 use Rattle.ipc_kernel.specs.Alike.{IsConsistent}
 use Rattle.ipc_kernel.proofs.Consistents.{consistent_empty}
 use Rattle.lab_explore.specs.Calls.{AreAlike}
-use Rattle.lab_explore.proofs.AlikeWorlds.{world_then, world_back, rest_alike, one_verdict, consistent_run}
+use Rattle.lab_explore.proofs.AlikeWorlds.{world_then, world_back, one_verdict, consistent_run}
 use Rattle.lab_sched.specs.Worlds.{Process, Running, Waiting, Ended, WorldState, step_effect, step_effect_in, run}
 use Rattle.lab_sched.specs.Finished.{IsAtRest}
 use Rattle.lab_sched.specs.Schedules.{steps_of}
-use Rattle.lab_sched.specs.Verdicts.{IsVerdict, IsWaiting, HasEnded, AreStuck}
+use Rattle.lab_sched.specs.Verdicts.{IsVerdict, IsRunning, IsWaiting, HasEnded, AreStuck}
 use Rattle.lab_sched.specs.declared.verdict.Verdict.{Verdict}
 use Rattle.lab_sched.specs.declared.verdict.Verdict.TheVariants as verdict
 use Rattle.lab_sched.proofs.WorldLemmas.{fresh_world}
@@ -18,14 +18,21 @@ use Rattle.lab_sched.specs.Held.{process_view, IsWorld}
 use Rattle.lab_sched.specs.Starts.{AreStarts, initial_world}
 use Rattle.lab_explore.specs.declared.store.Store.{Store}
 use Rattle.lab_explore.specs.declared.ends.End.{End}
-use Rattle.lab_explore.specs.declared.ends.Walk.{Walk}
-use Rattle.lab_explore.specs.Closed.{IsClosed, AreAtRest}
+use Rattle.lab_explore.specs.declared.walking.Walk.{Walk}
+use Rattle.lab_explore.specs.Closed.{AreAtRest, IsClosed}
+use Rattle.lab_explore.specs.Untried.{untried, AskAgain}
 use Rattle.lab_explore.specs.Private.Stored.{IsAt, IsLike, Holds, Keeps}
-use Rattle.lab_explore.specs.Private.Walked.{HaveRowEnds}
-use Rattle.lab_explore.specs.Ends.{IsWalk, IsEnd, AreEnds, HasEnd, HaveAllEnds, NoneStuck, NeverStuck}
+use Rattle.lab_explore.specs.Private.Walked.{IsWalk, HasUntriedEnd, HaveRowEnds}
+use Rattle.lab_explore.specs.Ends.{IsEnd, AreEnds, HaveAllEnds, NoneStuck, NeverStuck}
+use Rattle.lab_explore.proofs.UntriedWorlds.{rests_alike, running_untried, running_ask, AreRunning}
+use Rattle.std.specs.Option.{option_map}
+use Rattle.std.specs.List.Sorted.{IsPermutation}
+use Rattle.std.proofs.lemmas.List.Sorted.{All-permutation, IsPermutation-sym}
+use Rattle.std.proofs.lemmas.Option.{slice_get-map, slice_get-get_or}
+use Rattle.lab_sched.specs.Starts.{Runs}
 use Rattle.lab_explore.proofs.Pushes.{get_pushed, all_at}
 use Rattle.lab_explore.proofs.FirstWorlds.{at_unique}
-use Rattle.lab_explore.proofs.HeldAdvances.{has_every_end, idle}
+use Rattle.lab_explore.proofs.HeldAdvances.{idle, asks_run, has_every_end}
 
 -- the start of a laboratory, by copies of its processes over an empty kernel
 pub started : (w : WorldState) (ps qs : List Kept) (k : KernelState) (n : ℕ) → initial_world ps ≡ w → qs ≡ ps → n ≡ length qs → k ≡ empty_kernel n
@@ -34,16 +41,17 @@ started w ps qs k n world same count empty =
     sym world ∙ ap initial_world (sym same) ∙ ap (λ j. record { processes = map process_view qs; kernel = j }) (ap empty_kernel (sym count) ∙ sym empty)
 
 -- all ends, where the worlds of a store are closed, and each of them that is at rest has its end
-pub all_ends : (fresh start : WorldState) (t : Store) (ends : List End) → fresh ≡ start → IsConsistent start.kernel → AreEnds fresh ends → IsClosed start (Holds t) → HaveRowEnds t ends
+pub all_ends : (fresh start : WorldState) (t : Store) (ends : List End) → fresh ≡ start → IsConsistent start.kernel → AskAgain start → AreEnds fresh ends → IsClosed start (Holds t) → HaveRowEnds t ends
     → HaveAllEnds fresh ends
-all_ends fresh start t ends same consistent each closed all =
+all_ends fresh start t ends same consistent asks each closed all =
     subst (λ s. HaveAllEnds s ends) (sym same)
     (λ ps rest.
     let w = run start ps in
-    let held = has_every_end start (Holds t) consistent closed ps rest in
-    let found = all held.1.0 held.0 held.1.1 (rest_alike w held.0 (consistent_run ps start consistent) held.2 rest) in
-    let alike = world_then w held.0 found.1.world held.2 found.3 in
+    let held = has_every_end start (Holds t) consistent asks closed ps rest in
+    let found = all held.1.0 held.0 held.1.1 held.2 in
     let end = all_at (IsEnd start) ends found.0 found.1 (subst (λ s. AreEnds s ends) same each) found.2 in
+    let ask : AskAgain found.1.world = subst AskAgain end.leads (asks_run (steps_of found.1.schedule) start asks) in
+    let alike = rests_alike w found.1.world (asks_run ps start asks) ask rest end.rests (world_then (untried w) held.0 (untried found.1.world) held.3 found.3) in
     let there = subst (λ (x : WorldState). IsConsistent x.kernel) end.leads (consistent_run (steps_of found.1.schedule) start consistent) in
     (found.0, found.1, found.2, alike, one_verdict found.1.world w found.1.verdict there (world_back w found.1.world alike) end.verdict))
 
@@ -70,18 +78,27 @@ verdict_rests w verdict.Stuck h n p s at =
 verdict_rests w verdict.Open h n p s at = absurd (n refl)
 
 -- the end of a walk
-pub walk_end : (start : WorldState) (walk : Walk) (v : Verdict) (e : End) → IsWalk start walk → IsVerdict walk.world v → (v ≡ verdict.Open → ⊥) → e ≡ record { world = walk.world; schedule = walk.schedule; verdict = v } → IsEnd start e
+pub walk_end : (start : WorldState) (walk : Walk) (v : Verdict) (e : End) → IsWalk start walk → IsVerdict walk.world v → (v ≡ verdict.Open → ⊥)
+    → e ≡ record { world = walk.world; schedule = walk.schedule; verdict = v; calls = walk.calls } → IsEnd start e
 walk_end start walk v e h stands closed same =
-    subst (IsEnd start) (sym same) (record { effective = h.effective; leads = h.leads; rests = verdict_rests walk.world v stands closed; verdict = stands; closed = closed })
+    subst (IsEnd start) (sym same) (record { effective = h.effective; leads = h.leads; calls = h.calls; rests = verdict_rests walk.world v stands closed; verdict = stands; closed = closed })
 
 -- ends that were found stay found
-pub end_kept : (xs ys : List End) (w : WorldState) → Keeps xs ys → HasEnd xs w → HasEnd ys w
+pub end_kept : (xs ys : List End) (w : WorldState) → Keeps xs ys → HasUntriedEnd xs w → HasUntriedEnd ys w
 end_kept xs ys w keeps h = (h.0, h.1, keeps h.0 h.1 h.2, h.3)
 
+-- ends in another order
+pub end_sorted : (xs ys : List End) (w : WorldState) → IsPermutation xs ys → HasUntriedEnd xs w → HasUntriedEnd ys w
+end_sorted xs ys w same h =
+    let there : All (λ e. (j : ℕ) × (slice_get ys j ≡ Some e)) ys = λ k d below. (k, slice_get-get_or ys k d below) in
+    let each = All-permutation (λ e. (j : ℕ) × (slice_get ys j ≡ Some e)) ys xs (IsPermutation-sym xs ys same) there in
+    let found = all_at (λ e. (j : ℕ) × (slice_get ys j ≡ Some e)) xs h.0 h.1 each h.2 in
+    (found.0, h.1, found.1, h.3)
+
 -- the end of a row that was pushed
-pub end_pushed : (t : Store) (i : ℕ) (w : WorldState) (e : End) (xs ys : List End) → ys ≡ xs ++ e ∷ [] → IsLike t i e.world → IsAt t i w → HasEnd ys w
+pub end_pushed : (t : Store) (i : ℕ) (w : WorldState) (e : End) (xs ys : List End) → ys ≡ xs ++ e ∷ [] → IsLike t i (untried e.world) → IsAt t i w → HasUntriedEnd ys w
 end_pushed t i w e xs ys is here there =
-    (length xs, e, ap (λ zs. slice_get zs (length xs)) is ∙ get_pushed xs e, subst (λ v. AreAlike v e.world) (at_unique t i here.0 w here.1 there) here.2)
+    (length xs, e, ap (λ zs. slice_get zs (length xs)) is ∙ get_pushed xs e, subst (λ v. AreAlike v (untried e.world)) (at_unique t i here.0 w here.1 there) here.2)
 
 waits_on : (s : Process) → IsWaiting s → HasEnded s → ⊥
 waits_on (Running m) waits ended = waits
@@ -99,6 +116,24 @@ pub never_stuck : (start : WorldState) (ends : List End) → HaveAllEnds start e
 never_stuck start ends all none ps stuck =
     let has = all ps (verdict_rests (run start ps) verdict.Stuck stuck (λ e. absurd (cc))) in
     all_at (λ e. e.verdict ≡ verdict.Stuck → ⊥) ends has.0 has.1 none has.2 (stuck_verdict (run start ps) has.1.verdict stuck has.4)
+
+-- each process of a laboratory runs before its first step
+pub starts_run : (ps : List Kept) (k : KernelState) → AreStarts ps → AreRunning (record { processes = map process_view ps; kernel = k })
+starts_run ps k starts p s at = by (slice_get ps p) refl
+  where
+    by : (o : Option Kept) → slice_get ps p ≡ o → IsRunning s
+    by None e = let h : None ≡ Some s = ap (λ x. option_map process_view x) (sym e) ∙ sym (slice_get-map process_view ps p) ∙ at in absurd (cc)
+    by (Some x) e =
+        let h : Some (process_view x) ≡ Some s = ap (λ x. option_map process_view x) (sym e) ∙ sym (slice_get-map process_view ps p) ∙ at in
+        let same : process_view x ≡ s = cc in
+        subst IsRunning same (all_at Runs ps p x starts.running e)
+
+-- so none has begun to wait
+pub starts_untried : (ps qs : List Kept) (k : KernelState) → qs ≡ ps → AreStarts ps → untried (record { processes = map process_view qs; kernel = k }) ≡ record { processes = map process_view qs; kernel = k }
+starts_untried ps qs k same starts = running_untried (record { processes = map process_view qs; kernel = k }) (starts_run qs k (subst AreStarts (sym same) starts))
+
+pub starts_ask : (ps qs : List Kept) (k : KernelState) → qs ≡ ps → AreStarts ps → AskAgain (record { processes = map process_view qs; kernel = k })
+starts_ask ps qs k same starts = running_ask (record { processes = map process_view qs; kernel = k }) (starts_run qs k (subst AreStarts (sym same) starts))
 
 -- the kernel of a laboratory before its first step is consistent
 pub fresh_consistent : (w : WorldState) (n : ℕ) → w.kernel ≡ empty_kernel n → IsConsistent w.kernel

@@ -4,13 +4,14 @@ use Rattle.std.proofs.lemmas.List.{map-append, take_more}
 use Rattle.std.specs.Option.{option_map}
 use Rattle.ipc_kernel.specs.Kernel.{KernelState}
 use Rattle.lab_sched.specs.declared.process.Process.{Process as Kept}
-use Rattle.lab_sched.specs.Worlds.{Process, WorldState, step_effect_in, step, IsEffective}
+use Rattle.lab_sched.specs.Worlds.{Process, WorldState, step_effect_in, step}
 use Rattle.lab_sched.specs.Held.{process_view}
 use Rattle.lab_sched.proofs.ListPlaces.{get_past}
 use Rattle.lab_explore.specs.declared.store.Row.{Row}
 use Rattle.lab_explore.specs.declared.store.Store.{Store}
 use Rattle.lab_explore.specs.Calls.{IsAhead, Both, Alongside, IsAdvance}
 use Rattle.lab_explore.specs.Closed.{HasAdvance, IsClosed}
+use Rattle.lab_explore.specs.Untried.{GoesOn, untried}
 use Rattle.lab_explore.specs.Private.Stored.{IsState, IsKernel, IsRow, IsAt, Holds, Grows, IsReached, AreReached, IsSearched, IsCome, IsBegun}
 use Rattle.lab_explore.proofs.AfterLocalSteps.{same_by_gets}
 use Rattle.lab_explore.proofs.Pushes.{alongside_cons, alongside_push, both_weaker}
@@ -77,14 +78,14 @@ reached_advance w v h = record {
 }
 
 -- where each row was expanded, the worlds are closed
-pub all_closed : (t : Store) (start : WorldState) → IsSearched start t → IsClosed start (Holds t)
-all_closed t start searched = record {
-  begins = searched.begins;
+pub all_closed : (t : Store) (start : WorldState) → untried start ≡ start → IsSearched start t → IsClosed start (Holds t)
+all_closed t start same searched = record {
+  begins = subst (HasAdvance (Holds t)) (sym same) searched.begins;
   goes_on = λ v p held effective.
       let i = held.0 in
       let done = searched.expanded i (get_past t.rows.items i held.1.0 held.1.1) in
       let same : v ≡ done.0 = at_unique t i v done.0 held.1 done.1 in
-      let edge = done.2 p (subst (λ w. IsEffective (step_effect_in w p)) same effective) in
+      let edge = done.2 p (subst (λ w. GoesOn (step_effect_in w p)) same effective) in
       let there : HasAdvance (Holds t) (step done.0 p) = (edge.2, (edge.1.to, edge.5), reached_advance (step done.0 p) edge.2 edge.6) in
       subst (λ w. HasAdvance (Holds t) (step w p)) (sym same) there;
 }

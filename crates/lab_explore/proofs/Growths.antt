@@ -62,7 +62,7 @@ kernel_grows t u i k g h = (h.0, g.kernels i h.0 h.1, h.2)
 pub next_grows : (t u : Store) (k : KernelState) (p : ℕ) (s : Process) (n : Next) → Grows t u → IsNext t k p s n → IsNext u k p s n
 next_grows t u k p s Nothing g h = h
 next_grows t u k p s Limit g h = h
-next_grows t u k p s (To kernel state taken) g h = (h.0, kernel_grows t u kernel _ g h.1, state_grows t u state h.0 g h.2, h.3)
+next_grows t u k p s (To kernel state taken) g h = (h.0, kernel_grows t u kernel _ g h.1, state_grows t u state h.0 g h.2, h.3, h.4)
 
 pub move_grows : (t u : Store) (kernel p state : ℕ) (n : Next) → Grows t u → IsMove t kernel p state n → IsMove u kernel p state n
 move_grows t u kernel p state n g h = (h.0, h.1, g.kernels kernel h.0 h.2, state_grows t u state h.1 g h.3, next_grows t u h.0 p h.1 n g h.4)

@@ -1,5 +1,6 @@
 mod AlikeWorlds
 mod AfterLocalSteps
+mod UntriedWorlds
 mod HeldAdvances
 mod StepsToCalls
 mod Pushes

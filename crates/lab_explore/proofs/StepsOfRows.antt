@@ -4,7 +4,7 @@ use Rattle.std.specs.Option.{option_map}
 use Rattle.std.proofs.lemmas.Bool.{cases_lt}
 use Rattle.std.proofs.lemmas.Option.{slice_get_past}
 use Rattle.ipc_kernel.specs.Kernel.{KernelState}
-use Rattle.lab_sched.specs.Worlds.{Process, WorldState, StepEffect, nothing, step_effect, step_effect_in, process_after, kernel_after, after, step, IsEffective}
+use Rattle.lab_sched.specs.Worlds.{Process, WorldState, StepEffect, nothing, local_step, kernel_step, step_effect, process_after, kernel_after, after, step}
 use Rattle.lab_sched.specs.Held.{process_view, StepResult, HasStepped}
 use Rattle.lab_sched.specs.declared.stepped.Stepped.{Stepped}
 use Rattle.lab_sched.specs.declared.stepped.Stepped.TheVariants as stepped
@@ -15,7 +15,10 @@ use Rattle.lab_explore.specs.declared.store.Store.{Store}
 use Rattle.lab_explore.specs.declared.store.Edge.{Edge}
 use Rattle.lab_explore.specs.declared.store.Next.{Next}
 use Rattle.lab_explore.specs.declared.store.Next.TheVariants.{Nothing, To}
+use Rattle.ipc_kernel.specs.declared.call.Answer.TheVariants.{Done, Wait}
+use Rattle.lab_sched.specs.Held.{stepped_of}
 use Rattle.lab_explore.specs.Calls.{IsAtCall, IsAhead, Both, Alongside}
+use Rattle.lab_explore.specs.Untried.{GoesOn}
 use Rattle.lab_explore.specs.Private.Stored.{IsReady, IsState, IsRow, IsAt, IsStore, Grows, IsNext, IsMove, IsReached, AreReached, HasEdge, IsTried, IsExpanded, IsRun}
 use Rattle.lab_explore.proofs.Pushes.{alongside_set, get_pushed, all_at}
 use Rattle.lab_explore.proofs.Growths.{state_kept, at_grows, row_grows}
@@ -91,18 +94,28 @@ moved t r r' w p i kernel state taken is row e m kernel-is states-is = (v, to, a
 pub idles : (t : Store) (r : Row) (w : WorldState) (at p i : ℕ) → IsRow t r w → slice_get r.states.items p ≡ Some i → IsMove t r.kernel p i Nothing → IsTried t at w p
 idles t r w at p i row e m effective =
     let s = process_at t r w p i row e in
-    let none : step_effect_in w p ≡ nothing = ap (λ o. step_effect w.kernel p o) s.1 ∙ next_of t r w p i Nothing s.0 row s.2 m in
-    absurd (subst IsEffective none effective)
+    absurd (next_of t r w p i Nothing s.0 row s.2 m (subst GoesOn (ap (λ o. step_effect w.kernel p o) s.1) effective))
 
 -- a process that isn't there does nothing
 pub absent : (t : Store) (r : Row) (w : WorldState) (at p : ℕ) → IsRow t r w → slice_get r.states.items p ≡ None → IsTried t at w p
 absent t r w at p row e effective =
     let gone : slice_get w.processes p ≡ None = left (slice_get w.processes p) (subst (λ o. Both (IsState t) o (slice_get w.processes p)) e (row.states p)) in
-    absurd (subst (λ o. IsEffective (step_effect w.kernel p o)) gone effective)
+    absurd (subst (λ o. GoesOn (step_effect w.kernel p o)) gone effective)
   where
     left : (o : Option Process) → Both (IsState t) None o → o ≡ None
     left None h = refl
     left (Some y) h = absurd h
+
+-- a process that is told that it waits doesn't go on
+pub told_waits : (x : Stepped) (t : StepEffect) → x ≡ stepped.Waits → x ≡ stepped_of t → GoesOn t → ⊥
+told_waits x nothing e h g = g
+told_waits x (local_step n) e h g = cc
+told_waits x (kernel_step m c (Done r)) e h g = cc
+told_waits x (kernel_step m c Wait) e h g = g
+
+-- what the step of a process is told
+pub told_of : (k j : KernelState) (p : ℕ) (s u : Process) (told : Stepped) → HasStepped k p s j u told → told ≡ stepped_of (step_effect k p (Some s))
+told_of k j p s u told is = ap (λ (x : StepResult). x.told) is
 
 -- a run after a step
 pub run_stepped : (k j : KernelState) (p : ℕ) (s u : Process) (told : Stepped) (made : Option Made) → HasStepped k p s j u told → IsRun j u made

@@ -1,25 +1,20 @@
 -- The ends of an exploration.
-use Rattle.std.specs.Prelude.{ℕ, ◌≡◌, List, Some, All, slice_get}
-use Rattle.lab_sched.specs.Worlds.{WorldState, run}
+use Rattle.std.specs.Prelude.{ℕ, ◌≡◌, List, Some, All, length, slice_get}
+use Rattle.lab_sched.specs.Worlds.{WorldState, run, entries}
 use Rattle.lab_sched.specs.Execution.{AreEffective}
 use Rattle.lab_sched.specs.Schedules.{steps_of}
 use Rattle.lab_sched.specs.Verdicts.{IsVerdict, AreStuck}
 use Rattle.lab_sched.specs.declared.verdict.Verdict.TheVariants.{Open, Stuck}
 use Rattle.lab_explore.specs.declared.ends.End.{End}
-use Rattle.lab_explore.specs.declared.ends.Walk.{Walk}
 use Rattle.lab_explore.specs.Calls.{AreAlike}
 use Rattle.lab_explore.specs.Closed.{AreAtRest}
 
--- effective steps lead from the start to the world
-pub record IsWalk (start : WorldState) (w : Walk) : Type 0 where
-  pub effective : AreEffective start (steps_of w.schedule)
-  pub leads : run start (steps_of w.schedule) ≡ w.world
-
 -- the effective steps of the schedule lead from the start to the world, which is at rest, and ended
--- or stuck
+-- or stuck; so many of them are calls
 pub record IsEnd (start : WorldState) (e : End) : Type 0 where
   pub effective : AreEffective start (steps_of e.schedule)
   pub leads : run start (steps_of e.schedule) ≡ e.world
+  pub calls : length (entries start (steps_of e.schedule)) ≡ e.calls
   pub rests : AreAtRest e.world
   pub verdict : IsVerdict e.world e.verdict
   pub closed : e.verdict ≡ Open → ⊥
@@ -28,11 +23,8 @@ pub record IsEnd (start : WorldState) (e : End) : Type 0 where
 abbrev pub AreEnds : WorldState → List End → Type 0
 AreEnds start ends = All (IsEnd start) ends
 
--- one of the ends is in a world alike: with the same processes, over a kernel that is alike
-abbrev pub HasEnd : List End → WorldState → Type 0
-HasEnd ends w = (i : ℕ) × (e : End) × (slice_get ends i ≡ Some e) × AreAlike w e.world
-
--- one of the ends is in a world alike, and its verdict is the world's
+-- one of the ends is in a world alike (with the same processes, over a kernel that is alike), and its
+-- verdict is the world's
 abbrev pub IsReported : List End → WorldState → Type 0
 IsReported ends w =
     (i : ℕ) × (e : End) × (slice_get ends i ≡ Some e) × AreAlike w e.world × IsVerdict w e.verdict

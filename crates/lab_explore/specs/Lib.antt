@@ -1,5 +1,6 @@
 pub mod Calls
 pub mod Alikes
+pub mod Untried
 pub mod Closed
 pub mod Ends
 pub mod Rounds

@@ -1,6 +1,7 @@
 //! Explorations.
 ghost use Rattle.std.specs.Prelude.{◌≡◌, IsTrue, None, IfOk, IfSome};
 ghost use Rattle.lab_sched.specs.Starts.{AreStarts, initial_world};
+ghost use Rattle.lab_explore.specs.Private.Known.{AreKnown};
 ghost use Rattle.lab_explore.specs.Private.Walked.{HaveRowEnds};
 ghost use Rattle.lab_explore.specs.Ends.{AreEnds, HaveAllEnds, NoneStuck, NeverStuck};
 ghost use Rattle.lab_explore.specs.Rounds.{IsRound, AreRising, AreEndless, AreBounded};
@@ -68,6 +69,7 @@ impl Search {
         processes: &[Process],
     ) -> Result<Exploration, ExploreFault>
         requires starts { AreStarts processes.now }
+        requires known { AreKnown self.now.store self.now.moves }
         ensures ends { IfOk result (λ found.
             AreEnds (initial_world processes.now) found.ends.items) }
         ensures all { IfOk result (λ found. HaveRowEnds self.now.store found.ends.items) }

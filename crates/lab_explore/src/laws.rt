@@ -1,9 +1,23 @@
 //! Laws over the definitions alone.
-ghost use Rattle.lab_explore.specs.Closed.{HoldsEveryEnd};
+ghost use Rattle.lab_explore.specs.Closed.{RestsAlike, HoldsEveryEnd};
 ghost use Rattle.lab_explore.specs.Alikes.{StepsAlike, OneVerdict};
+ghost use Rattle.lab_explore.specs.Untried.{UntriedStep};
 
-/// A list of worlds that has the advance of the start, and that of each effective step from each of
-/// its worlds, has every world at rest that any steps lead to, but for the numbers of places.
+/// A process that waits does next what it would do if it stood before its call.
+#[tactic(auto, using(crate::proofs::UntriedWorlds::untried_step))]
+pub fn untried_step()
+    ensures law { UntriedStep }
+{}
+
+/// Worlds at rest that are alike but for who waits are alike.
+#[tactic(auto, using(crate::proofs::UntriedWorlds::rests_alike))]
+pub fn worlds_at_rest_are_alike()
+    ensures law { RestsAlike }
+{}
+
+/// A list of worlds that has the advance of the start, and that of each step by which a process goes
+/// on from one of its worlds, has every world at rest that any steps lead to, but for who waits and
+/// the numbers of places.
 #[tactic(auto, using(crate::proofs::HeldAdvances::holds_every_end))]
 pub fn closed_lists_hold_every_end()
     ensures law { HoldsEveryEnd }

@@ -2,6 +2,7 @@
 #![tactic(auto)]
 
 mod advance;
+mod comparing;
 mod ends;
 mod exploring;
 mod fault;
@@ -17,6 +18,7 @@ mod rows;
 mod search;
 mod store;
 mod trying;
+mod walking;
 
 pub use ends::End;
 pub use exploring::{Exploration, explore};

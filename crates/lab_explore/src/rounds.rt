@@ -4,16 +4,14 @@ ghost use Rattle.lab_sched.specs.Worlds.{WorldState};
 ghost use Rattle.lab_sched.specs.Schedules.{steps_of};
 ghost use Rattle.lab_sched.specs.Starts.{AreStarts, initial_world};
 ghost use Rattle.lab_explore.specs.Private.Stored.{IsLike};
-ghost use Rattle.lab_explore.specs.Private.Walked.{KeepsStart};
-ghost use Rattle.lab_explore.specs.Ends.{IsWalk};
+ghost use Rattle.lab_explore.specs.Private.Walked.{IsWalk, KeepsStart};
 ghost use Rattle.lab_explore.specs.Rounds.{IsRound, AreRising};
 
 use crate::ExploreFault;
-use crate::ends::{Walk, go, go_on, world_of};
 use crate::graph::{Cycle, cycle_of, is_order, order_of};
 use crate::search::Search;
-use crate::store::Edge;
 use crate::trying::discard;
+use crate::walking::Walk;
 use lab_sched::{Process, Schedule};
 use std::alloc::Global;
 
@@ -25,59 +23,44 @@ pub struct Round {
     pub steps: Schedule,
 }
 
-/// Takes the steps of edges, the last of which comes first.
-fn go_edges(walk: &mut Walk, edges: &[Edge]) -> Result<(), ExploreFault>
-    ensures walk { OnOk result (KeepsStart walk.old walk.new) }
-{
-    for edge in edges.iter().rev() {
-        go(walk, edge.pid as usize)?;
-        go_on(walk, edge.pid as usize, edge.taken)?;
-    }
-    Ok(())
-}
-
 impl Search {
-    /// The round by a schedule that led to the world of a row, and by steps from there, which must
-    /// have led to a world alike.
-    fn round_at(&self, at: usize, schedule: Schedule, walk: Walk) -> Result<Round, ExploreFault>
-        ensures schedule { IfOk result (λ r. r.schedule ≡ schedule) }
-        ensures steps { IfOk result (λ r. r.steps ≡ walk.schedule) }
-        ensures some { IfOk result (λ r. 1 ≤ length (steps_of r.steps)) }
-        ensures row { IfOk result (λ r. IsLike self.now.store at walk.world) }
+    /// Takes the steps of the edges of a cycle, at least one. They must lead to the world of its row.
+    fn go_round(&self, alloc: Global, cycle: &Cycle, walk: &mut Walk) -> Result<(), ExploreFault>
+        ensures walk { OnOk result (KeepsStart walk.old walk.new) }
+        ensures some { OnOk result (1 ≤ length (steps_of walk.new.schedule)) }
+        ensures row { OnOk result (IsLike self.now.store cycle.now.at walk.new.world) }
     {
-        let Walk {
-            world,
-            schedule: steps,
-        } = walk;
-        if steps.total() == 0 || !self.store.is_row(at, &world) {
-            discard(world);
-            discard(schedule);
-            discard(steps);
+        for edge in cycle.edges.iter().rev() {
+            walk.go(edge.pid as usize)?;
+            walk.go_on(edge.pid as usize, edge.taken)?;
+        }
+        if walk.schedule.total() == 0 || !self.store.is_row(alloc, cycle.at, &walk.world)? {
             return Err(ExploreFault::Unvouched);
         }
-        discard(world);
-        Ok(Round { schedule, steps })
+        Ok(())
     }
 
-    /// The round by a walk to the world of a row, and by edges from there to it.
-    fn go_round(&self, alloc: Global, cycle: &Cycle, walk: Walk) -> Result<Round, ExploreFault>
+    /// The round by a walk to the world of a cycle's row, and the steps of its edges from there.
+    fn round_from(&self, alloc: Global, cycle: &Cycle, walk: Walk) -> Result<Round, ExploreFault>
+        requires row { IsLike self.now.store cycle.now.at walk.world }
         ensures round { IfOk result (λ r. (start : WorldState)
             → IsWalk start walk → IsRound start r) }
     {
-        let Walk { world, schedule } = walk;
-        if !self.store.is_row(cycle.at, &world) {
-            discard(world);
-            discard(schedule);
-            return Err(ExploreFault::Unvouched);
-        }
-        let mut walk = Walk {
+        let Walk {
             world,
-            schedule: Schedule::new(alloc),
-        };
-        match go_edges(&mut walk, cycle.edges.as_slice()) {
+            schedule,
+            calls: _,
+        } = walk;
+        let mut walk = Walk::at(alloc, world);
+        match self.go_round(alloc, cycle, &mut walk) {
             Ok(()) => {
-                let round = self.round_at(cycle.at, schedule, walk)?;
-                Ok(round)
+                let Walk {
+                    world,
+                    schedule: steps,
+                    calls: _,
+                } = walk;
+                discard(world);
+                Ok(Round { schedule, steps })
             }
             Err(fault) => {
                 discard(walk);
@@ -97,13 +80,10 @@ impl Search {
         requires starts { AreStarts processes.now }
         ensures round { IfOk result (λ r. IsRound (initial_world processes.now) r) }
     {
-        let mut walk = Walk {
-            world: world_of(alloc, processes)?,
-            schedule: Schedule::new(alloc),
-        };
+        let mut walk = Walk::start(alloc, processes)?;
         match self.go_to(alloc, cycle.at, &mut walk) {
             Ok(()) => {
-                let round = self.go_round(alloc, cycle, walk)?;
+                let round = self.round_from(alloc, cycle, walk)?;
                 Ok(round)
             }
             Err(fault) => {

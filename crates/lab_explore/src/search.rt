@@ -1,5 +1,5 @@
 //! The search of every world.
-ghost use Rattle.std.specs.Prelude.{All, IsTrue, map, IfOk, IfSome, OnOk};
+ghost use Rattle.std.specs.Prelude.{◌≡◌, [], All, IsTrue, false, map, IfOk, IfSome, OnOk};
 ghost use Rattle.lab_sched.specs.Held.{process_view, IsHeld};
 ghost use Rattle.lab_explore.specs.Private.Known.{AreKnown};
 ghost use Rattle.lab_explore.specs.Private.Stored.{IsState, IsReady, IsStore, Grows, AreExpanded, IsSearched, IsCome, IsBegun};
@@ -12,7 +12,7 @@ use crate::trying::discard;
 use crate::{ExploreFault, Limits, Observer};
 use ipc_kernel::Kernel;
 use lab_sched::Process;
-use std::alloc::Global;
+use std::alloc::{AllocError, Global};
 
 /// The state that a process comes to by so many local steps, by its place.
 #[derive(Clone, Copy, Drop)]
@@ -28,11 +28,12 @@ pub(crate) struct Begun {
     pub firsts: Vec<u32>,
 }
 
-/// What a search found: the worlds, the local steps of each process before them, and whether these
-/// are all.
+/// What a search found: the worlds, the moves between them, the local steps of each process before
+/// them, and whether these are all.
 #[derive(Drop)]
 pub(crate) struct Search {
     pub store: Store,
+    pub moves: Moves,
     pub firsts: Vec<u32>,
     pub complete: bool,
 }
@@ -118,6 +119,7 @@ impl Store {
         requires store { IsStore self.old }
         requires known { AreKnown self.old moves.old }
         ensures store { OnOk result (IsStore self.new) }
+        ensures known { OnOk result (AreKnown self.new moves.new) }
         ensures grows { OnOk result (Grows self.old self.new) }
         ensures all { IfOk result (λ whole. IsTrue whole → AreExpanded self.new) }
     {
@@ -135,39 +137,60 @@ impl Store {
     }
 }
 
-/// Keeps every world that processes over a kernel can come to, as far as the limits allow; with the
-/// local steps of each process before its first call, and whether these worlds are all.
-fn fill<O: Observer>(
-    store: &mut Store,
-    alloc: Global,
-    processes: &[Process],
-    kernel: Kernel,
-    limits: Limits,
-    observer: &mut O,
-) -> Result<(Vec<u32>, bool), ExploreFault>
-    requires store { IsStore store.old }
-    requires held { All IsHeld processes.now }
-    ensures complete { IfOk result (λ r. IsTrue r.1 → IsSearched
-        (record { processes = map process_view processes.now; kernel = kernel }) store.new) }
-{
-    let kernel = store.keep_kernel(kernel)?;
-    let Some(begun) = store.begin(alloc, processes, limits.steps)? else {
-        return Ok((Vec::new(alloc), false));
-    };
-    let Begun { states, firsts } = begun;
-    let first = Row {
-        kernel,
-        states,
-        before: 0,
-        pid: 0,
-        taken: 0,
-    };
-    let Some(_) = store.keep_row(first, limits.worlds)? else {
-        return Ok((firsts, false));
-    };
-    let mut moves = Moves::new(alloc)?;
-    let whole = store.expand_all(alloc, &mut moves, limits, observer)?;
-    Ok((firsts, whole))
+impl Search {
+    /// The search before its first world.
+    fn new(alloc: Global) -> Result<Search, AllocError>
+        ensures store { IfOk result (λ s. IsStore s.store) }
+        ensures none { IfOk result (λ s. s.moves.made.items ≡ []) }
+        ensures open { IfOk result (λ s. s.complete ≡ false) }
+    {
+        Ok(Search {
+            store: Store::new(alloc)?,
+            moves: Moves::new(alloc)?,
+            firsts: Vec::new(alloc),
+            complete: false,
+        })
+    }
+
+    /// Keeps every world that processes over a kernel can come to, as far as the limits allow.
+    fn fill<O: Observer>(
+        &mut self,
+        alloc: Global,
+        processes: &[Process],
+        kernel: Kernel,
+        limits: Limits,
+        observer: &mut O,
+    ) -> Result<(), ExploreFault>
+        requires store { IsStore self.old.store }
+        requires none { self.old.moves.made.items ≡ [] }
+        requires open { self.old.complete ≡ false }
+        requires held { All IsHeld processes.now }
+        ensures known { OnOk result (AreKnown self.new.store self.new.moves) }
+        ensures complete { OnOk result (IsTrue self.new.complete → IsSearched
+            (record { processes = map process_view processes.now; kernel = kernel })
+            self.new.store) }
+    {
+        let kernel = self.store.keep_kernel(kernel)?;
+        let Some(begun) = self.store.begin(alloc, processes, limits.steps)? else {
+            return Ok(());
+        };
+        let Begun { states, firsts } = begun;
+        self.firsts = firsts;
+        let first = Row {
+            kernel,
+            states,
+            before: 0,
+            pid: 0,
+            taken: 0,
+        };
+        let Some(_) = self.store.keep_row(first, limits.worlds)? else {
+            return Ok(());
+        };
+        self.complete = self
+            .store
+            .expand_all(alloc, &mut self.moves, limits, observer)?;
+        Ok(())
+    }
 }
 
 /// Searches every world that processes over a kernel can come to, as far as the limits allow.
@@ -179,24 +202,21 @@ pub(crate) fn search_all<O: Observer>(
     observer: &mut O,
 ) -> Result<Search, ExploreFault>
     requires held { All IsHeld processes.now }
+    ensures known { IfOk result (λ s. AreKnown s.store s.moves) }
     ensures complete { IfOk result (λ s. IsTrue s.complete → IsSearched
         (record { processes = map process_view processes.now; kernel = kernel }) s.store) }
 {
-    let mut store = match Store::new(alloc) {
-        Ok(store) => store,
+    let mut search = match Search::new(alloc) {
+        Ok(search) => search,
         Err(_) => {
             discard(kernel);
             return Err(ExploreFault::NoMemory);
         }
     };
-    match fill(&mut store, alloc, processes, kernel, limits, observer) {
-        Ok((firsts, complete)) => Ok(Search {
-            store,
-            firsts,
-            complete,
-        }),
+    match search.fill(alloc, processes, kernel, limits, observer) {
+        Ok(()) => Ok(search),
         Err(fault) => {
-            discard(store);
+            discard(search);
             Err(fault)
         }
     }

@@ -22,7 +22,7 @@ pub(crate) struct Row {
 /// What a process does next.
 #[derive(Clone, Copy, Drop)]
 pub(crate) enum Next {
-    /// Nothing: it has ended, or must still wait.
+    /// Nothing: it has ended, or its call must wait.
     Nothing,
     /// More local steps than it may take.
     Limit,

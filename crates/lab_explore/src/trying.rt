@@ -1,10 +1,11 @@
 //! Steps that are tried on copies.
-ghost use Rattle.std.specs.Prelude.{◌<◌, ◌^◌, ℕ, IsTrue, length, IfOk};
+ghost use Rattle.std.specs.Prelude.{◌≡◌, ◌<◌, ◌^◌, ℕ, IsTrue, false, Some, length, IfOk};
 ghost use Rattle.ipc_kernel.specs.Kernel.{KernelState};
-ghost use Rattle.lab_sched.specs.Worlds.{Process as Seen};
-ghost use Rattle.lab_sched.specs.Held.{process_view, IsHeld, step_of};
+ghost use Rattle.lab_sched.specs.Worlds.{Process as Seen, StepEffect, step_effect};
+ghost use Rattle.lab_sched.specs.Held.{process_view, IsHeld, step_of, stepped_of};
 ghost use Rattle.lab_sched.specs.LocalRun.{AreLocal};
 ghost use Rattle.lab_explore.specs.Calls.{IsAtCall};
+ghost use Rattle.lab_explore.specs.Untried.{GoesOn};
 ghost use Rattle.lab_explore.specs.Private.Stored.{IsStepped, IsRun};
 
 use crate::ExploreFault;
@@ -24,7 +25,7 @@ pub(crate) struct Made {
 /// What came of a step.
 #[derive(Drop)]
 pub(crate) enum Tried {
-    /// Nothing: the process has ended, or must still wait.
+    /// Nothing: the process has ended, or its call must wait.
     Still,
     /// More local steps than the process may take.
     Runs,
@@ -83,12 +84,21 @@ fn run_on(
 /// What came of a step, where the process then made its local steps.
 fn tried_of(made: Option<Made>) -> Tried
     ensures stepped { (k : KernelState) (p : ℕ) (s : Seen)
-        → IsRun (step_of k p s).kernel (step_of k p s).process made → IsStepped k p s result }
+        → IsRun (step_of k p s).kernel (step_of k p s).process made
+        → GoesOn (step_effect k p (Some s)) → IsStepped k p s result }
 {
     match made {
         Some(made) => Tried::Came(made),
         None => Tried::Runs,
     }
+}
+
+/// Whether a process goes on by a step that was told so.
+fn goes_on(stepped: Stepped) -> bool
+    ensures yes { IsTrue result → (t : StepEffect) → stepped ≡ stepped_of t → GoesOn t }
+    ensures no { result ≡ false → (t : StepEffect) → stepped ≡ stepped_of t → GoesOn t → ⊥ }
+{
+    matches!(stepped, Stepped::Moved | Stepped::Called)
 }
 
 /// Takes a step of a process, and its local steps after it.
@@ -104,12 +114,14 @@ fn step_on(
     ensures stepped { IfOk result (λ tried. IsStepped kernel pid (process_view process) tried) }
 {
     match take_step(alloc, &mut process, &mut kernel, pid) {
-        Ok(Stepped::Same) => {
-            discard(process);
-            discard(kernel);
-            Ok(Tried::Still)
+        Ok(stepped) => {
+            if !goes_on(stepped) {
+                discard(process);
+                discard(kernel);
+                return Ok(Tried::Still);
+            }
+            Ok(tried_of(run_on(alloc, kernel, process, most)?))
         }
-        Ok(_) => Ok(tried_of(run_on(alloc, kernel, process, most)?)),
         Err(_) => {
             discard(process);
             discard(kernel);

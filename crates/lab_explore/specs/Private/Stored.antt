@@ -4,7 +4,7 @@ use Rattle.std.specs.Option.{option_map}
 use Rattle.ipc_kernel.specs.Kernel.{KernelState}
 use Rattle.ipc_kernel.specs.Alike.{IsAlike}
 use Rattle.lab_sched.specs.declared.process.Process.{Process as Kept}
-use Rattle.lab_sched.specs.Worlds.{Process, WorldState, nothing, step_effect, step_effect_in, step, IsEffective}
+use Rattle.lab_sched.specs.Worlds.{Process, WorldState, step_effect, step_effect_in, step}
 use Rattle.lab_sched.specs.Held.{process_view, IsHeld, step_of}
 use Rattle.lab_explore.specs.declared.store.Row.{Row}
 use Rattle.lab_explore.specs.declared.store.Edge.{Edge}
@@ -16,6 +16,7 @@ use Rattle.lab_explore.specs.declared.trying.Tried.{Tried}
 use Rattle.lab_explore.specs.declared.trying.Tried.TheVariants.{Still, Runs, Came}
 use Rattle.lab_explore.specs.Calls.{AreAlike, IsAtCall, IsAhead, Alongside}
 use Rattle.lab_explore.specs.Closed.{HasAdvance}
+use Rattle.lab_explore.specs.Untried.{GoesOn}
 
 -- what stands at a place of the one stands there in the other
 abbrev pub Keeps : {A : Type 0} → List A → List A → Type 0
@@ -75,11 +76,11 @@ IsKernel t i k = (j : KernelState) × (slice_get t.kernels.items i ≡ Some j) �
 
 -- what a step of process p makes of it and of the kernel, and of it then all its local steps
 abbrev pub IsNext : Store → KernelState → ℕ → Process → Next → Type 0
-IsNext t k p s Nothing = step_effect k p (Some s) ≡ nothing
-IsNext t k p s Limit = Unit {0}
+IsNext t k p s Nothing = GoesOn (step_effect k p (Some s)) → ⊥
+IsNext t k p s Limit = GoesOn (step_effect k p (Some s))
 IsNext t k p s (To kernel state taken) =
     (u : Process) × IsKernel t kernel (step_of k p s).kernel × IsState t state u
-    × IsReached (step_of k p s).process u
+    × IsReached (step_of k p s).process u × GoesOn (step_effect k p (Some s))
 
 -- the same where the kernel and the process are given by their places
 abbrev pub IsMove : Store → ℕ → ℕ → ℕ → Next → Type 0
@@ -94,11 +95,11 @@ HasEdge t i w p =
     (k : ℕ) × (e : Edge) × (v : WorldState) × (slice_get t.edges.items k ≡ Some e) × (e.from ≡ i)
     × IsAt t e.to v × AreReached (step w p) v
 
--- the step of process p from the world of row number i, if it is effective, has an edge
+-- the step of process p from the world of row number i, if the process goes on, has an edge
 abbrev pub IsTried : Store → ℕ → WorldState → ℕ → Type 0
-IsTried t i w p = IsEffective (step_effect_in w p) → HasEdge t i w p
+IsTried t i w p = GoesOn (step_effect_in w p) → HasEdge t i w p
 
--- row number i stands for a world from which each effective step has an edge
+-- row number i stands for a world from which each step by which a process goes on has an edge
 abbrev pub IsExpanded : Store → ℕ → Type 0
 IsExpanded t i = (w : WorldState) × IsAt t i w × ((p : ℕ) → IsTried t i w p)
 
@@ -114,11 +115,12 @@ pub record IsSearched (start : WorldState) (t : Store) : Type 0 where
 -- what a step of process p makes of it and of the kernel, and of it then all its local steps, as
 -- they are
 abbrev pub IsStepped : KernelState → ℕ → Process → Tried → Type 0
-IsStepped k p s Still = step_effect k p (Some s) ≡ nothing
-IsStepped k p s Runs = Unit {0}
+IsStepped k p s Still = GoesOn (step_effect k p (Some s)) → ⊥
+IsStepped k p s Runs = GoesOn (step_effect k p (Some s))
 IsStepped k p s (Came made) =
     (made.kernel ≡ (step_of k p s).kernel) × IsReady made.process
     × IsReached (step_of k p s).process (process_view made.process)
+    × GoesOn (step_effect k p (Some s))
 
 -- the same where the kernel and the process are given by their places
 abbrev pub IsKeptStep : Store → ℕ → ℕ → ℕ → Tried → Type 0

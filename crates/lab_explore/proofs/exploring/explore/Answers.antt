@@ -6,11 +6,14 @@ use Rattle.lab_explore.specs.Rounds.{IsRound, AreBounded}
 use Rattle.lab_explore.proofs.FirstWorlds.{all_closed}
 use Rattle.lab_explore.proofs.Bounds.{searched_bounded}
 use Rattle.lab_explore.proofs.Cycles.{some_endless}
-use Rattle.lab_explore.proofs.Explorations.{started, same_ends, all_ends, never_stuck, fresh_consistent}
+use Rattle.lab_explore.proofs.Explorations.{started, starts_untried, starts_ask, same_ends, all_ends, never_stuck, fresh_consistent}
 use Rattle.lab_explore.proofs.exploring.explore.Goals as goal
 
 pub report-requires : goal.report-requires
-report-requires g c = record { starts = subst AreStarts (sym c.deref-2.ensures.value) c.processes-processes.ensures.starts }
+report-requires g c = record {
+  starts = subst AreStarts (sym c.deref-2.ensures.value) c.processes-processes.ensures.starts;
+  known = c.in_ok-search.ensures.known;
+}
 
 pub returns-in-Ok-clause-sound : goal.returns-in-Ok-clause-sound
 returns-in-Ok-clause-sound g c =
@@ -23,8 +26,11 @@ returns-in-Ok-clause-complete g c is =
     let start : WorldState = record { processes = map process_view ps; kernel = c.in_ok-kernel.kernel } in
     let count : c.len.result ≡ length ps = omega (arith, ap length c.deref.ensures.value) in
     let same = started c.args.fresh c.processes-processes.result.items ps c.in_ok-kernel.kernel c.len.result c.processes-processes.ensures.world c.deref.ensures.value count c.in_ok-kernel.ensures.empty in
-    all_ends c.args.fresh start c.in_ok-search.search.store c.in-Ok.found.ends.items same (fresh_consistent start c.len.result c.in_ok-kernel.ensures.empty) (returns-in-Ok-clause-sound g c)
-    (all_closed c.in_ok-search.search.store start (c.in_ok-search.ensures.complete (c.in-Ok.ensures.complete is))) c.in-Ok.ensures.all
+    let starts = c.processes-processes.ensures.starts in
+    let qs = c.processes-processes.result.items in
+    all_ends c.args.fresh start c.in_ok-search.search.store c.in-Ok.found.ends.items same (fresh_consistent start c.len.result c.in_ok-kernel.ensures.empty)
+    (starts_ask qs ps c.in_ok-kernel.kernel c.deref.ensures.value starts) (returns-in-Ok-clause-sound g c)
+    (all_closed c.in_ok-search.search.store start (starts_untried qs ps c.in_ok-kernel.kernel c.deref.ensures.value starts) (c.in_ok-search.ensures.complete (c.in-Ok.ensures.complete is))) c.in-Ok.ensures.all
 
 pub returns-in-Ok-clause-free : goal.returns-in-Ok-clause-free
 returns-in-Ok-clause-free g c is none =
@@ -46,4 +52,7 @@ returns-in-Ok-clause-bounded g c is none =
     let start : WorldState = record { processes = map process_view ps; kernel = c.in_ok-kernel.kernel } in
     let count : c.len.result ≡ length ps = omega (arith, ap length c.deref.ensures.value) in
     let same = started c.args.fresh c.processes-processes.result.items ps c.in_ok-kernel.kernel c.len.result c.processes-processes.ensures.world c.deref.ensures.value count c.in_ok-kernel.ensures.empty in
-    subst AreBounded (sym same) (searched_bounded c.in_ok-search.search.store start (fresh_consistent start c.len.result c.in_ok-kernel.ensures.empty) (c.in_ok-search.ensures.complete (c.in-Ok.ensures.complete is)) (c.in-Ok.ensures.none none))
+    let starts = c.processes-processes.ensures.starts in
+    let qs = c.processes-processes.result.items in
+    subst AreBounded (sym same) (searched_bounded c.in_ok-search.search.store start (fresh_consistent start c.len.result c.in_ok-kernel.ensures.empty)
+    (starts_ask qs ps c.in_ok-kernel.kernel c.deref.ensures.value starts) (starts_untried qs ps c.in_ok-kernel.kernel c.deref.ensures.value starts) (c.in_ok-search.ensures.complete (c.in-Ok.ensures.complete is)) (c.in-Ok.ensures.none none))

@@ -14,4 +14,5 @@ returns-in_ok-state-in-Ok-clause-next c k p s h = (
   kernel_grows c.keep_kernel.new.self c.keep_state.new.self c.in-Ok.kernel _ c.in_ok-state-in-Ok.ensures.grows (subst (λ k. IsKernel c.keep_kernel.new.self c.in-Ok.kernel k) h.0 c.in-Ok.ensures.kernel),
   c.in_ok-state-in-Ok.ensures.state,
   h.2,
+  h.3,
 )

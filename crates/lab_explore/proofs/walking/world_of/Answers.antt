@@ -1,5 +1,5 @@
 use Rattle.lab_explore.proofs.Explorations.{copies_world}
-use Rattle.lab_explore.proofs.ends.world_of.Goals as goal
+use Rattle.lab_explore.proofs.walking.world_of.Goals as goal
 
 pub join-requires : goal.join-requires
 join-requires c = record {

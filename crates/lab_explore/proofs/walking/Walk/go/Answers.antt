@@ -1,0 +1,14 @@
+use Rattle.std.proofs.Common.{arith}
+use Rattle.lab_sched.specs.Worlds.{step_effect_in}
+use Rattle.lab_explore.proofs.Walks.{walk_more}
+use Rattle.lab_explore.proofs.walking.Walk.go.Goals as goal
+
+pub returns : goal.returns
+returns c = record {
+  walk = λ start h.
+      let told = c.in-Ok.ensures.told in
+      let one = c.calls_of.ensures.count c.args.pid (step_effect_in c.args.self.now.world c.args.pid) told in
+      let sum = c.in-Some.ensures in
+      walk_more start c.args.self.now _ c.args.pid c.in-Ok.stepped h c.in-Ok.ensures.world told (c.changes.ensures.effective c.if-not-changes.false) c.in_ok-push.ensures.steps
+      (omega (arith, sum, one));
+}

@@ -1,0 +1,99 @@
+//! Rows that are compared with worlds.
+ghost use Rattle.std.specs.Prelude.{◌≡◌, IsTrue, false, IfOk};
+ghost use Rattle.lab_sched.specs.Held.{process_view};
+ghost use Rattle.lab_sched.specs.Stepping.{before_wait};
+ghost use Rattle.lab_explore.specs.Untried.{untried};
+ghost use Rattle.lab_explore.specs.Private.Stored.{IsState, IsLike};
+
+use crate::store::Store;
+use lab_sched::{Process, World};
+use std::alloc::{AllocError, Global};
+
+/// A copy of a process, as it was before it began to wait.
+fn copy_before_wait(alloc: Global, process: &Process) -> Result<Process, AllocError>
+    ensures before { IfOk result
+        (λ copy. process_view copy ≡ before_wait (process_view process.now)) }
+{
+    Ok(match process {
+        Process::Running(running) => Process::Running(running.copy(alloc)?),
+        Process::Waiting(waiting, _) => Process::Running(waiting.copy(alloc)?.back()),
+        Process::Ended(ended) => Process::Ended(ended.copy(alloc)?),
+    })
+}
+
+/// Whether a process waits.
+fn waits(process: &Process) -> bool
+    ensures no { result ≡ false → before_wait (process_view process.now) ≡ process_view process.now }
+{
+    matches!(process, Process::Waiting(_, _))
+}
+
+/// Whether no process of a world waits.
+fn none_waits(world: &World) -> bool
+    ensures none { IsTrue result → untried world.now ≡ world.now }
+{
+    for pid in 0..world.count() {
+        let Some(process) = world.process(pid) else {
+            return false;
+        };
+        if waits(process) {
+            return false;
+        }
+    }
+    true
+}
+
+impl Store {
+    /// Whether a state is that of a process before it began to wait.
+    fn is_state(&self, alloc: Global, state: u32, process: &Process) -> Result<bool, AllocError>
+        ensures same { IfOk result (λ same. IsTrue same
+            → IsState self.now state (before_wait (process_view process.now))) }
+    {
+        let Some(kept) = self.states.get(state as usize) else {
+            return Ok(false);
+        };
+        let process = copy_before_wait(alloc, process)?;
+        Ok(kept.is_same(&process))
+    }
+
+    /// Whether a row stands for a world that is alike this one, with each process that waits before
+    /// its call.
+    pub(crate) fn is_untried_row(
+        &self,
+        alloc: Global,
+        at: usize,
+        world: &World,
+    ) -> Result<bool, AllocError>
+        ensures alike { IfOk result (λ alike. IsTrue alike
+            → IsLike self.now at (untried world.now)) }
+    {
+        let Some(row) = self.rows.get(at) else {
+            return Ok(false);
+        };
+        let Some(kernel) = self.kernels.get(row.kernel as usize) else {
+            return Ok(false);
+        };
+        if row.states.len() != world.count() || !kernel.is_alike(world.kernel()) {
+            return Ok(false);
+        }
+        for (pid, state) in row.states.iter().enumerate() {
+            let Some(process) = world.process(pid) else {
+                return Ok(false);
+            };
+            if !self.is_state(alloc, *state, process)? {
+                return Ok(false);
+            }
+        }
+        Ok(true)
+    }
+
+    /// Whether a row stands for a world alike.
+    pub(crate) fn is_row(&self, alloc: Global, at: usize, world: &World) -> Result<bool, AllocError>
+        ensures alike { IfOk result (λ alike. IsTrue alike → IsLike self.now at world.now) }
+    {
+        if !none_waits(world) {
+            return Ok(false);
+        }
+        self.is_untried_row(alloc, at, world)
+    }
+}

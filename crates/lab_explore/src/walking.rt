@@ -1,0 +1,236 @@
+//! Walks: effective steps from a world, one by one.
+ghost use Rattle.std.specs.Prelude.{◌≡◌, ℕ, IsTrue, IfOk, OnOk, length};
+ghost use Rattle.lab_sched.specs.Worlds.{StepEffect, entry_of};
+ghost use Rattle.lab_sched.specs.Held.{stepped_of};
+ghost use Rattle.lab_sched.specs.Starts.{AreStarts, initial_world};
+ghost use Rattle.lab_sched.specs.declared.stepped.Stepped.TheVariants.{Same};
+ghost use Rattle.lab_explore.specs.Untried.{untried};
+ghost use Rattle.lab_explore.specs.Private.Stored.{IsLike};
+ghost use Rattle.lab_explore.specs.Private.Walked.{IsWalk, KeepsStart};
+
+use crate::ExploreFault;
+use crate::search::Search;
+use crate::store::Store;
+use crate::trying::discard;
+use ipc_kernel::{Kernel, PROCESS_MAX};
+use lab_sched::{MOST_STEPS, Process, Schedule, Stepped, World};
+use std::alloc::{AllocError, Global};
+
+/// A world, the steps that led to it, and how many of them were calls.
+#[derive(Drop)]
+pub(crate) struct Walk {
+    pub world: World,
+    pub schedule: Schedule,
+    pub calls: u32,
+}
+
+/// Copies of processes.
+fn copies(alloc: Global, processes: &[Process]) -> Result<Vec<Process>, AllocError>
+    ensures copies { IfOk result (λ v. v.items ≡ processes.now) }
+{
+    let mut copies = Vec::with_capacity(alloc, processes.len())?;
+    for process in processes {
+        let copy = process.copy(alloc)?;
+        copies.push(copy)?;
+    }
+    Ok(copies)
+}
+
+/// The world of processes before their first steps.
+fn world_of(alloc: Global, processes: &[Process]) -> Result<World, ExploreFault>
+    requires starts { AreStarts processes.now }
+    ensures world { IfOk result (λ w. w ≡ initial_world processes.now) }
+{
+    let kernel = Kernel::new(alloc, processes.len())?;
+    match copies(alloc, processes) {
+        Ok(copies) => Ok(World::join(copies, kernel)),
+        Err(_) => {
+            discard(kernel);
+            Err(ExploreFault::NoMemory)
+        }
+    }
+}
+
+/// Whether a step that was told so is effective.
+fn changes(stepped: Stepped) -> bool
+    ensures effective { IsTrue result → stepped ≡ Same → ⊥ }
+{
+    !matches!(stepped, Stepped::Same)
+}
+
+/// How many calls a step is that was told so.
+fn calls_of(stepped: Stepped) -> u32
+    ensures count { (p : ℕ) (t : StepEffect) → stepped ≡ stepped_of t
+        → result ≡ length (entry_of p t) }
+{
+    match stepped {
+        Stepped::Called | Stepped::Waits => 1,
+        Stepped::Moved | Stepped::Same => 0,
+    }
+}
+
+impl Walk {
+    /// The walk that stays at a world.
+    pub(crate) fn at(alloc: Global, world: World) -> Walk
+        ensures world { result.world ≡ world }
+        ensures walk { IsWalk world result }
+    {
+        Walk {
+            world,
+            schedule: Schedule::new(alloc),
+            calls: 0,
+        }
+    }
+
+    /// The walk that stays at the world of processes before their first steps.
+    pub(crate) fn start(alloc: Global, processes: &[Process]) -> Result<Walk, ExploreFault>
+        requires starts { AreStarts processes.now }
+        ensures walk { IfOk result (λ w. IsWalk (initial_world processes.now) w) }
+    {
+        Ok(Walk::at(alloc, world_of(alloc, processes)?))
+    }
+
+    /// Takes a step, which must be effective.
+    pub(crate) fn go(&mut self, pid: usize) -> Result<(), ExploreFault>
+        ensures walk { OnOk result (KeepsStart self.old self.new) }
+    {
+        if pid >= PROCESS_MAX || self.schedule.total() >= MOST_STEPS {
+            return Err(ExploreFault::Unvouched);
+        }
+        let Ok(stepped) = self.world.step(pid) else {
+            return Err(ExploreFault::NoMemory);
+        };
+        let Some(calls) = self.calls.checked_add(calls_of(stepped)) else {
+            return Err(ExploreFault::Unvouched);
+        };
+        if !changes(stepped) {
+            return Err(ExploreFault::Unvouched);
+        }
+        self.calls = calls;
+        self.schedule.push(pid, 1)?;
+        Ok(())
+    }
+
+    /// Takes so many steps, each of which must be effective.
+    pub(crate) fn go_on(&mut self, pid: usize, count: u32) -> Result<(), ExploreFault>
+        ensures walk { OnOk result (KeepsStart self.old self.new) }
+    {
+        for _ in 0..count {
+            self.go(pid)?;
+        }
+        Ok(())
+    }
+
+    /// Takes the local steps of each process.
+    fn go_local(&mut self, local: &[u32]) -> Result<(), ExploreFault>
+        ensures walk { OnOk result (KeepsStart self.old self.new) }
+    {
+        for (pid, count) in local.iter().enumerate() {
+            self.go_on(pid, *count)?;
+        }
+        Ok(())
+    }
+
+    /// Whether a process has ended.
+    fn has_ended(&self, pid: usize) -> bool {
+        matches!(self.world.process(pid), Some(Process::Ended(_)))
+    }
+
+    /// Takes the local steps of each process, and behind them the one by which it begins to wait, if
+    /// it hasn't ended.
+    fn go_to_rest(&mut self, local: &[u32]) -> Result<(), ExploreFault>
+        ensures walk { OnOk result (KeepsStart self.old self.new) }
+    {
+        for (pid, count) in local.iter().enumerate() {
+            self.go_on(pid, *count)?;
+            if !self.has_ended(pid) {
+                self.go(pid)?;
+            }
+        }
+        Ok(())
+    }
+}
+
+/// Puts the number of local steps of a process in its place, and answers the one that stood there.
+fn exchange(local: &mut Vec<u32>, pid: usize, count: u32) -> Result<u32, ExploreFault> {
+    if pid >= local.len() {
+        return Err(ExploreFault::Unvouched);
+    }
+    let before = local[pid];
+    local[pid] = count;
+    Ok(before)
+}
+
+impl Store {
+    /// The processes that moved on the way to a row, with their local steps after that, the last
+    /// first.
+    fn way(&self, alloc: Global, at: usize) -> Result<Vec<(usize, u32)>, AllocError> {
+        let mut way = Vec::new(alloc);
+        let mut now = at;
+        for _ in 0..self.rows.len() {
+            if now == 0 {
+                break;
+            }
+            let Some(row) = self.rows.get(now) else {
+                break;
+            };
+            way.push((row.pid as usize, row.taken))?;
+            now = row.before as usize;
+        }
+        Ok(way)
+    }
+}
+
+impl Search {
+    /// Goes the way to a row, up to its last call: the local steps of a process are taken just before
+    /// its next one. With those that are left of each process.
+    fn go_calls(&self, alloc: Global, at: usize, walk: &mut Walk) -> Result<Vec<u32>, ExploreFault>
+        ensures walk { OnOk result (KeepsStart walk.old walk.new) }
+    {
+        let way = self.store.way(alloc, at)?;
+        let mut local = Vec::from_slice(alloc, self.firsts.as_slice())?;
+        for (pid, taken) in way.iter().rev() {
+            let before = exchange(&mut local, *pid, *taken)?;
+            walk.go_on(*pid, before)?;
+            walk.go(*pid)?;
+        }
+        Ok(local)
+    }
+
+    /// Goes the way to a row, to whose world it must lead.
+    pub(crate) fn go_to(
+        &self,
+        alloc: Global,
+        at: usize,
+        walk: &mut Walk,
+    ) -> Result<(), ExploreFault>
+        ensures walk { OnOk result (KeepsStart walk.old walk.new) }
+        ensures row { OnOk result (IsLike self.now.store at walk.new.world) }
+    {
+        let local = self.go_calls(alloc, at, walk)?;
+        walk.go_local(local.as_slice())?;
+        if !self.store.is_row(alloc, at, &walk.world)? {
+            return Err(ExploreFault::Unvouched);
+        }
+        Ok(())
+    }
+
+    /// Goes the way to a row from whose world no process goes on, and lets each begin to wait that
+    /// hasn't ended. It must lead to the world of the row but for who waits.
+    pub(crate) fn go_to_end(
+        &self,
+        alloc: Global,
+        at: usize,
+        walk: &mut Walk,
+    ) -> Result<(), ExploreFault>
+        ensures walk { OnOk result (KeepsStart walk.old walk.new) }
+        ensures row { OnOk result (IsLike self.now.store at (untried walk.new.world)) }
+    {
+        let local = self.go_calls(alloc, at, walk)?;
+        walk.go_to_rest(local.as_slice())?;
+        if !self.store.is_untried_row(alloc, at, &walk.world)? {
+            return Err(ExploreFault::Unvouched);
+        }
+        Ok(())
+    }
+}
