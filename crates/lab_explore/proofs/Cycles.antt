@@ -1,5 +1,6 @@
 -- Walks that lead from a world to itself.
-use Rattle.std.proofs.Common.{ℕ, zero, suc, ◌≡◌, ◌≤◌, ◌++◌, List, [], Option, Some, None, IfSome, sym, ap, subst, ◌∙◌, arith, length}
+use Rattle.std.proofs.Common.{ℕ, zero, suc, ◌≡◌, ◌≤◌, ◌++◌, List, Option, Some, None, IfSome, sym, ap, subst, ◌∙◌, arith, length, replicate}
+use Rattle.std.specs.List.{concat}
 use Rattle.std.proofs.lemmas.List.{length-append}
 use Rattle.lab_sched.specs.Worlds.{WorldState, run}
 use Rattle.lab_sched.specs.Execution.{AreEffective}
@@ -13,7 +14,7 @@ use Rattle.ipc_kernel.specs.Alike.{IsConsistent}
 use Rattle.lab_explore.specs.Calls.{AreAlike}
 use Rattle.lab_explore.proofs.AlikeWorlds.{world_itself, world_then, world_back, run_alike, effective_alike, consistent_run}
 use Rattle.lab_explore.specs.Private.Walked.{IsWalk}
-use Rattle.lab_explore.specs.Rounds.{IsRound, AreEndless}
+use Rattle.lab_explore.specs.Rounds.{IsRound, CanBeRepeated, AreEndless}
 use Rattle.lab_explore.proofs.FirstWorlds.{at_unique}
 
 -- a walk to the world of a row, and one from there to the world of that row
@@ -31,24 +32,35 @@ walk_round start first second t i h here k there some =
     }
 
 -- the round so many times, from a world alike
-repeated : (w x : WorldState) (ps : List ℕ) → IsConsistent w.kernel → AreEffective w ps → AreAlike w (run w ps) → 1 ≤ length ps → AreAlike w x → (n : ℕ) → (qs : List ℕ) × AreEffective x qs × (n ≤ length qs)
-repeated w x ps s effective returns some a zero = ([], tt, omega arith)
-repeated w x ps s effective returns some a (suc n) =
+repeated : (w x : WorldState) (ps : List ℕ) → IsConsistent w.kernel → AreEffective w ps → AreAlike w (run w ps) → AreAlike w x → (n : ℕ) → AreEffective x (concat (replicate n ps))
+repeated w x ps s effective returns a zero = tt
+repeated w x ps s effective returns a (suc n) =
     let there = world_then w (run w ps) (run x ps) returns (run_alike ps w x s a) in
-    let rest = repeated w (run x ps) ps s effective returns some there n in
-    let long = length-append ps rest.0 in
-    let more = rest.2 in
-    (ps ++ rest.0, effective-append x ps rest.0 (effective_alike ps w x s a effective) rest.1, omega arith)
+    effective-append x ps (concat (replicate n ps)) (effective_alike ps w x s a effective) (repeated w (run x ps) ps s effective returns there n)
 
--- a round can be repeated for ever
-pub round_endless : (start : WorldState) (r : Round) → IsConsistent start.kernel → IsRound start r → AreEndless start
-round_endless start r s h n =
+-- a round can be repeated as often as one likes
+round_repeats : (start : WorldState) (r : Round) → IsConsistent start.kernel → IsRound start r → CanBeRepeated start r
+round_repeats start r s h n =
     let w = run start (steps_of r.schedule) in
-    let again = repeated w w (steps_of r.steps) (consistent_run (steps_of r.schedule) start s) h.goes_on h.returns h.some (world_itself w) n in
-    let long = length-append (steps_of r.schedule) again.0 in
-    let more = again.2 in
-    (steps_of r.schedule ++ again.0, effective-append start (steps_of r.schedule) again.0 h.effective again.1, omega arith)
+    effective-append start (steps_of r.schedule) (concat (replicate n (steps_of r.steps))) h.effective
+    (repeated w w (steps_of r.steps) (consistent_run (steps_of r.schedule) start s) h.goes_on h.returns (world_itself w) n)
+
+-- so many steps at least
+long_enough : (ps : List ℕ) → 1 ≤ length ps → (n : ℕ) → n ≤ length (concat (replicate n ps))
+long_enough ps some zero = omega arith
+long_enough ps some (suc n) =
+    let long = length-append ps (concat (replicate n ps)) in
+    let more = long_enough ps some n in
+    omega arith
+
+pub some_repeats : (start : WorldState) (o : Option Round) → IsConsistent start.kernel → IfSome o (λ r. IsRound start r) → IfSome o (λ r. CanBeRepeated start r)
+some_repeats start None s h = h
+some_repeats start (Some r) s h = round_repeats start r s h
 
 pub some_endless : (start : WorldState) (o : Option Round) → IsConsistent start.kernel → IfSome o (λ r. IsRound start r) → IfSome o (λ r. AreEndless start)
 some_endless start None s h = h
-some_endless start (Some r) s h = round_endless start r s h
+some_endless start (Some r) s h = λ n.
+    let rounds = concat (replicate n (steps_of r.steps)) in
+    let long = length-append (steps_of r.schedule) rounds in
+    let more = long_enough (steps_of r.steps) h.some n in
+    (steps_of r.schedule ++ rounds, round_repeats start r s h n, omega arith)

@@ -1,6 +1,7 @@
 -- Runs that never end: rounds, by which steps lead from a world to one alike, and what shows that
 -- there is none.
-use Rattle.std.specs.Prelude.{ℕ, ◌≡◌, ◌<◌, ◌≤◌, List, Some, All, length, slice_get}
+use Rattle.std.specs.Prelude.{ℕ, ◌≡◌, ◌<◌, ◌≤◌, ◌++◌, List, Some, All, length, replicate, slice_get}
+use Rattle.std.specs.List.{concat}
 use Rattle.lab_sched.specs.Worlds.{WorldState, run}
 use Rattle.lab_sched.specs.Execution.{AreEffective}
 use Rattle.lab_sched.specs.Schedules.{steps_of}
@@ -16,6 +17,11 @@ pub record IsRound (start : WorldState) (r : Round) : Type 0 where
   pub goes_on : AreEffective (run start (steps_of r.schedule)) (steps_of r.steps)
   pub returns : AreAlike (run start (steps_of r.schedule))
       (run (run start (steps_of r.schedule)) (steps_of r.steps))
+
+-- behind the schedule's steps, those of the round are effective as often as one likes
+abbrev pub CanBeRepeated : WorldState → Round → Type 0
+CanBeRepeated start r =
+    (n : ℕ) → AreEffective start (steps_of r.schedule ++ concat (replicate n (steps_of r.steps)))
 
 -- there are lists of effective steps as long as one likes
 abbrev pub AreEndless : WorldState → Type 0

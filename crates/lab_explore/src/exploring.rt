@@ -4,7 +4,7 @@ ghost use Rattle.lab_sched.specs.Starts.{AreStarts, initial_world};
 ghost use Rattle.lab_explore.specs.Private.Known.{AreKnown};
 ghost use Rattle.lab_explore.specs.Private.Walked.{HaveRowEnds};
 ghost use Rattle.lab_explore.specs.Ends.{AreEnds, HaveAllEnds, NoneStuck, NeverStuck};
-ghost use Rattle.lab_explore.specs.Rounds.{IsRound, AreRising, AreEndless, AreBounded};
+ghost use Rattle.lab_explore.specs.Rounds.{IsRound, CanBeRepeated, AreRising, AreEndless, AreBounded};
 
 use crate::search::{Search, search_all};
 use crate::trying::discard;
@@ -27,9 +27,9 @@ pub struct Exploration {
 /// with fewer calls first. Each end has a schedule of effective steps that leads to it. Where the
 /// exploration is complete, there is no other end, whatever steps are taken, in any order, but for
 /// the numbers of places in the kernel; and if then no end is stuck, no such steps lead to a world
-/// that is. A round shows that some effective steps never end; where the exploration is complete
-/// and has no round, each list of effective steps ends, after no more than some number of them. The
-/// observer is told of the worlds as they are visited.
+/// that is. A round can be repeated as often as one likes, so some effective steps never end; where
+/// the exploration is complete and has no round, each list of effective steps ends, after no more
+/// than some number of them. The observer is told of the worlds as they are visited.
 pub fn explore<O: Observer>(
     alloc: Global,
     fresh: Fresh,
@@ -42,6 +42,7 @@ pub fn explore<O: Observer>(
     ensures free { IfOk result (λ found.
         IsTrue found.complete → NoneStuck found.ends.items → NeverStuck fresh) }
     ensures round { IfOk result (λ found. IfSome found.round (λ r. IsRound fresh r)) }
+    ensures repeats { IfOk result (λ found. IfSome found.round (λ r. CanBeRepeated fresh r)) }
     ensures endless { IfOk result (λ found. IfSome found.round (λ r. AreEndless fresh)) }
     ensures bounded { IfOk result (λ found. IsTrue found.complete → found.round ≡ None
         → AreBounded fresh) }

@@ -2,7 +2,7 @@
 ghost use Rattle.std.specs.Prelude.{◌≡◌, ◌↔◌, None, map, string_bytes, IfOk, IfSome};
 ghost use Rattle.lab_sched.specs.ScheduleTexts.{schedule_text};
 ghost use Rattle.lab_explore.specs.Ends.{AreEnds, NeverStuck};
-ghost use Rattle.lab_explore.specs.Rounds.{IsRound, AreBounded};
+ghost use Rattle.lab_explore.specs.Rounds.{IsRound, CanBeRepeated, AreBounded};
 ghost use Rattle.lab_findings.specs.Texts.{told_ends, findings_text};
 ghost use Rattle.lab_findings.specs.Shortfalls.{ShowsRequired, IsShortfallOf};
 ghost use Rattle.lab_findings.specs.Programs.{SaysComplete, SaysEndless, SaysStuck, TellsEveryEnd, ComeTo};
@@ -54,6 +54,8 @@ pub fn find<O: Observer>(
         ≡ map (λ e. schedule_text e.schedule) (told_ends f.exploration.ends.items)) }
     ensures sound { IfOk result (λ f. AreEnds fresh f.exploration.ends.items) }
     ensures round { IfOk result (λ f. IfSome f.exploration.round (λ r. IsRound fresh r)) }
+    ensures repeats { IfOk result (λ f.
+        IfSome f.exploration.round (λ r. CanBeRepeated fresh r)) }
     ensures complete { IfOk result (λ f.
         SaysComplete (string_bytes f.text) → TellsEveryEnd fresh (string_bytes f.text)) }
     ensures free { IfOk result (λ f. SaysComplete (string_bytes f.text)

@@ -5,7 +5,7 @@ use Rattle.lab_sched.specs.Starts.{AreStarts, initial_world}
 use Rattle.lab_explore.specs.Rounds.{IsRound, AreBounded}
 use Rattle.lab_explore.proofs.FirstWorlds.{all_closed}
 use Rattle.lab_explore.proofs.Bounds.{searched_bounded}
-use Rattle.lab_explore.proofs.Cycles.{some_endless}
+use Rattle.lab_explore.proofs.Cycles.{some_repeats, some_endless}
 use Rattle.lab_explore.proofs.Explorations.{started, starts_untried, starts_ask, same_ends, all_ends, never_stuck, fresh_consistent}
 use Rattle.lab_explore.proofs.exploring.explore.Goals as goal
 
@@ -40,6 +40,11 @@ pub returns-in-Ok-clause-round : goal.returns-in-Ok-clause-round
 returns-in-Ok-clause-round g c =
     let same = sym c.processes-processes.ensures.world ∙ ap initial_world (sym c.deref-2.ensures.value) in
     subst (λ w. IfSome c.in-Ok.found.round (λ r. IsRound w r)) (sym same) c.in-Ok.ensures.round
+
+pub returns-in-Ok-clause-repeats : goal.returns-in-Ok-clause-repeats
+returns-in-Ok-clause-repeats g c =
+    let empty = ap (λ (w : WorldState). w.kernel) (sym c.processes-processes.ensures.world) in
+    some_repeats c.args.fresh c.in-Ok.found.round (fresh_consistent c.args.fresh (length c.processes-processes.result.items) empty) (returns-in-Ok-clause-round g c)
 
 pub returns-in-Ok-clause-endless : goal.returns-in-Ok-clause-endless
 returns-in-Ok-clause-endless g c =
