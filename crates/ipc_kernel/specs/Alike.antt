@@ -11,7 +11,7 @@ use Rattle.ipc_kernel.specs.declared.call.Call.{Call}
 use Rattle.ipc_kernel.specs.declared.renaming.Renaming.{Renaming}
 use Rattle.ipc_kernel.specs.Processes.{is_referred}
 use Rattle.ipc_kernel.specs.Places.{place_at, queue_name, semaphore_name}
-use Rattle.ipc_kernel.specs.Kernel.{KernelState}
+use Rattle.ipc_kernel.specs.Kernel.{KernelState, empty_kernel}
 use Rattle.ipc_kernel.specs.Answer.{answer}
 
 -- a descriptor of the queue whose place is renamed
@@ -59,6 +59,10 @@ pub record IsConsistent (k : KernelState) : Type 0 where
 abbrev pub AnswersAlike : Type 0
 AnswersAlike = (k j : KernelState) (p : ℕ) (c : Call) → IsConsistent k → IsAlike k j
     → ((answer k p c).0 ≡ (answer j p c).0) × IsAlike (answer k p c).1 (answer j p c).1
+
+-- the kernel of so many processes is consistent before their first call
+abbrev pub StartsConsistent : Type 0
+StartsConsistent = (n : ℕ) → IsConsistent (empty_kernel n)
 
 -- a kernel that is consistent is so after each call
 abbrev pub StaysConsistent : Type 0

@@ -2,7 +2,7 @@
 ghost use Rattle.std.specs.Prelude.{◌≡◌, ℕ, IsTrue, length};
 ghost use Rattle.ipc_kernel.specs.Kernel.{KernelState};
 ghost use Rattle.ipc_kernel.specs.Answer.{answer, may_wait};
-ghost use Rattle.ipc_kernel.specs.Alike.{AnswersAlike, StaysConsistent};
+ghost use Rattle.ipc_kernel.specs.Alike.{AnswersAlike, StartsConsistent, StaysConsistent};
 ghost use Rattle.ipc_kernel.specs.declared.call.Call.{Call};
 ghost use Rattle.ipc_kernel.specs.declared.call.Answer.TheVariants.{Wait};
 
@@ -31,6 +31,11 @@ pub fn count_law()
 /// alike, and are alike after it.
 pub fn alike_law()
     ensures alike { AnswersAlike }
+{}
+
+/// In a kernel before the first call no reference is to no object, and no name stands for two.
+pub fn empty_law()
+    ensures consistent { StartsConsistent }
 {}
 
 /// A kernel in which each reference is to an object, and each name to one, stays so.
