@@ -10,7 +10,8 @@ use Rattle.ipc_kernel.specs.declared.renaming.Renaming.{Renaming}
 use Rattle.ipc_kernel.specs.Processes.{slot_refers, descriptor_refers, process_refers, is_referred}
 use Rattle.ipc_kernel.specs.Places.{place_at, has_name}
 use Rattle.ipc_kernel.specs.Kernel.{KernelState, IsSettled}
-use Rattle.ipc_kernel.specs.Alike.{renamed_descriptor, renamed_slot, renamed_process, renamed_by, IsPermutation, IsRenaming, IsAlike, Permutes, Follows}
+use Rattle.ipc_kernel.specs.Alike.{renamed_descriptor, renamed_slot, renamed_process, IsPermutation, IsRenaming, IsAlike}
+use Rattle.ipc_kernel.specs.Private.Renamings.{renamed_by, Permutes, Follows}
 use Rattle.ipc_kernel.proofs.Alikes.{place_at-emptied}
 
 or_left : (a b : Bool) → a ≡ true → (a || b) ≡ true

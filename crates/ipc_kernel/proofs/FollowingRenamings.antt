@@ -4,7 +4,7 @@ use Rattle.std.proofs.lemmas.Bool.{cases_lt}
 use Rattle.ipc_kernel.specs.declared.place.Place.{Place}
 use Rattle.ipc_kernel.specs.declared.renaming.Renaming.{Renaming}
 use Rattle.ipc_kernel.specs.Places.{place_at, has_name}
-use Rattle.ipc_kernel.specs.Alike.{Follows}
+use Rattle.ipc_kernel.specs.Private.Renamings.{Follows}
 use Rattle.ipc_kernel.proofs.Exchanges.{follows_then}
 
 -- a place with a name below a limit

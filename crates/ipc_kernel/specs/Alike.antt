@@ -1,5 +1,5 @@
 -- Kernels that are alike: equal but for the numbers of their object places, which no reply shows.
-use Rattle.std.specs.Prelude.{◌≡◌, ◌↔◌, ℕ, ◌<◌, false, List, Option, Some, length, map, slice_get, unwrap_or}
+use Rattle.std.specs.Prelude.{◌≡◌, ◌↔◌, ℕ, ◌<◌, false, List, Option, Some, length, map}
 use Rattle.std.specs.Option.{option_map}
 use Rattle.ipc_kernel.specs.Limits.{object_places}
 use Rattle.ipc_kernel.specs.declared.place.Place.{Place}
@@ -8,7 +8,6 @@ use Rattle.ipc_kernel.specs.declared.process.OpenTables.{OpenTables}
 use Rattle.ipc_kernel.specs.declared.process.Slot.{Slot}
 use Rattle.ipc_kernel.specs.declared.process.Descriptor.{Descriptor}
 use Rattle.ipc_kernel.specs.declared.call.Call.{Call}
-use Rattle.ipc_kernel.specs.declared.renaming.Renaming.{Renaming}
 use Rattle.ipc_kernel.specs.Processes.{is_referred}
 use Rattle.ipc_kernel.specs.Places.{place_at, queue_name, semaphore_name}
 use Rattle.ipc_kernel.specs.Kernel.{KernelState, empty_kernel}
@@ -67,16 +66,3 @@ StartsConsistent = (n : ℕ) → IsConsistent (empty_kernel n)
 -- a kernel that is consistent is so after each call
 abbrev pub StaysConsistent : Type 0
 StaysConsistent = (k : KernelState) (p : ℕ) (c : Call) → IsConsistent k → IsConsistent (answer k p c).1
-
--- where a list of numbers takes a place; one behind its end stays
-abbrev pub renamed_by : List ℕ → ℕ → ℕ
-renamed_by to i = unwrap_or (slice_get to i) i
-
--- the two lists of a renaming undo each other, and rename the object places among themselves
-abbrev pub Permutes : Renaming → Type 0
-Permutes r = IsPermutation (renamed_by r.to) (renamed_by r.from)
-
--- the later renaming takes an object place where f does if the earlier one does so, or if it is one of these
-pub record Follows (f : ℕ → ℕ) (these : ℕ → Type 0) (earlier later : Renaming) : Type 0 where
-  pub kept : (i : ℕ) → renamed_by earlier.to i ≡ f i → renamed_by later.to i ≡ f i
-  pub taken : (i : ℕ) → i < object_places → these i → renamed_by later.to i ≡ f i

@@ -1,6 +1,7 @@
 //! Renamings of the object places.
 ghost use Rattle.std.specs.Prelude.{◌≡◌, ℕ};
-ghost use Rattle.ipc_kernel.specs.Alike.{IsPermutation, Permutes, Follows, renamed_by};
+ghost use Rattle.ipc_kernel.specs.Alike.{IsPermutation};
+ghost use Rattle.ipc_kernel.specs.Private.Renamings.{Permutes, Follows, renamed_by};
 
 use crate::limits::OBJECT_PLACES;
 

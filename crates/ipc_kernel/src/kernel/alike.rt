@@ -1,6 +1,7 @@
 //! Whether two kernels are alike: equal but for the numbers of the places.
 ghost use Rattle.std.specs.Prelude.{◌≡◌, ◌↔◌, IsTrue};
-ghost use Rattle.ipc_kernel.specs.Alike.{IsAlike, IsRenaming, Permutes, renamed_by};
+ghost use Rattle.ipc_kernel.specs.Alike.{IsAlike, IsRenaming};
+ghost use Rattle.ipc_kernel.specs.Private.Renamings.{Permutes, renamed_by};
 
 use super::Kernel;
 use crate::renaming::Renaming;

@@ -4,7 +4,8 @@ ghost use Rattle.std.specs.List.{list_any};
 ghost use Rattle.std.specs.Option.{option_map};
 ghost use Rattle.ipc_kernel.specs.Limits.{object_places};
 ghost use Rattle.ipc_kernel.specs.Processes.{descriptor_refers, slot_refers, process_refers, is_referred};
-ghost use Rattle.ipc_kernel.specs.Alike.{IsPermutation, Permutes, Follows, renamed_by};
+ghost use Rattle.ipc_kernel.specs.Alike.{IsPermutation};
+ghost use Rattle.ipc_kernel.specs.Private.Renamings.{Permutes, Follows, renamed_by};
 ghost use Rattle.ipc_kernel.specs.Alike.{renamed_descriptor, renamed_slot, renamed_process};
 
 use super::Processes;

@@ -2,7 +2,8 @@ use Rattle.std.proofs.Common.{◌≡◌, ℕ, true, map, take}
 use Rattle.std.specs.List.{list_any}
 use Rattle.std.specs.Option.{option_map}
 use Rattle.ipc_kernel.specs.Processes.{slot_refers}
-use Rattle.ipc_kernel.specs.Alike.{IsPermutation, Permutes, Follows, renamed_slot}
+use Rattle.ipc_kernel.specs.Alike.{IsPermutation, renamed_slot}
+use Rattle.ipc_kernel.specs.Private.Renamings.{Permutes, Follows}
 use Rattle.ipc_kernel.proofs.processes.alike.take_slots.Given as goal
 
 abbrev pub invariant-loop-at : goal.invariant-loop-at
