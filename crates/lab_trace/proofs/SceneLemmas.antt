@@ -11,7 +11,7 @@ use Rattle.lab_sched.specs.declared.stepped.Stepped.TheVariants as stepped
 use Rattle.lab_sched.proofs.Runs.{run-one, length-run}
 use Rattle.lab_trace.specs.Events.{Event, local, calls, writes, ends, event_of}
 use Rattle.lab_trace.specs.Questions.{Before}
-use Rattle.lab_trace.specs.Tallies.{TallyState, new_account, account_in, account_of, account_after, tally_after, AreBelow}
+use Rattle.lab_trace.specs.Tallies.{TallyState, new_account, account_in, account_of, account_after, AreBelow}
 use Rattle.lab_trace.specs.Units.{AreFew, IsFew}
 use Rattle.lab_trace.proofs.UnitLemmas.{few-more, after-few}
 use Rattle.lab_trace.specs.Scenes.{Scene, first_scene, has_effect, line_by, tally_by, before_at, line, next_tally, next, events, scene_after, IsKept}

@@ -3,8 +3,6 @@ use Rattle.std.specs.Prelude.{ℕ, ◌==◌, ◌&&◌, nat_lt, not, Bool, if◌t
 use Rattle.std.specs.List.{find, filter, insert, remove, position_or_len}
 use Rattle.ipc_kernel.specs.Kernel.{KernelState}
 use Rattle.ipc_kernel.specs.Outcomes.{queue_at}
-use Rattle.lab_sched.specs.Worlds.{Process}
-use Rattle.lab_trace.specs.Answers.{result_of}
 use Rattle.lab_trace.specs.Objects.{held_place}
 use Rattle.lab_trace.specs.Questions.{Question}
 use Rattle.lab_trace.specs.declared.origins.Origin.{Origin}

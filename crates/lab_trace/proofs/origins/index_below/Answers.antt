@@ -1,4 +1,4 @@
-use Rattle.std.proofs.Common.{◌≡◌, sym, ◌∙◌, length, arith, eq-eqb}
+use Rattle.std.proofs.Common.{sym, ◌∙◌, length, arith}
 use Rattle.std.proofs.lemmas.List.Sums.{position_or_len_is}
 use Rattle.lab_trace.specs.Origins.{is_below}
 use Rattle.lab_trace.specs.declared.origins.Origin.{Origin}

@@ -1,6 +1,5 @@
 use Rattle.std.proofs.Common.{◌≡◌, ℕ, ◌<◌, false, get_or}
 use Rattle.lab_trace.specs.Origins.{is_below}
-use Rattle.lab_trace.specs.declared.origins.Origin.{Origin}
 use Rattle.lab_trace.proofs.origins.index_below.Given as goal
 
 -- none so far

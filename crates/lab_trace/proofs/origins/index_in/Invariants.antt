@@ -1,6 +1,5 @@
 use Rattle.std.proofs.Common.{◌≡◌, ℕ, ◌<◌, false, get_or}
 use Rattle.lab_trace.specs.Origins.{is_in}
-use Rattle.lab_trace.specs.declared.origins.Origin.{Origin}
 use Rattle.lab_trace.proofs.origins.index_in.Given as goal
 
 -- none so far

@@ -1,6 +1,5 @@
 use Rattle.std.proofs.Common.{ℕ, List, [], ◌++◌, ap, ◌∙◌}
-use Rattle.lab_trace.specs.Ends.{taker_of, taker_text}
-use Rattle.lab_trace.specs.Units.{balance, units_of}
+use Rattle.lab_trace.specs.Ends.{taker_text}
 use Rattle.lab_texts.proofs.RowLemmas.{texts_below_more}
 use Rattle.lab_trace.proofs.takers.takers.Goals as goal
 
