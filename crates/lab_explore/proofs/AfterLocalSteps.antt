@@ -51,3 +51,7 @@ same_by_gets {A} (x ∷ xs) (y ∷ ys) f =
     let same : x ≡ y = cc in
     let tail = same_by_gets xs ys (λ i. f (suc i)) in
     ap (λ z. z ∷ xs) same ∙ ap (λ zs. y ∷ zs) tail
+
+-- two values at one place
+pub same_some : {A : Type 0} (x y : A) (o : Option A) → o ≡ Some x → o ≡ Some y → x ≡ y
+same_some x y o a b = cc

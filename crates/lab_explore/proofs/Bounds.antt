@@ -360,12 +360,12 @@ module _ (t : Store) (order : List ℕ) (start : WorldState) (searched : IsSearc
   bounded consistent asks same =
       let begun = searched.begins in
       let taken = taken_of start.processes begun.0.processes begun.2.processes in
-      let n = total taken.0 + 4294967296 * rank (length order) (slice_get order begun.1.0) in
+      let n = total taken.0 + 4294967296 * rank (length order) (slice_get order 0) in
       let left : HasLeft t order start n = record {
-        at = begun.1.0;
+        at = 0;
         advance = begun.0;
         taken = taken.0;
-        here = begun.1.1;
+        here = begun.1;
         kernel = begun.2.kernel;
         consistent = consistent;
         processes = taken.1;

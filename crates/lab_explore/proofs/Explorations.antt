@@ -1,15 +1,15 @@
 -- Explorations: what the parts of one say together.
-use Rattle.std.proofs.Common.{ℕ, All, ◌≡◌, ◌++◌, [], ◌∷◌, slice_get, List, Option, Some, None, refl, sym, ap, subst, ◌∙◌, length, map, inl, inr}
+use Rattle.std.proofs.Common.{ℕ, All, arith, count_by, ◌≡◌, ◌≤◌, ◌+◌, ◌++◌, [], ◌∷◌, slice_get, List, Option, Some, None, refl, sym, ap, subst, ◌∙◌, length, map, inl, inr}
 use Rattle.ipc_kernel.specs.Kernel.{KernelState, empty_kernel}
 use Rattle.lab_sched.specs.declared.process.Process.{Process as Kept}
 use Rattle.ipc_kernel.specs.Alike.{IsConsistent}
 use Rattle.ipc_kernel.proofs.Consistents.{consistent_empty}
 use Rattle.lab_explore.specs.Calls.{AreAlike}
 use Rattle.lab_explore.proofs.AlikeWorlds.{world_then, world_back, one_verdict, consistent_run}
-use Rattle.lab_sched.specs.Worlds.{Process, Running, Waiting, Ended, WorldState, step_effect, step_effect_in, run}
+use Rattle.lab_sched.specs.Worlds.{Process, Running, Waiting, Ended, WorldState, step_effect, step_effect_in, run, entries}
 use Rattle.lab_sched.specs.Finished.{IsAtRest}
 use Rattle.lab_sched.specs.Schedules.{steps_of}
-use Rattle.lab_sched.specs.Verdicts.{IsVerdict, IsRunning, IsWaiting, HasEnded, AreStuck}
+use Rattle.lab_sched.specs.Verdicts.{IsVerdict, IsRunning, IsWaiting, HasEnded, AreStuck, is_waiting}
 use Rattle.lab_sched.specs.declared.verdict.Verdict.{Verdict}
 use Rattle.lab_sched.specs.declared.verdict.Verdict.TheVariants as verdict
 use Rattle.lab_sched.proofs.WorldLemmas.{fresh_world}
@@ -19,9 +19,10 @@ use Rattle.lab_sched.specs.Starts.{AreStarts, initial_world}
 use Rattle.lab_explore.specs.declared.store.Store.{Store}
 use Rattle.lab_explore.specs.declared.ends.End.{End}
 use Rattle.lab_explore.specs.declared.walking.Walk.{Walk}
-use Rattle.lab_explore.specs.Closed.{AreAtRest, IsClosed}
+use Rattle.lab_explore.specs.Closed.{AreAtRest}
 use Rattle.lab_explore.specs.Untried.{untried, AskAgain}
-use Rattle.lab_explore.specs.Private.Stored.{IsAt, IsLike, Holds, Keeps}
+use Rattle.lab_explore.specs.Private.Stored.{IsAt, IsLike, IsSearched, Keeps}
+use Rattle.lab_explore.specs.Private.Depths.{waiting}
 use Rattle.lab_explore.specs.Private.Walked.{IsWalk, HasUntriedEnd, HaveRowEnds}
 use Rattle.lab_explore.specs.Ends.{IsEnd, AreEnds, HaveAllEnds, NoneStuck, NeverStuck}
 use Rattle.lab_explore.proofs.UntriedWorlds.{rests_alike, running_untried, running_ask, AreRunning}
@@ -31,8 +32,9 @@ use Rattle.std.proofs.lemmas.List.Sorted.{All-permutation, IsPermutation-sym}
 use Rattle.std.proofs.lemmas.Option.{slice_get-map, slice_get-get_or}
 use Rattle.lab_sched.specs.Starts.{Runs}
 use Rattle.lab_explore.proofs.Pushes.{get_pushed, all_at}
-use Rattle.lab_explore.proofs.FirstWorlds.{at_unique}
-use Rattle.lab_explore.proofs.HeldAdvances.{idle, asks_run, has_every_end}
+use Rattle.lab_explore.proofs.FirstWorlds.{at_unique, AreAtDepth, all_levels}
+use Rattle.lab_explore.proofs.FewestCalls.{untried_waits}
+use Rattle.lab_explore.proofs.HeldAdvances.{idle, asks_run, reaches_end}
 
 -- the start of a laboratory, by copies of its processes over an empty kernel
 pub started : (w : WorldState) (ps qs : List Kept) (k : KernelState) (n : ℕ) → initial_world ps ≡ w → qs ≡ ps → n ≡ length qs → k ≡ empty_kernel n
@@ -40,20 +42,30 @@ pub started : (w : WorldState) (ps qs : List Kept) (k : KernelState) (n : ℕ) �
 started w ps qs k n world same count empty =
     sym world ∙ ap initial_world (sym same) ∙ ap (λ j. record { processes = map process_view qs; kernel = j }) (ap empty_kernel (sym count) ∙ sym empty)
 
--- all ends, where the worlds of a store are closed, and each of them that is at rest has its end
-pub all_ends : (fresh start : WorldState) (t : Store) (ends : List End) → fresh ≡ start → IsConsistent start.kernel → AskAgain start → AreEnds fresh ends → IsClosed start (Holds t) → HaveRowEnds t ends
-    → HaveAllEnds fresh ends
-all_ends fresh start t ends same consistent asks each closed all =
-    subst (λ s. HaveAllEnds s ends) (sym same)
+-- one of the ends is in a world alike, with its verdict, after at most n calls
+abbrev pub IsReachedIn : List End → WorldState → ℕ → Type 0
+IsReachedIn ends w n = (i : ℕ) × (e : End) × (slice_get ends i ≡ Some e) × AreAlike w e.world × IsVerdict w e.verdict × (e.calls ≤ n)
+
+-- so is each world at rest, where each row from whose world no process goes on has its end
+pub all_ends : (fresh start : WorldState) (t : Store) (ends : List End) → fresh ≡ start → IsConsistent start.kernel → AskAgain start → untried start ≡ start → AreEnds fresh ends → IsSearched start t → HaveRowEnds t ends
+    → (ps : List ℕ) → AreAtRest (run fresh ps) → IsReachedIn ends (run fresh ps) (length (entries fresh ps))
+all_ends fresh start t ends same consistent asks first each searched all =
+    subst (λ s. (ps : List ℕ) → AreAtRest (run s ps) → IsReachedIn ends (run s ps) (length (entries s ps))) (sym same)
     (λ ps rest.
     let w = run start ps in
-    let held = has_every_end start (Holds t) consistent asks closed ps rest in
-    let found = all held.1.0 held.0 held.1.1 held.2 in
-    let end = all_at (IsEnd start) ends found.0 found.1 (subst (λ s. AreEnds s ends) same each) found.2 in
-    let ask : AskAgain found.1.world = subst AskAgain end.leads (asks_run (steps_of found.1.schedule) start asks) in
-    let alike = rests_alike w found.1.world (asks_run ps start asks) ask rest end.rests (world_then (untried w) held.0 (untried found.1.world) held.3 found.3) in
-    let there = subst (λ (x : WorldState). IsConsistent x.kernel) end.leads (consistent_run (steps_of found.1.schedule) start consistent) in
-    (found.0, found.1, found.2, alike, one_verdict found.1.world w found.1.verdict there (world_back w found.1.world alike) end.verdict))
+    let held = reaches_end start (AreAtDepth t all.depths) consistent asks (all_levels t start all.depths first searched all.are) ps rest in
+    let found = all.each held.2.0 held.0 held.2.1 held.3 in
+    let e = found.1 in
+    let end = all_at (IsEnd start) ends found.0 e (subst (λ s. AreEnds s ends) same each) found.2 in
+    let ask : AskAgain e.world = subst AskAgain end.leads (asks_run (steps_of e.schedule) start asks) in
+    let alike = rests_alike w e.world (asks_run ps start asks) ask rest end.rests (world_then (untried w) held.0 (untried e.world) held.4 found.3) in
+    let there = subst (λ (x : WorldState). IsConsistent x.kernel) end.leads (consistent_run (steps_of e.schedule) start consistent) in
+    let none : waiting start ≡ 0 = ap waiting (sym first) ∙ untried_waits start in
+    let waits : waiting e.world ≡ waiting w = ap (count_by is_waiting) alike.processes in
+    let few = found.4 in
+    let deep = held.2.2 in
+    let most = held.5 in
+    (found.0, e, found.2, alike, one_verdict e.world w e.verdict there (world_back w e.world alike) end.verdict, omega (arith, few, deep, most, none, waits)))
 
 pub same_ends : (fresh start : WorldState) (ends : List End) → fresh ≡ start → AreEnds start ends → AreEnds fresh ends
 same_ends fresh start ends same each = subst (λ s. AreEnds s ends) (sym same) each
@@ -84,21 +96,21 @@ walk_end start walk v e h stands closed same =
     subst (IsEnd start) (sym same) (record { effective = h.effective; leads = h.leads; calls = h.calls; rests = verdict_rests walk.world v stands closed; verdict = stands; closed = closed })
 
 -- ends that were found stay found
-pub end_kept : (xs ys : List End) (w : WorldState) → Keeps xs ys → HasUntriedEnd xs w → HasUntriedEnd ys w
-end_kept xs ys w keeps h = (h.0, h.1, keeps h.0 h.1 h.2, h.3)
+pub end_kept : (xs ys : List End) (w : WorldState) (d : ℕ) → Keeps xs ys → HasUntriedEnd xs w d → HasUntriedEnd ys w d
+end_kept xs ys w d keeps h = (h.0, h.1, keeps h.0 h.1 h.2, h.3, h.4)
 
 -- ends in another order
-pub end_sorted : (xs ys : List End) (w : WorldState) → IsPermutation xs ys → HasUntriedEnd xs w → HasUntriedEnd ys w
-end_sorted xs ys w same h =
+pub end_sorted : (xs ys : List End) (w : WorldState) (d : ℕ) → IsPermutation xs ys → HasUntriedEnd xs w d → HasUntriedEnd ys w d
+end_sorted xs ys w d same h =
     let there : All (λ e. (j : ℕ) × (slice_get ys j ≡ Some e)) ys = λ k d below. (k, slice_get-get_or ys k d below) in
     let each = All-permutation (λ e. (j : ℕ) × (slice_get ys j ≡ Some e)) ys xs (IsPermutation-sym xs ys same) there in
     let found = all_at (λ e. (j : ℕ) × (slice_get ys j ≡ Some e)) xs h.0 h.1 each h.2 in
-    (found.0, h.1, found.1, h.3)
+    (found.0, h.1, found.1, h.3, h.4)
 
 -- the end of a row that was pushed
-pub end_pushed : (t : Store) (i : ℕ) (w : WorldState) (e : End) (xs ys : List End) → ys ≡ xs ++ e ∷ [] → IsLike t i (untried e.world) → IsAt t i w → HasUntriedEnd ys w
-end_pushed t i w e xs ys is here there =
-    (length xs, e, ap (λ zs. slice_get zs (length xs)) is ∙ get_pushed xs e, subst (λ v. AreAlike v (untried e.world)) (at_unique t i here.0 w here.1 there) here.2)
+pub end_pushed : (t : Store) (i d : ℕ) (w : WorldState) (e : End) (xs ys : List End) → ys ≡ xs ++ e ∷ [] → IsLike t i (untried e.world) → e.calls ≤ d + waiting e.world → IsAt t i w → HasUntriedEnd ys w d
+end_pushed t i d w e xs ys is here few there =
+    (length xs, e, ap (λ zs. slice_get zs (length xs)) is ∙ get_pushed xs e, subst (λ v. AreAlike v (untried e.world)) (at_unique t i here.0 w here.1 there) here.2, few)
 
 waits_on : (s : Process) → IsWaiting s → HasEnded s → ⊥
 waits_on (Running m) waits ended = waits

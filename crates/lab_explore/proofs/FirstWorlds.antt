@@ -1,5 +1,5 @@
 -- The first world of a search, and what the whole search holds.
-use Rattle.std.proofs.Common.{ℕ, suc, ◌≡◌, ◌<◌, ◌+◌, ◌++◌, List, [], ◌∷◌, Option, Some, None, refl, sym, ap, subst, ◌∙◌, slice_get, length, map, take, get_or}
+use Rattle.std.proofs.Common.{ℕ, suc, arith, ◌≡◌, ◌<◌, ◌≤◌, ◌+◌, ◌++◌, List, [], ◌∷◌, Option, Some, None, refl, sym, ap, subst, ◌∙◌, slice_get, length, map, take, get_or}
 use Rattle.std.proofs.lemmas.List.{map-append, take_more}
 use Rattle.std.specs.Option.{option_map}
 use Rattle.ipc_kernel.specs.Kernel.{KernelState}
@@ -10,13 +10,14 @@ use Rattle.lab_sched.proofs.ListPlaces.{get_past}
 use Rattle.lab_explore.specs.declared.store.Row.{Row}
 use Rattle.lab_explore.specs.declared.store.Store.{Store}
 use Rattle.lab_explore.specs.Calls.{IsAhead, Both, Alongside, IsAdvance}
-use Rattle.lab_explore.specs.Closed.{HasAdvance, IsClosed}
+use Rattle.lab_explore.specs.Closed.{HasAdvance}
 use Rattle.lab_explore.specs.Untried.{GoesOn, untried}
-use Rattle.lab_explore.specs.Private.Stored.{IsState, IsKernel, IsRow, IsAt, Holds, Grows, IsReached, AreReached, IsSearched, IsCome, IsBegun}
-use Rattle.lab_explore.proofs.AfterLocalSteps.{same_by_gets}
-use Rattle.lab_explore.proofs.Pushes.{alongside_cons, alongside_push, both_weaker}
+use Rattle.lab_explore.specs.Private.Stored.{IsState, IsKernel, IsRow, IsAt, Grows, IsReached, AreReached, IsSearched, IsCome, IsBegun}
+use Rattle.lab_explore.proofs.AfterLocalSteps.{same_by_gets, same_some}
+use Rattle.lab_explore.specs.Private.Depths.{depth_of, IsNear, AreDepths}
+use Rattle.lab_explore.proofs.HeldAdvances.{AreLevels}
+use Rattle.lab_explore.proofs.Pushes.{alongside_cons, alongside_push, both_weaker, all_at}
 use Rattle.lab_explore.proofs.Growths.{state_grows}
-use Rattle.lab_explore.proofs.StepsOfRows.{same_some}
 
 pub come_grows : (t u : Store) (i : ℕ) (s : Process) → Grows t u → IsCome t i s → IsCome u i s
 come_grows t u i s g h = (h.0, state_grows t u i h.0 g h.1, h.2)
@@ -77,15 +78,25 @@ reached_advance w v h = record {
   processes = λ p. both_weaker IsReached IsAhead (λ s u r. r.ahead) (slice_get w.processes p) (slice_get v.processes p) (h.processes p);
 }
 
--- where each row was expanded, the worlds are closed
-pub all_closed : (t : Store) (start : WorldState) → untried start ≡ start → IsSearched start t → IsClosed start (Holds t)
-all_closed t start same searched = record {
-  begins = subst (HasAdvance (Holds t)) (sym same) searched.begins;
-  goes_on = λ v p held effective.
+-- the rows of at most this depth
+abbrev pub AreAtDepth : Store → List ℕ → ℕ → WorldState → Type 0
+AreAtDepth t depths n v = (i : ℕ) × IsAt t i v × (depth_of depths i ≤ n)
+
+-- where each row was expanded, they are levels of worlds
+pub all_levels : (t : Store) (start : WorldState) (depths : List ℕ) → untried start ≡ start → IsSearched start t → AreDepths depths t.edges.items → AreLevels start (AreAtDepth t depths)
+all_levels t start depths same searched deep = record {
+  begins =
+      let first = searched.begins in
+      let least = deep.first in
+      subst (HasAdvance (AreAtDepth t depths 0)) (sym same) (first.0, (0, first.1, omega arith), first.2);
+  goes_on = λ n v p held effective.
       let i = held.0 in
       let done = searched.expanded i (get_past t.rows.items i held.1.0 held.1.1) in
       let same : v ≡ done.0 = at_unique t i v done.0 held.1 done.1 in
       let edge = done.2 p (subst (λ w. GoesOn (step_effect_in w p)) same effective) in
-      let there : HasAdvance (Holds t) (step done.0 p) = (edge.2, (edge.1.to, edge.5), reached_advance (step done.0 p) edge.2 edge.6) in
-      subst (λ w. HasAdvance (Holds t) (step w p)) (sym same) there;
+      let near : depth_of depths edge.1.to ≤ depth_of depths edge.1.from + 1 = all_at (IsNear depths) t.edges.items edge.0 edge.1 deep.near edge.3 in
+      let from : depth_of depths edge.1.from ≡ depth_of depths i = ap (depth_of depths) edge.4 in
+      let few = held.2 in
+      let there : HasAdvance (AreAtDepth t depths (n + 1)) (step done.0 p) = (edge.2, (edge.1.to, edge.5, omega (arith, near, from, few)), reached_advance (step done.0 p) edge.2 edge.6) in
+      subst (λ w. HasAdvance (AreAtDepth t depths (n + 1)) (step w p)) (sym same) there;
 }

@@ -1,6 +1,7 @@
 mod AlikeWorlds
 mod AfterLocalSteps
 mod UntriedWorlds
+mod FewestCalls
 mod HeldAdvances
 mod StepsToCalls
 mod Pushes

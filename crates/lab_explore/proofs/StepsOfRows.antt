@@ -21,6 +21,7 @@ use Rattle.lab_explore.specs.Calls.{IsAtCall, IsAhead, Both, Alongside}
 use Rattle.lab_explore.specs.Untried.{GoesOn}
 use Rattle.lab_explore.specs.Private.Stored.{IsReady, IsState, IsRow, IsAt, IsStore, Grows, IsNext, IsMove, IsReached, AreReached, HasEdge, IsTried, IsExpanded, IsRun}
 use Rattle.lab_explore.proofs.Pushes.{alongside_set, get_pushed, all_at}
+use Rattle.lab_explore.proofs.AfterLocalSteps.{same_some}
 use Rattle.lab_explore.proofs.Growths.{state_kept, at_grows, row_grows}
 
 pub both_left : {A B : Type 0} (R : A → B → Type 0) (x : A) (o : Option B) → Both R (Some x) o → (y : B) × (o ≡ Some y) × R x y
@@ -31,9 +32,6 @@ both_left R x (Some y) h = (y, refl, h)
 pub process_at : (t : Store) (r : Row) (w : WorldState) (p i : ℕ) → IsRow t r w → slice_get r.states.items p ≡ Some i
     → (s : Process) × (slice_get w.processes p ≡ Some s) × IsState t i s
 process_at t r w p i row e = both_left (IsState t) i (slice_get w.processes p) (subst (λ o. Both (IsState t) o (slice_get w.processes p)) e (row.states p))
-
-pub same_some : {A : Type 0} (x y : A) (o : Option A) → o ≡ Some x → o ≡ Some y → x ≡ y
-same_some x y o a b = cc
 
 own_at : (t : Store) → IsStore t → (a : Option ℕ) (b : Option Process) → Both (IsState t) a b → Both IsReached b b
 own_at t is None None h = tt

@@ -1,5 +1,5 @@
 -- The ends of an exploration.
-use Rattle.std.specs.Prelude.{ℕ, ◌≡◌, List, Some, All, length, slice_get}
+use Rattle.std.specs.Prelude.{ℕ, ◌≡◌, ◌≤◌, List, Some, All, length, slice_get}
 use Rattle.lab_sched.specs.Worlds.{WorldState, run, entries}
 use Rattle.lab_sched.specs.Execution.{AreEffective}
 use Rattle.lab_sched.specs.Schedules.{steps_of}
@@ -33,6 +33,13 @@ IsReported ends w =
 -- one of the ends is in a world alike, with its verdict
 abbrev pub HaveAllEnds : WorldState → List End → Type 0
 HaveAllEnds start ends = (ps : List ℕ) → AreAtRest (run start ps) → IsReported ends (run start ps)
+
+-- whatever steps are taken from the start, effective or not: if the world after them is at rest,
+-- one of the ends is in a world alike, and has no more calls than these steps
+abbrev pub HaveFewestCalls : WorldState → List End → Type 0
+HaveFewestCalls start ends = (ps : List ℕ) → AreAtRest (run start ps)
+    → (i : ℕ) × (e : End) × (slice_get ends i ≡ Some e) × AreAlike (run start ps) e.world
+    × (e.calls ≤ length (entries start ps))
 
 -- no end is stuck
 abbrev pub NoneStuck : List End → Type 0

@@ -1,4 +1,5 @@
 -- Definitions that only contracts inside the crate cite.
 pub mod Stored
 pub mod Known
+pub mod Depths
 pub mod Walked

@@ -1,7 +1,8 @@
 //! Rows that are compared with worlds.
-ghost use Rattle.std.specs.Prelude.{◌≡◌, IsTrue, false, IfOk};
+ghost use Rattle.std.specs.Prelude.{◌≡◌, IsTrue, IfOk};
 ghost use Rattle.lab_sched.specs.Held.{process_view};
 ghost use Rattle.lab_sched.specs.Stepping.{before_wait};
+ghost use Rattle.lab_sched.specs.Verdicts.{is_waiting};
 ghost use Rattle.lab_explore.specs.Untried.{untried};
 ghost use Rattle.lab_explore.specs.Private.Stored.{IsState, IsLike};
 
@@ -22,8 +23,8 @@ fn copy_before_wait(alloc: Global, process: &Process) -> Result<Process, AllocEr
 }
 
 /// Whether a process waits.
-fn waits(process: &Process) -> bool
-    ensures no { result ≡ false → before_wait (process_view process.now) ≡ process_view process.now }
+pub(crate) fn waits(process: &Process) -> bool
+    ensures value { result ≡ is_waiting (process_view process.now) }
 {
     matches!(process, Process::Waiting(_, _))
 }

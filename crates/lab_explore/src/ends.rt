@@ -1,21 +1,24 @@
 //! The ends among the worlds of a search, each reached again from the start.
-ghost use Rattle.std.specs.Prelude.{◌≡◌, false, IfOk, OnOk};
+ghost use Rattle.std.specs.Prelude.{◌≡◌, ◌≤◌, ◌+◌, false, IfOk, OnOk};
+ghost use Rattle.std.specs.List.Sorted.{IsPermutation, IsNonDecreasingBy};
 ghost use Rattle.lab_sched.specs.Worlds.{WorldState};
 ghost use Rattle.lab_sched.specs.Starts.{AreStarts, initial_world};
 ghost use Rattle.lab_sched.specs.declared.verdict.Verdict.TheVariants.{Open};
 ghost use Rattle.lab_explore.specs.Untried.{untried, NoneGoesOn};
 ghost use Rattle.lab_explore.specs.Private.Known.{AreKnown};
 ghost use Rattle.lab_explore.specs.Private.Stored.{IsAt, IsLike, Keeps};
+ghost use Rattle.lab_explore.specs.Private.Depths.{waiting};
 ghost use Rattle.lab_explore.specs.Private.Walked.{IsWalk, HasRowEnd, HaveRowEnds};
 ghost use Rattle.lab_explore.specs.Ends.{IsEnd, AreEnds};
 
 use crate::ExploreFault;
+use crate::depths::depth_of;
 use crate::search::Search;
 use crate::store::{Next, place_of};
 use crate::trying::discard;
 use crate::walking::Walk;
 use lab_sched::{Process, Schedule, Verdict, World};
-use std::alloc::Global;
+use std::alloc::{AllocError, Global};
 
 /// A world at rest, how it stands, and a schedule that leads to it, with the number of its calls.
 #[derive(Drop)]
@@ -37,6 +40,7 @@ fn is_open(verdict: Verdict) -> bool
 fn end_of(walk: Walk) -> Result<End, ExploreFault>
     ensures end { IfOk result (λ e. (start : WorldState) → IsWalk start walk → IsEnd start e) }
     ensures world { IfOk result (λ e. e.world ≡ walk.world) }
+    ensures calls { IfOk result (λ e. e.calls ≡ walk.calls) }
 {
     let Walk {
         world,
@@ -55,6 +59,15 @@ fn end_of(walk: Walk) -> Result<End, ExploreFault>
         verdict,
         calls,
     })
+}
+
+/// Puts ends with fewer calls first.
+fn sort_by_calls(ends: &mut Vec<End>) -> Result<(), AllocError>
+    ensures same { IsPermutation ends.old.items ends.new.items }
+    ensures ordered { OnOk result (IsNonDecreasingBy (λ e. e.calls) ends.new.items) }
+{
+    ends.sort_by_key(|end| end.calls)?;
+    Ok(())
 }
 
 impl Search {
@@ -78,14 +91,21 @@ impl Search {
         Ok(true)
     }
 
-    /// The end of a row, reached again.
-    fn row_end(&self, alloc: Global, processes: &[Process], at: usize) -> Result<End, ExploreFault>
+    /// The end of a row of this depth, reached again.
+    fn row_end(
+        &self,
+        alloc: Global,
+        processes: &[Process],
+        at: usize,
+        depth: u32,
+    ) -> Result<End, ExploreFault>
         requires starts { AreStarts processes.now }
         ensures end { IfOk result (λ e. IsEnd (initial_world processes.now) e) }
         ensures row { IfOk result (λ e. IsLike self.now.store at (untried e.world)) }
+        ensures few { IfOk result (λ e. e.calls ≤ depth + waiting e.world) }
     {
         let mut walk = Walk::start(alloc, processes)?;
-        match self.go_to_end(alloc, at, &mut walk) {
+        match self.go_to_end(alloc, at, depth, &mut walk) {
             Ok(()) => {
                 let end = end_of(walk)?;
                 Ok(end)
@@ -97,12 +117,13 @@ impl Search {
         }
     }
 
-    /// Adds the end of a row to others, if no process goes on from its world.
+    /// Adds the end of a row of this depth to others, if no process goes on from its world.
     fn add_end(
         &self,
         alloc: Global,
         processes: &[Process],
         at: usize,
+        depth: u32,
         ends: &mut Vec<End>,
     ) -> Result<(), ExploreFault>
         requires starts { AreStarts processes.now }
@@ -110,12 +131,12 @@ impl Search {
         ensures each { OnOk result (AreEnds (initial_world processes.now) ends.old.items
             → AreEnds (initial_world processes.now) ends.new.items) }
         ensures keeps { OnOk result (Keeps ends.old.items ends.new.items) }
-        ensures here { OnOk result (HasRowEnd self.now.store ends.new.items at) }
+        ensures here { OnOk result (HasRowEnd self.now.store ends.new.items at depth) }
     {
         if !self.may_rest(at)? {
             return Ok(());
         }
-        let end = self.row_end(alloc, processes, at)?;
+        let end = self.row_end(alloc, processes, at, depth)?;
         ends.push(end)?;
         Ok(())
     }
@@ -130,12 +151,15 @@ impl Search {
         requires known { AreKnown self.now.store self.now.moves }
         ensures ends { IfOk result (λ ends. AreEnds (initial_world processes.now) ends.items) }
         ensures all { IfOk result (λ ends. HaveRowEnds self.now.store ends.items) }
+        ensures ordered { IfOk result (λ ends. IsNonDecreasingBy (λ e. e.calls) ends.items) }
     {
+        let depths = self.store.depths(alloc)?;
         let mut ends = Vec::new(alloc);
         for at in 0..self.store.rows.len() {
-            self.add_end(alloc, processes, at, &mut ends)?;
+            let depth = depth_of(depths.as_slice(), at);
+            self.add_end(alloc, processes, at, depth, &mut ends)?;
         }
-        ends.sort_by_key(|end: &End| end.calls)?;
+        sort_by_calls(&mut ends)?;
         Ok(ends)
     }
 }

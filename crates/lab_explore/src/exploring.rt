@@ -1,9 +1,10 @@
 //! Explorations.
 ghost use Rattle.std.specs.Prelude.{◌≡◌, IsTrue, None, IfOk, IfSome};
+ghost use Rattle.std.specs.List.Sorted.{IsNonDecreasingBy};
 ghost use Rattle.lab_sched.specs.Starts.{AreStarts, initial_world};
 ghost use Rattle.lab_explore.specs.Private.Known.{AreKnown};
 ghost use Rattle.lab_explore.specs.Private.Walked.{HaveRowEnds};
-ghost use Rattle.lab_explore.specs.Ends.{AreEnds, HaveAllEnds, NoneStuck, NeverStuck};
+ghost use Rattle.lab_explore.specs.Ends.{AreEnds, HaveAllEnds, HaveFewestCalls, NoneStuck, NeverStuck};
 ghost use Rattle.lab_explore.specs.Rounds.{IsRound, CanBeRepeated, AreRising, AreEndless, AreBounded};
 
 use crate::search::{Search, search_all};
@@ -24,12 +25,13 @@ pub struct Exploration {
 }
 
 /// Visits every world at calls that a laboratory can come to, as far as the limits allow, those
-/// with fewer calls first. Each end has a schedule of effective steps that leads to it. Where the
-/// exploration is complete, there is no other end, whatever steps are taken, in any order, but for
-/// the numbers of places in the kernel; and if then no end is stuck, no such steps lead to a world
-/// that is. A round can be repeated as often as one likes, so some effective steps never end; where
-/// the exploration is complete and has no round, each list of effective steps ends, after no more
-/// than some number of them. The observer is told of the worlds as they are visited.
+/// with fewer calls first. Each end has a schedule of effective steps that leads to it; ends with
+/// fewer calls come first. Where the exploration is complete, there is no other end, whatever steps
+/// are taken, in any order, but for the numbers of places in the kernel, and none is reached by
+/// fewer calls; and if then no end is stuck, no such steps lead to a world that is. A round can be
+/// repeated as often as one likes, so some effective steps never end; where the exploration is
+/// complete and has no round, each list of effective steps ends, after no more than some number of
+/// them. The observer is told of the worlds as they are visited.
 pub fn explore<O: Observer>(
     alloc: Global,
     fresh: Fresh,
@@ -37,8 +39,11 @@ pub fn explore<O: Observer>(
     observer: &mut O,
 ) -> Result<Exploration, ExploreFault>
     ensures sound { IfOk result (λ found. AreEnds fresh found.ends.items) }
+    ensures ordered { IfOk result (λ found. IsNonDecreasingBy (λ e. e.calls) found.ends.items) }
     ensures complete { IfOk result (λ found.
         IsTrue found.complete → HaveAllEnds fresh found.ends.items) }
+    ensures fewest { IfOk result (λ found.
+        IsTrue found.complete → HaveFewestCalls fresh found.ends.items) }
     ensures free { IfOk result (λ found.
         IsTrue found.complete → NoneStuck found.ends.items → NeverStuck fresh) }
     ensures round { IfOk result (λ found. IfSome found.round (λ r. IsRound fresh r)) }
@@ -74,6 +79,8 @@ impl Search {
         ensures ends { IfOk result (λ found.
             AreEnds (initial_world processes.now) found.ends.items) }
         ensures all { IfOk result (λ found. HaveRowEnds self.now.store found.ends.items) }
+        ensures ordered { IfOk result (λ found.
+            IsNonDecreasingBy (λ e. e.calls) found.ends.items) }
         ensures round { IfOk result (λ found.
             IfSome found.round (λ r. IsRound (initial_world processes.now) r)) }
         ensures none { IfOk result (λ found.

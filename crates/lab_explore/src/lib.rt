@@ -3,6 +3,7 @@
 
 mod advance;
 mod comparing;
+mod depths;
 mod ends;
 mod exploring;
 mod fault;

@@ -183,7 +183,7 @@ impl Search {
             pid: 0,
             taken: 0,
         };
-        let Some(_) = self.store.keep_row(first, limits.worlds)? else {
+        let Some(0) = self.store.keep_row(first, limits.worlds)? else {
             return Ok(());
         };
         self.complete = self

@@ -1,14 +1,16 @@
 //! Walks: effective steps from a world, one by one.
-ghost use Rattle.std.specs.Prelude.{◌≡◌, ℕ, IsTrue, IfOk, OnOk, length};
+ghost use Rattle.std.specs.Prelude.{◌≡◌, ◌≤◌, ◌+◌, ℕ, IsTrue, IfOk, OnOk, length};
 ghost use Rattle.lab_sched.specs.Worlds.{StepEffect, entry_of};
 ghost use Rattle.lab_sched.specs.Held.{stepped_of};
 ghost use Rattle.lab_sched.specs.Starts.{AreStarts, initial_world};
 ghost use Rattle.lab_sched.specs.declared.stepped.Stepped.TheVariants.{Same};
 ghost use Rattle.lab_explore.specs.Untried.{untried};
 ghost use Rattle.lab_explore.specs.Private.Stored.{IsLike};
+ghost use Rattle.lab_explore.specs.Private.Depths.{waiting};
 ghost use Rattle.lab_explore.specs.Private.Walked.{IsWalk, KeepsStart};
 
 use crate::ExploreFault;
+use crate::depths::count_waiting;
 use crate::search::Search;
 use crate::store::Store;
 use crate::trying::discard;
@@ -149,6 +151,13 @@ impl Walk {
         }
         Ok(())
     }
+
+    /// Whether it has at most so many calls, and one more for each process that waits.
+    fn is_within(&self, depth: u32) -> bool
+        ensures yes { IsTrue result → self.now.calls ≤ depth + waiting self.now.world }
+    {
+        self.calls as u64 <= depth as u64 + count_waiting(&self.world) as u64
+    }
 }
 
 /// Puts the number of local steps of a process in its place, and answers the one that stood there.
@@ -183,7 +192,7 @@ impl Store {
 
 impl Search {
     /// Goes the way to a row, up to its last call: the local steps of a process are taken just before
-    /// its next one. With those that are left of each process.
+    /// its next call. With the local steps that are left of each process.
     fn go_calls(&self, alloc: Global, at: usize, walk: &mut Walk) -> Result<Vec<u32>, ExploreFault>
         ensures walk { OnOk result (KeepsStart walk.old walk.new) }
     {
@@ -215,20 +224,23 @@ impl Search {
         Ok(())
     }
 
-    /// Goes the way to a row from whose world no process goes on, and lets each begin to wait that
-    /// hasn't ended. It must lead to the world of the row but for who waits.
+    /// Goes the way to a row of this depth from whose world no process goes on, and lets each begin to
+    /// wait that hasn't ended. It must lead to the world of the row but for who waits, by no more calls
+    /// than the depth and one for each process that waits.
     pub(crate) fn go_to_end(
         &self,
         alloc: Global,
         at: usize,
+        depth: u32,
         walk: &mut Walk,
     ) -> Result<(), ExploreFault>
         ensures walk { OnOk result (KeepsStart walk.old walk.new) }
         ensures row { OnOk result (IsLike self.now.store at (untried walk.new.world)) }
+        ensures few { OnOk result (walk.new.calls ≤ depth + waiting walk.new.world) }
     {
         let local = self.go_calls(alloc, at, walk)?;
         walk.go_to_rest(local.as_slice())?;
-        if !self.store.is_untried_row(alloc, at, &walk.world)? {
+        if !walk.is_within(depth) || !self.store.is_untried_row(alloc, at, &walk.world)? {
             return Err(ExploreFault::Unvouched);
         }
         Ok(())

@@ -107,9 +107,9 @@ IsExpanded t i = (w : WorldState) × IsAt t i w × ((p : ℕ) → IsTried t i w 
 abbrev pub AreExpanded : Store → Type 0
 AreExpanded t = (i : ℕ) → i < length t.rows.items → IsExpanded t i
 
--- the advance of the start is held, and so is each step from each row
+-- the first row stands for the advance of the start, and each step from each row is held
 pub record IsSearched (start : WorldState) (t : Store) : Type 0 where
-  pub begins : HasAdvance (Holds t) start
+  pub begins : HasAdvance (IsAt t 0) start
   pub expanded : AreExpanded t
 
 -- what a step of process p makes of it and of the kernel, and of it then all its local steps, as
