@@ -1,5 +1,5 @@
 -- How many effective steps there can be, where each edge leads to a row with a greater number.
-use Rattle.std.proofs.Common.{ℕ, zero, suc, ◌+◌, ◌-◌, ◌*◌, ◌<◌, ◌≤◌, ◌≡◌, List, [], ◌∷◌, Option, Some, None, refl, sym, ap, subst, ◌∙◌, arith, length, slice_get, set, inl, inr}
+use Rattle.std.proofs.Common.{ℕ, zero, suc, ◌+◌, ◌-◌, ◌*◌, ◌<◌, ◌≤◌, ◌≡◌, List, [], ◌∷◌, Option, Some, None, refl, sym, ap, subst, ◌∙◌, arith, length, slice_get, set, count_by, inl, inr}
 use Rattle.std.proofs.lemmas.Bool.Decides.{eqb_tells}
 use Rattle.lc3_machine.specs.Process.{Process as Machine}
 use Rattle.lab_sched.specs.Worlds.{Process, Running, Waiting, Ended, WorldState, NextAction, moves, calls, next_action, process_after_answer, StepEffect, nothing, local_step, kernel_step, step_effect, step_effect_in, first_try, retry, after, step, IsEffective}
@@ -9,6 +9,7 @@ use Rattle.ipc_kernel.specs.declared.call.Answer.TheVariants.{Done, Wait}
 use Rattle.ipc_kernel.specs.Answer.{answer}
 use Rattle.lab_explore.specs.Untried.{GoesOn, untried, AskAgain}
 use Rattle.lab_explore.proofs.UntriedWorlds.{tells, same_step, still_untried, goes_untried, asks_on}
+use Rattle.lab_sched.specs.Verdicts.{is_running}
 use Rattle.lab_sched.specs.Execution.{AreEffective}
 use Rattle.lab_sched.specs.LocalRun.{AreLocal}
 use Rattle.lab_sched.proofs.ListPlaces.{get-set_same, get-set_other, get_past}
@@ -26,6 +27,7 @@ use Rattle.ipc_kernel.specs.Alike.{IsAlike, IsConsistent}
 use Rattle.ipc_kernel.proofs.Alikes.{alike_then}
 use Rattle.lab_explore.proofs.AlikeWorlds.{effect_alike, kernel_alike, consistent_after}
 use Rattle.lab_explore.proofs.HeldAdvances.{same_after}
+use Rattle.lab_explore.proofs.FewestCalls.{count_set, set_most, one_most}
 
 -- the sum of a list
 total : List ℕ → ℕ
@@ -38,74 +40,45 @@ total_set [] p k j e = absurd (cc)
 total_set (x ∷ ks) zero k j e = let same : x ≡ k = cc in omega arith
 total_set (x ∷ ks) (suc p) k j e = omega (arith, total_set ks p k j e)
 
--- 1 of a process that runs, and 0 of another
-one_running : Process → ℕ
-one_running (Running m) = 1
-one_running (Waiting m c) = 0
-one_running (Ended e) = 0
-
-count_running : List Process → ℕ
-count_running [] = 0
-count_running (s ∷ ss) = one_running s + count_running ss
-
 -- how many processes run
-running : WorldState → ℕ
-running w = count_running w.processes
-
-one_most : (s : Process) → one_running s ≤ 1
-unfolding one_running
-one_most (Running m) = omega arith
-one_most (Waiting m c) = omega arith
-one_most (Ended e) = omega arith
-
-count_set : (ss : List Process) (p : ℕ) (s u : Process) → slice_get ss p ≡ Some s → count_running (set ss p u) + one_running s ≡ count_running ss + one_running u
-unfolding count_running
-count_set [] p s u e = absurd (cc)
-count_set (x ∷ ss) zero s u e = let same : one_running x ≡ one_running s = ap one_running (some_is x s e) in omega (arith, same)
-  where
-    some_is : (x s : Process) → Some x ≡ Some s → x ≡ s
-    some_is x s e = cc
-count_set (x ∷ ss) (suc p) s u e = omega (arith, count_set ss p s u e)
-
-set_more : (ss : List Process) (p : ℕ) (u : Process) → count_running (set ss p u) ≤ count_running ss + 1
-unfolding count_running
-set_more [] p u = omega arith
-set_more (x ∷ ss) zero u = omega (arith, one_most u)
-set_more (x ∷ ss) (suc p) u = omega (arith, set_more ss p u)
+abbrev running : WorldState → ℕ
+running w = count_by is_running w.processes
 
 -- at most one process more runs after a step
 running_goes : (w : WorldState) (p : ℕ) → running (step w p) ≤ running w + 1
-unfolding running
 running_goes w p = by (step_effect_in w p)
   where
-    by : (t : StepEffect) → count_running (after w p t).processes ≤ count_running w.processes + 1
+    more : (u : Process) → count_by is_running (set w.processes p u) ≤ running w + 1
+    more u = omega (arith, set_most is_running w.processes p u, one_most is_running u)
+
+    by : (t : StepEffect) → running (after w p t) ≤ running w + 1
     by nothing = omega arith
-    by (local_step n) = set_more w.processes p (Running n)
-    by (kernel_step m c a) = set_more w.processes p (process_after_answer m c a)
+    by (local_step n) = more (Running n)
+    by (kernel_step m c a) = more (process_after_answer m c a)
 
 -- where a process begins to wait, it runs no more
 running_waits : (w : WorldState) (p : ℕ) → IsEffective (step_effect_in w p) → (GoesOn (step_effect_in w p) → ⊥) → running (step w p) + 1 ≡ running w
-unfolding running one_running process_after_answer
+unfolding process_after_answer
 running_waits w p h g = by (slice_get w.processes p) refl
   where
     effect_at : (o : Option Process) → slice_get w.processes p ≡ o → step_effect_in w p ≡ step_effect w.kernel p o
     effect_at o a = ap (λ x. step_effect w.kernel p x) a
 
-    tried : (m : Machine) (c : Call) (a : Answer) → slice_get w.processes p ≡ Some (Running m) → step_effect_in w p ≡ kernel_step m c a → count_running (step w p).processes + 1 ≡ count_running w.processes
+    tried : (m : Machine) (c : Call) (a : Answer) → slice_get w.processes p ≡ Some (Running m) → step_effect_in w p ≡ kernel_step m c a → running (step w p) + 1 ≡ running w
     tried m c Wait at e =
-        let sums : count_running (set w.processes p (Waiting m c)) + 1 ≡ count_running w.processes + 0 = count_set w.processes p (Running m) (Waiting m c) at in
-        ap (λ t. count_running (after w p t).processes + 1) e ∙ (omega (arith, sums))
+        let sums = count_set is_running w.processes p (Running m) (Waiting m c) at in
+        ap (λ t. running (after w p t) + 1) e ∙ (omega (arith, sums))
     tried m c (Done r) at e = absurd (g (subst GoesOn (sym e) tt))
 
-    again : (m : Machine) (c : Call) (a : Answer) → step_effect_in w p ≡ retry m c a → count_running (step w p).processes + 1 ≡ count_running w.processes
+    again : (m : Machine) (c : Call) (a : Answer) → step_effect_in w p ≡ retry m c a → running (step w p) + 1 ≡ running w
     again m c Wait e = absurd (subst IsEffective e h)
     again m c (Done r) e = absurd (g (subst GoesOn (sym e) tt))
 
-    runs : (m : Machine) (a : NextAction) → next_action m ≡ a → slice_get w.processes p ≡ Some (Running m) → count_running (step w p).processes + 1 ≡ count_running w.processes
+    runs : (m : Machine) (a : NextAction) → next_action m ≡ a → slice_get w.processes p ≡ Some (Running m) → running (step w p) + 1 ≡ running w
     runs m (moves q) e at = absurd (g (subst GoesOn (sym (effect_at (Some (Running m)) at ∙ ap (first_try w.kernel p m) e)) tt))
     runs m (calls c) e at = tried m c (answer w.kernel p c).0 at (effect_at (Some (Running m)) at ∙ ap (first_try w.kernel p m) e)
 
-    by : (o : Option Process) → slice_get w.processes p ≡ o → count_running (step w p).processes + 1 ≡ count_running w.processes
+    by : (o : Option Process) → slice_get w.processes p ≡ o → running (step w p) + 1 ≡ running w
     by None a = absurd (subst IsEffective (effect_at None a) h)
     by (Some (Running m)) a = runs m (next_action m) refl a
     by (Some (Waiting m c)) a = again m c (answer w.kernel p c).0 (effect_at (Some (Waiting m c)) a)

@@ -15,8 +15,7 @@ use Rattle.lab_explore.specs.declared.store.Next.TheVariants.{Nothing, Limit, To
 use Rattle.lab_explore.specs.declared.known.Moves.{Moves}
 use Rattle.lab_explore.specs.Private.Known.{AreKnown}
 use Rattle.lab_explore.specs.Calls.{Alongside}
-use Rattle.lab_explore.specs.Closed.{HasAdvance}
-use Rattle.lab_explore.specs.Private.Stored.{IsState, IsKernel, IsRow, IsAt, Holds, IsReady, IsStore, Grows, IsNext, IsMove, HasEdge, IsTried, IsExpanded}
+use Rattle.lab_explore.specs.Private.Stored.{IsState, IsKernel, IsRow, IsAt, IsReady, IsStore, Grows, IsNext, IsMove, HasEdge, IsTried, IsExpanded}
 use Rattle.std.proofs.lemmas.List.Elements.{All-push, All-weaker}
 use Rattle.lab_explore.proofs.Pushes.{both_weaker, keeps_push, get_pushed}
 
@@ -49,12 +48,6 @@ row_grows t u r w g h = record {
 
 pub at_grows : (t u : Store) (i : ℕ) (w : WorldState) → Grows t u → IsAt t i w → IsAt u i w
 at_grows t u i w g h = (h.0, g.rows i h.0 h.1, row_grows t u h.0 w g h.2)
-
-pub holds_grows : (t u : Store) (w : WorldState) → Grows t u → Holds t w → Holds u w
-holds_grows t u w g h = (h.0, at_grows t u h.0 w g h.1)
-
-pub advance_grows : (t u : Store) (w : WorldState) → Grows t u → HasAdvance (Holds t) w → HasAdvance (Holds u) w
-advance_grows t u w g h = (h.0, holds_grows t u h.0 g h.1, h.2)
 
 pub kernel_grows : (t u : Store) (i : ℕ) (k : KernelState) → Grows t u → IsKernel t i k → IsKernel u i k
 kernel_grows t u i k g h = (h.0, g.kernels i h.0 h.1, h.2)

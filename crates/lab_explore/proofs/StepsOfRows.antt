@@ -4,18 +4,16 @@ use Rattle.std.specs.Option.{option_map}
 use Rattle.std.proofs.lemmas.Bool.{cases_lt}
 use Rattle.std.proofs.lemmas.Option.{slice_get_past}
 use Rattle.ipc_kernel.specs.Kernel.{KernelState}
-use Rattle.lab_sched.specs.Worlds.{Process, WorldState, StepEffect, nothing, local_step, kernel_step, step_effect, process_after, kernel_after, after, step}
+use Rattle.lab_sched.specs.Worlds.{Process, WorldState, StepEffect, step_effect, process_after, kernel_after, after, step}
 use Rattle.lab_sched.specs.Held.{process_view, StepResult, HasStepped}
 use Rattle.lab_sched.specs.declared.stepped.Stepped.{Stepped}
-use Rattle.lab_sched.specs.declared.stepped.Stepped.TheVariants as stepped
 use Rattle.lab_explore.specs.declared.trying.Made.{Made}
 use Rattle.lab_sched.proofs.WorldLemmas.{after_effect}
 use Rattle.lab_explore.specs.declared.store.Row.{Row}
 use Rattle.lab_explore.specs.declared.store.Store.{Store}
 use Rattle.lab_explore.specs.declared.store.Edge.{Edge}
 use Rattle.lab_explore.specs.declared.store.Next.{Next}
-use Rattle.lab_explore.specs.declared.store.Next.TheVariants.{Nothing, To}
-use Rattle.ipc_kernel.specs.declared.call.Answer.TheVariants.{Done, Wait}
+use Rattle.lab_explore.specs.declared.store.Next.TheVariants.{To}
 use Rattle.lab_sched.specs.Held.{stepped_of}
 use Rattle.lab_explore.specs.Calls.{IsAtCall, IsAhead, Both, Alongside}
 use Rattle.lab_explore.specs.Untried.{GoesOn}
@@ -88,12 +86,6 @@ moved t r r' w p i kernel state taken is row e m kernel-is states-is = (v, to, a
       processes = alongside_set IsReached w.processes w.processes p s (process_after s effect) s next.0 here here (own_advance t r w is row) next.3;
     })
 
--- a process that does nothing
-pub idles : (t : Store) (r : Row) (w : WorldState) (at p i : ℕ) → IsRow t r w → slice_get r.states.items p ≡ Some i → IsMove t r.kernel p i Nothing → IsTried t at w p
-idles t r w at p i row e m effective =
-    let s = process_at t r w p i row e in
-    absurd (next_of t r w p i Nothing s.0 row s.2 m (subst GoesOn (ap (λ o. step_effect w.kernel p o) s.1) effective))
-
 -- a process that isn't there does nothing
 pub absent : (t : Store) (r : Row) (w : WorldState) (at p : ℕ) → IsRow t r w → slice_get r.states.items p ≡ None → IsTried t at w p
 absent t r w at p row e effective =
@@ -103,13 +95,6 @@ absent t r w at p row e effective =
     left : (o : Option Process) → Both (IsState t) None o → o ≡ None
     left None h = refl
     left (Some y) h = absurd h
-
--- a process that is told that it waits doesn't go on
-pub told_waits : (x : Stepped) (t : StepEffect) → x ≡ stepped.Waits → x ≡ stepped_of t → GoesOn t → ⊥
-told_waits x nothing e h g = g
-told_waits x (local_step n) e h g = cc
-told_waits x (kernel_step m c (Done r)) e h g = cc
-told_waits x (kernel_step m c Wait) e h g = g
 
 -- what the step of a process is told
 pub told_of : (k j : KernelState) (p : ℕ) (s u : Process) (told : Stepped) → HasStepped k p s j u told → told ≡ stepped_of (step_effect k p (Some s))

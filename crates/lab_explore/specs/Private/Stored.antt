@@ -39,10 +39,6 @@ IsAt t i w = (r : Row) × (slice_get t.rows.items i ≡ Some r) × IsRow t r w
 abbrev pub IsLike : Store → ℕ → WorldState → Type 0
 IsLike t i w = (v : WorldState) × IsAt t i v × AreAlike v w
 
--- some row stands for the world
-abbrev pub Holds : Store → WorldState → Type 0
-Holds t w = (i : ℕ) × IsAt t i w
-
 -- a state that is kept is at a call, and ready for the reply to it
 abbrev pub IsReady : Kept → Type 0
 IsReady s = IsHeld s × IsAtCall (process_view s)
