@@ -1,5 +1,6 @@
 -- What the text says of programs, by what was found of them.
-use Rattle.std.proofs.Common.{ℕ, ◌≡◌, ◌+◌, true, List, ◌++◌, Option, Some, None, get_or, All, refl, sym, ap, subst, ◌∙◌, append_assoc, codes, decimal, IfSome}
+use Rattle.std.proofs.Common.{ℕ, ◌≡◌, ◌+◌, true, List, ◌++◌, Option, Some, None, get_or, All, refl, sym, ap, subst, ◌∙◌, append_assoc, codes, decimal, IfSome, arith, ◌≤◌}
+use Rattle.std.specs.List.Sorted.{IsNonDecreasingBy}
 use Rattle.std.proofs.lemmas.Option.{slice_get_within, get_or_from_slice_get}
 use Rattle.lab_sched.specs.declared.schedule.block.Block.{Block}
 use Rattle.lab_sched.specs.declared.verdict.Verdict.{Verdict}
@@ -13,7 +14,7 @@ use Rattle.lab_explore.specs.declared.ends.End.{End}
 use Rattle.lab_explore.specs.declared.rounds.Round.{Round}
 use Rattle.lab_explore.specs.declared.exploring.Exploration.{Exploration}
 use Rattle.lab_explore.specs.Closed.{AreAtRest}
-use Rattle.lab_explore.specs.Ends.{IsEnd, AreEnds, HaveAllEnds, NoneStuck}
+use Rattle.lab_explore.specs.Ends.{IsEnd, AreEnds, HaveAllEnds, NoneStuck, HaveFewestCalls}
 use Rattle.lab_explore.specs.Rounds.{AreBounded}
 use Rattle.lab_findings.specs.declared.shortfall.Shortfall.{Shortfall}
 use Rattle.lab_findings.specs.Lines.{AreLines, StandIn}
@@ -21,7 +22,7 @@ use Rattle.lab_findings.specs.Texts.{report_of, told_ends, schedule_line, end_li
 use Rattle.lab_findings.specs.Shortfalls.{ShowsRequired}
 use Rattle.lab_findings.specs.Programs.{SaysComplete, SaysEndless, SaysStuck, TellsEveryEnd, ComeTo}
 use Rattle.lab_findings.proofs.LineLemmas.{lines-append, lines-feed, same_last}
-use Rattle.lab_findings.proofs.Reports.{report_from_verdict, report_lines}
+use Rattle.lab_findings.proofs.Reports.{report_from_verdict, report_lines, same_verdict}
 use Rattle.lab_findings.proofs.ToldEnds.{Has, told_some, told_all, has_at}
 use Rattle.lab_findings.proofs.TextLemmas.{stand_behind, stand_before, stand_within, ends_whole, end_stands, round_whole, endless_stands, extent_is_line, extent_tells}
 
@@ -65,24 +66,30 @@ has_no_round found text is quiet = by found.round refl
         (stand_before endless_line (ends ++ round_text found.round) (extent_line found.complete found.worlds)
         (stand_behind ends endless_line (round_text found.round) (ends_whole 1 (told_ends found.ends.items)) stands))))
 
--- where all ends were found, the text tells each
-pub tells_every_end : (start : WorldState) (found : Exploration) (text : List ℕ) → text ≡ findings_text found
-    → AreEnds start found.ends.items → HaveAllEnds start found.ends.items → TellsEveryEnd start text
-tells_every_end start found text is each all ps rest =
+-- where all ends were found, by the fewest calls, the text tells each
+pub tells_every_end : (start : WorldState) (found : Exploration) (text : List ℕ) → text ≡ findings_text found → AreEnds start found.ends.items
+    → IsNonDecreasingBy (λ e. e.calls) found.ends.items → HaveAllEnds start found.ends.items → HaveFewestCalls start found.ends.items → TellsEveryEnd start text
+tells_every_end start found text is each sorted all fewest ps rest =
     let ends = found.ends.items in
-    let has = all ps rest in
-    let some = told_some ends has.1 (has.0, has.2) in
-    let told = all_has (IsEnd start) (told_ends ends) some.0 (told_all (IsEnd start) ends each) some.1 in
+    let w = run start ps in
+    let one = all ps rest in
+    let has = fewest ps rest in
+    let first = all_has (IsEnd start) ends one.1 each (one.0, one.2) in
     let end = all_has (IsEnd start) ends has.1 each (has.0, has.2) in
-    let report : report_of some.0 ≡ report_text (run start ps) = some.2 ∙ report_from_verdict (run start ps) has.1.world has.1.verdict has.3.processes has.4 end.verdict in
+    let verdict = same_verdict w has.1.world one.1.verdict has.1.verdict has.3.processes one.4 first.closed end.verdict end.closed in
+    let stands = subst (IsVerdict w) verdict one.4 in
+    let some = told_some (λ s t. s.calls ≤ t.calls) (λ e. let h : e.calls ≤ e.calls = omega arith in h) ends has.1 (λ i j d h k. sorted i j d (omega arith) k) (has.0, has.2) in
+    let told = all_has (IsEnd start) (told_ends ends) some.0 (told_all (IsEnd start) ends each) some.1 in
+    let report : report_of some.0 ≡ report_text w = some.2 ∙ report_from_verdict w has.1.world has.1.verdict has.3.processes stands end.verdict in
     let number = 1 + some.1.0 in
-    let stands = in_text found (end_lines number (report_of some.0) some.0.schedule) text is (end_stands 1 (told_ends ends) some.1.0 some.0 some.1.1) in
+    let lines = in_text found (end_lines number (report_of some.0) some.0.schedule) text is (end_stands 1 (told_ends ends) some.1.0 some.0 some.1.1) in
     record {
       number = number;
       schedule = some.0.schedule;
-      told = subst (λ r. StandIn (end_lines number r some.0.schedule) text) report stands;
+      told = subst (λ r. StandIn (end_lines number r some.0.schedule) text) report lines;
       effective = told.effective;
       rests = subst AreAtRest (sym told.leads) told.rests;
+      few = omega (arith, told.calls, some.3, has.4);
       reported = ap report_text told.leads ∙ report;
     }
 
@@ -107,7 +114,7 @@ none_stuck start found text is each quiet i d within stuck =
     let ends = found.ends.items in
     let e = get_or ends i d in
     let end = each i d within in
-    let some = told_some ends e (i, has_at ends i d within) in
+    let some = told_some (λ s t. Unit {0}) (λ x. tt) ends e (λ j k x h l. tt) (i, has_at ends i d within) in
     let number = 1 + some.1.0 in
     let stands = in_text found (end_lines number (report_of some.0) some.0.schedule) text is (end_stands 1 (told_ends ends) some.1.0 some.0 some.1.1) in
     quiet (stuck_stands e.world number some.0.schedule text (sym (verdict_from e.world e.verdict end.verdict) ∙ stuck)

@@ -1,8 +1,9 @@
 -- Reports of worlds with the same processes.
-use Rattle.std.proofs.Common.{ℕ, ◌≡◌, List, ◌++◌, Option, Some, None, length, slice_get, ap, sym, ◌∙◌, codes, decimal}
-use Rattle.lab_sched.specs.Worlds.{Process, WorldState, machine_of}
-use Rattle.lab_sched.specs.Verdicts.{IsVerdict, verdict_of}
+use Rattle.std.proofs.Common.{ℕ, ◌≡◌, List, ◌++◌, Option, Some, None, length, slice_get, ap, sym, ◌∙◌, codes, decimal, refl}
+use Rattle.lab_sched.specs.Worlds.{Process, Running, Waiting, Ended, WorldState, machine_of}
+use Rattle.lab_sched.specs.Verdicts.{IsVerdict, verdict_of, IsWaiting, HasEnded, HaveEnded, AreStuck}
 use Rattle.lab_sched.specs.declared.verdict.Verdict.{Verdict}
+use Rattle.lab_sched.specs.declared.verdict.Verdict.TheVariants as verdict
 use Rattle.lab_sched.proofs.VerdictLemmas.{verdict_from, verdict_worked_out}
 use Rattle.lab_texts.specs.Rows.{texts_below}
 use Rattle.lab_texts.specs.Texts.{text_of, state_text, status_line, status_text, out_text, output_part, out_line}
@@ -52,3 +53,22 @@ report_lines w =
     (λ pid. lines-append (status_text pid w) (out_text pid w)
     (lines_of (status_line pid) (status_lines pid) (slice_get w.processes pid))
     (lines_of (λ s. out_line pid (machine_of s).output) (λ s. out_lines pid (machine_of s).output) (slice_get w.processes pid)))
+
+waits_on : (s : Process) → IsWaiting s → HasEnded s → ⊥
+waits_on (Running m) waits ended = waits
+waits_on (Waiting m c) waits ended = ended
+waits_on (Ended e) waits ended = waits
+
+not_both : (w v : WorldState) → v.processes ≡ w.processes → HaveEnded w → AreStuck v → ⊥
+not_both w v same ended stuck =
+    waits_on stuck.waits.1 stuck.waits.3 (ended stuck.waits.0 stuck.waits.1 (ap (λ ps. slice_get ps stuck.waits.0) (sym same) ∙ stuck.waits.2))
+
+-- worlds of the same processes have one verdict, if none is open
+pub same_verdict : (w v : WorldState) (x y : Verdict) → v.processes ≡ w.processes → IsVerdict w x → (x ≡ verdict.Open → ⊥) → IsVerdict v y → (y ≡ verdict.Open → ⊥) → x ≡ y
+same_verdict w v verdict.Open y same h n k m = absurd (n refl)
+same_verdict w v verdict.Ended verdict.Ended same h n k m = refl
+same_verdict w v verdict.Ended verdict.Stuck same h n k m = absurd (not_both w v same h k)
+same_verdict w v verdict.Ended verdict.Open same h n k m = absurd (m refl)
+same_verdict w v verdict.Stuck verdict.Ended same h n k m = absurd (not_both v w (sym same) k h)
+same_verdict w v verdict.Stuck verdict.Stuck same h n k m = refl
+same_verdict w v verdict.Stuck verdict.Open same h n k m = absurd (m refl)

@@ -1,5 +1,5 @@
 -- Which ends are told.
-use Rattle.std.proofs.Common.{ℕ, zero, suc, ◌≡◌, ◌≢◌, ◌<◌, Bool, true, false, not, ◌||◌, cond, List, [], ◌∷◌, ◌++◌, Some, slice_get, get_or, length, map, filter, All, Any, AllPairs, Contains, bytes_eq, refl, sym, ap, ◌∙◌, append-nil, arith}
+use Rattle.std.proofs.Common.{ℕ, zero, suc, ◌≡◌, ◌≢◌, ◌<◌, Bool, true, false, not, ◌||◌, cond, List, [], ◌∷◌, ◌++◌, Some, slice_get, get_or, length, map, filter, All, Any, AllPairs, Contains, bytes_eq, refl, sym, ap, subst, ◌∙◌, append-nil, arith}
 use Rattle.std.specs.List.{list_any}
 use Rattle.std.proofs.lemmas.Option.{slice_get_within, get_or_from_slice_get}
 use Rattle.std.proofs.lemmas.Slice.Eq.{bytes_eq-Decides}
@@ -41,19 +41,22 @@ has_filter p (x ∷ xs) e (suc i, at) pass = by (p x) (has_filter p xs e (i, at)
     by true h = (suc h.0, h.1)
     by false h = h
 
--- each end has the report of one that is told
-pub told_some : (es : List End) (e : End) → Has es e → (t : End) × Has (told_ends es) t × (report_of t ≡ report_of e)
+-- each end has the report of one that is told and that R holds of and it, where R holds of each end and the later ones
+pub told_some : (R : End → End → Type 0) → ((e : End) → R e e) → (es : List End) (e : End) → AllPairs R es → Has es e
+    → (t : End) × Has (told_ends es) t × (report_of t ≡ report_of e) × R t e
 unfolding told_ends
-told_some [] e h = absurd (cc (h.1))
-told_some (x ∷ xs) e (zero, at) = let is : x ≡ e = cc in (x, (zero, refl), ap report_of is)
-told_some (x ∷ xs) e (suc i, at) =
-    let later = told_some xs e (i, at) in
-    by later.0 later.1 later.2 (has_other_report x later.0) refl
+told_some R itself [] e pairs h = absurd (cc (h.1))
+told_some R itself (x ∷ xs) e pairs (zero, at) = let is : x ≡ e = cc in (x, (zero, refl), ap report_of is, subst (R x) is (itself x))
+told_some R itself (x ∷ xs) e pairs (suc i, at) =
+    let later = told_some R itself xs e (λ a b d h k. pairs (suc a) (suc b) d (omega arith) (omega arith)) (i, at) in
+    let within = slice_get_within xs i e at in
+    let first : R x e = subst (R x) (get_or_from_slice_get xs i e e at) (pairs zero (suc i) e (omega arith) (omega arith)) in
+    by first later.0 later.1 later.2 later.3 (has_other_report x later.0) refl
   where
-    by : (t : End) → Has (told_ends xs) t → report_of t ≡ report_of e → (b : Bool) → has_other_report x t ≡ b
-        → (t : End) × Has (told_ends (x ∷ xs)) t × (report_of t ≡ report_of e)
-    by t has same true other = let kept = has_filter (has_other_report x) (told_ends xs) t has other in (t, (suc kept.0, kept.1), same)
-    by t has same false one = (x, (zero, refl), same_report x t one ∙ same)
+    by : R x e → (t : End) → Has (told_ends xs) t → report_of t ≡ report_of e → R t e → (b : Bool) → has_other_report x t ≡ b
+        → (t : End) × Has (told_ends (x ∷ xs)) t × (report_of t ≡ report_of e) × R t e
+    by first t has same holds true other = let kept = has_filter (has_other_report x) (told_ends xs) t has other in (t, (suc kept.0, kept.1), same, holds)
+    by first t has same holds false one = (x, (zero, refl), same_report x t one ∙ same, first)
 
 -- what holds of all ends holds of those that are told
 pub told_all : (P : End → Type 0) (es : List End) → All P es → All P (told_ends es)
@@ -93,7 +96,7 @@ has_at (x ∷ xs) (suc i) d h = has_at xs i d (omega arith)
 pub each_told_once : EachToldOnce
 each_told_once es = record {
   each = λ i d within.
-      let some = told_some es (get_or es i d) (i, has_at es i d within) in
+      let some = told_some (λ s t. Unit {0}) (λ e. tt) es (get_or es i d) (λ j k x h l. tt) (i, has_at es i d within) in
       any_of (λ t. report_of t ≡ report_of (get_or es i d)) (told_ends es) some.0 some.1 some.2;
   once = told_differ es;
   only = told_all (Contains es) es (All-contains_itself es);

@@ -40,8 +40,9 @@ fn tell(alloc: Global, found: &Exploration) -> Result<Told, AllocError>
 
 /// Explores the programs of a laboratory, as far as the limits allow, and tells what was found: each
 /// end once, as a number, the report on it and a schedule that leads to it; a round, if there is
-/// one; and whether these are all ends. The shortfall is none exactly where no verdict is required,
-/// or the exploration shows that the programs always come to the one that is.
+/// one; and whether these are all ends. If they are, no steps lead to rest with a report that isn't
+/// told, or by fewer calls than the schedule that is. The shortfall is none exactly where no verdict
+/// is required, or the exploration shows that the programs always come to the one that is.
 pub fn find<O: Observer>(
     alloc: Global,
     fresh: Fresh,

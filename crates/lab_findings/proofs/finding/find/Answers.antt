@@ -7,7 +7,9 @@ returns-clause-complete g c says =
     let found = c.in_ok-exploration.exploration in
     let text = string_bytes c.in_ok-told.told.text in
     let is = c.in_ok-told.ensures.text in
-    tells_every_end c.args.fresh found text is c.in_ok-exploration.ensures.sound (c.in_ok-exploration.ensures.complete (is_complete found text is says))
+    let complete = is_complete found text is says in
+    tells_every_end c.args.fresh found text is c.in_ok-exploration.ensures.sound c.in_ok-exploration.ensures.ordered
+    (c.in_ok-exploration.ensures.complete complete) (c.in_ok-exploration.ensures.fewest complete)
 
 pub returns-clause-free : goal.returns-clause-free
 returns-clause-free g c says quiet =
