@@ -17,7 +17,7 @@ _lc3lab() {
         COMPREPLY=($(compgen -W 'a b' -- "$word"))
         return
         ;;
-    --limit | --mix | --worlds | --schedule)
+    --limit | --mix | --worlds | --memory | --schedule)
         compopt +o bashdefault +o default 2>/dev/null
         return
         ;;
@@ -28,7 +28,7 @@ _lc3lab() {
     step | debug) options='--profile --help -h' ;;
     trace) options='--profile --page --source --help -h' ;;
     run) options='--profile --limit --mix --help -h' ;;
-    explore) options='--profile --limit --worlds --require --schedule --help -h' ;;
+    explore) options='--profile --limit --worlds --memory --require --schedule --help -h' ;;
     help) options=$commands ;;
     esac
     case $command:$word in

@@ -22,6 +22,7 @@ complete -c lc3lab -n '__fish_seen_subcommand_from run' -x -l limit -d 'The most
 complete -c lc3lab -n '__fish_seen_subcommand_from run' -x -l mix -d 'Pauses before calls, by random numbers from this seed'
 complete -c lc3lab -n '__fish_seen_subcommand_from explore' -x -l profile -a 'a b' -d 'The machine: of the book, or with traps that leave R7'
 complete -c lc3lab -n '__fish_seen_subcommand_from explore' -x -l worlds -d 'The most worlds to visit'
+complete -c lc3lab -n '__fish_seen_subcommand_from explore' -x -l memory -d 'The most memory to take, in megabytes'
 complete -c lc3lab -n '__fish_seen_subcommand_from explore' -x -l limit -d 'The most steps of a process without a call'
 complete -c lc3lab -n '__fish_seen_subcommand_from explore' -x -l require -a 'ended stuck' -d 'Fails unless all ends have this verdict'
 complete -c lc3lab -n '__fish_seen_subcommand_from explore' -x -l schedule -d 'Prints the schedule of this end alone'

@@ -16,5 +16,8 @@ pub const MOST_STEPS_EACH: u32 = 10_000_000;
 /// The most worlds that can be asked for.
 pub const MOST_WORLDS: u32 = 10_000_000;
 
+/// The most megabytes of memory that can be asked for.
+pub const MOST_MEMORY: u32 = 1_000_000;
+
 /// The most local steps of a process in a row that can be asked for.
 pub const MOST_LOCAL_STEPS: u32 = 10_000_000;

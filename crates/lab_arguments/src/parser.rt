@@ -7,7 +7,7 @@ ghost use Rattle.lab_arguments.specs.declared.request.Rest.TheVariants.{Ended, S
 
 use crate::request::{Page, Question, Refusal, Request, Rest, Setup};
 use crate::shown::Shown;
-use crate::{MOST_LOCAL_STEPS, MOST_STEPS_EACH, MOST_WORLDS, examples};
+use crate::{MOST_LOCAL_STEPS, MOST_MEMORY, MOST_STEPS_EACH, MOST_WORLDS, examples};
 use clap::builder::ValueParser;
 use clap::error::ErrorKind;
 use clap::{Arg, ArgAction, ArgMatches, Command, Error};
@@ -47,20 +47,19 @@ fn shown_words(alloc: Global, words: &[String]) -> Result<Vec<String>, AllocErro
 
 /// The text of help, or of what is wrong with the words.
 fn refusal_of(alloc: Global, error: &Error) -> Refusal {
-    match error.to_string(alloc) {
-        Ok(text) if error.kind() != ErrorKind::OutOfMemory => {
-            if error.use_stderr() {
-                Refusal::Usage(text)
-            } else {
-                Refusal::Help(text)
-            }
-        }
-        _ => Refusal::NoMemory,
+    let Ok(text) = error.to_string(alloc) else {
+        return Refusal::NoMemory;
+    };
+    match error.kind() {
+        ErrorKind::OutOfMemory => Refusal::NoMemory,
+        ErrorKind::DisplayHelp => Refusal::Help(text),
+        ErrorKind::DisplayVersion => Refusal::Version(text),
+        _ => Refusal::Usage(text),
     }
 }
 
 /// The version of the program; CHANGELOG.md says what each brings.
-const VERSION: &str = "0.1.0";
+const VERSION: &str = "1.0.0";
 
 fn program<'a>(alloc: Global) -> Result<Command<'a>, AllocError> {
     Command::new(alloc, "lc3lab")
@@ -104,9 +103,9 @@ fn asm<'a>(alloc: Global) -> Result<Command<'a>, AllocError> {
 
 fn dis<'a>(alloc: Global) -> Result<Command<'a>, AllocError> {
     Command::new(alloc, "dis")
-        .about("Prints the words of an object file as instructions")
+        .about("Prints the words of an object file, or of a source (.asm), as instructions")
         .after_help(examples::DISASSEMBLE)
-        .arg(file(alloc, "OBJECT", "The object file to read"))
+        .arg(file(alloc, "OBJECT", "The object file or the source to read"))
 }
 
 /// A file that must be named.
@@ -191,6 +190,14 @@ fn explore<'a>(alloc: Global) -> Result<Command<'a>, AllocError> {
         MOST_WORLDS,
         "The most worlds to visit",
     ))?
+    .arg(number(
+        alloc,
+        "memory",
+        "MB",
+        MOST_MEMORY,
+        "The most memory to take, in megabytes",
+    )
+    .default_value("2048"))?
     .arg(
         Arg::new(alloc, "require")
             .long("require")
@@ -224,7 +231,7 @@ fn on_programs<'a>(
     example: &'a str,
 ) -> Result<Command<'a>, AllocError> {
     let programs = Arg::new(alloc, "PROGRAM").required(true).num_args(1..).help(
-        "An object file, or OBJECT=INPUT with a file of console input",
+        "A source (.asm) or an object file; with =INPUT behind it, a file of console input",
     );
     let profile = Arg::new(alloc, "profile")
         .long("profile")
@@ -321,6 +328,9 @@ fn question_of(words: &ArgMatches<'_>) -> Question
     ensures worlds { (text : List ℕ) (n : ℕ)
         → one_text (found_of words.now) (codes "worlds") ≡ Some text
         → IsNumber text n → result.worlds ≡ n }
+    ensures memory { (text : List ℕ) (n : ℕ)
+        → one_text (found_of words.now) (codes "memory") ≡ Some text
+        → IsNumber text n → result.memory ≡ n }
     ensures steps { (text : List ℕ) (n : ℕ)
         → one_text (found_of words.now) (codes "limit") ≡ Some text
         → IsNumber text n → result.steps ≡ n }
@@ -336,6 +346,7 @@ fn question_of(words: &ArgMatches<'_>) -> Question
 {
     Question {
         worlds: limit_of(words, "worlds", MOST_WORLDS),
+        memory: limit_of(words, "memory", MOST_MEMORY),
         steps: limit_of(words, "limit", MOST_LOCAL_STEPS),
         required: match words.get_str("require") {
             Some("ended") => Some(Rest::Ended),

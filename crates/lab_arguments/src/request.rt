@@ -59,6 +59,8 @@ pub struct Page<'a> {
 pub struct Question {
     /// The most worlds to visit.
     pub worlds: u32,
+    /// The most memory to take, in megabytes.
+    pub memory: u32,
     /// The most local steps of a process in a row.
     pub steps: u32,
     /// How each end must be.
@@ -79,6 +81,8 @@ pub enum Rest {
 pub enum Refusal {
     /// They ask for help, which is this text.
     Help(String),
+    /// They ask for the version, which is this line.
+    Version(String),
     /// They are wrong, as this text says.
     Usage(String),
     /// There is no memory to read them.

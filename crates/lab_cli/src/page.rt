@@ -1,7 +1,8 @@
 //! The page of the command `trace`.
-use lab_commands::{At, Complaint, Reason, is_same_file, read_source, write_whole};
+use lab_commands::{At, Complaint, Reason, files_of, is_same_file, read_source, write_whole};
 use lab_page::{PageFault, Source, page, run_of, source_of};
 use lab_sched::{Fresh, Program, Schedule, World};
+use lab_sources::Source as Given;
 use lc3_asm::assemble;
 use lc3_word::Image;
 use std::alloc::{AllocError, Global};
@@ -43,7 +44,7 @@ fn process_and_file(word: &str) -> Option<(usize, &str)> {
     Some((process.parse::<usize>().ok()?, file))
 }
 
-/// Refuses a page that would replace a file of the run: an object file, an input file or a source.
+/// Refuses a page that would replace a file of the run: a program, an input file or a source.
 pub fn refuse_own_file<'a, T: Files>(
     rt: &T,
     page: &'a str,
@@ -63,32 +64,39 @@ pub fn refuse_own_file<'a, T: Files>(
     Ok(())
 }
 
-/// Whether a file is the object file or the input file that a word names.
+/// Whether a file is the program file or the input file that a word names.
 fn is_of_program<T: Files>(rt: &T, file: &str, word: &str) -> bool {
-    match word.split_once('=') {
-        Some((object, input)) => is_same_file(rt, file, object) || is_same_file(rt, file, input),
-        None => is_same_file(rt, file, word),
-    }
+    let (program, input) = files_of(word);
+    is_same_file(rt, file, program) || input.is_some_and(|input| is_same_file(rt, file, input))
 }
 
-/// The sources in these files, each of which is assembled to the object of its process.
-pub fn read_sources<'a, T: Files>(
+/// The sources of the processes: those in these files, each of which is assembled to the program of its process, and where no
+/// file is named those that the programs were given as.
+pub fn page_sources<'a, T: Files>(
     rt: &T,
     alloc: Global,
     files: &[Option<&'a str>],
     programs: &[Program],
+    given: &[Option<Given>],
 ) -> Result<Vec<Option<Source>>, Complaint<'a>> {
     let mut sources = Vec::new(alloc);
     for (process, program) in programs.iter().enumerate() {
-        let source = match files.get(process) {
-            Some(Some(file)) => {
+        let source = match (files.get(process), given.get(process)) {
+            (Some(Some(file)), _) => {
                 Some(source_for(rt, alloc, file, process, &program.image).at(file)?)
             }
-            Some(None) | None => None,
+            (_, Some(Some(given))) => Some(shown(alloc, given).at("run")?),
+            _ => None,
         };
         sources.push(source).at("run")?;
     }
     Ok(sources)
+}
+
+/// The source that a program was given as, for the page.
+fn shown(alloc: Global, given: &Given) -> Result<Source, AllocError> {
+    let text = String::from_str(alloc, &given.text)?;
+    source_of(alloc, text, &given.assembled)
 }
 
 /// The source in a file, which is assembled to the image of a process.
@@ -148,15 +156,13 @@ fn names_of(alloc: Global, words: &[&str]) -> Result<Vec<String>, AllocError> {
     Ok(names)
 }
 
-/// The name of an object file and, behind a `=`, of its input file, without their folders.
+/// The name of a program file and, behind a `=`, of its input file, without their folders.
 fn name_of(alloc: Global, word: &str) -> Result<String, AllocError> {
-    match word.split_once('=') {
-        Some((object, input)) => {
-            let object = last_part(object);
-            let input = last_part(input);
-            format!(in alloc; "{object}={input}")
-        }
-        None => String::from_str(alloc, last_part(word)),
+    let (program, input) = files_of(word);
+    let program = last_part(program);
+    match input.map(last_part) {
+        Some(input) => format!(in alloc; "{program}={input}"),
+        None => String::from_str(alloc, program),
     }
 }
 

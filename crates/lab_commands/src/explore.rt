@@ -3,7 +3,7 @@ ghost use Rattle.std.specs.Prelude.{◌≡◌, false};
 
 use crate::complaint::{At, Complaint, Reason};
 use crate::files::write_text;
-use crate::programs::{laboratory, read_programs};
+use crate::programs::{Programs, laboratory, read_programs};
 use crate::progress::{Progress, WorldCount};
 use lab_arguments::{Question, Rest, Setup};
 use lab_explore::Limits;
@@ -14,8 +14,12 @@ use std::alloc::Global;
 use std::io::Write;
 use std::rt::Files;
 
+/// How many bytes a megabyte has.
+const MEGABYTE: usize = 1_048_576;
+
 /// Reads the files of the programs, visits every interleaving of them as far as the limits allow, and writes the ends
-/// that they can have, or the schedule of one of them.
+/// that they can have, or the schedule of one of them. Where memory was refused on the way, what was found till then is
+/// written.
 pub fn explore_programs<'a, T: Files, W: Write, P: Progress>(
     rt: &T,
     alloc: Global,
@@ -26,11 +30,12 @@ pub fn explore_programs<'a, T: Files, W: Write, P: Progress>(
 ) -> Result<(), Complaint<'a>>
     requires output_healthy { output.old.failed ≡ false }
 {
-    let programs = read_programs(rt, alloc, setup.programs.as_slice())?;
+    let Programs { programs, .. } = read_programs(rt, alloc, setup.programs.as_slice(), progress)?;
     let fresh = laboratory(alloc, programs.as_slice(), setup.profile)?;
     let limits = Limits {
         worlds: question.worlds,
         steps: question.steps,
+        memory: (question.memory as usize).saturating_mul(MEGABYTE),
     };
     let required = question.required.map(verdict_of);
     let mut count = WorldCount::new(alloc, progress);
@@ -38,6 +43,9 @@ pub fn explore_programs<'a, T: Files, W: Write, P: Progress>(
     count.clear();
     let found = outcome.at("run")?;
     write_findings(&found, question.schedule, output)?;
+    if found.exploration.refused {
+        return Err(Reason::NoMemory.at("run"));
+    }
     match found.shortfall {
         None => Ok(()),
         Some(shortfall) => Err(reason_of(shortfall).at("explore")),
@@ -54,6 +62,7 @@ fn write_findings<W: Write>(
         return write_text(&found.text, output);
     };
     match found.schedules.get((number as usize).saturating_sub(1)) {
+        None if found.exploration.refused => Ok(()),
         None => Err(Reason::NoEnd.at("explore")),
         Some(schedule) => {
             write_text(schedule, output)?;

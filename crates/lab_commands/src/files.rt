@@ -2,7 +2,7 @@
 use crate::complaint::{Complaint, Reason};
 use lab_hex::read_whole;
 use lab_io::{Input, Output};
-use lc3_obj::{read_image, write_image};
+use lc3_obj::write_image;
 use lc3_word::Image;
 use std::alloc::Global;
 use std::fs::File;
@@ -23,12 +23,6 @@ pub fn is_same_file<T: Files>(rt: &T, one: &str, other: &str) -> bool {
 pub fn read_source<T: Files>(rt: &T, alloc: Global, name: &str) -> Result<String, Reason> {
     let bytes = read_file(rt, alloc, name)?;
     String::from_utf8(bytes).map_err(|_| Reason::NotUtf8)
-}
-
-/// The image in an object file of at most 4,000,000 bytes.
-pub fn read_object<T: Files>(rt: &T, alloc: Global, name: &str) -> Result<Image, Reason> {
-    let bytes = read_file(rt, alloc, name)?;
-    Ok(read_image(alloc, bytes.as_slice())?)
 }
 
 /// The bytes of a file, at most 4,000,000: a file with more is refused as too large.

@@ -19,7 +19,7 @@ pub use debug::debug_programs;
 pub use dis::disassemble_file;
 pub use explore::explore_programs;
 pub use files::{is_same_file, read_source, write_text, write_whole};
-pub use programs::{laboratory, read_programs};
+pub use programs::{Programs, files_of, laboratory, read_programs};
 pub use progress::Progress;
 pub use run::run_programs;
 pub use step::{read_schedule, step_programs};

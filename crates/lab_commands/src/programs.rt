@@ -1,42 +1,111 @@
 //! The programs of a laboratory, as the command line names them.
 use crate::complaint::{At, Complaint, Reason};
-use crate::files::{read_file, read_object};
+use crate::files::{read_file, read_source};
+use crate::progress::Progress;
+use lab_arguments::Shown;
 use lab_sched::{Fresh, FreshFault, Program};
+use lab_sources::Source;
+use lc3_asm::assemble;
+use lc3_obj::read_image;
 use lc3_table::Profile;
+use lc3_word::Image;
 use std::alloc::Global;
 use std::rt::Files;
 
-/// The programs that words name: each word is `OBJECT` or `OBJECT=INPUT`, split at its first `=`. A file is read and
-/// checked before the next one is opened.
-pub fn read_programs<'a, T: Files>(
+/// The programs of a laboratory, and of each its source, where it was given as one.
+#[derive(Drop)]
+pub struct Programs {
+    pub programs: Vec<Program>,
+    /// As many as programs.
+    pub sources: Vec<Option<Source>>,
+}
+
+/// The program file that a word names, and the file of its console input, where there is one. The word is `FILE` or
+/// `FILE=INPUT`, split at its first `=`.
+pub fn files_of(word: &str) -> (&str, Option<&str>) {
+    match word.split_once('=') {
+        Some((file, input)) => (file, Some(input)),
+        None => (word, None),
+    }
+}
+
+/// The programs that words name, each by a source or an object file. A file is read and checked before the next one is
+/// opened.
+pub fn read_programs<'a, T: Files, P: Progress>(
     rt: &T,
     alloc: Global,
     words: &[&'a str],
-) -> Result<Vec<Program>, Complaint<'a>> {
+    progress: &P,
+) -> Result<Programs, Complaint<'a>> {
     let mut programs = Vec::new(alloc);
+    let mut sources = Vec::new(alloc);
     for word in words {
-        let program = read_program(rt, alloc, word)?;
-        programs.push(program).at("run")?;
+        let (file, input) = files_of(word);
+        let (image, source) = read_image_file(rt, alloc, file, progress)?;
+        let input = match input {
+            Some(input) => read_file(rt, alloc, input).at(input)?,
+            None => Vec::new(alloc),
+        };
+        programs.push(Program { image, input }).at("run")?;
+        sources.push(source).at("run")?;
     }
-    Ok(programs)
+    Ok(Programs { programs, sources })
 }
 
-/// The program of an object file, with the bytes of an input file as its console input, or none.
-fn read_program<'a, T: Files>(
+/// The image in a file, and the source that it is assembled from, where the file is one.
+pub fn read_image_file<'a, T: Files, P: Progress>(
     rt: &T,
     alloc: Global,
-    word: &'a str,
-) -> Result<Program, Complaint<'a>> {
-    let Some((object, input)) = word.split_once('=') else {
-        let image = read_object(rt, alloc, word).at(word)?;
-        return Ok(Program {
-            image,
-            input: Vec::new(alloc),
-        });
-    };
-    let image = read_object(rt, alloc, object).at(object)?;
-    let input = read_file(rt, alloc, input).at(input)?;
-    Ok(Program { image, input })
+    file: &'a str,
+    progress: &P,
+) -> Result<(Image, Option<Source>), Complaint<'a>> {
+    if is_source(file) {
+        let source = read_assembled(rt, alloc, file).at(file)?;
+        let image = source.image(alloc).at(file)?;
+        return Ok((image, Some(source)));
+    }
+    let bytes = read_file(rt, alloc, file).at(file)?;
+    if is_text(bytes.as_slice()) {
+        tell_text(alloc, file, progress);
+    }
+    let image = read_image(alloc, bytes.as_slice()).at(file)?;
+    Ok((image, None))
+}
+
+/// Whether a file is a source, by its name.
+fn is_source(file: &str) -> bool {
+    matches!(
+        file.as_bytes(),
+        [.., b'.', b'a' | b'A', b's' | b'S', b'm' | b'M']
+    )
+}
+
+/// The source in a file.
+fn read_assembled<T: Files>(rt: &T, alloc: Global, file: &str) -> Result<Source, Reason> {
+    let text = read_source(rt, alloc, file)?;
+    let assembled = assemble(alloc, &text)?;
+    Ok(Source { text, assembled })
+}
+
+/// Whether these are the bytes of a text rather than of an object file.
+fn is_text(bytes: &[u8]) -> bool {
+    !bytes.is_empty()
+        && bytes
+            .iter()
+            .all(|byte| matches!(byte, b' '..=b'~' | b'\t' | b'\n' | b'\r'))
+}
+
+/// Says that a file which was given as an object file looks like a text, where somebody looks.
+fn tell_text<P: Progress>(alloc: Global, file: &str, progress: &P) {
+    let file = Shown(file);
+    if !progress.is_shown() {
+        return;
+    }
+    if let Ok(line) = format!(in alloc;
+        "lc3lab: {file}: looks like a text; the name of a source ends in .asm\n"
+    ) {
+        progress.tell(&line);
+    }
 }
 
 /// The laboratory of 1 to 64 programs on machines of a profile, before its first step.

@@ -21,6 +21,9 @@ pub trait Progress: Sync {
 
     /// Shows a text in place of the one before.
     fn show(&self, text: &str);
+
+    /// Writes a line that stays.
+    fn tell(&self, line: &str);
 }
 
 /// Shows how many steps of a schedule are done.

@@ -4,7 +4,7 @@ ghost use Rattle.lab_threads.specs.Limits.{most_steps_each};
 
 use crate::complaint::{At, Complaint};
 use crate::files::write_text;
-use crate::programs::{laboratory, read_programs};
+use crate::programs::{Programs, laboratory, read_programs};
 use crate::progress::{CallCount, Progress};
 use lab_arguments::{MOST_STEPS_EACH, Setup};
 use lab_io::Output;
@@ -31,7 +31,7 @@ pub fn run_programs<'a, T: Files + Threads + Wait + Clock + Sync, W: Write, P: P
 ) -> Result<(), Complaint<'a>>
     requires output_healthy { output.old.failed ≡ false }
 {
-    let programs = read_programs(rt, alloc, setup.programs.as_slice())?;
+    let Programs { programs, .. } = read_programs(rt, alloc, setup.programs.as_slice(), progress)?;
     let fresh = laboratory(alloc, programs.as_slice(), setup.profile)?;
     let limit = limit.clamp(1, MOST_STEPS_EACH);
     let outcome = match mix {

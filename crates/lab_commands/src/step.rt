@@ -3,7 +3,7 @@ ghost use Rattle.std.specs.Prelude.{◌≡◌, false};
 
 use crate::complaint::{At, Complaint, Reason};
 use crate::files::write_text;
-use crate::programs::{laboratory, read_programs};
+use crate::programs::{Programs, laboratory, read_programs};
 use crate::progress::{Progress, StepCount};
 use lab_arguments::Setup;
 use lab_hex::read_whole;
@@ -27,7 +27,7 @@ pub fn step_programs<'a, T: Files, R: Read, W: Write, P: Progress>(
     requires input_healthy { input.old.failed ≡ false }
     requires output_healthy { output.old.failed ≡ false }
 {
-    let programs = read_programs(rt, alloc, setup.programs.as_slice())?;
+    let Programs { programs, .. } = read_programs(rt, alloc, setup.programs.as_slice(), progress)?;
     let schedule = read_schedule(alloc, input).at("schedule")?;
     let fresh = laboratory(alloc, programs.as_slice(), setup.profile)?;
     let mut world = World::from(fresh);
