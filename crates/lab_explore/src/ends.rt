@@ -1,5 +1,5 @@
 //! The ends among the worlds of a search, each reached again from the start.
-ghost use Rattle.std.specs.Prelude.{◌≡◌, ◌≤◌, ◌+◌, false, IfOk, OnOk};
+ghost use Rattle.std.specs.Prelude.{◌≡◌, ◌≤◌, ◌+◌, IsTrue, false, IfOk, OnOk};
 ghost use Rattle.std.specs.List.Sorted.{IsPermutation, IsNonDecreasingBy};
 ghost use Rattle.lab_sched.specs.Worlds.{WorldState};
 ghost use Rattle.lab_sched.specs.Starts.{AreStarts, initial_world};
@@ -19,6 +19,10 @@ use crate::trying::discard;
 use crate::walking::Walk;
 use lab_sched::{Process, Schedule, Verdict, World};
 use std::alloc::{AllocError, Global};
+use std::mem::size_of;
+
+/// About how many bytes a block of a schedule takes, with its text.
+const BLOCK: usize = 32;
 
 /// A world at rest, how it stands, and a schedule that leads to it, with the number of its calls.
 #[derive(Drop)]
@@ -27,6 +31,31 @@ pub struct End {
     pub schedule: Schedule,
     pub verdict: Verdict,
     pub calls: u32,
+}
+
+/// Ends, and whether these are the ends of all rows.
+#[derive(Drop)]
+pub(crate) struct Collected {
+    pub ends: Vec<End>,
+    pub whole: bool,
+}
+
+impl End {
+    /// About how many bytes it takes, with its report and the texts of its schedule.
+    fn size(&self) -> usize {
+        let mut size = size_of::<End>()
+            .saturating_add(self.world.kernel().size())
+            .saturating_add(BLOCK.saturating_mul(self.schedule.blocks().len()));
+        for pid in 0..self.world.count() {
+            if let Some(process) = self.world.process(pid) {
+                let output = process.machine().output().len();
+                size = size
+                    .saturating_add(process.machine().size())
+                    .saturating_add(output.saturating_mul(3));
+            }
+        }
+        size
+    }
 }
 
 /// Whether a world that stands so isn't at rest.
@@ -71,7 +100,7 @@ fn sort_by_calls(ends: &mut Vec<End>) -> Result<(), AllocError>
 }
 
 impl Search {
-    /// Whether it may be that no process goes on from the world of a row.
+    /// Whether it may be that no process goes on from the world of a row, each of whose moves was made.
     fn may_rest(&self, at: usize) -> Result<bool, ExploreFault>
         requires known { AreKnown self.now.store self.now.moves }
         ensures no { IfOk result (λ rests. rests ≡ false → (w : WorldState)
@@ -89,6 +118,37 @@ impl Search {
             }
         }
         Ok(true)
+    }
+
+    /// Whether each move from the world of a row was made, and is none.
+    fn is_still(&self, at: usize) -> bool {
+        let Some(row) = self.store.rows.get(at) else {
+            return false;
+        };
+        for (pid, state) in row.states.iter().enumerate() {
+            let Ok(pid) = place_of(pid) else {
+                return false;
+            };
+            let next = self.moves.find(row.kernel, pid, *state);
+            if !matches!(next, Some(Next::Nothing)) {
+                return false;
+            }
+        }
+        true
+    }
+
+    /// Whether the world of a row may be an end. In a search that isn't complete not each move was
+    /// made: where one is unknown, the answer is no.
+    fn may_be_end(&self, at: usize) -> Result<bool, ExploreFault>
+        requires known { IsTrue self.now.complete → AreKnown self.now.store self.now.moves }
+        ensures no { IfOk result (λ may. IsTrue self.now.complete → may ≡ false
+            → (w : WorldState) → IsAt self.now.store at w → NoneGoesOn w → ⊥) }
+    {
+        if !self.complete {
+            return Ok(self.is_still(at));
+        }
+        let may = self.may_rest(at)?;
+        Ok(may)
     }
 
     /// The end of a row of this depth, reached again.
@@ -117,7 +177,8 @@ impl Search {
         }
     }
 
-    /// Adds the end of a row of this depth to others, if no process goes on from its world.
+    /// Adds the end of a row of this depth to others, if no process goes on from its world; with
+    /// about how many bytes it takes.
     fn add_end(
         &self,
         alloc: Global,
@@ -125,41 +186,69 @@ impl Search {
         at: usize,
         depth: u32,
         ends: &mut Vec<End>,
-    ) -> Result<(), ExploreFault>
+    ) -> Result<usize, ExploreFault>
         requires starts { AreStarts processes.now }
-        requires known { AreKnown self.now.store self.now.moves }
+        requires known { IsTrue self.now.complete → AreKnown self.now.store self.now.moves }
         ensures each { OnOk result (AreEnds (initial_world processes.now) ends.old.items
             → AreEnds (initial_world processes.now) ends.new.items) }
         ensures keeps { OnOk result (Keeps ends.old.items ends.new.items) }
-        ensures here { OnOk result (HasRowEnd self.now.store ends.new.items at depth) }
+        ensures here { OnOk result (IsTrue self.now.complete
+            → HasRowEnd self.now.store ends.new.items at depth) }
     {
-        if !self.may_rest(at)? {
-            return Ok(());
+        if !self.may_be_end(at)? {
+            return Ok(0);
         }
         let end = self.row_end(alloc, processes, at, depth)?;
+        let size = end.size();
         ends.push(end)?;
-        Ok(())
+        Ok(size)
     }
 
-    /// The ends, each reached again, those with fewer calls first.
+    /// The ends, each reached again, as long as they take about so many bytes; with whether these are
+    /// all.
+    fn collect(
+        &self,
+        alloc: Global,
+        processes: &[Process],
+        room: usize,
+    ) -> Result<Collected, ExploreFault>
+        requires starts { AreStarts processes.now }
+        requires known { IsTrue self.now.complete → AreKnown self.now.store self.now.moves }
+        ensures ends { IfOk result (λ c. AreEnds (initial_world processes.now) c.ends.items) }
+        ensures all { IfOk result (λ c. IsTrue c.whole → IsTrue self.now.complete
+            → HaveRowEnds self.now.store c.ends.items) }
+    {
+        let depths = self.store.depths(alloc)?;
+        let mut ends = Vec::new(alloc);
+        let mut size = 0_usize;
+        for at in 0..self.store.rows.len() {
+            if size > room {
+                return Ok(Collected { ends, whole: false });
+            }
+            let depth = depth_of(depths.as_slice(), at);
+            let more = self.add_end(alloc, processes, at, depth, &mut ends)?;
+            size = size.saturating_add(more);
+        }
+        Ok(Collected { ends, whole: true })
+    }
+
+    /// The ends, each reached again, those with fewer calls first, as long as they take about so many
+    /// bytes; with whether these are all.
     pub(crate) fn ends(
         &self,
         alloc: Global,
         processes: &[Process],
-    ) -> Result<Vec<End>, ExploreFault>
+        room: usize,
+    ) -> Result<Collected, ExploreFault>
         requires starts { AreStarts processes.now }
-        requires known { AreKnown self.now.store self.now.moves }
-        ensures ends { IfOk result (λ ends. AreEnds (initial_world processes.now) ends.items) }
-        ensures all { IfOk result (λ ends. HaveRowEnds self.now.store ends.items) }
-        ensures ordered { IfOk result (λ ends. IsNonDecreasingBy (λ e. e.calls) ends.items) }
+        requires known { IsTrue self.now.complete → AreKnown self.now.store self.now.moves }
+        ensures ends { IfOk result (λ c. AreEnds (initial_world processes.now) c.ends.items) }
+        ensures all { IfOk result (λ c. IsTrue c.whole → IsTrue self.now.complete
+            → HaveRowEnds self.now.store c.ends.items) }
+        ensures ordered { IfOk result (λ c. IsNonDecreasingBy (λ e. e.calls) c.ends.items) }
     {
-        let depths = self.store.depths(alloc)?;
-        let mut ends = Vec::new(alloc);
-        for at in 0..self.store.rows.len() {
-            let depth = depth_of(depths.as_slice(), at);
-            self.add_end(alloc, processes, at, depth, &mut ends)?;
-        }
-        sort_by_calls(&mut ends)?;
-        Ok(ends)
+        let mut collected = self.collect(alloc, processes, room)?;
+        sort_by_calls(&mut collected.ends)?;
+        Ok(collected)
     }
 }

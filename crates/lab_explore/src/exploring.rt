@@ -5,8 +5,11 @@ ghost use Rattle.lab_sched.specs.Starts.{AreStarts, initial_world};
 ghost use Rattle.lab_explore.specs.Private.Known.{AreKnown};
 ghost use Rattle.lab_explore.specs.Private.Walked.{HaveRowEnds};
 ghost use Rattle.lab_explore.specs.Ends.{AreEnds, HaveAllEnds, HaveFewestCalls, NoneStuck, NeverStuck};
-ghost use Rattle.lab_explore.specs.Rounds.{IsRound, CanBeRepeated, AreRising, AreEndless, AreBounded};
+ghost use Rattle.lab_explore.specs.Rounds.{IsRound, CanBeRepeated, AreEndless, AreBounded};
+ghost use Rattle.lab_explore.specs.Private.Rising.{AreRising};
 
+use crate::ends::Collected;
+use crate::moves::both;
 use crate::search::{Search, search_all};
 use crate::trying::discard;
 use crate::{End, ExploreFault, Limits, Observer, Round};
@@ -15,21 +18,29 @@ use lab_sched::{Fresh, Process};
 use std::alloc::Global;
 
 /// What the programs of a laboratory can come to: their ends, a round, if they can go on for ever,
-/// how many worlds were visited, and whether these are all ends.
+/// how many worlds were visited, and whether these are all ends. Where they aren't, the search may
+/// have come to its end because memory was refused.
 #[derive(Drop)]
 pub struct Exploration {
     pub ends: Vec<End>,
     pub round: Option<Round>,
     pub worlds: u32,
     pub complete: bool,
+    pub refused: bool,
 }
 
-/// Visits every world at calls that a laboratory can come to, as far as the limits allow, those
-/// with fewer calls first. Each end has a schedule of effective steps that leads to it; ends with
-/// fewer calls come first. Where the exploration is complete, there is no other end, whatever steps
-/// are taken, in any order, but for the numbers of places in the kernel, and none is reached by
-/// fewer calls; and if then no end is stuck, no such steps lead to a world that is. A round can be
-/// repeated as often as one likes, so some effective steps never end; where the exploration is
+/// About how many bytes there are for ends beside a search that takes so many: what is left, and
+/// where that is little a sixteenth of the limit beyond it.
+fn room_for_ends(limits: Limits, taken: usize) -> usize {
+    limits.memory.saturating_sub(taken).max(limits.memory / 16)
+}
+
+/// Visits every world at calls that a laboratory can come to, as far as the limits and the memory
+/// allow, those with fewer calls first. Each end has a schedule of effective steps that leads to it;
+/// ends with fewer calls come first. Where the exploration is complete, there is no other end,
+/// whatever steps are taken, in any order, but for the numbers of places in the kernel, and none is
+/// reached by fewer calls; and if then no end is stuck, no such steps lead to a world that is. A round
+/// can be repeated as often as one likes, so some effective steps never end; where the exploration is
 /// complete and has no round, each list of effective steps ends, after no more than some number of
 /// them. The observer is told of the worlds as they are visited.
 pub fn explore<O: Observer>(
@@ -55,7 +66,7 @@ pub fn explore<O: Observer>(
     let processes = fresh.processes();
     let kernel = Kernel::new(alloc, processes.len())?;
     let search = search_all(alloc, &processes, kernel, limits, observer)?;
-    match search.report(alloc, &processes) {
+    match search.report(alloc, &processes, room_for_ends(limits, search.size())) {
         Ok(found) => {
             discard(search);
             Ok(found)
@@ -68,17 +79,20 @@ pub fn explore<O: Observer>(
 }
 
 impl Search {
-    /// What was found, with the ends and a round, if there is one.
+    /// What was found, with the ends, as long as they take about so many bytes, and a round, if there
+    /// is one.
     pub(crate) fn report(
         &self,
         alloc: Global,
         processes: &[Process],
+        room: usize,
     ) -> Result<Exploration, ExploreFault>
         requires starts { AreStarts processes.now }
-        requires known { AreKnown self.now.store self.now.moves }
+        requires known { IsTrue self.now.complete → AreKnown self.now.store self.now.moves }
         ensures ends { IfOk result (λ found.
             AreEnds (initial_world processes.now) found.ends.items) }
-        ensures all { IfOk result (λ found. HaveRowEnds self.now.store found.ends.items) }
+        ensures all { IfOk result (λ found. IsTrue found.complete
+            → HaveRowEnds self.now.store found.ends.items) }
         ensures ordered { IfOk result (λ found.
             IsNonDecreasingBy (λ e. e.calls) found.ends.items) }
         ensures round { IfOk result (λ found.
@@ -87,13 +101,14 @@ impl Search {
             found.round ≡ None → AreRising self.now.store.edges.items) }
         ensures complete { IfOk result (λ found. IsTrue found.complete → IsTrue self.now.complete) }
     {
-        let ends = self.ends(alloc, processes)?;
+        let Collected { ends, whole } = self.ends(alloc, processes, room)?;
         let round = self.round(alloc, processes)?;
         Ok(Exploration {
             ends,
             round,
             worlds: u32::try_from(self.store.rows.len()).unwrap_or(u32::MAX),
-            complete: self.complete,
+            complete: both(self.complete, whole),
+            refused: self.refused,
         })
     }
 }

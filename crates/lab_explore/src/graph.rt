@@ -1,7 +1,7 @@
 //! The order of worlds along the edges between them, and cycles. That an order is one is checked; a
 //! cycle is run again (`rounds`).
 ghost use Rattle.std.specs.Prelude.{◌<◌, Some, IsTrue};
-ghost use Rattle.lab_explore.specs.Rounds.{IsRising, Rises};
+ghost use Rattle.lab_explore.specs.Private.Rising.{IsRising, Rises};
 
 use crate::store::Edge;
 use std::alloc::{AllocError, Global};

@@ -30,6 +30,15 @@ impl Index {
         })
     }
 
+    /// No number, and no room for any.
+    pub(crate) fn none(alloc: Global) -> Index {
+        Index {
+            newest: Vec::new(alloc),
+            older: Vec::new(alloc),
+            hashes: Vec::new(alloc),
+        }
+    }
+
     /// The newest number of a hash, or 0.
     pub(crate) fn newest(&self, hash: u64) -> usize {
         match self.newest.get(self.chain(half(hash))) {

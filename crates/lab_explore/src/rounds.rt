@@ -5,7 +5,8 @@ ghost use Rattle.lab_sched.specs.Schedules.{steps_of};
 ghost use Rattle.lab_sched.specs.Starts.{AreStarts, initial_world};
 ghost use Rattle.lab_explore.specs.Private.Stored.{IsLike};
 ghost use Rattle.lab_explore.specs.Private.Walked.{IsWalk, KeepsStart};
-ghost use Rattle.lab_explore.specs.Rounds.{IsRound, AreRising};
+ghost use Rattle.lab_explore.specs.Rounds.{IsRound};
+ghost use Rattle.lab_explore.specs.Private.Rising.{AreRising};
 
 use crate::ExploreFault;
 use crate::graph::{Cycle, cycle_of, is_order, order_of};

@@ -2,7 +2,8 @@
 ghost use Rattle.std.specs.Prelude.{◌≡◌, [], All, IsTrue, false, map, IfOk, IfSome, OnOk};
 ghost use Rattle.lab_sched.specs.Held.{process_view, IsHeld};
 ghost use Rattle.lab_explore.specs.Private.Known.{AreKnown};
-ghost use Rattle.lab_explore.specs.Private.Stored.{IsState, IsReady, IsStore, Grows, AreExpanded, IsSearched, IsCome, IsBegun};
+ghost use Rattle.lab_explore.specs.Closed.{HasAdvance};
+ghost use Rattle.lab_explore.specs.Private.Stored.{IsState, IsReady, IsAt, IsStore, Grows, AreExpanded, IsSearched, IsCome, IsBegun};
 
 use crate::advance::{Ahead, advance};
 use crate::known::Moves;
@@ -29,13 +30,14 @@ pub(crate) struct Begun {
 }
 
 /// What a search found: the worlds, the moves between them, the local steps of each process before
-/// them, and whether these are all.
+/// them, and whether these are all. If they aren't, memory may have been refused.
 #[derive(Drop)]
 pub(crate) struct Search {
     pub store: Store,
     pub moves: Moves,
     pub firsts: Vec<u32>,
     pub complete: bool,
+    pub refused: bool,
 }
 
 impl Store {
@@ -129,6 +131,9 @@ impl Store {
             if at >= self.rows.len() {
                 return Ok(whole);
             }
+            if self.size(moves.made.len()) > limits.memory {
+                return Ok(false);
+            }
             observer.see(at, self.rows.len() - at);
             let expanded = self.expand(alloc, moves, at, limits)?;
             whole = both(whole, expanded);
@@ -138,6 +143,11 @@ impl Store {
 }
 
 impl Search {
+    /// About how many bytes it takes.
+    pub(crate) fn size(&self) -> usize {
+        self.store.size(self.moves.made.len())
+    }
+
     /// The search before its first world.
     fn new(alloc: Global) -> Result<Search, AllocError>
         ensures store { IfOk result (λ s. IsStore s.store) }
@@ -149,10 +159,87 @@ impl Search {
             moves: Moves::new(alloc)?,
             firsts: Vec::new(alloc),
             complete: false,
+            refused: false,
         })
     }
 
-    /// Keeps every world that processes over a kernel can come to, as far as the limits allow.
+    /// Keeps the first world, in which each process stands at its first call, if each comes there;
+    /// with whether it is kept.
+    fn begin(
+        &mut self,
+        alloc: Global,
+        processes: &[Process],
+        kernel: Kernel,
+        limits: Limits,
+    ) -> Result<bool, ExploreFault>
+        requires store { IsStore self.old.store }
+        requires none { self.old.moves.made.items ≡ [] }
+        requires open { self.old.complete ≡ false }
+        requires held { All IsHeld processes.now }
+        ensures store { OnOk result (IsStore self.new.store) }
+        ensures none { OnOk result (self.new.moves.made.items ≡ []) }
+        ensures open { OnOk result (self.new.complete ≡ false) }
+        ensures begins { IfOk result (λ kept. IsTrue kept → HasAdvance (IsAt self.new.store 0)
+            (record { processes = map process_view processes.now; kernel = kernel })) }
+    {
+        let kernel = self.store.keep_kernel(kernel)?;
+        let Some(begun) = self.store.begin(alloc, processes, limits.steps)? else {
+            return Ok(false);
+        };
+        let Begun { states, firsts } = begun;
+        self.firsts = firsts;
+        let first = Row {
+            kernel,
+            states,
+            before: 0,
+            pid: 0,
+            taken: 0,
+        };
+        let Some(0) = self.store.keep_row(first, limits.worlds)? else {
+            return Ok(false);
+        };
+        Ok(true)
+    }
+
+    /// Tries each process from each world, as far as the limits and the memory allow.
+    fn go_on<O: Observer>(
+        &mut self,
+        alloc: Global,
+        limits: Limits,
+        observer: &mut O,
+    ) -> Result<(), ExploreFault>
+        requires store { IsStore self.old.store }
+        requires none { self.old.moves.made.items ≡ [] }
+        requires open { self.old.complete ≡ false }
+        ensures known { OnOk result (IsTrue self.new.complete
+            → AreKnown self.new.store self.new.moves) }
+        ensures grows { OnOk result (IsTrue self.new.complete
+            → Grows self.old.store self.new.store) }
+        ensures expanded { OnOk result (IsTrue self.new.complete → AreExpanded self.new.store) }
+    {
+        match self
+            .store
+            .expand_all(alloc, &mut self.moves, limits, observer)
+        {
+            Ok(true) => {
+                self.complete = true;
+                Ok(())
+            }
+            Ok(false) => {
+                self.store.forget(alloc);
+                Ok(())
+            }
+            Err(ExploreFault::NoMemory) => {
+                self.store.forget(alloc);
+                self.refused = true;
+                Ok(())
+            }
+            Err(fault) => Err(fault),
+        }
+    }
+
+    /// Keeps every world that processes over a kernel can come to, as far as the limits and the memory
+    /// allow.
     fn fill<O: Observer>(
         &mut self,
         alloc: Global,
@@ -165,30 +252,17 @@ impl Search {
         requires none { self.old.moves.made.items ≡ [] }
         requires open { self.old.complete ≡ false }
         requires held { All IsHeld processes.now }
-        ensures known { OnOk result (AreKnown self.new.store self.new.moves) }
+        ensures known { OnOk result (IsTrue self.new.complete
+            → AreKnown self.new.store self.new.moves) }
         ensures complete { OnOk result (IsTrue self.new.complete → IsSearched
             (record { processes = map process_view processes.now; kernel = kernel })
             self.new.store) }
     {
-        let kernel = self.store.keep_kernel(kernel)?;
-        let Some(begun) = self.store.begin(alloc, processes, limits.steps)? else {
+        let kept = self.begin(alloc, processes, kernel, limits)?;
+        if !kept {
             return Ok(());
-        };
-        let Begun { states, firsts } = begun;
-        self.firsts = firsts;
-        let first = Row {
-            kernel,
-            states,
-            before: 0,
-            pid: 0,
-            taken: 0,
-        };
-        let Some(0) = self.store.keep_row(first, limits.worlds)? else {
-            return Ok(());
-        };
-        self.complete = self
-            .store
-            .expand_all(alloc, &mut self.moves, limits, observer)?;
+        }
+        self.go_on(alloc, limits, observer)?;
         Ok(())
     }
 }
@@ -202,7 +276,7 @@ pub(crate) fn search_all<O: Observer>(
     observer: &mut O,
 ) -> Result<Search, ExploreFault>
     requires held { All IsHeld processes.now }
-    ensures known { IfOk result (λ s. AreKnown s.store s.moves) }
+    ensures known { IfOk result (λ s. IsTrue s.complete → AreKnown s.store s.moves) }
     ensures complete { IfOk result (λ s. IsTrue s.complete → IsSearched
         (record { processes = map process_view processes.now; kernel = kernel }) s.store) }
 {

@@ -7,6 +7,7 @@ use crate::index::Index;
 use ipc_kernel::Kernel;
 use lab_sched::Process;
 use std::alloc::{AllocError, Global};
+use std::mem::size_of;
 
 /// A world: the places of its kernel and of the states of its processes. It was reached from the
 /// row before by the process `pid`, which then took so many local steps.
@@ -59,10 +60,19 @@ pub(crate) struct Store {
     pub states: Vec<Process>,
     pub rows: Vec<Row>,
     pub edges: Vec<Edge>,
+    /// About how many bytes the kernels and the states take.
+    pub held: usize,
     kernel_index: Index,
     state_index: Index,
     pub row_index: Index,
 }
+
+/// About how many bytes each row takes beside its places: in the index, and where the rows are told,
+/// as a number in each of four lists and a depth.
+const ROW: usize = 80;
+
+/// About how many bytes each move takes, with the index.
+const MOVE: usize = 44;
 
 impl Store {
     /// Nothing.
@@ -74,10 +84,33 @@ impl Store {
             states: Vec::new(alloc),
             rows: Vec::new(alloc),
             edges: Vec::new(alloc),
+            held: 0,
             kernel_index: Index::new(alloc)?,
             state_index: Index::new(alloc)?,
             row_index: Index::new(alloc)?,
         })
+    }
+
+    /// About how many bytes are taken by what is kept, and by so many moves.
+    pub(crate) fn size(&self, moves: usize) -> usize {
+        let width = match self.rows.first() {
+            Some(row) => row.states.len(),
+            None => 0,
+        };
+        let row = ROW
+            .saturating_add(size_of::<Row>())
+            .saturating_add(size_of::<u32>().saturating_mul(width));
+        self.held
+            .saturating_add(row.saturating_mul(self.rows.len()))
+            .saturating_add(size_of::<Edge>().saturating_mul(self.edges.len()))
+            .saturating_add(MOVE.saturating_mul(moves))
+    }
+
+    /// Lets go of what only a search needs that goes on.
+    pub(crate) fn forget(&mut self, alloc: Global) {
+        self.kernel_index = Index::none(alloc);
+        self.state_index = Index::none(alloc);
+        self.row_index = Index::none(alloc);
     }
 
     /// The place of a state, if it is kept.
@@ -128,6 +161,7 @@ impl Store {
             return Ok(place);
         }
         self.state_index.add(hash)?;
+        self.held = self.held.saturating_add(process.machine().size());
         let place = place_of(self.states.len())?;
         self.states.push(process)?;
         Ok(place)
@@ -146,6 +180,7 @@ impl Store {
             return Ok(place);
         }
         self.kernel_index.add(hash)?;
+        self.held = self.held.saturating_add(kernel.size());
         let place = place_of(self.kernels.len())?;
         self.kernels.push(kernel)?;
         Ok(place)

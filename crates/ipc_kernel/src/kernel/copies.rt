@@ -4,6 +4,7 @@ ghost use Rattle.std.specs.Prelude.{◌≡◌, ◌↔◌, IfOk, IsTrue};
 use super::Kernel;
 use std::alloc::{AllocError, Global};
 use std::hash::{FoldHasher, Hasher};
+use std::mem::size_of;
 
 /// The sum of numbers, whatever their order.
 fn sum_of(numbers: &[u64]) -> u64 {
@@ -30,6 +31,14 @@ impl Kernel {
         ensures same { IsTrue result ↔ (self.now ≡ other.now) }
     {
         self.processes.is_same(&other.processes) && self.places.is_same(&other.places)
+    }
+
+    /// About how many bytes a copy of the kernel takes: its own, and those of its places and of the
+    /// tables of its processes. Nothing that is proved rests on it.
+    pub fn size(&self) -> usize {
+        size_of::<Kernel>()
+            .saturating_add(self.places.size())
+            .saturating_add(self.processes.size())
     }
 
     /// A number that is the same for kernels that are alike and, as a rule, another for others.

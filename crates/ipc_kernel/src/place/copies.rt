@@ -3,9 +3,10 @@ ghost use Rattle.std.specs.Prelude.{◌≡◌, ◌↔◌, IfOk, IsTrue};
 
 use super::Place;
 use ipc_names::Name;
-use ipc_objects::Semaphore;
+use ipc_objects::{Message, Semaphore};
 use std::alloc::{AllocError, Global};
 use std::hash::{FoldHasher, Hasher};
+use std::mem::size_of;
 
 fn copy_of_name(name: &Option<Name>) -> Result<Option<Name>, AllocError>
     ensures equal { IfOk result (λ copy. copy ≡ name.now) }
@@ -32,6 +33,17 @@ fn feed_name(name: &Option<Name>, hasher: &mut FoldHasher) {
         let text = name.text().as_bytes();
         hasher.write_usize(text.len());
         hasher.write(text);
+    }
+}
+
+/// About how many bytes the entry of a name takes.
+const ENTRY: usize = 128;
+
+/// About how many bytes the entry of a name takes, if there is one, with its text.
+fn entry_size(name: &Option<Name>) -> usize {
+    match name {
+        Some(name) => ENTRY.saturating_add(name.text().len()),
+        None => 0,
     }
 }
 
@@ -77,6 +89,20 @@ impl Place {
             ) => is_same_name(name, other_name) && semaphore.value() == other_semaphore.value(),
             _ => false,
         }
+    }
+
+    /// About how many bytes the place takes, with its messages and the entry of its name. The words of
+    /// messages are shared.
+    pub(crate) fn size(&self) -> usize {
+        let held = match self {
+            Place::Empty => 0,
+            Place::Mq { name, queue } => {
+                let messages = queue.attr().2 as usize;
+                entry_size(name).saturating_add(size_of::<Message>().saturating_mul(messages))
+            }
+            Place::Sem { name, .. } => entry_size(name),
+        };
+        size_of::<Place>().saturating_add(held)
     }
 
     /// Adds what the place holds to a digest.

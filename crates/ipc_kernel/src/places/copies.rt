@@ -53,6 +53,15 @@ impl Places {
         are_same(self.places.as_slice(), other.places.as_slice())
     }
 
+    /// About how many bytes the places take, with what they hold and with the entries of their names.
+    pub(crate) fn size(&self) -> usize {
+        let mut size = 0_usize;
+        for place in &self.places {
+            size = size.saturating_add(place.size());
+        }
+        size
+    }
+
     /// A number for what each place holds, and 0 for an empty place.
     pub(crate) fn digests(&self) -> [u64; OBJECT_PLACES] {
         let mut digests = [0; OBJECT_PLACES];

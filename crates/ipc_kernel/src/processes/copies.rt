@@ -5,6 +5,7 @@ use super::Processes;
 use crate::process::OpenTables;
 use std::alloc::{AllocError, Global};
 use std::hash::{FoldHasher, Hasher};
+use std::mem::size_of;
 
 /// The number of the object in a place.
 fn object_at(objects: &[u64], place: u8) -> u64 {
@@ -51,6 +52,11 @@ impl Processes {
         ensures same { IsTrue result ↔ (self.now ≡ other.now) }
     {
         self.tables.as_slice() == other.tables.as_slice()
+    }
+
+    /// The bytes of the tables.
+    pub(crate) fn size(&self) -> usize {
+        size_of::<OpenTables>().saturating_mul(self.tables.len())
     }
 
     /// Adds the tables to a digest, by the numbers of the objects to which they refer.

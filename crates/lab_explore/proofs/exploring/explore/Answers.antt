@@ -30,7 +30,7 @@ returns-in-Ok g c =
     let asks = starts_ask qs ps c.in_ok-kernel.kernel c.deref.ensures.value starts in
     let untried = starts_untried qs ps c.in_ok-kernel.kernel c.deref.ensures.value starts in
     let all : IsTrue c.in-Ok.found.complete → (ps : List ℕ) → AreAtRest (run c.args.fresh ps) → IsReachedIn ends (run c.args.fresh ps) (length (entries c.args.fresh ps)) =
-    λ is. all_ends c.args.fresh start c.in_ok-search.search.store ends same consistent asks untried sound (c.in_ok-search.ensures.complete (c.in-Ok.ensures.complete is)) c.in-Ok.ensures.all in
+    λ is. all_ends c.args.fresh start c.in_ok-search.search.store ends same consistent asks untried sound (c.in_ok-search.ensures.complete (c.in-Ok.ensures.complete is)) (c.in-Ok.ensures.all is) in
     let round = subst (λ w. IfSome c.in-Ok.found.round (λ r. IsRound w r)) (sym first) c.in-Ok.ensures.round in
     let empty = ap (λ (w : WorldState). w.kernel) (sym c.processes-processes.ensures.world) in
     record {

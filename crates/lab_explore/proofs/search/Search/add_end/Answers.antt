@@ -16,5 +16,5 @@ pub returns-clause-keeps : goal.returns-clause-keeps
 returns-clause-keeps c = subst (λ xs. Keeps c.args.ends.now.items xs) (sym c.in_ok-push.ensures.items) (keeps_push c.args.ends.now.items c.in_ok-end.end)
 
 pub returns-clause-here : goal.returns-clause-here
-returns-clause-here c w there rest =
+returns-clause-here c is w there rest =
     end_pushed c.args.self.now.store c.args.at c.args.depth w c.in_ok-end.end c.args.ends.now.items c.push.new.self.items c.in_ok-push.ensures.items c.in_ok-end.ensures.row c.in_ok-end.ensures.few there

@@ -1,12 +1,12 @@
-use Rattle.std.proofs.Common.{ℕ, ◌<◌}
+use Rattle.std.proofs.Common.{ℕ, ◌<◌, IsTrue}
 use Rattle.lab_explore.specs.Private.Depths.{depth_of}
 use Rattle.lab_explore.specs.Private.Walked.{HasRowEnd}
 use Rattle.lab_sched.specs.Starts.{initial_world}
 use Rattle.lab_explore.specs.Ends.{AreEnds}
-use Rattle.lab_explore.proofs.search.Search.ends.Given as goal
+use Rattle.lab_explore.proofs.search.Search.collect.Given as goal
 
 abbrev pub invariant-loop-at : goal.invariant-loop-at
 invariant-loop-at l = record {
   ends : AreEnds (initial_world l.processes) l.ends.items;
-  all : (i : ℕ) → i < l.at → HasRowEnd l.self.store l.ends.items i (depth_of l.depths.items i);
+  all : IsTrue l.self.complete → (i : ℕ) → i < l.at → HasRowEnd l.self.store l.ends.items i (depth_of l.depths.items i);
 }
