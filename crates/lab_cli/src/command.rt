@@ -1,6 +1,7 @@
 //! What the words of the command line ask for, done.
 ghost use Rattle.std.specs.Prelude.{◌≡◌, false};
 
+use crate::build::told_of_build;
 use crate::trace::trace_programs;
 use lab_arguments::{Refusal, Request, read_words};
 use lab_commands::{
@@ -9,7 +10,7 @@ use lab_commands::{
 };
 use lab_hex::{CliFault, hex_run};
 use lab_io::{Input, Output};
-use std::alloc::Global;
+use std::alloc::{Alloc, Global};
 use std::io::{Read, Write};
 use std::rt::Files;
 use std::sync::Wait;
@@ -28,7 +29,13 @@ pub const USAGE: u8 = 2;
 /// Does what the words after the program's name ask for, and answers the exit status. Without words it reads an image
 /// as hexadecimal words and writes the report of its run. A fault goes to `errors`, on one line. A long run shows on
 /// `progress` how far it is.
-pub fn command<T: Files + Threads + Wait + Clock + Sync, R: Read, W: Write, E: Write, P: Progress>(
+pub fn command<
+    T: Files + Alloc + Threads + Wait + Clock + Sync,
+    R: Read,
+    W: Write,
+    E: Write,
+    P: Progress,
+>(
     rt: &T,
     alloc: Global,
     words: &[String],
@@ -53,7 +60,7 @@ pub fn command<T: Files + Threads + Wait + Clock + Sync, R: Read, W: Write, E: W
             let outcome = perform(rt, alloc, &request, input, output, progress);
             status(alloc, outcome, errors)
         }
-        Err(refusal) => explain(alloc, &refusal, output, errors),
+        Err(refusal) => explain(rt, alloc, &refusal, output, errors),
     }
 }
 
@@ -87,7 +94,7 @@ fn perform<'a, T: Files + Threads + Wait + Clock + Sync, R: Read, W: Write, P: P
             let sheet = Sheet { list, explain };
             assemble_file(rt, alloc, source, object, sheet, output)
         }
-        Request::Disassemble { object } => disassemble_file(rt, alloc, object, output),
+        Request::Disassemble { object } => disassemble_file(rt, alloc, object, output, progress),
         Request::Step { ref setup } => step_programs(rt, alloc, setup, input, output, progress),
         Request::Run {
             ref setup,
@@ -97,17 +104,18 @@ fn perform<'a, T: Files + Threads + Wait + Clock + Sync, R: Read, W: Write, P: P
         Request::Trace {
             ref setup,
             ref page,
-        } => trace_programs(rt, alloc, setup, page.as_ref(), input, output),
+        } => trace_programs(rt, alloc, setup, page.as_ref(), input, output, progress),
         Request::Explore {
             ref setup,
             question,
         } => explore_programs(rt, alloc, setup, question, output, progress),
-        Request::Debug { ref setup } => debug_programs(rt, alloc, setup, input, output),
+        Request::Debug { ref setup } => debug_programs(rt, alloc, setup, input, output, progress),
     }
 }
 
-/// Help goes to the output, and what is wrong with the words to the errors.
-fn explain<W: Write, E: Write>(
+/// Help and the version go to the output, and what is wrong with the words to the errors.
+fn explain<T: Files + Alloc, W: Write, E: Write>(
+    rt: &T,
     alloc: Global,
     refusal: &Refusal,
     output: &mut Output<W>,
@@ -119,9 +127,22 @@ fn explain<W: Write, E: Write>(
             return USAGE;
         }
         Refusal::Help(text) => write_text(text, output),
+        Refusal::Version(line) => write_version(rt, alloc, line, output),
         Refusal::NoMemory => Err(Reason::NoMemory.at("run")),
     };
     status(alloc, outcome, errors)
+}
+
+/// Writes the line of the version, and behind it what is told of the build.
+fn write_version<T: Files + Alloc, W: Write>(
+    rt: &T,
+    alloc: Global,
+    line: &str,
+    output: &mut Output<W>,
+) -> Result<(), Complaint<'static>> {
+    let told = told_of_build(rt, alloc).map_err(|reason| reason.at("run"))?;
+    write_text(line, output)?;
+    write_text(told.as_str(), output)
 }
 
 /// The exit status; a complaint is written on one line.

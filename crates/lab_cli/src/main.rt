@@ -1,6 +1,7 @@
 //! The laboratory's program.
 #![tactic(auto)]
 
+mod build;
 mod command;
 mod page;
 mod prompts;
@@ -31,6 +32,11 @@ impl Progress for StatusLine {
         // back to the line's first column, and the rest of the line cleared
         let _ = errors.write_all(b"\r\x1b[K");
         let _ = errors.write_all(text.as_bytes());
+    }
+
+    fn tell(&self, line: &str) {
+        let mut errors = self.errors;
+        let _ = errors.write_all(line.as_bytes());
     }
 }
 
