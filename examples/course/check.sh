@@ -1,11 +1,12 @@
 #!/bin/sh
 # Tries every command that the exercises name. What they print without threads is compared by the cases of
 # tests/cases/course. A threaded run is judged by replaying the schedule that it printed. LC3LAB is the command to try,
-# where it isn't the launcher of this repository. Files are made in a temporary folder alone, which goes again.
+# where it isn't the lc3lab two folders up, or else the one on the path. Files are made in a temporary folder alone, which
+# goes again.
 set -u
 
 here=$(dirname -- "$(readlink -f -- "$0")")
-LC3LAB=${LC3LAB:-$here/../../lc3lab}
+LC3LAB=${LC3LAB:-$(command -v "$here/../../lc3lab" || command -v lc3lab)}
 made=$(mktemp -d) || exit 1
 trap 'rm -rf "$made"' EXIT
 trap 'exit 1' HUP INT TERM

@@ -6,11 +6,11 @@ use Rattle.std.proofs.lemmas.List.Elements.{All-head}
 use Rattle.ipc_kernel.specs.declared.place.Place.{Place}
 use Rattle.ipc_kernel.specs.declared.call.Reply.TheVariants.{Message as received}
 use Rattle.ipc_kernel.specs.declared.call.Answer.TheVariants.{Done}
-use Rattle.ipc_kernel.specs.Places.{place_at, queue_in, with_queue, HasMessage}
+use Rattle.ipc_kernel.specs.Places.{place_at, queue_in, with_queue}
+use Rattle.ipc_kernel.specs.Private.Messages.{HasMessage, message_length}
 use Rattle.ipc_kernel.specs.Private.Decisions.{reply_with_first, outcome_of}
 use Rattle.ipc_kernel.specs.Outcomes.{queue_at, completion, with_queue_at}
 use Rattle.ipc_kernel.specs.declared.kernel.decision.Decision.TheVariants.{Receives}
-use Rattle.ipc_kernel.specs.Replies.{message_length}
 use Rattle.ipc_kernel.proofs.IndexLemmas.{some_of}
 use Rattle.ipc_kernel.proofs.KernelLemmas.{done_settled, settled_with_queue}
 use Rattle.ipc_kernel.specs.Kernel.{KernelState, IsSettled}

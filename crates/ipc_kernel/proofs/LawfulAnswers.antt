@@ -18,7 +18,8 @@ use Rattle.ipc_kernel.specs.declared.call.Answer.{Answer}
 use Rattle.ipc_kernel.specs.declared.call.Answer.TheVariants.{Done, Wait}
 use Rattle.ipc_kernel.specs.Kernel.{KernelState}
 use Rattle.ipc_kernel.specs.Processes.{descriptor_of, slot_of, slot_for, free_descriptor_of, free_slot_of}
-use Rattle.ipc_kernel.specs.Places.{is_empty, are_sizes, queue_named, semaphore_named, queue_in, place_at, HasMessage}
+use Rattle.ipc_kernel.specs.Places.{is_empty, are_sizes, queue_named, semaphore_named, queue_in, place_at}
+use Rattle.ipc_kernel.specs.Private.Messages.{HasMessage}
 use Rattle.ipc_kernel.specs.Private.Decisions.{outcome_of, reply_with_first, decision_receives, decision_may_grow, decision_may_share, IsPossible, FitsBuffer, FitsLimit}
 use Rattle.ipc_kernel.specs.declared.kernel.decision.Decision.{Decision}
 use Rattle.ipc_kernel.specs.declared.kernel.decision.Decision.TheVariants.{Refused, Waits, Receives, Answered}

@@ -1,6 +1,6 @@
 -- The object places: queues and semaphores, each with a name or, once it is unlinked, without. A name in brackets is the page
 -- of POSIX.1-2017.
-use Rattle.std.specs.Prelude.{ℕ, ◌<◌, ◌≤◌, nat_le, length, Bool, true, false, ◌||◌, ◌&&◌, List, Option, Some, None, is_some, unwrap_or, slice_get, slice_set, map, position, if◌then◌else◌}
+use Rattle.std.specs.Prelude.{ℕ, nat_le, Bool, true, false, ◌||◌, ◌&&◌, List, Option, Some, None, is_some, unwrap_or, slice_get, slice_set, map, position, if◌then◌else◌}
 use Rattle.std.specs.List.{enumerate_from}
 use Rattle.std.specs.Str.{bytes_eq}
 use Rattle.ipc_objects.specs.Queue.{QueueState}
@@ -57,14 +57,6 @@ abbrev pub semaphore_value : Place → Option ℕ
 semaphore_value Empty = None
 semaphore_value (Mq _ _) = None
 semaphore_value (Sem _ value) = Some value
-
--- whether a queue takes one message more, of these words
-abbrev pub HasRoomFor : List ℕ → QueueState → Type 0
-HasRoomFor words q = (length q.messages < q.max_messages) × (length words ≤ q.message_size)
-
--- whether a queue has a message
-abbrev pub HasMessage : QueueState → Type 0
-HasMessage q = 0 < length q.messages
 
 -- the place with another state of its queue
 abbrev pub with_queue : QueueState → Place → Place

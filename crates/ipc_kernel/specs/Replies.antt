@@ -1,5 +1,5 @@
 -- Which replies a call can have.
-use Rattle.std.specs.Prelude.{◌≤◌, ℕ, Bool, true, false, length}
+use Rattle.std.specs.Prelude.{◌≤◌, Bool, true, false, length}
 use Rattle.ipc_objects.specs.Limits.{mq_msgsize_max}
 use Rattle.ipc_kernel.specs.declared.call.Call.{Call}
 use Rattle.ipc_kernel.specs.declared.call.Call.TheVariants.{MqReceive, MqGetattr, MqSetattr, SemGetvalue}
@@ -26,8 +26,3 @@ IsAnswerTo call Wait = Unit {0}
 abbrev pub is_message : Reply → Bool
 is_message (Message words prio) = true
 is_message other = false
-
--- the number of words of a message in an answer
-abbrev pub message_length : Answer → ℕ
-message_length (Done (Message words prio)) = length words
-message_length other = 0

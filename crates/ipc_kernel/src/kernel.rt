@@ -27,10 +27,18 @@ mod queues;
 mod semaphores;
 
 /// The kernel: 64 object places, and 16 descriptors and 16 slots of each process.
-#[derive(Drop)]
 pub struct Kernel {
     places: Places,
     processes: Processes,
+}
+
+impl Drop for Kernel {
+    fn drop(self) {
+        let Kernel {
+            places: _,
+            processes: _,
+        } = self;
+    }
 }
 
 impl Model for Kernel {

@@ -28,7 +28,8 @@ pub enum Place {
 }
 
 impl Place {
-    ghost use Rattle.ipc_kernel.specs.Places.{is_empty, has_name, semaphore_value, with_value, without_name, queue_in, with_queue, HasRoomFor, HasMessage, queue_and_name, value_and_name};
+    ghost use Rattle.ipc_kernel.specs.Places.{is_empty, has_name, semaphore_value, with_value, without_name, queue_in, with_queue, queue_and_name, value_and_name};
+    ghost use Rattle.ipc_kernel.specs.Private.Messages.{HasRoomFor, HasMessage};
 
     pub(crate) fn is_empty(&self) -> bool
         ensures empty { result ≡ is_empty self.now }

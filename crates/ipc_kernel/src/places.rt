@@ -7,7 +7,8 @@ ghost use Rattle.ipc_objects.specs.Queue.{QueueState, empty_queue, with_message,
 ghost use Rattle.ipc_objects.specs.declared.queue.Message.{Message};
 ghost use Rattle.ipc_objects.specs.Limits.{sem_value_max, mq_prio_max};
 ghost use Rattle.ipc_kernel.specs.Limits.{object_places};
-ghost use Rattle.ipc_kernel.specs.Places.{queue_in, HasRoomFor, HasMessage, are_sizes};
+ghost use Rattle.ipc_kernel.specs.Places.{queue_in, are_sizes};
+ghost use Rattle.ipc_kernel.specs.Private.Messages.{HasRoomFor, HasMessage};
 ghost use Rattle.ipc_kernel.specs.Places.{is_empty, semaphore_value, with_queue_in, with_value_in, without_name_in, queue_name, semaphore_name, queue_named, semaphore_named, queue_and_name, value_and_name, place_at, places_or_empty};
 ghost use Rattle.ipc_kernel.specs.declared.place.Place.TheVariants.{Empty, Mq, Sem};
 

@@ -17,9 +17,14 @@ const NAME_MAX: usize = 255;
 
 /// The name of a queue or a semaphore, seen as the list of its characters: `/`, and then one or
 /// more of x21 to x7E without `/`, at most 255 in all.
-#[derive(Drop)]
 pub struct Name {
     text: ArcStr,
+}
+
+impl Drop for Name {
+    fn drop(self) {
+        let Name { text: _ } = self;
+    }
 }
 
 impl Model for Name {

@@ -3,7 +3,8 @@ use Rattle.std.proofs.Common.{◌≡◌, ℕ, ◌+◌, ◌-◌, ◌≤◌, ◌<�
 use Rattle.std.proofs.lemmas.List.Elements.{All-tail}
 use Rattle.ipc_objects.specs.Limits.{mq_prio_max}
 use Rattle.ipc_objects.specs.declared.queue.Message.{Message}
-use Rattle.ipc_objects.specs.Queue.{after_send, IsShape, IsCounted}
+use Rattle.ipc_objects.specs.Queue.{after_send, IsShape}
+use Rattle.ipc_objects.specs.Private.Counted.{IsCounted}
 use Rattle.ipc_objects.proofs.SentLemmas.{length-sent, shape-sent}
 
 shape-tail : (max size : ℕ) (x : Message) (ms : List Message) → IsShape max size (x ∷ ms) → IsShape max size ms

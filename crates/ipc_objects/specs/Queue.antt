@@ -1,5 +1,5 @@
 -- Message queues (POSIX.1-2017, mq_send and mq_receive). A name in brackets is the page of POSIX.1-2017.
-use Rattle.std.specs.Prelude.{◌≡◌, ℕ, ◌<◌, ◌≤◌, nat_le, nat_lt, List, [], ◌∷◌, ◌++◌, length, drop, filter, All}
+use Rattle.std.specs.Prelude.{ℕ, ◌<◌, ◌≤◌, nat_le, nat_lt, List, [], ◌∷◌, ◌++◌, length, drop, filter, All}
 use Rattle.ipc_objects.specs.Limits.{mq_prio_max, mq_maxmsg_max, mq_msgsize_max}
 use Rattle.ipc_objects.specs.declared.queue.Message.{Message}
 
@@ -44,8 +44,3 @@ pub record IsShape (max size : ℕ) (messages : List Message) : Type 0 where
 -- each queue has them
 abbrev pub IsQueue : QueueState → Type 0
 IsQueue q = IsShape q.max_messages q.message_size q.messages
-
--- a queue has them and counts its messages
-pub record IsCounted (max size count : ℕ) (messages : List Message) : Type 0 where
-  pub shape : IsShape max size messages
-  pub counted : count ≡ length messages

@@ -21,7 +21,6 @@ pub struct Message {
 /// A message queue: the greatest number of messages that it holds, the greatest length of a
 /// message in words, and its messages in the order in which they would be received
 /// (POSIX.1-2017, `mq_send` and `mq_receive`).
-#[derive(Drop)]
 pub struct Queue {
     max_messages: u16,
     message_size: u16,
@@ -29,8 +28,20 @@ pub struct Queue {
     messages: Messages,
 }
 
+impl Drop for Queue {
+    fn drop(self) {
+        let Queue {
+            max_messages: _,
+            message_size: _,
+            count: _,
+            messages: _,
+        } = self;
+    }
+}
+
 impl Model for Queue {
-    ghost use Rattle.ipc_objects.specs.Queue.{QueueState, IsCounted};
+    ghost use Rattle.ipc_objects.specs.Queue.{QueueState};
+    ghost use Rattle.ipc_objects.specs.Private.Counted.{IsCounted};
 
     ghost Value = { QueueState };
 

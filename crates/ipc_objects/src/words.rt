@@ -16,9 +16,14 @@ enum Store {
 }
 
 /// A list of words that doesn't change. Copies of a long one share its words.
-#[derive(Drop)]
 pub struct Words {
     store: Store,
+}
+
+impl Drop for Words {
+    fn drop(self) {
+        let Words { store: _ } = self;
+    }
 }
 
 impl Model for Words {

@@ -2,7 +2,7 @@
 use crate::support::vector;
 use ipc_kernel::Call;
 use ipc_traps::{Asked, prepare, read_call};
-use lc3_machine::{AtCall, Local, Running};
+use lc3_machine::{AtCall, Progress, Running};
 use lc3_table::Profile;
 use lc3_word::Image;
 use std::alloc::Global;
@@ -12,13 +12,12 @@ use std::process::Abort;
 fn asking(rt: &impl Abort, alloc: Global, trap: u16, r: [u16; 4]) -> AtCall {
     let words = [0x2004, 0x2204, 0x2404, 0x2604, trap, r[0], r[1], r[2], r[3]];
     let image = Image::new(0x3000, vector(rt, alloc, &words)).expect(rt, "an image");
-    let process = match Running::load(alloc, &image, b"", Profile::A) {
+    let mut process = match Running::load(alloc, &image, b"", Profile::A) {
         Ok(process) => process,
         Err(_) => Running::load(alloc, &image, b"", Profile::A).expect(rt, "memory"),
     };
-    let (local, _) = process.run_local(5);
-    match local {
-        Local::AtCall(call) => call,
+    match process.advance(5).1 {
+        Progress::Stopped(want) => process.stand(want),
         _ => panic!(rt; "the process stands before its trap"),
     }
 }

@@ -1,6 +1,5 @@
 -- What a line of a script does.
-use Rattle.std.specs.Prelude.{ℕ, ◌+◌, ◌==◌, ◌||◌, ◌≤◌, ◌<◌, ⊤, zero, suc, Bool, true, false, if◌then◌else◌, nat_lt, Option, Some, None, Result, Ok, Err, List, [], ◌∷◌, codes, length, replicate, slice_get}
-use Rattle.ipc_kernel.specs.Limits.{process_max}
+use Rattle.std.specs.Prelude.{ℕ, ◌==◌, ◌||◌, zero, suc, Bool, true, false, if◌then◌else◌, nat_lt, Option, Some, None, Result, Ok, Err, List, [], ◌∷◌, codes, length, replicate, slice_get}
 use Rattle.std.specs.List.{list_all}
 use Rattle.lab_sched.specs.Worlds.{Process, WorldState, step_effect_in, step, run, machine_of}
 use Rattle.lab_sched.specs.Schedules.{steps_of}
@@ -8,7 +7,7 @@ use Rattle.lab_debug.specs.declared.command.Command.{Command}
 use Rattle.lab_debug.specs.declared.command.Command.TheVariants.{Step, Run, Until, Regs, Mem, Dis, Procs, Mqs, Sems, Fds, Out, Profile, Quit}
 use Rattle.lab_debug.specs.declared.command.Refusal.{Refusal}
 use Rattle.lab_debug.specs.declared.command.Refusal.TheVariants.{UnknownCommand, BadOperands, NoProcess}
-use Rattle.lab_debug.specs.Commands.{words_of, command_of, step_count_max}
+use Rattle.lab_debug.specs.Commands.{words_of, command_of}
 use Rattle.lab_debug.specs.Script.{Effect, Script, script}
 use Rattle.lab_texts.specs.Texts.{status_text, procs_text, profile_text, regs_text, mem_text, dis_text, out_text}
 use Rattle.lab_texts.specs.Objects.{mqs_text, sems_text, fds_text}
@@ -101,10 +100,3 @@ line_effect w line = words_effect w (words_of line)
 -- the session of a script of these bytes on a world
 abbrev pub session : WorldState → List ℕ → Script WorldState
 session w bytes = script line_effect w bytes
-
--- a number of steps is 1 to 1,000,000, and a range is in memory
-abbrev pub IsCommand : Command → Type 0
-IsCommand (Step pid n) = (pid < process_max) × (1 ≤ n) × (n ≤ step_count_max)
-IsCommand (Mem range) = range.address + range.count ≤ 65536
-IsCommand (Dis range) = range.address + range.count ≤ 65536
-IsCommand command = ⊤

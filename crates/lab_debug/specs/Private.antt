@@ -1,2 +1,4 @@
 -- Definitions that only contracts inside the crate cite.
 pub mod Replies
+pub mod Ranges
+pub mod Reading

@@ -1,7 +1,7 @@
 //! The commands of a script, as they are written.
 ghost use Rattle.std.specs.Prelude.{◌≡◌, ◌≤◌, ◌+◌, IfOk, IfSome, map, codes};
 ghost use Rattle.lab_sched.specs.ScheduleTexts.{reading_of_words};
-ghost use Rattle.lab_debug.specs.Effects.{IsCommand};
+ghost use Rattle.lab_debug.specs.Private.Ranges.{IsCommand};
 ghost use Rattle.lab_debug.specs.Commands.{step_of, until_of, bare_of, of_process, range_of, of_range, run_of, is_named, showing_command, plain_command, command_of};
 
 use crate::operands::{address_in, count_in, number_in, one, process_in, three, two};

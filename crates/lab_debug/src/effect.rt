@@ -9,7 +9,8 @@ ghost use Rattle.lab_debug.specs.Commands.{step_count_max};
 ghost use Rattle.lab_texts.specs.Texts.{status_text};
 ghost use Rattle.lab_texts.specs.Verdicts.{verdict_text};
 ghost use Rattle.lab_debug.specs.Private.Replies.{effect_of};
-ghost use Rattle.lab_debug.specs.Effects.{IsCommand, is_at, world_until, is_there, are_there, accepted_effect, command_effect, line_effect, refusal_text};
+ghost use Rattle.lab_debug.specs.Effects.{is_at, world_until, is_there, are_there, accepted_effect, command_effect, line_effect, refusal_text};
+ghost use Rattle.lab_debug.specs.Private.Ranges.{IsCommand};
 
 use crate::command::{Command, Refusal, read_command};
 use crate::operands::split_words;

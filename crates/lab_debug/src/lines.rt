@@ -3,7 +3,8 @@ ghost use Rattle.std.specs.Prelude.{◌≡◌, ℕ, List, ◌≤◌, [], ◌∷�
 ghost use Rattle.std.specs.Option.{option_map};
 ghost use Rattle.std.specs.Io.KnownBytes.{Consumes, Keeps, IsAtEnd, prepend_known};
 ghost use Rattle.lab_debug.specs.declared.lines.TheConstants.{CHUNK};
-ghost use Rattle.lab_debug.specs.Lines.{TakesLine, TakesByte, Stops, line_limit};
+ghost use Rattle.lab_debug.specs.Lines.{line_limit};
+ghost use Rattle.lab_debug.specs.Private.Reading.{TakesLine, TakesByte, Stops};
 
 use crate::LINE_LIMIT;
 use crate::fault::SessionFault;

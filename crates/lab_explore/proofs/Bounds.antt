@@ -19,7 +19,8 @@ use Rattle.lab_sched.proofs.Commutes.{after_other}
 use Rattle.lab_explore.specs.declared.store.Store.{Store}
 use Rattle.lab_explore.specs.Calls.{IsAtCall, IsAhead, Both, Alongside}
 use Rattle.lab_explore.specs.Private.Stored.{IsAt, IsReached, AreReached, HasEdge, IsSearched}
-use Rattle.lab_explore.specs.Rounds.{IsRising, Rises, AreRising, AreBounded}
+use Rattle.lab_explore.specs.Rounds.{AreBounded}
+use Rattle.lab_explore.specs.Private.Rising.{IsRising, Rises, AreRising}
 use Rattle.lab_explore.proofs.Pushes.{all_at}
 use Rattle.lab_explore.proofs.AfterLocalSteps.{none_local}
 use Rattle.lab_explore.proofs.FirstWorlds.{at_unique}

@@ -7,7 +7,7 @@ use Rattle.ipc_traps.specs.Asked.{Request, Local, Refuses, Calls, Ends, next_req
 use Rattle.ipc_kernel.specs.declared.call.Call.{Call}
 use Rattle.ipc_kernel.specs.declared.call.Reply.{Reply}
 use Rattle.ipc_kernel.specs.declared.call.Answer.TheVariants.{Done, Wait}
-use Rattle.lab_sched.specs.Worlds.{Process, Running, Waiting, Ended, WorldState, StepEffect, nothing, local_step, kernel_step, step_effect_in, process_after_answer, process_after_answer_to, after, step, entry_of}
+use Rattle.lab_sched.specs.Worlds.{Process, Running, Waiting, Ended, WorldState, StepEffect, nothing, local_step, kernel_step, step_effect_in, process_after_answer, process_after_reply_to, after, step, entry_of}
 use Rattle.lab_sched.specs.Stepping.{before_wait}
 use Rattle.lab_sched.specs.Verdicts.{is_waiting}
 use Rattle.lab_explore.specs.Untried.{GoesOn, untried}
@@ -51,7 +51,7 @@ answered_goes : (m : Machine) (c : Call) (r : Reply) → one is_waiting (process
 unfolding process_after_answer
 answered_goes m c r = by (next_request m)
   where
-    by : (q : Request) → one is_waiting (process_after_answer_to m c q (Done r)) ≡ 0
+    by : (q : Request) → one is_waiting (process_after_reply_to m q r) ≡ 0
     by (Local n) = refl
     by (Refuses e) = refl
     by (Calls d) = refl

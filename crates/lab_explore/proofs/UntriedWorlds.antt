@@ -14,7 +14,7 @@ use Rattle.ipc_kernel.specs.declared.call.Reply.{Reply}
 use Rattle.ipc_kernel.specs.Kernel.{KernelState}
 use Rattle.ipc_kernel.specs.Answer.{answer}
 use Rattle.ipc_kernel.proofs.LawfulAnswers.{answer_wait}
-use Rattle.lab_sched.specs.Worlds.{Process, Running, Waiting, Ended, WorldState, NextAction, moves, calls, next_action, StepEffect, nothing, local_step, kernel_step, step_effect, step_effect_in, process_after_answer, process_after_answer_to, after, step, first_try, retry}
+use Rattle.lab_sched.specs.Worlds.{Process, Running, Waiting, Ended, WorldState, NextAction, moves, calls, next_action, StepEffect, nothing, local_step, kernel_step, step_effect, step_effect_in, process_after_answer, process_after_reply_to, after, step, first_try, retry}
 use Rattle.lab_sched.specs.Stepping.{before_wait}
 use Rattle.lab_sched.proofs.ListPlaces.{get-set_same, get_past, set_same}
 use Rattle.lab_sched.proofs.Commutes.{after_other}
@@ -125,7 +125,7 @@ replied_back : (m : Machine) (c : Call) (r : Reply) → before_wait (process_aft
 unfolding process_after_answer
 replied_back m c r = by (next_request m)
   where
-    by : (q : Request) → before_wait (process_after_answer_to m c q (Done r)) ≡ process_after_answer_to m c q (Done r)
+    by : (q : Request) → before_wait (process_after_reply_to m q r) ≡ process_after_reply_to m q r
     by (Local n) = refl
     by (Refuses e) = refl
     by (Calls d) = refl
@@ -159,7 +159,7 @@ unfolding process_after_answer
 answered_asks m c Wait e = e
 answered_asks m c (Done r) e = by (next_request m)
   where
-    by : (q : Request) → AsksAgain (process_after_answer_to m c q (Done r))
+    by : (q : Request) → AsksAgain (process_after_reply_to m q r)
     by (Local n) = tt
     by (Refuses e) = tt
     by (Calls d) = tt

@@ -3,3 +3,4 @@ pub mod Stored
 pub mod Known
 pub mod Depths
 pub mod Walked
+pub mod Rising

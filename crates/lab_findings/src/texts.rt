@@ -1,6 +1,5 @@
 //! The lines of the text.
-ghost use Rattle.std.specs.Prelude.{◌≡◌, OnOk};
-ghost use Rattle.lab_texts.specs.Rows.{Adds};
+ghost use Rattle.std.specs.Prelude.{◌≡◌, ◌++◌, OnOk, string_bytes};
 ghost use Rattle.lab_findings.specs.Texts.{schedule_line, end_lines, round_line, round_text, extent_text, extent_line};
 
 use lab_explore::Round;
@@ -11,7 +10,8 @@ use std::fmt::Write;
 /// Adds the line of a schedule.
 #[tactic(auto, unfolding(crate::specs::Texts::schedule_line))]
 fn push_schedule(alloc: Global, text: &mut String, schedule: &Schedule) -> Result<(), AllocError>
-    ensures text { OnOk result (Adds text.old text.new (schedule_line schedule.now)) }
+    ensures text { OnOk result (string_bytes text.new
+        ≡ string_bytes text.old ++ schedule_line schedule.now) }
 {
     let steps = schedule.text(alloc)?;
     match write!(text, "schedule {steps}\n") {
@@ -29,8 +29,8 @@ pub(crate) fn push_end(
     report: &str,
     schedule: &Schedule,
 ) -> Result<(), AllocError>
-    ensures text { OnOk result
-        (Adds text.old text.new (end_lines number report.now schedule.now)) }
+    ensures text { OnOk result (string_bytes text.new
+        ≡ string_bytes text.old ++ end_lines number report.now schedule.now) }
 {
     write!(text, "end {number}\n{report}")?;
     push_schedule(alloc, text, schedule)
@@ -39,7 +39,8 @@ pub(crate) fn push_end(
 /// Adds the line of the steps of a round.
 #[tactic(auto, unfolding(crate::specs::Texts::round_line))]
 fn push_steps(alloc: Global, text: &mut String, steps: &Schedule) -> Result<(), AllocError>
-    ensures text { OnOk result (Adds text.old text.new (round_line steps.now)) }
+    ensures text { OnOk result (string_bytes text.new
+        ≡ string_bytes text.old ++ round_line steps.now) }
 {
     let steps = steps.text(alloc)?;
     match write!(text, "round {steps}\n") {
@@ -54,7 +55,8 @@ pub(crate) fn push_round(
     text: &mut String,
     round: &Option<Round>,
 ) -> Result<(), AllocError>
-    ensures text { OnOk result (Adds text.old text.new (round_text round.now)) }
+    ensures text { OnOk result (string_bytes text.new
+        ≡ string_bytes text.old ++ round_text round.now) }
 {
     let Some(round) = round else {
         return Ok(());
@@ -74,7 +76,8 @@ fn extent_of(complete: bool) -> &'static str
 /// Adds the last line: whether an exploration of so many worlds is complete.
 #[tactic(auto, unfolding(crate::specs::Texts::extent_line))]
 pub(crate) fn push_extent(text: &mut String, complete: bool, worlds: u32) -> Result<(), AllocError>
-    ensures text { OnOk result (Adds text.old text.new (extent_line complete worlds)) }
+    ensures text { OnOk result (string_bytes text.new
+        ≡ string_bytes text.old ++ extent_line complete worlds) }
 {
     let extent = extent_of(complete);
     match write!(text, "{extent} {worlds} worlds\n") {

@@ -11,7 +11,8 @@ use Rattle.lab_trace.specs.declared.lines.Widths.{Widths}
 use Rattle.lab_page.specs.Limits.{most_bytes}
 use Rattle.lab_page.specs.Moments.{Moment, moment_size, size_of, moment, moments, moments_of}
 use Rattle.lab_page.specs.Runs.{is_whole}
-use Rattle.lab_page.specs.Faults.{IsFault, Explains}
+use Rattle.lab_page.specs.Faults.{Explains}
+use Rattle.lab_page.specs.Private.Faults.{IsFault}
 use Rattle.lab_page.specs.declared.fault.PageFault.{PageFault}
 use Rattle.lab_page.specs.declared.fault.PageFault.TheVariants.{NoProcess, TooLarge, NoMemory}
 use Rattle.lab_page.proofs.MomentLemmas.{moments-append}

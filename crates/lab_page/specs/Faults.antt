@@ -5,16 +5,9 @@ use Rattle.lab_sched.specs.Worlds.{WorldState}
 use Rattle.lab_sched.specs.declared.schedule.block.Block.{Block}
 use Rattle.lab_trace.specs.Traces.{missing_after}
 use Rattle.lab_page.specs.Limits.{most_bytes}
-use Rattle.lab_page.specs.Moments.{Moment, size_of}
 use Rattle.lab_page.specs.Runs.{run_size}
 use Rattle.lab_page.specs.declared.fault.PageFault.{PageFault}
 use Rattle.lab_page.specs.declared.fault.PageFault.TheVariants.{NoProcess, TooLarge, NoMemory}
-
--- why moments were not kept: their texts have too many bytes, or memory was refused
-abbrev pub IsFault : PageFault → List Moment → Type 0
-IsFault (NoProcess done) ms = ⊥
-IsFault TooLarge ms = most_bytes < size_of ms
-IsFault NoMemory ms = ⊤
 
 -- why there is no run by a schedule: it names a process that isn't there, the texts of its moments
 -- have too many bytes, or memory was refused

@@ -3,3 +3,4 @@ pub mod Moments
 pub mod Runs
 pub mod Faults
 pub mod Pages
+pub mod Private

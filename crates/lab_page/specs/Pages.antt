@@ -1,9 +1,9 @@
--- The page of a trace.
+-- The page of a trace: its data, and around them what is the same on every page, as the template has it.
 use Rattle.std.specs.Prelude.{ℕ, ◌≡◌, ◌==◌, false, if◌then◌else◌, List, [], ◌∷◌, ◌++◌, codes}
 use Rattle.std.specs.List.{list_any, flat_map}
 use Rattle.std.specs.Fmt.{decimal}
 use Rattle.lab_page.specs.Limits.{most_whole}
-use Rattle.lab_page.specs.declared.template.TheConstants.{HEAD, TOP, DATA, SCRIPT, END}
+use Rattle.lab_page.specs.declared.template.TheConstants.{HEAD, TOP, SCRIPT, END}
 use Rattle.lab_page.specs.declared.template.style.TheConstants.{STYLE}
 use Rattle.lab_page.specs.declared.template.body.TheConstants.{BODY}
 use Rattle.lab_page.specs.declared.template.records.TheConstants.{RECORDS}
@@ -16,9 +16,13 @@ use Rattle.lab_page.specs.declared.template.panel.TheConstants.{PANEL}
 use Rattle.lab_page.specs.declared.template.moving.TheConstants.{MOVING}
 use Rattle.lab_page.specs.declared.template.setup.TheConstants.{SETUP}
 
--- the page before its data
+-- what every page has before its data
 unfoldable pub page_start : List ℕ
-page_start = HEAD.now ++ STYLE.now ++ TOP.now ++ BODY.now ++ DATA.now
+page_start = HEAD.now ++ STYLE.now ++ TOP.now ++ BODY.now
+
+-- a data block that holds JSON, which a browser neither shows nor runs (HTML, 4.12.1)
+unfoldable pub data_block : List ℕ → List ℕ
+data_block json = codes "<script type=\"application/json\" id=\"data\">\n" ++ json ++ codes "\n</script>"
 
 -- the scripts that read the data
 unfoldable pub reading_scripts : List ℕ
@@ -36,7 +40,7 @@ drawing_scripts = LAYOUT.now ++ BOXES.now ++ PICTURE.now
 unfoldable pub showing_scripts : List ℕ
 showing_scripts = PANEL.now ++ MOVING.now ++ SETUP.now
 
--- the page behind its data
+-- what every page has behind its data
 unfoldable pub page_end : List ℕ
 page_end = SCRIPT.now ++ reading_scripts ++ limit_script ++ drawing_scripts ++ showing_scripts ++ END.now
 
@@ -50,7 +54,7 @@ safe json = flat_map safe_byte json
 
 -- the page with these data
 abbrev pub page_text : List ℕ → List ℕ
-page_text json = page_start ++ safe json ++ page_end
+page_text json = page_start ++ data_block (safe json) ++ page_end
 
 -- a text in which no `<` stands: it ends no element of a page
 abbrev pub HasNoTag : List ℕ → Type 0

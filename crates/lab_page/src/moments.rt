@@ -6,7 +6,7 @@ ghost use Rattle.lab_sched.specs.Worlds.{step, step_effect_in};
 ghost use Rattle.lab_sched.specs.Held.{stepped_of};
 ghost use Rattle.lab_trace.specs.Scenes.{scene_at, scene_after, next_tally, IsKept};
 ghost use Rattle.lab_trace.specs.Traces.{AreThere};
-ghost use Rattle.lab_page.specs.Faults.{IsFault};
+ghost use Rattle.lab_page.specs.Private.Faults.{IsFault};
 ghost use Rattle.lab_page.specs.Limits.{most_bytes};
 ghost use Rattle.lab_page.specs.Moments.{moment_list, moment, moments, event_shown, event_size, moment_shown, moment_size, size_of};
 

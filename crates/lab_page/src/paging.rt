@@ -5,8 +5,7 @@ ghost use Rattle.lab_page.specs.Pages.{page_text, safe, HasNoTag};
 use crate::MOST_BYTES;
 use crate::data::Run;
 use crate::fault::PageFault;
-use crate::safe::push_safe;
-use crate::template::{push_page_end, push_page_start};
+use crate::template::{push_data, push_page_end, push_page_start};
 use std::alloc::{AllocError, Global};
 
 /// The page with these data, as JSON.
@@ -15,7 +14,7 @@ fn page_with(alloc: Global, json: &str) -> Result<Vec<u8>, AllocError>
 {
     let mut bytes = Vec::new(alloc);
     push_page_start(&mut bytes)?;
-    push_safe(&mut bytes, json.as_bytes())?;
+    push_data(&mut bytes, json)?;
     push_page_end(&mut bytes)?;
     Ok(bytes)
 }

@@ -3,7 +3,8 @@ ghost use Rattle.std.specs.Prelude.{◌≡◌, ◌≤◌, ℕ, Some, Err, OnOk, 
 ghost use Rattle.lab_sched.specs.Schedules.{steps_of};
 ghost use Rattle.lab_sched.specs.Worlds.{run};
 ghost use Rattle.lab_trace.specs.Traces.{missing_after, AreThere};
-ghost use Rattle.lab_page.specs.Faults.{IsFault, Explains};
+ghost use Rattle.lab_page.specs.Faults.{Explains};
+ghost use Rattle.lab_page.specs.Private.Faults.{IsFault};
 ghost use Rattle.lab_page.specs.Limits.{most_bytes};
 ghost use Rattle.lab_page.specs.Moments.{moments_of, moment_shown, size_of};
 ghost use Rattle.lab_page.specs.Runs.{ending_of, run_of, run_size, run_shown, sources_shown};

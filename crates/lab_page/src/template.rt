@@ -1,7 +1,7 @@
 //! The page around its data: the same text for every trace.
 
 ghost use Rattle.std.specs.Prelude.{◌≡◌, ◌++◌, OnOk};
-ghost use Rattle.lab_page.specs.Pages.{page_start, reading_scripts, limit_script, drawing_scripts, showing_scripts, page_end};
+ghost use Rattle.lab_page.specs.Pages.{page_start, data_block, safe, reading_scripts, limit_script, drawing_scripts, showing_scripts, page_end};
 
 mod body;
 mod boxes;
@@ -16,6 +16,7 @@ mod study;
 mod style;
 
 use crate::MOST_WHOLE;
+use crate::safe::push_safe;
 use crate::template::body::BODY;
 use crate::template::boxes::BOXES;
 use crate::template::layout::LAYOUT;
@@ -45,8 +46,10 @@ const TOP: &str = r##"</style>
 const DATA: &str = r##"<script type="application/json" id="data">
 "##;
 
+const DATA_END: &str = r##"
+</script>"##;
+
 const SCRIPT: &str = r##"
-</script>
 <script>"##;
 
 const END: &str = r##"</script>
@@ -71,7 +74,18 @@ pub fn push_page_start(bytes: &mut Vec<u8>) -> Result<(), AllocError>
     push_part(bytes, STYLE)?;
     push_part(bytes, TOP)?;
     push_part(bytes, BODY)?;
+    Ok(())
+}
+
+/// Adds the data, as JSON in which each `<` is escaped.
+#[tactic(auto, unfolding(crate::specs::Pages::data_block))]
+pub fn push_data(bytes: &mut Vec<u8>, json: &str) -> Result<(), AllocError>
+    ensures bytes { OnOk result (bytes.new.items
+        ≡ bytes.old.items ++ data_block (safe json.now)) }
+{
     push_part(bytes, DATA)?;
+    push_safe(bytes, json.as_bytes())?;
+    push_part(bytes, DATA_END)?;
     Ok(())
 }
 

@@ -25,7 +25,8 @@ use Rattle.lab_sched.specs.Worlds.{Process, Running, Waiting, Ended, WorldState,
 use Rattle.lab_sched.specs.Held.{process_view, IsHeld, StepResult, step_result, HasStepped}
 use Rattle.lab_sched.specs.LocalRun.{AreLocal}
 use Rattle.lab_sched.specs.Settling.{AsksFor}
-use Rattle.lab_sched.specs.Stepping.{CanTakeReply, StandsBefore, StopsBy, StopsByIn, after_end, after_reply, before_wait}
+use Rattle.lab_sched.specs.Stepping.{CanTakeReply, StandsBefore, StopsBy, after_end, after_reply, before_wait}
+use Rattle.lab_sched.specs.Private.Settling.{StopsByIn}
 use Rattle.lab_sched.specs.Verdicts.{IsWaiting}
 use Rattle.lab_sched.proofs.EndSteps.{act_end, end_step}
 use Rattle.lab_sched.proofs.OwnSteps.{first_local}

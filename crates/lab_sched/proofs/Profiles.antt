@@ -6,6 +6,7 @@ use Rattle.lc3_table.specs.declared.profile.Profile.{Profile}
 use Rattle.lc3_machine.specs.Process.{Process as Machine}
 use Rattle.lc3_machine.proofs.Profiles.{ended_profile}
 use Rattle.ipc_kernel.specs.declared.call.Call.{Call}
+use Rattle.ipc_kernel.specs.declared.call.Reply.{Reply}
 use Rattle.ipc_kernel.specs.declared.call.Answer.{Answer}
 use Rattle.ipc_kernel.specs.declared.call.Answer.TheVariants.{Done, Wait}
 use Rattle.ipc_kernel.specs.Kernel.{KernelState}
@@ -17,7 +18,7 @@ use Rattle.lab_sched.specs.declared.fresh.Program.{Program}
 use Rattle.lab_sched.specs.declared.stepped.Stepped.{Stepped}
 use Rattle.lab_sched.specs.declared.next.Next.{Next}
 use Rattle.lab_sched.specs.declared.next.Next.TheVariants as next
-use Rattle.lab_sched.specs.Worlds.{Process, Running, Waiting, Ended, NextAction, moves, calls, next_action, action_for, process_after_answer, process_after_answer_to, step_effect, first_try, retry, process_after, profile_of, HasProfile, first_profile, HaveOneProfile}
+use Rattle.lab_sched.specs.Worlds.{Process, Running, Waiting, Ended, NextAction, moves, calls, next_action, action_for, process_after_answer, process_after_reply_to, step_effect, first_try, retry, process_after, profile_of, HasProfile, first_profile, HaveOneProfile}
 use Rattle.lab_sched.specs.Held.{process_view, StepResult, HasStepped}
 use Rattle.lab_sched.specs.LocalRun.{AreLocal, TakesAnswer, Leads, IsLocalRun}
 use Rattle.lab_sched.specs.Settling.{IsNext}
@@ -26,17 +27,17 @@ use Rattle.lab_sched.specs.declared.trace.TracedCall.{TracedCall}
 use Rattle.lab_sched.specs.declared.trace.Trace.{Trace}
 use Rattle.lab_sched.proofs.OwnSteps.{first_local}
 
-told-by : (m : Machine) (c : Call) (request : Request) (a : Answer) → profile_of (process_after_answer_to m c request a) ≡ m.profile
-told-by m c request Wait = refl
-told-by m c (Local n) (Done r) = replied_profile m r
-told-by m c (Refuses e) (Done r) = replied_profile m r
-told-by m c (Calls d) (Done r) = replied_profile m r
-told-by m c (Ends how) (Done r) = ended_profile m how
+replied-by : (m : Machine) (request : Request) (r : Reply) → profile_of (process_after_reply_to m request r) ≡ m.profile
+replied-by m (Local n) r = replied_profile m r
+replied-by m (Refuses e) r = replied_profile m r
+replied-by m (Calls d) r = replied_profile m r
+replied-by m (Ends how) r = ended_profile m how
 
 -- an answer keeps the profile
 pub told_profile : (m : Machine) (c : Call) (a : Answer) → profile_of (process_after_answer m c a) ≡ m.profile
 unfolding process_after_answer
-told_profile m c a = told-by m c (next_request m) a
+told_profile m c Wait = refl
+told_profile m c (Done r) = replied-by m (next_request m) r
 
 -- a local step goes on with this profile
 abbrev KeepsIn : Profile → NextAction → Type 0

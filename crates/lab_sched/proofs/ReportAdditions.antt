@@ -21,7 +21,8 @@ use Rattle.lab_sched.specs.Held.{process_view}
 use Rattle.lab_sched.specs.Verdicts.{HasEnded}
 use Rattle.lab_sched.specs.Execution.{IsExecution}
 use Rattle.lab_sched.specs.Settled.{Report, report, IsAdded, IsSettled, HasStopped, IsShort}
-use Rattle.lab_sched.specs.Settling.{AsksFor, IsNext, AsksIn, IsNextIn, IsTaken}
+use Rattle.lab_sched.specs.Settling.{AsksFor, IsNext}
+use Rattle.lab_sched.specs.Private.Settling.{AsksIn, IsNextIn, IsTaken}
 use Rattle.lab_sched.proofs.Runs.{run-none}
 use Rattle.lab_sched.proofs.Executions.{execution_none, execution_append, execution_step, execution_length, execution_local, with_process, count-append, count-replicate_same, count-replicate_other}
 use Rattle.lab_sched.proofs.Commutes.{after_other}

@@ -6,7 +6,7 @@ use Rattle.std.proofs.lemmas.List.{replicate-append-replicate, replicate_more, s
 use Rattle.std.proofs.lemmas.List.Sums.{sum_by_push}
 use Rattle.lab_sched.specs.declared.schedule.block.Block.{Block}
 use Rattle.lab_sched.specs.Schedules.{block, steps_of, total_of, IsBlock, AreApart, IsSchedule, most_steps}
-use Rattle.lab_sched.specs.Settling.{with_count}
+use Rattle.lab_sched.specs.Private.Blocks.{with_count}
 use Rattle.lab_sched.proofs.ScheduleJoins.{last-split, length-front, steps-append, steps-one}
 
 -- lists with equal ends

@@ -9,7 +9,8 @@ use Rattle.lab_sched.specs.declared.schedule.fault.SchedFault.{SchedFault}
 use Rattle.lab_sched.specs.declared.schedule.fault.SchedFault.TheVariants.{BadBlock, TooLong}
 use Rattle.lab_sched.specs.Schedules.{block, total_of, steps_of, joined_blocks, IsBlock, IsSchedule, most_steps}
 use Rattle.lc3_word.specs.Numbers.{unsigned_number}
-use Rattle.lab_sched.specs.ScheduleTexts.{words, is_star, in_range, process_in, count_in, block_at, block_from, block_in, block_or, blocks_of_words, too_long, schedule_of_blocks, within, reading_of_words, reading, Gives, Fails, ◌>>=◌}
+use Rattle.lab_sched.specs.ScheduleTexts.{words, is_star, in_range, process_in, count_in, block_at, block_from, block_in, block_or, blocks_of_words, too_long, schedule_of_blocks, within, reading_of_words, reading, Fails, ◌>>=◌}
+use Rattle.lab_sched.specs.Private.Reading.{Gives}
 use Rattle.lab_sched.specs.ScheduleLaws.{IsFirstBad, IsFirstOver, IsFirstTooLong, FirstBadBlock, FirstTooLong, ReadSteps}
 use Rattle.lab_sched.proofs.ScheduleJoins.{apart-joined, total-joined, steps-joined, valid-joined}
 use Rattle.ipc_kernel.specs.Limits.{process_max}

@@ -10,7 +10,8 @@ use Rattle.lc3_table.specs.declared.profile.Profile.{Profile}
 use Rattle.ipc_kernel.specs.Kernel.{KernelState}
 use Rattle.lab_sched.specs.declared.process.Process.{Process as Kept}
 use Rattle.lab_sched.specs.declared.process.Process.TheVariants as kept
-use Rattle.lab_sched.specs.Starts.{Runs, IsFresh, start_of}
+use Rattle.lab_sched.specs.Starts.{Runs, start_of}
+use Rattle.lab_sched.specs.Private.Fresh.{IsFresh}
 use Rattle.lab_sched.specs.declared.stepped.Stepped.{Stepped}
 use Rattle.ipc_kernel.specs.Kernel.{empty_kernel}
 use Rattle.ipc_kernel.specs.Processes.{closed_process}

@@ -12,3 +12,4 @@ pub mod Finished
 pub mod Settled
 pub mod Settling
 pub mod Stepping
+pub mod Private

@@ -97,8 +97,3 @@ abbrev pub Fails : {A : Type 0} → SchedFault → Result A SchedFault → Type 
 Fails (BadBlock at) read = read ≡ Err (BadBlock at)
 Fails (TooLong at) read = read ≡ Err (TooLong at)
 Fails NoMemory read = Unit {0}
-
--- an answer, by what it shows, is what is read, or it is want of memory
-abbrev pub Gives : {A B : Type 0} → (A → B) → Result A SchedFault → Result B SchedFault → Type 0
-Gives shown (Ok a) read = read ≡ Ok (shown a)
-Gives shown (Err e) read = Fails e read

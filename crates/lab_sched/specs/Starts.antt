@@ -1,9 +1,9 @@
 -- Laboratories before their first step.
-use Rattle.std.specs.Prelude.{◌≡◌, ◌≤◌, ℕ, List, All, length, map}
+use Rattle.std.specs.Prelude.{◌≤◌, ℕ, List, All, length, map}
 use Rattle.ipc_kernel.specs.Limits.{process_max}
 use Rattle.lc3_table.specs.declared.profile.Profile.{Profile}
 use Rattle.lc3_machine.specs.Process.{start}
-use Rattle.ipc_kernel.specs.Kernel.{KernelState, empty_kernel}
+use Rattle.ipc_kernel.specs.Kernel.{empty_kernel}
 use Rattle.lab_sched.specs.declared.fresh.Program.{Program}
 use Rattle.lab_sched.specs.declared.process.Process.{Process as Kept}
 use Rattle.lab_sched.specs.Worlds.{HaveOneProfile, Process, Running, WorldState}
@@ -36,8 +36,3 @@ pub record AreStarts (ps : List Kept) : Type 0 where
 -- processes before their first step, over the empty kernel
 abbrev pub initial_world : List Kept → WorldState
 initial_world ps = record { processes = map process_view ps; kernel = empty_kernel (length ps) }
-
--- the processes of a laboratory before its first step, and its kernel, which is empty
-pub record IsFresh (ps : List Kept) (k : KernelState) : Type 0 where
-  pub starts : AreStarts ps
-  pub empty : k ≡ empty_kernel (length ps)

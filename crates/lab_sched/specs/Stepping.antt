@@ -1,5 +1,5 @@
 -- A step of one process by its parts: what keeps it from a local step, what it asks, and what an answer makes of it.
-use Rattle.std.specs.Prelude.{◌≡◌, ℕ, Some, slice_get}
+use Rattle.std.specs.Prelude.{◌≡◌}
 use Rattle.lc3_machine.specs.declared.want.Want.{Want}
 use Rattle.lc3_machine.specs.declared.want.How.{How}
 use Rattle.lc3_machine.specs.declared.machine.Progress.{Progress}
@@ -16,7 +16,7 @@ use Rattle.lab_sched.specs.declared.process.Process.{Process as Kept}
 use Rattle.lab_sched.specs.declared.process.Process.TheVariants as kept
 use Rattle.lab_sched.specs.declared.stepping.Asking.{Asking}
 use Rattle.lab_sched.specs.declared.stepping.Asking.TheVariants as asking
-use Rattle.lab_sched.specs.Worlds.{Process, Running, Waiting, Ended, WorldState, process_after_answer}
+use Rattle.lab_sched.specs.Worlds.{Process, Running, Waiting, Ended, process_after_answer}
 use Rattle.lab_sched.specs.LocalRun.{IsLocalStep}
 
 -- a running process whose next step is this trap or end
@@ -64,7 +64,3 @@ abbrev pub after_end : Process → How → Process
 after_end (Running m) how = Ended (record { process = process_after_end m how; how = how })
 after_end (Waiting m c) how = Waiting m c
 after_end (Ended e) how = Ended e
-
--- what kept process p from its next local step
-abbrev pub StopsByIn : WorldState → ℕ → Progress → Type 0
-StopsByIn w p progress = (s : Process) → slice_get w.processes p ≡ Some s → StopsBy s progress

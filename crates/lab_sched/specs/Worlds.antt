@@ -7,6 +7,7 @@ use Rattle.lc3_machine.specs.Reply.{process_after_end}
 use Rattle.ipc_names.specs.Errno.{number_of}
 use Rattle.ipc_kernel.specs.declared.call.Call.{Call}
 use Rattle.ipc_kernel.specs.declared.call.Call.TheVariants.{Exit}
+use Rattle.ipc_kernel.specs.declared.call.Reply.{Reply}
 use Rattle.ipc_kernel.specs.declared.call.Reply.TheVariants.{Plain}
 use Rattle.ipc_kernel.specs.declared.call.Answer.{Answer}
 use Rattle.ipc_kernel.specs.declared.call.Answer.TheVariants.{Done, Wait}
@@ -70,17 +71,17 @@ action_for m (Ends how) = calls Exit
 unfoldable pub next_action : Machine → NextAction
 next_action m = action_for m (next_request m)
 
--- what the answer to its call makes of a process that asks for it; the end of a process is its end, whatever the reply
-abbrev pub process_after_answer_to : Machine → Call → Request → Answer → Process
-process_after_answer_to m c request Wait = Waiting m c
-process_after_answer_to m c (Local n) (Done r) = Running (process_after_reply m r)
-process_after_answer_to m c (Refuses e) (Done r) = Running (process_after_reply m r)
-process_after_answer_to m c (Calls d) (Done r) = Running (process_after_reply m r)
-process_after_answer_to m c (Ends how) (Done r) = Ended (record { process = process_after_end m how; how = how })
+-- what a reply makes of a process that made this request; an end is the process's end, whatever the reply
+abbrev pub process_after_reply_to : Machine → Request → Reply → Process
+process_after_reply_to m (Local n) r = Running (process_after_reply m r)
+process_after_reply_to m (Refuses e) r = Running (process_after_reply m r)
+process_after_reply_to m (Calls c) r = Running (process_after_reply m r)
+process_after_reply_to m (Ends how) r = Ended (record { process = process_after_end m how; how = how })
 
--- the process after the answer to its call
+-- the process after the answer to its call: it waits for that call, or has the reply
 unfoldable pub process_after_answer : Machine → Call → Answer → Process
-process_after_answer m c a = process_after_answer_to m c (next_request m) a
+process_after_answer m c Wait = Waiting m c
+process_after_answer m c (Done r) = process_after_reply_to m (next_request m) r
 
 -- what a step of a process is: nothing, a local step to this machine, or this call of this machine with this answer
 pub data StepEffect : Type 0 where

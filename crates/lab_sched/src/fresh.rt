@@ -49,17 +49,25 @@ impl<T: Drop> From<AllocFailed<T>> for FreshFault {
 
 /// A laboratory before its first step: processes that run, each at the start of its program, over
 /// the empty kernel.
-#[derive(Drop)]
 pub struct Fresh {
     processes: Vec<Process>,
     kernel: Kernel,
+}
+
+impl Drop for Fresh {
+    fn drop(self) {
+        let Fresh {
+            processes: _,
+            kernel: _,
+        } = self;
+    }
 }
 
 impl Model for Fresh {
     ghost use Rattle.std.specs.Prelude.{map};
     ghost use Rattle.lab_sched.specs.Worlds.{WorldState};
     ghost use Rattle.lab_sched.specs.Held.{process_view};
-    ghost use Rattle.lab_sched.specs.Starts.{IsFresh};
+    ghost use Rattle.lab_sched.specs.Private.Fresh.{IsFresh};
 
     ghost Value = { WorldState };
 
@@ -107,15 +115,26 @@ impl Fresh {
         ensures starts { AreStarts result.items }
         ensures world { initial_world result.items ≡ self }
     {
-        self.processes
+        let Fresh {
+            processes: starts,
+            kernel: _,
+        } = self;
+        starts
+    }
+
+    #[tactic(auto, using(crate::proofs::WorldLemmas::fresh_world))]
+    fn into_world(self) -> World
+        ensures world { result ≡ self }
+    {
+        let Fresh { processes, kernel } = self;
+        World::join(processes, kernel)
     }
 }
 
 impl From<Fresh> for World {
     ghost from_gives = { λ f w. w ≡ f };
 
-    #[tactic(auto, using(crate::proofs::WorldLemmas::fresh_world))]
     fn from(fresh: Fresh) -> World {
-        World::join(fresh.processes, fresh.kernel)
+        fresh.into_world()
     }
 }

@@ -28,10 +28,18 @@ pub enum StepFault {
 }
 
 /// A world: 1 to 64 processes of one profile over one kernel.
-#[derive(Drop)]
 pub struct World {
     processes: Vec<Process>,
     kernel: Kernel,
+}
+
+impl Drop for World {
+    fn drop(self) {
+        let World {
+            processes: _,
+            kernel: _,
+        } = self;
+    }
 }
 
 impl Model for World {

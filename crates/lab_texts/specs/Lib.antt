@@ -3,3 +3,4 @@ pub mod Texts
 pub mod Objects
 pub mod Verdicts
 pub mod Reports
+pub mod Private

@@ -1,6 +1,6 @@
 //! Descriptors and slots.
 ghost use Rattle.std.specs.Prelude.{◌≡◌, ◌<◌, OnOk, length};
-ghost use Rattle.lab_texts.specs.Rows.{Adds};
+ghost use Rattle.lab_texts.specs.Private.Added.{Adds};
 ghost use Rattle.lab_texts.specs.Objects.{access_text, mode_text, descriptor_line, slot_line, descriptor_lines, slot_lines, fds_text};
 
 use ipc_kernel::{Descriptor, OPEN_MAX, Slot};

@@ -3,7 +3,7 @@ ghost use Rattle.std.specs.Prelude.{◌≤◌, ◌+◌, OnOk};
 ghost use Rattle.lc3_table.specs.Text.{line_text};
 ghost use Rattle.lab_sched.specs.Held.{process_view};
 ghost use Rattle.lab_sched.specs.Worlds.{machine_of};
-ghost use Rattle.lab_texts.specs.Rows.{Adds};
+ghost use Rattle.lab_texts.specs.Private.Added.{Adds};
 ghost use Rattle.lab_texts.specs.Texts.{word_line, memory_lines, mem_text, dis_text};
 
 use lab_sched::{Process, World};

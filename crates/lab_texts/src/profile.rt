@@ -1,6 +1,6 @@
 //! The profile of a world.
 ghost use Rattle.std.specs.Prelude.{OnOk};
-ghost use Rattle.lab_texts.specs.Rows.{Adds};
+ghost use Rattle.lab_texts.specs.Private.Added.{Adds};
 ghost use Rattle.lab_texts.specs.Texts.{profile_text};
 
 use lab_sched::World;

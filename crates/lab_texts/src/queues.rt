@@ -1,7 +1,7 @@
 //! Message queues and their messages.
 ghost use Rattle.std.specs.Prelude.{Some, OnOk, flat_map};
 ghost use Rattle.std.specs.Option.{option_copied};
-ghost use Rattle.lab_texts.specs.Rows.{Adds};
+ghost use Rattle.lab_texts.specs.Private.Added.{Adds};
 ghost use Rattle.lab_texts.specs.Objects.{name_text, object_part, sizes_part, queue_line, word_part, message_line, queue_text, mqs_text};
 
 use ipc_kernel::OBJECT_PLACES;

@@ -2,7 +2,8 @@
 ghost use Rattle.std.specs.Prelude.{◌≡◌, Some, OnOk};
 ghost use Rattle.lab_sched.specs.Held.{process_view};
 ghost use Rattle.lab_sched.specs.Worlds.{machine_of};
-ghost use Rattle.lab_texts.specs.Rows.{Adds, texts_below};
+ghost use Rattle.lab_texts.specs.Rows.{texts_below};
+ghost use Rattle.lab_texts.specs.Private.Added.{Adds};
 ghost use Rattle.lab_texts.specs.Texts.{code_text, register_part, counter_part, regs_line, regs_text};
 
 use lab_sched::{Process, World};

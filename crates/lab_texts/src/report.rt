@@ -1,6 +1,6 @@
 //! Verdicts and reports.
 ghost use Rattle.std.specs.Prelude.{◌≡◌, OnOk};
-ghost use Rattle.lab_texts.specs.Rows.{Adds};
+ghost use Rattle.lab_texts.specs.Private.Added.{Adds};
 ghost use Rattle.lab_texts.specs.Verdicts.{verdict_line, verdict_text};
 ghost use Rattle.lab_texts.specs.Reports.{process_report, process_reports, report_text};
 

@@ -1,6 +1,6 @@
 //! Semaphores and their values.
 ghost use Rattle.std.specs.Prelude.{OnOk};
-ghost use Rattle.lab_texts.specs.Rows.{Adds};
+ghost use Rattle.lab_texts.specs.Private.Added.{Adds};
 ghost use Rattle.lab_texts.specs.Objects.{semaphore_text, sems_text};
 
 use crate::queues::push_object;

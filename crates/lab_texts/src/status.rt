@@ -2,7 +2,7 @@
 ghost use Rattle.std.specs.Prelude.{◌≡◌, Some, OnOk};
 ghost use Rattle.lab_sched.specs.Held.{process_view};
 ghost use Rattle.lab_sched.specs.Worlds.{machine_of};
-ghost use Rattle.lab_texts.specs.Rows.{Adds};
+ghost use Rattle.lab_texts.specs.Private.Added.{Adds};
 ghost use Rattle.lab_texts.specs.Texts.{how_text, place_text, state_text, status_line, status_text, procs_text};
 
 use lab_sched::{Process, World};

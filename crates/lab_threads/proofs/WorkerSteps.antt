@@ -16,7 +16,7 @@ use Rattle.lab_sched.specs.Held.{process_view, IsHeld}
 use Rattle.lab_sched.specs.Settling.{AsksFor}
 use Rattle.lab_sched.specs.Stepping.{IsAsking, StandsBefore, StopsBy, after_end, after_reply, before_wait}
 use Rattle.lab_sched.specs.Verdicts.{IsRunning, IsWaiting}
-use Rattle.lab_sched.specs.Worlds.{Process, Running, Waiting, Ended, next_action, action_for, process_after_answer, process_after_answer_to}
+use Rattle.lab_sched.specs.Worlds.{Process, Running, Waiting, Ended, next_action, action_for, process_after_answer, process_after_reply_to}
 use Rattle.lab_sched.specs.declared.process.Process.{Process as Kept}
 use Rattle.lab_sched.specs.declared.process.Process.TheVariants as kept
 use Rattle.lab_sched.specs.declared.stepping.Asking.TheVariants.{Waits, Refused}
@@ -76,6 +76,6 @@ pub told_end : (s u : Process) (how : How) (r : Reply) → StandsBefore s (End h
 unfolding next_action process_after_answer
 told_end (Running m) u how r stands is =
     let asks : next_request m ≡ Ends how = asked_end m how stands in
-    rw is (ap (action_for m) asks, ap (λ q. process_after_answer_to m Exit q (Done r)) asks)
+    rw is (ap (action_for m) asks, ap (λ q. process_after_reply_to m q r) asks)
 told_end (Waiting m c) u how r stands is = absurd stands
 told_end (Ended e) u how r stands is = absurd stands

@@ -198,7 +198,7 @@ kept-tallied s p kept =
 pub length-step : (w : WorldState) (p : ℕ) → length (step w p).processes ≡ length w.processes
 length-step w p = sym (ap (λ (x : WorldState). length x.processes) (run-one w p)) ∙ length-run w (p ∷ [])
 
-kept-next : (s : Scene) (p : ℕ) → IsKept s → IsKept (next s p)
+pub kept-next : (s : Scene) (p : ℕ) → IsKept s → IsKept (next s p)
 kept-next s p kept =
     let t = kept-tallied s p kept in
     record { accounts = t.0 ∙ sym (length-step s.world p); below = t.1; few = t.2 }

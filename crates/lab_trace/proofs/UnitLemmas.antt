@@ -9,7 +9,8 @@ use Rattle.lab_trace.specs.Answers.{result_of}
 use Rattle.lab_trace.specs.Events.{Event, local, calls, writes, ends}
 use Rattle.lab_trace.specs.Questions.{Question}
 use Rattle.lab_trace.specs.Tallies.{units_after}
-use Rattle.lab_trace.specs.Units.{most_units, is_of, no_units, units_of, units_with_at, units_with, is_there, remaining_units, count_after_wait, count_after_post, units_after_wait, units_after_post, units_after_success, units_after_call, IsFew, AreFew, HasRoom}
+use Rattle.lab_trace.specs.Units.{most_units, is_of, no_units, units_of, units_with_at, units_with, is_there, remaining_units, count_after_wait, count_after_post, units_after_wait, units_after_post, units_after_success, units_after_call, IsFew, AreFew}
+use Rattle.lab_trace.specs.Private.Room.{HasRoom}
 use Rattle.lab_trace.specs.declared.units.UnitCount.{UnitCount}
 use Rattle.lab_trace.specs.declared.service.Service.{Service}
 use Rattle.lab_trace.specs.declared.service.Service.TheVariants.{MqOpen, MqClose, MqUnlink, MqSend, MqReceive, MqGetattr, MqSetattr, SemOpen, SemClose, SemUnlink, SemWait, SemTrywait, SemPost, SemGetvalue}

@@ -14,3 +14,4 @@ pub mod Lines
 pub mod Scenes
 pub mod Ends
 pub mod Traces
+pub mod Private

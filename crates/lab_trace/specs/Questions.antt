@@ -1,5 +1,5 @@
 -- What a trace looks at before a step.
-use Rattle.std.specs.Prelude.{ℕ, Option, List, length, slice_index, string_bytes}
+use Rattle.std.specs.Prelude.{ℕ, Option, List, length, slice_index}
 use Rattle.std.specs.Option.{option_map}
 use Rattle.lc3_machine.specs.Process.{Process as Machine, reg}
 use Rattle.ipc_kernel.specs.Kernel.{KernelState}
@@ -8,8 +8,6 @@ use Rattle.lab_trace.specs.Calls.{call_text}
 use Rattle.lab_trace.specs.Objects.{held_place}
 use Rattle.lab_trace.specs.Services.{service_at}
 use Rattle.lab_trace.specs.declared.service.Service.{Service}
-use Rattle.lab_trace.specs.declared.asking.Asking.{Asking}
-use Rattle.lab_trace.specs.declared.asking.Observed.{Observed}
 
 -- a call that a process is about to make: its text, what stands behind its result, the place of its object, and the priority
 -- of a message that is sent
@@ -36,11 +34,3 @@ pub record Before : Type 0 where
 abbrev pub before : KernelState → ℕ → Machine → Before
 before k p m =
     record { pc = m.pc; word = slice_index m.memory m.pc; written = length m.output; asking = option_map (question k p m) (service_at m) }
-
--- the call that is kept as texts
-abbrev pub question_of : Asking → Question
-question_of a = record { service = a.service; call = string_bytes a.call; reply = string_bytes a.reply; place = a.place; priority = a.priority }
-
--- what is kept of a process before its step, with the texts as bytes
-abbrev pub before_of : Observed → Before
-before_of o = record { pc = o.pc; word = o.word; written = o.written; asking = option_map question_of o.asking }

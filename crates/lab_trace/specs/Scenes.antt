@@ -84,3 +84,11 @@ pub record IsKept (s : Scene) : Type 0 where
   pub accounts : length s.tally.accounts ≡ length s.world.processes
   pub below : AreBelow s.number s.tally.accounts
   pub few : AreFew s.number s.tally.units
+
+-- so it is before the first step of each world
+abbrev pub StartsKept : Type 0
+StartsKept = (w : WorldState) → IsKept (first_scene w)
+
+-- and then after each step, of whichever process
+abbrev pub StaysKept : Type 0
+StaysKept = (s : Scene) (p : ℕ) → IsKept s → IsKept (next s p)

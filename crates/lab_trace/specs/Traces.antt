@@ -37,9 +37,3 @@ abbrev pub Explains : TraceFault → WorldState → List ℕ → Bool → Type 0
 Explains (NoProcess done) w ps failed = missing_after w ps ≡ Some done
 Explains Write w ps failed = IsTrue failed
 Explains NoMemory w ps failed = ⊤
-
--- why a part of a trace broke off
-abbrev pub IsFault : TraceFault → Bool → Type 0
-IsFault (NoProcess done) failed = ⊥
-IsFault Write failed = IsTrue failed
-IsFault NoMemory failed = ⊤

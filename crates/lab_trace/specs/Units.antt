@@ -82,7 +82,3 @@ IsFew n c = (c.taken < n) × (c.given < n)
 -- before step number n: each process took and gave fewer units of each semaphore
 abbrev pub AreFew : ℕ → List UnitCount → Type 0
 AreFew n cs = All (IsFew n) cs
-
--- whether the counts of process p have room for one unit more that it takes or gives
-abbrev pub HasRoom : ℕ → List UnitCount → Type 0
-HasRoom p cs = (place : ℕ) → IsFew most_units (units_of place p cs)

@@ -2,7 +2,8 @@
 ghost use Rattle.std.specs.Prelude.{◌≡◌, ◌<◌, IfOk, length, slice_get};
 ghost use Rattle.lab_sched.specs.Held.{process_view};
 ghost use Rattle.lab_sched.specs.Worlds.{machine_of};
-ghost use Rattle.lab_trace.specs.Questions.{question, before, question_of, before_of};
+ghost use Rattle.lab_trace.specs.Questions.{question, before};
+ghost use Rattle.lab_trace.specs.Private.Observed.{question_of, before_of};
 ghost use Rattle.lab_trace.specs.Scenes.{before_in};
 
 use crate::answers::push_reply;

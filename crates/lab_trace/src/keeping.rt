@@ -3,11 +3,12 @@ ghost use Rattle.std.specs.Prelude.{◌≡◌, ◌<◌, ◌==◌, OnOk, length};
 ghost use Rattle.ipc_kernel.specs.Outcomes.{queue_at};
 ghost use Rattle.lab_sched.specs.Held.{process_view};
 ghost use Rattle.lab_trace.specs.Answers.{result_of};
-ghost use Rattle.lab_trace.specs.Questions.{question_of, before_of};
+ghost use Rattle.lab_trace.specs.Private.Observed.{question_of, before_of};
 ghost use Rattle.lab_trace.specs.Events.{event_of};
 ghost use Rattle.lab_trace.specs.Tallies.{origins_after, units_after};
 ghost use Rattle.lab_trace.specs.Origins.{origins_after_open, origins_after_send, origins_after_receive, origins_after_success};
-ghost use Rattle.lab_trace.specs.Units.{HasRoom, units_after_wait, units_after_post, units_after_success, units_after_call};
+ghost use Rattle.lab_trace.specs.Units.{units_after_wait, units_after_post, units_after_success, units_after_call};
+ghost use Rattle.lab_trace.specs.Private.Room.{HasRoom};
 
 use crate::answers::result_of;
 use crate::asking::{Asking, Observed};

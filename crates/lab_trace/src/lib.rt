@@ -11,6 +11,7 @@ mod fault;
 mod flags;
 mod handles;
 mod keeping;
+pub mod laws;
 mod lines;
 mod message;
 mod origins;

@@ -4,7 +4,7 @@ ghost use Rattle.std.specs.Fmt.{decimal};
 ghost use Rattle.lab_sched.specs.Held.{process_view};
 ghost use Rattle.lab_sched.specs.Worlds.{machine_of};
 ghost use Rattle.lab_trace.specs.Answers.{result_of};
-ghost use Rattle.lab_trace.specs.Questions.{question_of};
+ghost use Rattle.lab_trace.specs.Private.Observed.{question_of};
 ghost use Rattle.lab_trace.specs.Origins.{first_in, origin_by};
 ghost use Rattle.lab_trace.specs.Tallies.{account_of};
 ghost use Rattle.lab_trace.specs.Lines.{widths_for, process_column, local_column, head, opened_place, told_place, separator, level_note, waited_text, wait_note, origin_text, origin_note, notes, call_line, output_text, end_text};

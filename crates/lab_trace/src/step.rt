@@ -3,7 +3,7 @@ ghost use Rattle.std.specs.Prelude.{◌≡◌, ◌<◌, ◌==◌, ◌++◌, IfOk
 ghost use Rattle.std.specs.Fmt.{decimal};
 ghost use Rattle.lab_sched.specs.Worlds.{step, step_effect_in};
 ghost use Rattle.lab_sched.specs.Held.{process_view, stepped_of};
-ghost use Rattle.lab_trace.specs.Questions.{before_of};
+ghost use Rattle.lab_trace.specs.Private.Observed.{before_of};
 ghost use Rattle.lab_trace.specs.Events.{event_of, has_line};
 ghost use Rattle.lab_trace.specs.Tallies.{account_of, account_after, waits_from};
 ghost use Rattle.lab_trace.specs.Units.{AreFew};

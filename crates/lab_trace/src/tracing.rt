@@ -6,7 +6,8 @@ ghost use Rattle.lab_sched.specs.Worlds.{run};
 ghost use Rattle.lab_sched.specs.Schedules.{steps_of, total_of, most_steps};
 ghost use Rattle.lab_sched.specs.declared.stepped.Stepped.TheVariants.{Same};
 ghost use Rattle.lab_trace.specs.Scenes.{scene_at, events, scene_after, IsKept};
-ghost use Rattle.lab_trace.specs.Traces.{ending, trace_text, missing_after, AreThere, Explains, IsFault};
+ghost use Rattle.lab_trace.specs.Traces.{ending, trace_text, missing_after, AreThere, Explains};
+ghost use Rattle.lab_trace.specs.Private.Faults.{IsFault};
 ghost use Rattle.lab_trace.specs.declared.fault.TraceFault.TheVariants.{NoProcess, Write};
 
 use crate::ends::push_ends;

@@ -11,9 +11,10 @@ use Rattle.lc3_table.specs.Statements.{option_or}
 use Rattle.lc3_table.specs.declared.operation.Fault.TheVariants as fault
 use Rattle.lc3_asm.specs.Texts.{place_fault, is_duplicate}
 use Rattle.lc3_asm.specs.Private.Addresses.{AreKept, addresses, addresses_after}
+use Rattle.lc3_asm.proofs.PassLemmas.{labels_after, labels-passed}
 use Rattle.lc3_asm.proofs.SymbolsLemmas.{absent}
 use Rattle.lc3_table.specs.Meaning.{size}
-use Rattle.lc3_asm.specs.Texts.{origin, origin_named, is_origin, address_after, labels_after, labels, entry, label_of}
+use Rattle.lc3_asm.specs.Texts.{origin, origin_named, is_origin, address_after, labels, entry, label_of}
 use Rattle.lc3_table.specs.declared.operation.Operation.TheVariants as op
 use Rattle.lc3_word.specs.Segment.{first_device}
 
@@ -70,7 +71,8 @@ labels_after-append before (k ∷ ls) l =
     ∙ sym (append_assoc (entry (label_of k) (address_after before)) (labels_after (before ++ k ∷ []) ls) (entry (label_of l) (address_after (before ++ k ∷ ls))))
 
 pub labels-append : (ls : List (Line Operand)) (l : Line Operand) → labels (ls ++ l ∷ []) ≡ labels ls ++ entry (label_of l) (address_after ls)
-labels-append ls l = labels_after-append [] ls l
+labels-append ls l =
+    labels-passed (ls ++ l ∷ []) ∙ labels_after-append [] ls l ∙ ap (λ u. u ++ entry (label_of l) (address_after ls)) (sym (labels-passed ls))
 
 -- a line before any `.ORIG` that is none itself is blank
 unstarted_size : (l : Line Operand) → order_fault false l ≡ None → is_origin l ≡ false → size l ≡ 0

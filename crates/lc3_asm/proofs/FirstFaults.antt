@@ -1,13 +1,14 @@
 -- The fault of a text is the first of the first line that has one.
-use Rattle.std.proofs.Common.{◌≡◌, ℕ, ◌+◌, Bool, true, false, List, [], ◌∷◌, ◌++◌, length, refl, ap, sym, ◌∙◌, subst, append_assoc, append-nil, arith, length-append}
-use Rattle.std.specs.Prelude.{Result, Ok, Err, IsOk, if◌then◌else◌}
+use Rattle.std.proofs.Common.{◌≡◌, ℕ, zero, suc, ◌+◌, Bool, true, false, List, [], ◌∷◌, ◌++◌, length, take, refl, ap, sym, ◌∙◌, subst, append_assoc, append-nil, arith, length-append}
+use Rattle.std.specs.Prelude.{slice_get, Some, Result, Ok, Err, IsOk, if◌then◌else◌}
 use Rattle.std.specs.List.{list_any}
 use Rattle.lc3_table.specs.Statements.{Line, Operand, ◌>>=◌}
 use Rattle.lc3_table.specs.Meaning.{words}
 use Rattle.lc3_table.specs.declared.operation.Fault.{Fault}
 use Rattle.lc3_table.specs.declared.operation.Fault.TheVariants as fault
-use Rattle.lc3_asm.specs.Texts.{At, at_line, lines, is_origin, is_end, labels, value, address_after, line_after, lines_after, lines_read, words_after, program_with_words, program_of, program_of_lines, program}
-use Rattle.lc3_asm.specs.Laws.{AreReadAs, HaveWords, IsFirstUnread, LacksOrigin, IsFirstWithoutWords, HasFirstFault, Unread, Unstarted, WithoutWords, FaultIsFirst}
+use Rattle.lc3_asm.specs.Texts.{At, at_line, lines, is_origin, is_end, labels, value, address_after, line_after, lines_after, lines_read, words_of_lines, program_with_words, program_of, program_of_lines, program}
+use Rattle.lc3_asm.proofs.PassLemmas.{words_after, words-passed}
+use Rattle.lc3_asm.specs.Laws.{AreReadAs, IsFirstUnread, LacksOrigin, IsFirstWithoutWords, HasFirstFault, Unread, Unstarted, WithoutWords, FaultIsFirst}
 
 -- a fault at a line
 abbrev at : ℕ → Fault → At
@@ -20,6 +21,68 @@ SameFault r s = r ≡ s
 err-same : {A : Type 0} (x y : At) → SameFault {A = A} (Err x) (Err y) → x ≡ y
 err-same x y e = cc
 
+-- these texts are read as these lines, one by one behind the lines before them, and none of them is `.END`
+abbrev AreReadAfter : List (Line Operand) → List (List ℕ) → List (Line Operand) → Type 0
+AreReadAfter before [] [] = Unit {0}
+AreReadAfter before (bytes ∷ rest) (l ∷ ls) = (line_after before bytes ≡ Ok l) × (is_end l ≡ false) × AreReadAfter (before ++ l ∷ []) rest ls
+AreReadAfter before _ _ = ⊥
+
+-- each of these lines has words, behind the lines before them
+abbrev HaveWordsAfter : List (List ℕ × ℕ) → List (Line Operand) → List (Line Operand) → Type 0
+HaveWordsAfter known before [] = Unit {0}
+HaveWordsAfter known before (l ∷ ls) = IsOk (words (value known) (address_after before) l) × HaveWordsAfter known (before ++ l ∷ []) ls
+
+-- a text is read as a line that isn't `.END`
+abbrev IsReadAs : List (Line Operand) → List ℕ → Line Operand → Type 0
+IsReadAs before bytes l = (line_after before bytes ≡ Ok l) × (is_end l ≡ false)
+
+read-each : (before : List (Line Operand)) (texts : List (List ℕ)) (ls : List (Line Operand)) → AreReadAfter before texts ls
+    → (i : ℕ) (bytes : List ℕ) (l : Line Operand) → slice_get texts i ≡ Some bytes → slice_get ls i ≡ Some l → IsReadAs (before ++ take i ls) bytes l
+read-each before [] [] h zero bytes l at is = cc
+read-each before [] [] h (suc i) bytes l at is = cc
+read-each before [] (k ∷ ks) h i bytes l at is = absurd h
+read-each before (t ∷ ts) [] h i bytes l at is = absurd h
+read-each before (t ∷ ts) (k ∷ ks) h zero bytes l at is =
+    let text : t ≡ bytes = cc in
+    let line : k ≡ l = cc in
+    rw (← text, ← line, append-nil before) (h.0, h.1)
+read-each before (t ∷ ts) (k ∷ ks) h (suc i) bytes l at is =
+    subst (λ u. IsReadAs u bytes l) (append_assoc before (k ∷ []) (take i ks)) (read-each (before ++ k ∷ []) ts ks h.2 i bytes l at is)
+
+read-all : (before : List (Line Operand)) (texts : List (List ℕ)) (ls : List (Line Operand)) → length ls ≡ length texts
+    → ((i : ℕ) (bytes : List ℕ) (l : Line Operand) → slice_get texts i ≡ Some bytes → slice_get ls i ≡ Some l → IsReadAs (before ++ take i ls) bytes l)
+    → AreReadAfter before texts ls
+read-all before [] [] n h = tt
+read-all before [] (k ∷ ks) n h = absurd (omega (arith, n))
+read-all before (t ∷ ts) [] n h = absurd (omega (arith, n))
+read-all before (t ∷ ts) (k ∷ ks) n h =
+    let first : IsReadAs before t k = subst (λ u. IsReadAs u t k) (append-nil before) (h zero t k refl refl) in (
+      first.0,
+      first.1,
+      read-all (before ++ k ∷ []) ts ks (omega (arith, n))
+          (λ i bytes l at is. subst (λ u. IsReadAs u bytes l) (sym (append_assoc before (k ∷ []) (take i ks))) (h (suc i) bytes l at is)),
+    )
+
+-- a line has words behind these
+abbrev HasWordsAfter : List (List ℕ × ℕ) → List (Line Operand) → Line Operand → Type 0
+HasWordsAfter known before l = IsOk (words (value known) (address_after before) l)
+
+words-each : (known : List (List ℕ × ℕ)) (before ls : List (Line Operand)) → HaveWordsAfter known before ls
+    → (i : ℕ) (l : Line Operand) → slice_get ls i ≡ Some l → HasWordsAfter known (before ++ take i ls) l
+words-each known before [] h zero l is = cc
+words-each known before [] h (suc i) l is = cc
+words-each known before (k ∷ ks) h zero l is = let line : k ≡ l = cc in rw (← line, append-nil before) h.0
+words-each known before (k ∷ ks) h (suc i) l is =
+    subst (λ u. HasWordsAfter known u l) (append_assoc before (k ∷ []) (take i ks)) (words-each known (before ++ k ∷ []) ks h.1 i l is)
+
+words-all : (known : List (List ℕ × ℕ)) (before ls : List (Line Operand)) → ((i : ℕ) (l : Line Operand) → slice_get ls i ≡ Some l → HasWordsAfter known (before ++ take i ls) l)
+    → HaveWordsAfter known before ls
+words-all known before [] h = tt
+words-all known before (k ∷ ks) h = (
+  subst (λ u. HasWordsAfter known u k) (append-nil before) (h zero k refl),
+  words-all known (before ++ k ∷ []) ks (λ i l is. subst (λ u. HasWordsAfter known u l) (sym (append_assoc before (k ∷ []) (take i ks))) (h (suc i) l is)),
+)
+
 -- the first text that can't be read, behind these lines
 record Broken (before : List (Line Operand)) (bs : List (List ℕ)) (n : ℕ) (k : Fault) : Type 0 where
   front : List (List ℕ)
@@ -28,7 +91,7 @@ record Broken (before : List (Line Operand)) (bs : List (List ℕ)) (n : ℕ) (k
   made : List (Line Operand)
   split : bs ≡ front ++ bytes ∷ rest
   number : n ≡ length before + length front + 1
-  earlier : AreReadAs before front made
+  earlier : AreReadAfter before front made
   here : line_after (before ++ made) bytes ≡ Err k
 
 broken-next : (before : List (Line Operand)) (b : List ℕ) (bs : List (List ℕ)) (l : Line Operand) (n : ℕ) (k : Fault) (ends : Bool)
@@ -71,7 +134,7 @@ broken before [] n k e = cc
 broken before (b ∷ bs) n k e = broken-line before b bs n k (line_after before b) refl (λ l. broken (before ++ l ∷ []) bs n k) e
 
 -- the texts that were read are passed over
-read-over : (before : List (Line Operand)) (front : List (List ℕ)) (made : List (Line Operand)) (rest : List (List ℕ)) → AreReadAs before front made
+read-over : (before : List (Line Operand)) (front : List (List ℕ)) (made : List (Line Operand)) (rest : List (List ℕ)) → AreReadAfter before front made
     → lines_after before (front ++ rest) ≡ lines_after (before ++ made) rest
 read-over before [] [] rest h = ap (λ u. lines_after u rest) (sym (append-nil before))
 read-over before [] (l ∷ made) rest h = absurd h
@@ -80,7 +143,7 @@ read-over before (b ∷ front) (l ∷ made) rest h =
     let step : lines_after before (b ∷ (front ++ rest)) ≡ lines_after (before ++ l ∷ []) (front ++ rest) = rw (h.0, h.1) refl in
     step ∙ read-over (before ++ l ∷ []) front made rest h.2 ∙ ap (λ u. lines_after u rest) (append_assoc before (l ∷ []) made)
 
-length-read : (before : List (Line Operand)) (front : List (List ℕ)) (made : List (Line Operand)) → AreReadAs before front made → length made ≡ length front
+length-read : (before : List (Line Operand)) (front : List (List ℕ)) (made : List (Line Operand)) → AreReadAfter before front made → length made ≡ length front
 length-read before [] [] h = refl
 length-read before [] (l ∷ made) h = absurd h
 length-read before (b ∷ front) [] h = absurd h
@@ -88,9 +151,10 @@ length-read before (b ∷ front) (l ∷ made) h = let more = length-read (before
 
 unread : (text : List ℕ) (n : ℕ) (k : Fault) → IsFirstUnread text n k → program text ≡ Err (at n k)
 unread text n k h =
-    let count : length h.before + 1 ≡ n = omega (arith, length-read [] h.front h.before h.earlier, h.number) in
+    let count : length h.before + 1 ≡ n = omega (arith, h.earlier.count, h.number) in
+    let earlier : AreReadAfter [] h.front h.before = read-all [] h.front h.before h.earlier.count h.earlier.each in
     let found : lines_read text ≡ Err (at n k) =
-    ap (lines_after []) h.lines_are ∙ read-over [] h.front h.before (h.bytes ∷ h.rest) h.earlier ∙ rw (h.here, count) refl in
+    ap (lines_after []) h.lines_are ∙ read-over [] h.front h.before (h.bytes ∷ h.rest) earlier ∙ rw (h.here, count) refl in
     rw found refl
 
 -- the first line without words, behind these lines
@@ -100,7 +164,7 @@ record Wordless (known : List (List ℕ × ℕ)) (before ls : List (Line Operand
   after : List (Line Operand)
   split : ls ≡ made ++ line ∷ after
   number : n ≡ length before + length made + 1
-  earlier : HaveWords known before made
+  earlier : HaveWordsAfter known before made
   here : words (value known) (address_after (before ++ made)) line ≡ Err k
 
 rest-err : {A B : Type 0} (r : Result A At) (f : A → B) (x : At) → (r >>= λ a. Ok (f a)) ≡ Err x → r ≡ Err x
@@ -146,7 +210,7 @@ words-next : (known : List (List ℕ × ℕ)) (before : List (Line Operand)) (l 
 words-next known before l ls n k (Ok ws) made ok more = rw (made, more) refl
 words-next known before l ls n k (Err f) made ok more = cc
 
-words-over : (known : List (List ℕ × ℕ)) (before made : List (Line Operand)) (line : Line Operand) (after : List (Line Operand)) (n : ℕ) (k : Fault) → HaveWords known before made
+words-over : (known : List (List ℕ × ℕ)) (before made : List (Line Operand)) (line : Line Operand) (after : List (Line Operand)) (n : ℕ) (k : Fault) → HaveWordsAfter known before made
     → n ≡ length before + length made + 1 → words (value known) (address_after (before ++ made)) line ≡ Err k
     → words_after known before (made ++ line ∷ after) ≡ Err (at n k)
 words-over known before [] line after n k h number here =
@@ -162,8 +226,9 @@ words-over known before (l ∷ made) line after n k h number here =
 without_words : (text : List ℕ) (n : ℕ) (k : Fault) → IsFirstWithoutWords text n k → program text ≡ Err (at n k)
 without_words text n k h =
     let made : words_after (labels h.read) [] (h.before ++ h.line ∷ h.after) ≡ Err (at n k) =
-    words-over (labels h.read) [] h.before h.line h.after n k h.earlier (omega (arith, h.number)) h.here in
-    let all : words_after (labels h.read) [] h.read ≡ Err (at n k) = ap (words_after (labels h.read) []) h.split ∙ made in
+    words-over (labels h.read) [] h.before h.line h.after n k (words-all (labels h.read) [] h.before h.earlier) (omega (arith, h.number)) h.here in
+    let all : words_of_lines (labels h.read) h.read ≡ Err (at n k) =
+    words-passed (labels h.read) h.read ∙ ap (words_after (labels h.read) []) h.split ∙ made in
     rw (h.lines_are, h.started, all) refl
 
 unstarted : (text : List ℕ) (n : ℕ) (k : Fault) → LacksOrigin text n k → program text ≡ Err (at n k)
@@ -176,7 +241,7 @@ found-started text ls n k false read e h =
     let same = err-same (at (length (lines text)) fault.NoOrig) (at n k) h in
     Unstarted (record { read = ls; lines_are = read; unstarted = e; number = sym (ap (λ (a : At). a.line) same); here = sym (ap (λ (a : At). a.kind) same) })
 found-started text ls n k true read e h =
-    let w = wordless (labels ls) [] ls n k (rest-err (words_after (labels ls) [] ls) (program_with_words ls) (at n k) h) in
+    let w = wordless (labels ls) [] ls n k (sym (words-passed (labels ls) ls) ∙ rest-err (words_of_lines (labels ls) ls) (program_with_words ls) (at n k) h) in
     WithoutWords (record {
       read = ls;
       before = w.made;
@@ -186,7 +251,7 @@ found-started text ls n k true read e h =
       started = e;
       split = w.split;
       number = omega (arith, w.number);
-      earlier = w.earlier;
+      earlier = words-each (labels ls) [] w.made w.earlier;
       here = w.here;
     })
 
@@ -196,7 +261,8 @@ found text n k (Ok ls) read e = found-started text ls n k (list_any is_origin ls
 found text n k (Err f) read e =
     let same = err-same f (at n k) e in
     let b = broken [] (lines text) n k (read ∙ ap Err same) in
-    Unread (record { front = b.front; bytes = b.bytes; rest = b.rest; before = b.made; lines_are = b.split; number = omega (arith, b.number); earlier = b.earlier; here = b.here })
+    let earlier : AreReadAs b.front b.made = record { count = length-read [] b.front b.made b.earlier; each = read-each [] b.front b.made b.earlier } in
+    Unread (record { front = b.front; bytes = b.bytes; rest = b.rest; before = b.made; lines_are = b.split; number = omega (arith, b.number); earlier = earlier; here = b.here })
 
 refused : (text : List ℕ) (n : ℕ) (k : Fault) → HasFirstFault text n k → program text ≡ Err (at n k)
 refused text n k (Unread h) = unread text n k h

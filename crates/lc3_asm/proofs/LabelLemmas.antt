@@ -4,9 +4,10 @@ use Rattle.std.specs.Prelude.{Ok, bytes_eq}
 use Rattle.std.proofs.lemmas.Slice.Eq.{bytes_eq-Decides}
 use Rattle.lc3_table.specs.Statements.{Line, Operand}
 use Rattle.lc3_table.specs.declared.operation.Fault.TheVariants as fault
-use Rattle.lc3_asm.specs.Texts.{Program, program, value, entry, labels, labels_after, label_of, address_after, is_duplicate}
+use Rattle.lc3_asm.specs.Texts.{Program, program, value, entry, labels, label_of, address_after, is_duplicate}
 use Rattle.lc3_asm.specs.Laws.{HasLine}
 use Rattle.lc3_asm.proofs.Outcomes.{first_false}
+use Rattle.lc3_asm.proofs.PassLemmas.{labels_after, labels-passed}
 use Rattle.lc3_asm.proofs.SymbolsLemmas.{absent}
 use Rattle.lc3_asm.proofs.ReadLemmas.{AreRead, meant, lines-read, read-at, read-below}
 use Rattle.lc3_word.specs.Segment.{first_device}
@@ -40,8 +41,9 @@ label-value : (before after : List (Line Operand)) (l : Line Operand) (name : Li
 label-value before after l name new has =
     let first : is_duplicate before (Some name) ≡ false = ap (is_duplicate before) (sym has) ∙ new in
     let rest = labels_after (before ++ l ∷ []) after in
-    ap (λ u. value u name) (labels_after-split [] before (l ∷ after))
-    ∙ value-skip (labels before) (entry (label_of l) (address_after before) ++ rest) name (absent (value (labels before) name) first)
+    let none : value (labels_after [] before) name ≡ None = ap (λ u. value u name) (sym (labels-passed before)) ∙ absent (value (labels before) name) first in
+    ap (λ u. value u name) (labels-passed (before ++ l ∷ after) ∙ labels_after-split [] before (l ∷ after))
+    ∙ value-skip (labels_after [] before) (entry (label_of l) (address_after before) ++ rest) name none
     ∙ ap (λ o. value (entry o (address_after before) ++ rest) name) has
     ∙ value-here name (address_after before) rest
 

@@ -12,12 +12,13 @@ use Rattle.lc3_table.specs.declared.instr.Instr.{Instr}
 use Rattle.lc3_table.specs.declared.operation.Operation.{Operation}
 use Rattle.lc3_table.specs.declared.operation.Operation.TheVariants as op
 use Rattle.lc3_table.specs.declared.operation.Fault.{Fault}
-use Rattle.lc3_asm.specs.Texts.{LineWords, At, row, words_after, value, address_after, words_of, rows_of}
+use Rattle.lc3_asm.specs.Texts.{LineWords, At, row, value, address_after, words_of, rows_of}
 use Rattle.lc3_asm.specs.Private.Addresses.{addresses_after}
 use Rattle.lc3_asm.specs.Private.Views.{seen_line}
 use Rattle.lc3_asm.specs.Private.Layouts.{words_and_rows}
 use Rattle.lc3_asm.specs.declared.assembled.Row.{Row}
 use Rattle.lc3_asm.specs.declared.line.Line.{Line as Read}
+use Rattle.lc3_asm.proofs.PassLemmas.{words_after}
 
 -- a line has no more words than its size
 at_most_one : (i : Option Instr) → length (instruction_words i) ≤ 1

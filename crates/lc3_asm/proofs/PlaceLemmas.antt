@@ -7,10 +7,11 @@ use Rattle.std.proofs.lemmas.List.Sums.{sum_by-cons}
 use Rattle.std.proofs.lemmas.Bool.Decides.{nat_tests}
 use Rattle.lc3_table.specs.Statements.{Line, Operand, ◌>>=◌}
 use Rattle.lc3_table.specs.Meaning.{words, size}
-use Rattle.lc3_asm.specs.Texts.{LineWords, at_line, words_after, words_of, value, address_after, origin, origin_named, is_origin}
+use Rattle.lc3_asm.specs.Texts.{LineWords, at_line, words_of, value, address_after, origin, origin_named, is_origin}
 use Rattle.lc3_asm.specs.Laws.{word_at}
 use Rattle.lc3_asm.proofs.Outcomes.{then-ok, at_line-ok, ok-same}
 use Rattle.lc3_asm.proofs.LineLemmas.{line_fitting}
+use Rattle.lc3_asm.proofs.PassLemmas.{words_after}
 use Rattle.lc3_asm.proofs.SizeLemmas.{words-exact}
 use Rattle.lc3_asm.proofs.ReadLemmas.{AreRead, IsRead}
 

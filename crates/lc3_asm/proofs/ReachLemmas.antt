@@ -27,6 +27,7 @@ use Rattle.lc3_asm.proofs.Outcomes.{then-ok, or_fault-ok, if-ok, ok-same}
 use Rattle.lc3_asm.proofs.LineLemmas.{all_fit, line_fitting, line_ordered}
 use Rattle.lc3_asm.proofs.ReadLemmas.{meant, lines-read, read-at}
 use Rattle.lc3_asm.proofs.LabelLemmas.{labels-below}
+use Rattle.lc3_asm.proofs.PassLemmas.{labels-passed}
 use Rattle.lc3_asm.proofs.PlaceLemmas.{found, origin-front, word-at}
 
 -- a label that an offset of this many bits reaches
@@ -287,7 +288,7 @@ fill_holds_address text p before label name accepted has =
     let word = filled (value (labels ls)) (address_after before) name place.here place.here_is in
     let started = fill-started (list_any is_origin before) (line_ordered (list_any is_origin before) read.bytes l read.read) in
     let first : origin ls ≡ origin before = origin-front before (l ∷ has.0) started in
-    let small : word.0 ≤ first_device = labels-below [] ls name word.0 reads (omega arith) word.1 in
+    let small : word.0 ≤ first_device = labels-below [] ls name word.0 reads (omega arith) (ap (λ u. value u name) (sym (labels-passed ls)) ∙ word.1) in
     let whole : low_bits 16 (pos word.0) ≡ word.0 = omega (arith, small) in
     let at : word_at (record { origin = origin ls; words = words_of means.made }) (address_after before) ≡ Some word.0 =
     word-at (origin ls) (address_after before) (words_of means.made) place.earlier place.later word.0 (place.cut ∙ ap (λ u. place.earlier ++ (u ++ place.later)) (word.2 ∙ ap (λ w. w ∷ []) whole))

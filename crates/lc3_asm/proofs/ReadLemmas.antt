@@ -5,9 +5,10 @@ use Rattle.std.specs.List.{list_any}
 use Rattle.lc3_table.specs.Statements.{Line, Operand, line, unless, ◌>>=◌}
 use Rattle.lc3_table.specs.declared.operation.Fault.{Fault}
 use Rattle.lc3_table.specs.declared.operation.Fault.TheVariants as fault
-use Rattle.lc3_asm.specs.Texts.{LineWords, Program, at_line, lines, is_origin, is_end, label_of, labels, line_after, lines_after, lines_read, words_after, place_fault, is_duplicate, address_after, program_with_words, program_of, program_of_lines, program}
+use Rattle.lc3_asm.specs.Texts.{LineWords, Program, at_line, lines, is_origin, is_end, label_of, labels, line_after, lines_after, lines_read, words_of_lines, place_fault, is_duplicate, address_after, program_with_words, program_of, program_of_lines, program}
 use Rattle.lc3_asm.proofs.Outcomes.{then-ok, unless-ok, ok-same}
 use Rattle.lc3_asm.proofs.DraftLemmas.{fits_from_test}
+use Rattle.lc3_asm.proofs.PassLemmas.{words_after, words-passed}
 use Rattle.lc3_word.specs.Segment.{first_device}
 
 -- a line that was read after these
@@ -72,8 +73,8 @@ pub record Meant (p : Program) (ls : List (Line Operand)) : Type 0 where
 
 meant-started : (p : Program) (ls : List (Line Operand)) (n : ℕ) (b : Bool) → (if b then program_of ls else Err (record { line = n; kind = fault.NoOrig })) ≡ Ok p → Meant p ls
 meant-started p ls n true e =
-    let made = then-ok (words_after (labels ls) [] ls) (λ ws. Ok (program_with_words ls ws)) p e in
-    record { made = made.0; words_are = made.1; laid = ok-same (program_with_words ls made.0) p made.2 }
+    let made = then-ok (words_of_lines (labels ls) ls) (λ ws. Ok (program_with_words ls ws)) p e in
+    record { made = made.0; words_are = sym (words-passed (labels ls) ls) ∙ made.1; laid = ok-same (program_with_words ls made.0) p made.2 }
 meant-started p ls n false e = cc
 
 pub meant : (text : List ℕ) (p : Program) (ls : List (Line Operand)) → program text ≡ Ok p → lines_read text ≡ Ok ls → Meant p ls

@@ -10,11 +10,12 @@ use Rattle.lc3_table.specs.Statements.{Line, Blank, LabelAlone, Operates, Operan
 use Rattle.lc3_table.specs.Meaning.{size}
 use Rattle.lc3_table.specs.declared.operation.Operation.TheVariants as op
 use Rattle.lc3_asm.specs.declared.assembled.Row.{Row}
-use Rattle.lc3_asm.specs.Texts.{LineWords, Program, program, labels, words_after, words_of, rows_of, row, address_after, origin, is_origin}
+use Rattle.lc3_asm.specs.Texts.{LineWords, Program, program, labels, words_of, rows_of, row, address_after, origin, is_origin}
 use Rattle.lc3_asm.specs.Listings.{word_line, words_text, rows_text}
 use Rattle.lc3_asm.specs.Laws.{Follow, line_numbers, words_listed}
 use Rattle.lc3_asm.proofs.Outcomes.{ok-same}
 use Rattle.lc3_asm.proofs.LineLemmas.{line_ordered}
+use Rattle.lc3_asm.proofs.PassLemmas.{words_after}
 use Rattle.lc3_asm.proofs.ReadLemmas.{AreRead, meant, has-lines, lines-read, all-below}
 use Rattle.lc3_asm.proofs.PlaceLemmas.{first-words, words-count, origin-front}
 use Rattle.lc3_word.specs.Segment.{first_device}

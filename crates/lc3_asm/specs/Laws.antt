@@ -1,6 +1,6 @@
 -- What is true of every accepted text, in the words of the book: where labels stand, what instructions
 -- reach, and how the rows and the listing cover the image.
-use Rattle.std.specs.Prelude.{ℕ, ℤ, ◌≡◌, ◌↔◌, ◌+◌, ◌-◌, ◌<◌, ◌+ℤ◌, pos, nat_lt, slice_get, Option, Some, None, option_and_then, Ok, Err, IsOk, true, false, List, [], ◌∷◌, ◌++◌, map, length, replicate, if◌then◌else◌}
+use Rattle.std.specs.Prelude.{ℕ, ℤ, ◌≡◌, ◌↔◌, ◌+◌, ◌-◌, ◌<◌, ◌+ℤ◌, pos, nat_lt, slice_get, Option, Some, None, option_and_then, Ok, Err, IsOk, true, false, List, [], ◌∷◌, ◌++◌, map, take, length, replicate, if◌then◌else◌}
 use Rattle.std.specs.List.{list_any}
 use Rattle.lc3_word.specs.Segment.{Segment}
 use Rattle.lc3_table.specs.declared.instr.Instr.{Instr}
@@ -110,16 +110,15 @@ abbrev pub ListingShowsImage : Type 0
 ListingShowsImage = (text : List ℕ) (p : Program) → program text ≡ Ok p
     → rows_text p.rows p.image.words ≡ words_listed p.image.origin p.image.words (line_numbers p.rows)
 
--- these texts are read as these lines, one by one behind the lines before them, and none of them is `.END`
-abbrev pub AreReadAs : List (Line Operand) → List (List ℕ) → List (Line Operand) → Type 0
-AreReadAs before [] [] = Unit {0}
-AreReadAs before (bytes ∷ rest) (l ∷ ls) = (line_after before bytes ≡ Ok l) × (is_end l ≡ false) × AreReadAs (before ++ l ∷ []) rest ls
-AreReadAs before _ _ = ⊥
+-- these texts are read as these lines, each behind the lines before it, and none of them is `.END`
+pub record AreReadAs (texts : List (List ℕ)) (ls : List (Line Operand)) : Type 0 where
+  pub count : length ls ≡ length texts
+  pub each : (i : ℕ) (bytes : List ℕ) (l : Line Operand) → slice_get texts i ≡ Some bytes → slice_get ls i ≡ Some l
+      → (line_after (take i ls) bytes ≡ Ok l) × (is_end l ≡ false)
 
--- each of these lines has words, behind the lines before them
-abbrev pub HaveWords : List (List ℕ × ℕ) → List (Line Operand) → List (Line Operand) → Type 0
-HaveWords known before [] = Unit {0}
-HaveWords known before (l ∷ ls) = IsOk (words (value known) (address_after before) l) × HaveWords known (before ++ l ∷ []) ls
+-- each of these lines has words, behind the lines before it
+abbrev pub HaveWords : List (List ℕ × ℕ) → List (Line Operand) → Type 0
+HaveWords known ls = (i : ℕ) (l : Line Operand) → slice_get ls i ≡ Some l → IsOk (words (value known) (address_after (take i ls)) l)
 
 -- line n is the first that can't be read, and this is the first that is wrong with it
 pub record IsFirstUnread (text : List ℕ) (n : ℕ) (kind : Fault) : Type 0 where
@@ -129,7 +128,7 @@ pub record IsFirstUnread (text : List ℕ) (n : ℕ) (kind : Fault) : Type 0 whe
   pub before : List (Line Operand)
   pub lines_are : lines text ≡ front ++ bytes ∷ rest
   pub number : n ≡ length front + 1
-  pub earlier : AreReadAs [] front before
+  pub earlier : AreReadAs front before
   pub here : line_after before bytes ≡ Err kind
 
 -- each line up to `.END` can be read, none is a `.ORIG`, and n is the last line of the text
@@ -150,7 +149,7 @@ pub record IsFirstWithoutWords (text : List ℕ) (n : ℕ) (kind : Fault) : Type
   pub started : list_any is_origin read ≡ true
   pub split : read ≡ before ++ line ∷ after
   pub number : n ≡ length before + 1
-  pub earlier : HaveWords (labels read) [] before
+  pub earlier : HaveWords (labels read) before
   pub here : words (value (labels read)) (address_after before) line ≡ Err kind
 
 -- what a text is refused for: where its lines are read, for want of a `.ORIG`, or where its words are made

@@ -3,3 +3,4 @@ pub mod Addresses
 pub mod Layouts
 pub mod Views
 pub mod Drafts
+pub mod Words

@@ -1,6 +1,6 @@
 -- A source text: its lines, the addresses of its labels, its words, or its first fault.
-use Rattle.std.specs.Prelude.{ℕ, ◌≡◌, ◌+◌, nat_abs, Bool, true, false, ◌==◌, nat_le, bytes_eq, sum_by, Option, Some, None, is_some, unwrap_or, option_map, find, Result, Ok, Err, List, [], ◌∷◌, ◌++◌, length, if◌then◌else◌}
-use Rattle.std.specs.List.{list_any, slice_split}
+use Rattle.std.specs.Prelude.{ℕ, ◌≡◌, ◌+◌, nat_abs, Bool, true, false, ◌==◌, nat_le, bytes_eq, sum_by, Option, Some, None, is_some, unwrap_or, option_map, find, Result, Ok, Err, List, [], ◌∷◌, ◌++◌, length, map, take, if◌then◌else◌}
+use Rattle.std.specs.List.{list_any, slice_split, flat_map, enumerate_from}
 use Rattle.lc3_table.specs.Statements.{Line, Blank, LabelAlone, Operates, Operand, Number, line, unless, option_or, ◌>>=◌}
 use Rattle.lc3_word.specs.Segment.{Segment, first_device}
 use Rattle.lc3_table.specs.Meaning.{size, words}
@@ -50,14 +50,17 @@ abbrev pub entry : Option (List ℕ) → ℕ → List (List ℕ × ℕ)
 entry None address = []
 entry (Some name) address = (name, address) ∷ []
 
--- the labels of these lines, which stand after those before, with the addresses of their lines
-abbrev pub labels_after : List (Line Operand) → List (Line Operand) → List (List ℕ × ℕ)
-labels_after before [] = []
-labels_after before (l ∷ ls) = entry (label_of l) (address_after before) ++ labels_after (before ++ l ∷ []) ls
+-- each of these lines, behind those before it
+abbrev pub with_earlier : List (Line Operand) → List (List (Line Operand) × Line Operand)
+with_earlier ls = map (λ (e : ℕ × Line Operand). (take e.0 ls, e.1)) (enumerate_from 0 ls)
+
+-- the label that a line defines, if it does, with the line's address, which is that after the lines before it
+abbrev pub label_at : List (Line Operand) × Line Operand → List (List ℕ × ℕ)
+label_at e = entry (label_of e.1) (address_after e.0)
 
 -- the labels of these lines in the order of their definitions
 abbrev pub labels : List (Line Operand) → List (List ℕ × ℕ)
-labels ls = labels_after [] ls
+labels ls = flat_map label_at (with_earlier ls)
 
 -- the value of a label: the address of the line that defines it
 abbrev pub value : List (List ℕ × ℕ) → List ℕ → Option ℕ
@@ -101,14 +104,20 @@ lines_after before (bytes ∷ rest) =
     at_line (length before + 1) (line_after before bytes) >>= λ l.
     if is_end l then Ok (before ++ l ∷ []) else lines_after (before ++ l ∷ []) rest
 
--- the words of these lines, which stand after those before; or the least line that names a label which no
--- line defines, or one too far away
-abbrev pub words_after : List (List ℕ × ℕ) → List (Line Operand) → List (Line Operand) → Result (List LineWords) At
-words_after known before [] = Ok []
-words_after known before (l ∷ ls) =
-    at_line (length before + 1) (words (value known) (address_after before) l) >>= λ ws.
-    (words_after known (before ++ l ∷ []) ls >>= λ rows.
-    Ok (record { line = length before + 1; address = address_after before; words = ws } ∷ rows))
+-- the words of a line behind those before it, or why it has none: it names a label without a value, or one too far away
+abbrev pub words_at : List (List ℕ × ℕ) → List (Line Operand) × Line Operand → Result LineWords At
+words_at known e =
+    at_line (length e.0 + 1) (words (value known) (address_after e.0) e.1) >>= λ ws.
+    Ok (record { line = length e.0 + 1; address = address_after e.0; words = ws })
+
+-- the values of all these results, or the first error among them
+abbrev pub all_ok : {A E : Type 0} → List (Result A E) → Result (List A) E
+all_ok [] = Ok []
+all_ok (r ∷ rs) = r >>= λ x. (all_ok rs >>= λ xs. Ok (x ∷ xs))
+
+-- the words of each of these lines, or the least line that has none
+abbrev pub words_of_lines : List (List ℕ × ℕ) → List (Line Operand) → Result (List LineWords) At
+words_of_lines known ls = all_ok (map (words_at known) (with_earlier ls))
 
 -- the row of a line with this many words, if it has any
 abbrev pub row : ℕ → ℕ → ℕ → List Row
@@ -136,7 +145,7 @@ program_with_words ls made = record { image = record { origin = origin ls; words
 
 -- the program of lines that could all be read, or the least line whose label has no value or is too far away
 abbrev pub program_of : List (Line Operand) → Result Program At
-program_of ls = words_after (labels ls) [] ls >>= λ made. Ok (program_with_words ls made)
+program_of ls = words_of_lines (labels ls) ls >>= λ made. Ok (program_with_words ls made)
 
 -- the same for a text of this many lines; without a `.ORIG` the fault is the last line's
 abbrev pub program_of_lines : ℕ → List (Line Operand) → Result Program At

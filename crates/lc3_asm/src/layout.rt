@@ -2,7 +2,7 @@
 
 ghost use Rattle.std.specs.Prelude.{◌≡◌, ◌≤◌, ◌++◌, [], length, map, sum_by, OnOk, IfOk};
 ghost use Rattle.lc3_table.specs.Meaning.{size};
-ghost use Rattle.lc3_asm.specs.Texts.{row, words_after};
+ghost use Rattle.lc3_asm.specs.Texts.{row, words_of_lines};
 ghost use Rattle.lc3_asm.specs.Private.Views.{seen_line};
 ghost use Rattle.lc3_asm.specs.Private.Addresses.{addresses};
 ghost use Rattle.lc3_asm.specs.Private.Layouts.{Lays, words_and_rows};
@@ -38,7 +38,7 @@ pub fn layout(
     requires places { places.now ≡ addresses (map seen_line lines.now) }
     requires count { length places.now ≡ length lines.now }
     ensures exact { Lays result
-        (words_and_rows [] [] (words_after symbols.now [] (map seen_line lines.now))) }
+        (words_and_rows [] [] (words_of_lines symbols.now (map seen_line lines.now))) }
     ensures small { IfOk result
         (λ laid. length laid.0.items ≤ sum_by size (map seen_line lines.now)) }
 {

@@ -2,11 +2,6 @@
 use Rattle.std.specs.Prelude.{◌≡◌, ℕ, ◌+◌, ◌<◌, ◌/◌, ◌++◌, Bool, true, List, length, take, drop, slice_get, Some}
 use Rattle.lc3_word.specs.Segment.{first_device}
 
--- the words, and for each page of 256 words whether it can be written without taking memory
-pub record Store : Type 0 where
-  pub words : List ℕ
-  pub ready : List Bool
-
 -- the word at an address can be written without taking memory
 unfoldable pub IsReadyAt : List Bool → ℕ → Type 0
 IsReadyAt ready address = slice_get ready (address / 256) ≡ Some true

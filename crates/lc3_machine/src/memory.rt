@@ -17,8 +17,7 @@ pub(crate) struct Memory {
 }
 
 impl Model for Memory {
-    ghost use Rattle.lc3_machine.specs.Memory.{Store};
-    ghost use Rattle.lc3_machine.specs.Private.Pages.{memory_of_pages};
+    ghost use Rattle.lc3_machine.specs.Private.Pages.{Store, memory_of_pages};
 
     ghost Value = { Store };
 
@@ -144,6 +143,11 @@ impl Memory {
         ensures same { IsTrue result ↔ (self.now.words ≡ other.now.words) }
     {
         self.pages.has_same_words(&other.pages)
+    }
+
+    /// The bytes of its pages.
+    pub(crate) fn size(&self) -> usize {
+        self.pages.size()
     }
 
     /// Adds the words to a digest.

@@ -7,6 +7,7 @@ ghost use Rattle.lc3_machine.specs.Process.{zeros};
 use std::alloc::{AllocError, Global};
 use std::hash::{FoldHasher, Hasher};
 use std::marker::Model;
+use std::mem::size_of;
 
 /// How many words a page has.
 pub(crate) const PAGE: usize = 256;
@@ -179,6 +180,11 @@ impl Pages {
             words,
             starts: self.starts,
         })
+    }
+
+    /// The bytes of the words.
+    pub(crate) fn size(&self) -> usize {
+        size_of::<u16>().saturating_mul(self.words.len())
     }
 
     /// Whether a page has the same words here and there.

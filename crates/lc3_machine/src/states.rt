@@ -11,9 +11,14 @@ use crate::want::{How, Want};
 use std::marker::Model;
 
 /// A process that runs.
-#[derive(Drop)]
 pub struct Running {
     machine: Box<Machine>,
+}
+
+impl Drop for Running {
+    fn drop(self) {
+        let Running { machine: _ } = self;
+    }
 }
 
 impl Model for Running {
@@ -25,10 +30,18 @@ impl Model for Running {
 }
 
 /// A process whose next instruction is a trap of the kernel, or its end. Nothing of that instruction is done.
-#[derive(Drop)]
 pub struct AtCall {
     machine: Box<Machine>,
     want: Want,
+}
+
+impl Drop for AtCall {
+    fn drop(self) {
+        let AtCall {
+            machine: _,
+            want: _,
+        } = self;
+    }
 }
 
 impl Model for AtCall {
@@ -44,9 +57,14 @@ impl Model for AtCall {
 }
 
 /// A process that waits for the answer of the trap that it stands before.
-#[derive(Drop)]
 pub struct Waiting {
     call: AtCall,
+}
+
+impl Drop for Waiting {
+    fn drop(self) {
+        let Waiting { call: _ } = self;
+    }
 }
 
 impl Model for Waiting {
@@ -61,10 +79,15 @@ impl Model for Waiting {
 }
 
 /// A process that has ended.
-#[derive(Drop)]
 pub struct Ended {
     machine: Box<Machine>,
     how: How,
+}
+
+impl Drop for Ended {
+    fn drop(self) {
+        let Ended { machine: _, how: _ } = self;
+    }
 }
 
 impl Model for Ended {
@@ -73,15 +96,4 @@ impl Model for Ended {
     ghost Value = { EndedProcess };
 
     ghost view = { λ e. record { process = e.machine.value.process; how = e.how } };
-}
-
-/// What local steps of a process lead to.
-#[derive(Drop)]
-pub enum Local {
-    /// All steps are done.
-    Running(Running),
-    /// The next instruction is a trap of the kernel or an end: it isn't done, and no step is counted for it.
-    AtCall(AtCall),
-    /// Memory was refused to the next instruction: it isn't done, and may be tried again.
-    Short(Running),
 }

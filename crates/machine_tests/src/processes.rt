@@ -1,6 +1,6 @@
 //! Processes for the other tests: loaded, run, and stopped before a call.
 
-use lc3_machine::{AtCall, Local, Running};
+use lc3_machine::{AtCall, Progress, Running};
 use lc3_table::Profile;
 use lc3_word::Image;
 use std::alloc::{AllocError, Global};
@@ -25,26 +25,26 @@ pub fn loaded(
 }
 
 /// The process after this many steps, all of which it has to take.
-pub fn run(rt: &impl Abort, process: Running, steps: u32) -> Running {
-    let (local, done) = process.run_local(steps);
-    match local {
-        Local::Running(process) => process,
-        Local::AtCall(_) => panic!(rt; "the process goes on"),
-        Local::Short(process) => match process.run_local(steps - done) {
-            (Local::Running(process), _) => process,
+pub fn run(rt: &impl Abort, mut process: Running, steps: u32) -> Running {
+    let (done, progress) = process.advance(steps);
+    match progress {
+        Progress::Moved => process,
+        Progress::Stopped(_) => panic!(rt; "the process goes on"),
+        Progress::Short => match process.advance(steps - done).1 {
+            Progress::Moved => process,
             _ => panic!(rt; "the process goes on"),
         },
     }
 }
 
 /// The process before the call or the end that it stands at, after a few steps.
-pub fn stopped(rt: &impl Abort, process: Running) -> AtCall {
-    match process.run_local(9).0 {
-        Local::AtCall(call) => call,
-        Local::Short(process) => match process.run_local(9).0 {
-            Local::AtCall(call) => call,
+pub fn stopped(rt: &impl Abort, mut process: Running) -> AtCall {
+    match process.advance(9).1 {
+        Progress::Stopped(want) => process.stand(want),
+        Progress::Short => match process.advance(9).1 {
+            Progress::Stopped(want) => process.stand(want),
             _ => panic!(rt; "the process stops"),
         },
-        Local::Running(_) => panic!(rt; "the process stops"),
+        Progress::Moved => panic!(rt; "the process stops"),
     }
 }

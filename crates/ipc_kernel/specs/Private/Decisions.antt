@@ -21,8 +21,8 @@ use Rattle.ipc_kernel.specs.declared.kernel.decision.NewQueue.{NewQueue}
 use Rattle.ipc_kernel.specs.declared.kernel.decision.NewSemaphore.{NewSemaphore}
 use Rattle.ipc_kernel.specs.declared.kernel.decision.Decision.TheVariants.{Refused, Waits, Receives, Answered}
 use Rattle.ipc_kernel.specs.Processes.{closed_process, with_descriptor, with_slot}
-use Rattle.ipc_kernel.specs.Places.{place_at, queue_in, semaphore_value, without_name_in, queue_named, semaphore_named, are_sizes, HasRoomFor, HasMessage}
-use Rattle.ipc_kernel.specs.Replies.{message_length}
+use Rattle.ipc_kernel.specs.Places.{place_at, queue_in, semaphore_value, without_name_in, queue_named, semaphore_named, are_sizes}
+use Rattle.ipc_kernel.specs.Private.Messages.{HasRoomFor, HasMessage, message_length}
 use Rattle.ipc_kernel.specs.Kernel.{KernelState}
 use Rattle.ipc_kernel.specs.Outcomes.{Outcome, refusal, waiting, completion, queue_at, with_queue_at, with_value_at}
 

@@ -2,7 +2,8 @@
 ghost use Rattle.std.specs.Prelude.{◌≡◌, ℕ, ◌<◌, length, IfOk, OnOk, OnErr, IsErr, IsSomeAnd, IsTrue};
 ghost use Rattle.ipc_kernel.specs.Private.Decisions.{kernel_of, outcome_of, after_change, CanChange, IsPossible, change_may_grow, decision_may_grow, decision_may_share, decision_receives, keeps_references, reply_with_first};
 ghost use Rattle.ipc_kernel.specs.Outcomes.{queue_at, completion};
-ghost use Rattle.ipc_kernel.specs.Places.{place_at, queue_in, HasMessage};
+ghost use Rattle.ipc_kernel.specs.Places.{place_at, queue_in};
+ghost use Rattle.ipc_kernel.specs.Private.Messages.{HasMessage};
 ghost use Rattle.ipc_kernel.specs.declared.kernel.decision.Decision.TheVariants.{Receives};
 ghost use Rattle.ipc_kernel.specs.declared.call.Reply.{Reply};
 ghost use Rattle.ipc_kernel.specs.declared.call.Answer.TheVariants.{Done};

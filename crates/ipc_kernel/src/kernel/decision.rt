@@ -3,7 +3,7 @@ ghost use Rattle.std.specs.Prelude.{◌≡◌, ℕ, false};
 ghost use Rattle.ipc_kernel.specs.Kernel.{KernelState};
 ghost use Rattle.ipc_kernel.specs.Outcomes.{wait_or_again};
 ghost use Rattle.ipc_kernel.specs.Private.Decisions.{outcome_of, reply_of, IsPossible, decision_may_grow};
-ghost use Rattle.ipc_kernel.specs.Replies.{message_length};
+ghost use Rattle.ipc_kernel.specs.Private.Messages.{message_length};
 
 use crate::{Descriptor, Reply, Slot};
 use ipc_names::{Errno, Name};

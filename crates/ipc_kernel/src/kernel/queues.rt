@@ -8,7 +8,7 @@ ghost use Rattle.ipc_kernel.specs.Outcomes.{open_queue, unlink};
 ghost use Rattle.ipc_kernel.specs.Places.{are_sizes, queue_named};
 ghost use Rattle.ipc_kernel.specs.Processes.{descriptor_of, free_descriptor_of};
 ghost use Rattle.ipc_kernel.specs.Queues.{attributes, descriptor_for, sizes_asked};
-ghost use Rattle.ipc_kernel.specs.Replies.{message_length};
+ghost use Rattle.ipc_kernel.specs.Private.Messages.{message_length};
 
 use super::Kernel;
 use super::decision::{Change, Decision, NewQueue, ShortReply, wait_or_again};

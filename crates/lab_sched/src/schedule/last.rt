@@ -2,7 +2,7 @@
 ghost use Rattle.std.specs.Prelude.{◌≡◌, ◌+◌, ◌<◌, ◌≤◌, ◌++◌, ◌∷◌, ◌^◌, [], ℕ, List, length, replicate};
 ghost use Rattle.std.specs.List.{AllByRecursion};
 ghost use Rattle.lab_sched.specs.Schedules.{IsBlock, steps_of, total_of, most_steps};
-ghost use Rattle.lab_sched.specs.Settling.{with_count};
+ghost use Rattle.lab_sched.specs.Private.Blocks.{with_count};
 ghost use Rattle.lab_sched.specs.declared.schedule.block.Block.{Block as BlockSeen};
 
 use super::{Block, Schedule};

@@ -3,7 +3,8 @@ ghost use Rattle.std.specs.Prelude.{◌≡◌, ◌≤◌, ◌<◌, length, map, 
 ghost use Rattle.std.specs.List.{All};
 ghost use Rattle.lc3_word.specs.Numbers.{unsigned_number};
 ghost use Rattle.lab_sched.specs.Schedules.{IsBlock, most_steps};
-ghost use Rattle.lab_sched.specs.ScheduleTexts.{is_star, in_range, process_in, count_in, block_in, blocks_of_words, schedule_of_blocks, reading_of_words, reading, Gives};
+ghost use Rattle.lab_sched.specs.ScheduleTexts.{is_star, in_range, process_in, count_in, block_in, blocks_of_words, schedule_of_blocks, reading_of_words, reading};
+ghost use Rattle.lab_sched.specs.Private.Reading.{Gives};
 ghost use Rattle.ipc_kernel.specs.Limits.{process_max};
 
 use crate::{Block, MOST_STEPS, SchedFault, Schedule};

@@ -3,7 +3,7 @@ ghost use Rattle.std.specs.Prelude.{◌≡◌, ◌<◌, ◌≤◌, ◌↔◌, le
 ghost use Rattle.lab_sched.specs.Schedules.{steps_of};
 ghost use Rattle.lab_sched.specs.Worlds.{HasNoProcess, run, step, step_effect_in};
 ghost use Rattle.lab_sched.specs.Held.{stepped_of};
-ghost use Rattle.lab_sched.specs.Stepping.{StopsByIn};
+ghost use Rattle.lab_sched.specs.Private.Settling.{StopsByIn};
 ghost use Rattle.lab_sched.specs.declared.stepped.Stepped.TheVariants.{Same};
 ghost use Rattle.lab_sched.specs.declared.world.StepFault.TheVariants.{NoProcess, NoMemory};
 

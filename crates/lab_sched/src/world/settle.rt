@@ -4,7 +4,7 @@ ghost use Rattle.std.specs.Int.{bit_at};
 ghost use Rattle.lab_sched.specs.Worlds.{nothing, step_effect_in, IsEffective};
 ghost use Rattle.lab_sched.specs.Schedules.{steps_of, total_of, most_steps};
 ghost use Rattle.lab_sched.specs.Settled.{report, IsAdded, IsSettled, HaveStopped, IsShort};
-ghost use Rattle.lab_sched.specs.Settling.{AsksIn, IsNextIn, IsTaken};
+ghost use Rattle.lab_sched.specs.Private.Settling.{AsksIn, IsNextIn, IsTaken};
 ghost use Rattle.ipc_kernel.specs.Limits.{process_max};
 
 use super::World;

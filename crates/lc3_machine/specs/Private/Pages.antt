@@ -1,7 +1,11 @@
 -- Memory as a table of pages of 256 words.
 use Rattle.std.specs.Prelude.{◌≡◌, ℕ, ◌+◌, ◌*◌, ◌<◌, ◌≤◌, nat_lt, Bool, true, false, List, All, length, take, drop, get_or, slice_index_or, slice_set, map, flat_map}
 use Rattle.lc3_machine.specs.Process.{zeros}
-use Rattle.lc3_machine.specs.Memory.{Store}
+
+-- the words, and for each page of 256 words whether it can be written without taking memory
+pub record Store : Type 0 where
+  pub words : List ℕ
+  pub ready : List Bool
 
 -- the words of a page, and whether it can be written without taking memory
 pub record PageWords : Type 0 where

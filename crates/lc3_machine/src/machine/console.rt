@@ -4,7 +4,7 @@ ghost use Rattle.std.specs.Prelude.{[], ◌∷◌, ◌≡◌, ◌++◌, ◌+◌,
 ghost use Rattle.lc3_word.specs.Segment.{first_device};
 ghost use Rattle.lc3_machine.specs.Console.{prompt, words_from, low_byte, packed_bytes, getc, out, puts, outcome_of_in, putsp};
 ghost use Rattle.lc3_machine.specs.Effects.{outcome_of_trap};
-ghost use Rattle.lc3_machine.specs.Steps.{CarriedOut};
+ghost use Rattle.lc3_machine.specs.Private.Carried.{CarriedOut};
 
 use super::{Machine, Progress};
 use crate::memory::Memory;

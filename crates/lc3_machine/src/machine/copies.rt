@@ -7,6 +7,7 @@ use crate::input::Input;
 use lc3_word::Cc;
 use std::alloc::{AllocError, Global};
 use std::hash::{FoldHasher, Hasher};
+use std::mem::size_of;
 
 impl Machine {
     /// An equal machine, with the same pages ready.
@@ -52,6 +53,15 @@ impl Machine {
         hasher.write_usize(self.output.len());
         hasher.write(self.output.as_slice());
         self.memory.feed(hasher);
+    }
+
+    /// About how many bytes a copy of the machine takes: its own, and those of its pages, of the input
+    /// that is left and of the output. Nothing that is proved rests on it.
+    pub fn size(&self) -> usize {
+        size_of::<Machine>()
+            .saturating_add(self.memory.size())
+            .saturating_add(self.input.left().len())
+            .saturating_add(self.output.len())
     }
 
     /// A number that tells processes apart as a rule. It is the same for equal processes.

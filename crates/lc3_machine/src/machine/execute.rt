@@ -3,7 +3,8 @@
 ghost use Rattle.std.specs.Prelude.{◌≡◌, ◌<◌, ◌≤◌, ◌-◌, ℕ, if◌then◌else◌};
 ghost use Rattle.lc3_machine.specs.Process.{GoesOn, at_next_instruction, at_address, with_result, at_routine, at_word, outcome_of_load, outcome_of_store};
 ghost use Rattle.lc3_machine.specs.Effects.{effect, next_step, is_among, process_after_branch, operand_value, with_address};
-ghost use Rattle.lc3_machine.specs.Steps.{CarriedOut, HasRun};
+ghost use Rattle.lc3_machine.specs.Steps.{HasRun};
+ghost use Rattle.lc3_machine.specs.Private.Carried.{CarriedOut};
 
 use super::{Machine, Progress};
 use crate::want::{How, Want};

@@ -3,9 +3,9 @@
 ghost use Rattle.std.specs.Prelude.{◌≡◌, ℕ, ◌+◌, ◌<◌, ◌≤◌, IfOk};
 ghost use Rattle.lc3_machine.specs.Process.{start, Stops};
 ghost use Rattle.lc3_machine.specs.Effects.{next_step};
-ghost use Rattle.lc3_machine.specs.Steps.{IsStep, IsRun, HasRun};
+ghost use Rattle.lc3_machine.specs.Steps.{HasRun};
 
-use super::{AtCall, Local, Running};
+use super::{AtCall, Running};
 use crate::machine::{Machine, Progress};
 use crate::want::Want;
 use lc3_table::Profile;
@@ -31,35 +31,9 @@ impl Running {
         Ok(Running { machine })
     }
 
-    /// Does the next instruction, if it is the process's own.
-    pub fn step(self) -> Local
-        ensures step { IsStep self result }
-    {
-        let Running { mut machine } = self;
-        match machine.step() {
-            Progress::Moved => Local::Running(Running { machine }),
-            Progress::Stopped(want) => Local::AtCall(AtCall { machine, want }),
-            Progress::Short => Local::Short(Running { machine }),
-        }
-    }
-
-    /// Does at most this many instructions, as `step` does each; with how many were done. They are fewer than `max`
-    /// only before a call or an end, or where memory was refused.
-    pub fn run_local(self, max: u32) -> (Local, u32)
-        ensures run { IsRun self max result.0 result.1 }
-    {
-        let Running { mut machine } = self;
-        let (left, progress) = machine.run(max);
-        let done = max - left;
-        match progress {
-            Progress::Moved => (Local::Running(Running { machine }), done),
-            Progress::Stopped(want) => (Local::AtCall(AtCall { machine, want }), done),
-            Progress::Short => (Local::Short(Running { machine }), done),
-        }
-    }
-
-    /// Does at most this many instructions in place, as `run_local` does; with how many were done, and what kept the
-    /// next one from being done, if they are fewer.
+    /// Does at most this many instructions of the process's own in place; with how many were done, and what kept the
+    /// next one from being done, if they are fewer: a call or an end, which isn't counted, or refused memory, after
+    /// which the instruction may be tried again.
     pub fn advance(&mut self, max: u32) -> (u32, Progress)
         ensures run { HasRun self.old max result.1 self.new result.0 }
     {

@@ -1,5 +1,5 @@
 use Rattle.std.specs.List.{AllWithin}
-use Rattle.lab_explore.specs.Rounds.{IsRising}
+use Rattle.lab_explore.specs.Private.Rising.{IsRising}
 use Rattle.lab_explore.proofs.graph.is_order.Given as goal
 
 abbrev pub invariant-loop-edge : goal.invariant-loop-edge

@@ -5,7 +5,7 @@ use Rattle.lab_trace.specs.Scenes.{Scene, scene_at, IsKept}
 use Rattle.lab_trace.specs.Tallies.{new_tally}
 use Rattle.lab_trace.proofs.SceneLemmas.{scene-world, kept-first}
 use Rattle.lab_trace.proofs.WrittenLemmas.{widths-are}
-use Rattle.lab_page.specs.Faults.{IsFault}
+use Rattle.lab_page.specs.Private.Faults.{IsFault}
 use Rattle.lab_page.specs.Limits.{most_bytes}
 use Rattle.lab_page.specs.Moments.{Moment, size_of}
 use Rattle.lab_page.proofs.MomentLemmas.{moments-whole, ending-whole}

@@ -1,6 +1,7 @@
 use Rattle.std.proofs.Common.{List, ◌∙◌, ◌<◌, ◌≤◌, ap, subst, sym, arith}
 use Rattle.lab_trace.specs.Tallies.{TallyState}
-use Rattle.lab_trace.specs.Units.{most_units, HasRoom}
+use Rattle.lab_trace.specs.Units.{most_units}
+use Rattle.lab_trace.specs.Private.Room.{HasRoom}
 use Rattle.lab_trace.specs.declared.units.UnitCount.{UnitCount}
 use Rattle.lab_trace.proofs.UnitLemmas.{has_room}
 use Rattle.lab_trace.proofs.step.keep.Goals as goal

@@ -1,5 +1,6 @@
 use Rattle.std.proofs.Common.{IsSomeAnd, sym, subst}
-use Rattle.ipc_kernel.specs.Places.{place_at, queue_in, HasMessage}
+use Rattle.ipc_kernel.specs.Places.{place_at, queue_in}
+use Rattle.ipc_kernel.specs.Private.Messages.{HasMessage}
 use Rattle.ipc_kernel.specs.Kernel.{KernelState}
 use Rattle.ipc_kernel.proofs.AnswerLemmas.{settled_received}
 use Rattle.ipc_kernel.proofs.kernel.Kernel.receive.Goals as goal

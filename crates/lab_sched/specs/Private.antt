@@ -1,0 +1,5 @@
+-- Definitions that only contracts inside the crate cite.
+pub mod Reading
+pub mod Fresh
+pub mod Settling
+pub mod Blocks

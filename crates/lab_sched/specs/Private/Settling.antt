@@ -1,0 +1,32 @@
+-- What a process of a world does next, and what settling takes of it.
+use Rattle.std.specs.Prelude.{ℕ, ◌≡◌, ◌≤◌, ◌++◌, List, [], Some, slice_get, replicate}
+use Rattle.ipc_kernel.specs.declared.call.Call.{Call}
+use Rattle.lab_sched.specs.Worlds.{Process, WorldState}
+use Rattle.lab_sched.specs.Execution.{IsExecution}
+use Rattle.lab_sched.specs.declared.entry.Entry.{Entry}
+use Rattle.lab_sched.specs.declared.next.Next.{Next}
+use Rattle.lab_sched.specs.declared.next.Next.TheVariants as next
+use Rattle.lab_sched.specs.Settling.{AsksFor}
+use Rattle.lc3_machine.specs.declared.machine.Progress.{Progress}
+use Rattle.lab_sched.specs.Stepping.{StopsBy}
+
+-- process p asks for a call, or waits for it
+abbrev pub AsksIn : WorldState → ℕ → Call → Type 0
+AsksIn w p c = (s : Process) × (slice_get w.processes p ≡ Some s) × AsksFor s c
+
+-- what process p does next, over the whole world
+abbrev pub IsNextIn : WorldState → ℕ → ℕ → Next → WorldState → Type 0
+IsNextIn w p most (next.Moved n) v = (n ≤ most) × IsExecution w (replicate n p) v []
+IsNextIn w p most (next.Asks c) v = (v ≡ w) × AsksIn w p c
+IsNextIn w p most next.Ended v = v ≡ w
+IsNextIn w p most next.Short v = v ≡ w
+
+-- the effective steps ps lead from one world to the other, and their entries are added
+pub record IsTaken (w : WorldState) (es : List Entry) (ps : List ℕ) (v : WorldState) (fs : List Entry) : Type 0 where
+  pub told : List Entry
+  pub execution : IsExecution w ps v told
+  pub entries : fs ≡ es ++ told
+
+-- what kept process p from its next local step
+abbrev pub StopsByIn : WorldState → ℕ → Progress → Type 0
+StopsByIn w p progress = (s : Process) → slice_get w.processes p ≡ Some s → StopsBy s progress
