@@ -37,6 +37,43 @@ TEXT    .STRINGZ "</script><b>x</b><!-- \\ &amp;"
         .END
 '''
 
+# A call on no object, then a wait for what only another process that waits could post.
+REFUSED = '''        .ORIG x3000
+        LD R0, NONE
+        LEA R1, LETTER
+        AND R2, R2, #0
+        ADD R2, R2, #1
+        ADD R3, R2, #0
+        ADD R3, R3, #-1
+        TRAP x43        ; mq_send(-2, [x0041 "A"], 1, 0) = EBADF
+        LEA R0, COMMA
+        TRAP x52        ; sem_unlink("/a,b") = ENOENT
+        LEA R0, NAME
+        LD R1, CREATE
+        AND R2, R2, #0
+        TRAP x50        ; sem_open("/s", O_CREAT, 0) = 0
+        TRAP x53        ; waits
+NONE    .FILL #-2
+CREATE  .FILL x40
+LETTER  .FILL x41
+NAME    .STRINGZ "/s"
+COMMA   .STRINGZ "/a,b"
+        .END
+'''
+# Names of files and lines of a source that no page should take for its own text: ends of elements, quotes, an end of a
+# line, characters of four bytes, control characters, and one that turns the direction of a text.
+HOSTILE_NAMES = ["<script>alert(1)<!--", "a\nb\u0001\u202e", "\U0001f600'\"&lt;" + "\U0001f600" * 30]
+HOSTILE = '''        .ORIG x3000
+        LEA R0, TEXT    ; </script><script>document.title = 'ran'</script> <img src=x onerror=alert(1)> &lt; ` ${1}
+        PUTS            ; \U0001f600 \u0001 \u001b[31m \u202e turned \u2028 "quoted" \\ 'single' \\u003C <!-- ]]>
+        LD R0, CONTROL\r
+        OUT\t; a tab and an end of a line of two characters\r
+        HALT
+CONTROL .FILL x0A
+TEXT    .STRINGZ "</script><svg onload=alert(1)> \'"
+        .END
+'''
+
 # Calls without an end: after ten steps, four in each loop of seven steps.
 MANY = '''        .ORIG x3000
         LEA R0, SEM
@@ -63,6 +100,14 @@ QUEUE   .STRINGZ "/q"
 ROOM    .BLKW 16
         .END
 '''
+
+
+def visible(text):
+    """A text as the page writes it: control characters, and those that turn its direction, by their numbers."""
+    def number(found):
+        code = ord(found[0])
+        return f"\\x{code:02X}" if code < 0x100 else f"\\u{{{code:X}}}"
+    return re.sub("[\0-\x08\n-\x1f\x7f-\x9f\u061c\u200b-\u200f\u2028-\u202e\u2060-\u2069\ufeff]", number, text)
 
 
 @dataclass
@@ -92,6 +137,9 @@ def runs():
     yield "examples/deadlock", folder, {}, ["two-semaphores-1.obj", "two-semaphores-2.obj"], deadlock
     yield "examples/producer-consumer", folder, {}, ["producer.obj", "consumer.obj"], "1*99 0*99 1*99\n"
     yield "made/names", None, {'<b>"é.asm': NAMES, "names.asm": NAMES}, ['<b>"é.obj', "names.obj"], "0*99 1*99\n"
+    yield "made/refused", None, {"refused.asm": REFUSED}, ["refused.obj"] * 3, "0*99 1*99 2*99\n"
+    hostile = {f"{name}.asm": HOSTILE for name in HOSTILE_NAMES}
+    yield "made/hostile", None, hostile, [it.replace(".asm", ".obj") for it in hostile], "0*99 1*99 2*99\n"
     turns = " ".join(f"{p}*{n}" for n in (10, 7, 140, 140) for p in range(64)) + "\n"
     yield "made/many", None, {"many.asm": MANY}, ["many.obj"] * 64, turns
     yield "made/long", None, {"many.asm": MANY}, ["many.obj"] * 3, "0*300 1*300 2*300 0*20000 1*20\n"
@@ -105,7 +153,7 @@ class Run:
         self.blocks = [[int(it) for it in (block + "*1").split("*")[:2]] for block in schedule.split()]
         self.is_long = sum(count for _, count in self.blocks) > 20_000
         for file, text in texts.items():
-            (folder / file).write_text(text)
+            (folder / file).write_bytes(text.encode())
         self.names = [it.replace("here/", f"{sources}/") for it in programs]
         self.count = len(self.names)
         self.sources = [str((sources or folder) / it.split("=")[0].replace(".obj", ".asm")) for it in self.names]
@@ -180,7 +228,7 @@ class Run:
         if number is None:
             return None
         first = next(row[0] for row in rows if int(row[2]) == number)
-        text = Path(self.folder, self.sources[process]).read_text().splitlines()[number - 1]
+        text = visible(Path(self.folder, self.sources[process]).read_bytes().decode().split("\n")[number - 1].rstrip())
         return " ".join(f"{number} {first} {text}".split())
 
     def has_changed(self, process, address, here):

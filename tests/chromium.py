@@ -4,7 +4,6 @@ import json
 import os
 import shutil
 import subprocess
-import sys
 from pathlib import Path
 
 SHIFT = 8
@@ -12,13 +11,11 @@ KEYS = {"ArrowLeft": 37, "ArrowUp": 38, "ArrowRight": 39, "ArrowDown": 40, "Home
 
 
 def chromium(install):
-    """The program; with `install` Debian's is installed where there is none."""
+    """The program, or nothing where there is none; with `install` Debian's is installed then."""
     found = shutil.which("chromium") or shutil.which("chromium-browser") or shutil.which("google-chrome")
     if not found and install:
         subprocess.run(["apt-get", "install", "-y", "--no-install-recommends", "chromium"], check=True)
         found = shutil.which("chromium")
-    if not found:
-        sys.exit("there is no chromium; --install gets Debian's")
     return found
 
 
@@ -92,10 +89,14 @@ class Browser:
 
     def picture(self, file, scheme="light"):
         """Keeps what the window shows."""
-        self.ask("Emulation.setEmulatedMedia", media="", features=[{"name": "prefers-color-scheme", "value": scheme}])
+        self.media(scheme=scheme)
         shot = self.ask("Page.captureScreenshot", format="png")
         Path(file).write_bytes(base64.b64decode(shot["data"]))
         self.ask("Emulation.setEmulatedMedia", media="", features=[])
+
+    def media(self, kind="", scheme="light"):
+        """Takes the styles of `print`, or those of a screen in a light or dark scheme."""
+        self.ask("Emulation.setEmulatedMedia", media=kind, features=[{"name": "prefers-color-scheme", "value": scheme}])
 
     def print(self, file):
         """Keeps what would be printed."""

@@ -66,6 +66,7 @@ const seen = (() => {
         [stepOf(b => b.k === a.dataset.from), stepOf(b => b.k === a.dataset.to)]),
       unreceived: list(document, '#pic circle.kept').length,
       stuck: list(document, '#pic rect.stuckbar').map(titleOf),
+      labels: list(document, '#pic g.ev').map(g => g.querySelector('text').textContent),
     };
     window.dispatchEvent(new Event('afterprint'));
     return found;
@@ -141,5 +142,76 @@ const seen = (() => {
     for (let i = 0; i < steps; i++) { go(Math.floor(last * i / steps / 2) * 2 + i % 2); document.body.getBoundingClientRect(); }
     return (performance.now() - from) / steps;
   }
-  return { go, moment, moments, picture, spoilt, open, pace };
+
+  // ---- the list of the lines, names, focus, and what is printed
+
+  const items = () => list(document, '#lines > li').map(e => e.textContent);
+  const current = () => list(document, '#lines > [aria-current=step]').map(e => e.textContent);
+  const heads = () => list(document, '#head .who title').map(e => e.textContent);
+  function isMarked() {                           // whether one sees where the focus is
+    const { outlineStyle, outlineWidth } = getComputedStyle(document.activeElement);
+    return document.activeElement === document.body || outlineStyle !== 'none' && parseFloat(outlineWidth) >= 2;
+  }
+  function foreign() {                            // elements and handlers that the template doesn't have
+    const scripts = document.querySelectorAll('script').length, acts = a => a.name.startsWith('on');
+    const found = list(document, 'body b, body img').concat(list(document, '*').filter(e => [...e.attributes].some(acts)));
+    return [...found.map(e => 'a text has become ' + e.outerHTML.slice(0, 60)), ...(scripts === 2 ? [] : [scripts + ' scripts'])];
+  }
+  function printed() {                            // what paper would lack
+    window.dispatchEvent(new Event('beforeprint'));
+    const bad = list(document, 'main *, .bottom *').filter(e => e instanceof HTMLElement && e.clientWidth &&
+      (e.scrollHeight > e.clientHeight + 1 || e.scrollWidth > e.clientWidth + 1) && getComputedStyle(e).overflowY !== 'visible');
+    const shut = list(document, '.bottom > details:not([open])'), hidden = list(document, '#lines > li').filter(e => !e.offsetHeight);
+    const boxes = document.querySelectorAll('#pic g.ev').length;
+    window.dispatchEvent(new Event('afterprint'));
+    return { cut: [...bad, ...shut, ...hidden].map(nameOf), boxes };
+  }
+
+  // ---- contrast (WCAG 2.2, 1.4.3 and 1.4.11)
+
+  const parts = color => (color.match(/[\d.]+/g) || []).map(Number);
+  const isClear = color => color === 'none' || !color.startsWith('rgb') || parts(color)[3] === 0;
+  function luminance(color) {
+    const [r, g, b] = color.map(v => v / 255).map(v => v <= .04045 ? v / 12.92 : ((v + .055) / 1.055) ** 2.4);
+    return .2126 * r + .7152 * g + .0722 * b;
+  }
+  function ratio(one, other) {
+    const [low, high] = [luminance(one), luminance(other)].sort((a, b) => a - b);
+    return (high + .05) / (low + .05);
+  }
+  function behind(e) {                            // the colour on which an element stands
+    const box = e instanceof SVGElement && e.closest('.ev, .sem, .mq, .obj, .out, .bad, .end');
+    if (box) return parts(getComputedStyle(box.querySelector('rect')).fill).slice(0, 3);
+    for (let at = e; at; at = at.parentElement) {
+      const { backgroundColor } = getComputedStyle(at);
+      if (!isClear(backgroundColor)) return parts(backgroundColor).slice(0, 3);
+    }
+    return [255, 255, 255];
+  }
+  function later(e, color) {                      // the colour below the present moment, where it has a tint
+    const tint = document.querySelector('#now .future'), style = tint && getComputedStyle(tint);
+    if (!e.closest('#pic') || !style || style.display === 'none') return color;
+    const over = parts(style.fill), share = Number(style.opacity);
+    return color.map((value, i) => value * (1 - share) + over[i] * share);
+  }
+  function faint() {                              // what is too near to the colour behind it
+    const bad = new Set();
+    const check = (e, color, least, what, ground) => {
+      if (isClear(color)) return;
+      const found = [x => x, x => later(e, x)].map(tint => ratio(tint(parts(color).slice(0, 3)), tint(ground)));
+      if (Math.min(...found) < least) bad.add(`${what}: ${color} on ${ground}: ${Math.min(...found).toFixed(2)}`);
+    };
+    const hasText = e => [...e.childNodes].some(node => node.nodeType === 3 && node.data.trim());
+    for (const e of list(document, 'body *').filter(e => hasText(e) && e.checkVisibility() && !/^(SCRIPT|title)$/.test(e.tagName))) {
+      const { color, fill } = getComputedStyle(e);
+      check(e, e instanceof SVGElement ? fill : color, 4.5, 'text', behind(e));
+    }
+    const ground = parts(getComputedStyle(document.body).backgroundColor).slice(0, 3);
+    const drawn = '.life, .ran, .tried, .arrow, .wake, .nowline, .cross, .stuckbar, .waitbar, .ev > rect, .kept';
+    for (const e of list(document, '#pic').flatMap(svg => list(svg, drawn))) check(e, getComputedStyle(e).stroke, 3, 'line', ground);
+    for (const e of list(document, '#pic .holds')) check(e, getComputedStyle(e).fill, 3, 'bar', ground);
+    for (const e of list(document, 'button, select')) check(e, getComputedStyle(e).borderTopColor, 3, 'border', behind(e.parentElement));
+    return [...bad];
+  }
+  return { go, moment, moments, picture, spoilt, open, pace, items, current, heads, isMarked, foreign, printed, faint };
 })();

@@ -25,7 +25,7 @@ pub const BODY: &str = r##"
     <span id="count" class="mono"></span>
   </div>
   <p id="short" hidden></p>
-  <p id="say" class="mono" aria-live="polite"></p>
+  <p id="say" class="mono" tabindex="0" aria-live="polite"></p>
 </header>
 <main>
   <section id="left" tabindex="0" aria-label="picture of the interleaving; time goes down, each process has a lane">
@@ -41,7 +41,7 @@ pub const BODY: &str = r##"
       <h2>Message queues, in the order of receive</h2>
       <div id="mqs"></div>
     </div>
-    <div id="procs" role="group" aria-label="processes"></div>
+    <div id="procs" tabindex="0" role="group" aria-label="processes"></div>
   </aside>
 </main>
 <div class="bottom">
@@ -53,7 +53,9 @@ pub const BODY: &str = r##"
       <kbd>Space</kbd> play, <kbd>Page Up</kbd> <kbd>Page Down</kbd> scroll. A click on a box goes there.
       <code>#step=12</code> behind the page's address opens it after step 12.</p>
   </details>
-  <details><summary>The trace as text</summary><pre id="lines" class="text" tabindex="0"></pre></details>
-  <details id="planbox"><summary>The schedule</summary><pre id="plan" class="text" tabindex="0"></pre></details>
+  <details><summary>The trace as text</summary>
+    <ol id="lines" class="text mono" role="list" tabindex="0" aria-label="the lines of the trace"></ol></details>
+  <details id="planbox"><summary>The schedule</summary>
+    <pre id="plan" class="text" tabindex="0" aria-label="the schedule"></pre></details>
 </div>
 "##;

@@ -19,7 +19,7 @@ function refusalLabels(e, short) {
 function callLabels(e, short) {
   const letter = short === 'setattr' ? 'A' : short[0].toUpperCase();
   const list = [e.call + ' ' + e.name, short + ' ' + e.name, short, letter];
-  const text = e.call === 'mq_send' ? e.args : e.call === 'mq_receive' ? e.answer : '';
+  const text = e.call === 'mq_send' ? e.rest : e.call === 'mq_receive' ? e.answer : '';
   const body = /\[[^\]"]*("[^]*")?\]/.exec(text);
   if (!body || body[0].length <= 2) return list;
   const words = body[1] || body[0].slice(1, -1);
@@ -70,14 +70,18 @@ function link(a, kind, tip) {                     // from the box of a record to
 // ---- why a process waits for ever
 
 const named = (processes, none) => processes.map(p => 'P' + p.number).join(' ') || none;
-function lacking(w) {                             // who has a semaphore that was made above 0, or could serve the call
+function openToo(who, use) {                      // of a stuck run: who has the object open waits for ever too
+  if (who === 'nobody') return [who, 'else has it open' + use];
+  return [who, (who.includes(' ') ? 'have' : 'has') + ` it open${use}, stuck too`];
+}
+function lacking(w) {                             // who has taken a semaphore that was made above 0, or has the object open
   const p = D.end.processes[w.p], object = D.end.objects.get(p.on), { call } = R[w.k];
   const others = test => named(D.end.processes.filter(q => q !== p && test(q.held)), 'nobody');
   const opened = (list, test) => others(held => [...held[list].values()].some(x => x.place === p.on && test(x)));
   const queued = letter => opened('queues', x => x.mode.split(' ')[0].includes(letter));
-  if (call === 'mq_receive') return [queued('w'), 'could send'];
-  if (call === 'mq_send') return [queued('r'), 'could receive'];
-  if (object.made === 0) return [opened('slots', () => true), 'could post'];
+  if (call === 'mq_receive') return openToo(queued('w'), ' to send');
+  if (call === 'mq_send') return openToo(queued('r'), ' to receive');
+  if (object.made === 0) return openToo(opened('slots', () => true), '');
   const who = takers(D.end, object);
   return [who.join(' ') || 'nobody', who.length > 1 ? 'have it' : 'has it'];
 }

@@ -25,6 +25,9 @@ function mark() {                                 // it comes into view
 
 // ---- going to a moment
 
+const linesUpTo = [0];                            // of each moment, how many lines of the trace are behind it
+R.forEach((e, k) => linesUpTo.push(linesUpTo[k] + (isEvent(e) ? 1 : 0)));
+
 function say(e, step) {
   const what = e ? `${e.step} P${e.process} ${hex(e.from)} ${isEvent(e) ? e.text : e.did}` : 'nothing has been done yet';
   $('say').textContent = what;
@@ -32,12 +35,17 @@ function say(e, step) {
   $('slider').value = cur;
   $('slider').setAttribute('aria-valuetext', `step ${step} of ${D.total}, ${what}`);
 }
+function markLine() {                             // in the list of the trace, the last line so far
+  const old = document.querySelector('#lines [aria-current]');
+  if (old) old.removeAttribute('aria-current');
+  if (linesUpTo[cur] > 0) $('lines').children[linesUpTo[cur] - 1].setAttribute('aria-current', 'step');
+}
 function go(k, isAddressed) {
   cur = limited(0, k, R.length);
   const e = cur ? R[cur - 1] : null, step = cur === R.length && D.whole ? D.total : e ? e.step : 0;
   say(e, step);
   panel(stateAt(cur), e);
-  mark();
+  mark(); markLine();
   if (!isAddressed) try { history.replaceState(null, '', '#step=' + step); } catch { /* no history there */ }
 }
 function goToEvent(direction, p) {                // to the next event, of process p where one is named
@@ -102,6 +110,16 @@ let resized = null;
 function redraw() { if ($('left').clientWidth === lay.seen) paintNear(); else draw(); }
 new ResizeObserver(() => { clearTimeout(resized); resized = setTimeout(redraw, 120); }).observe($('left'));
 window.addEventListener('hashchange', goToAddress);
-window.addEventListener('beforeprint', () => { $('legendbox').open = $('planbox').open = true; paint(0, full()); });
-window.addEventListener('afterprint', draw);
+let closed = [];                                  // what is open on paper alone
+function beforePrint() {
+  closed = [...document.querySelectorAll('.bottom > details:not([open])')];
+  for (const details of closed) details.open = true;
+  paint(0, full());
+}
+function afterPrint() {
+  for (const details of closed.splice(0)) details.open = false;
+  draw();
+}
+window.addEventListener('beforeprint', beforePrint);
+window.addEventListener('afterprint', afterPrint);
 "##;

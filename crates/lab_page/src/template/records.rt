@@ -4,6 +4,12 @@ pub const RECORDS: &str = r##"
 'use strict';
 const $ = id => document.getElementById(id);
 const D = JSON.parse($('data').textContent), N = D.processes.length;
+function visible(text) {                          // control characters, and those that turn a text, as their numbers
+  const unseen = /[\u0000-\u0008\u000A-\u001F\u007F-\u009F\u061C\u200B-\u200F\u2028-\u202E\u2060-\u2069\uFEFF]/g;
+  const digits = c => c.charCodeAt(0).toString(16).toUpperCase().padStart(2, '0');
+  return text.replace(unseen, c => c < '\u0100' ? '\\x' + digits(c) : '\\u{' + digits(c) + '}');
+}
+for (const process of D.processes) process.name = visible(process.name).replace(/\t/g, '\\x09');
 
 // ---- the texts of the trace and of the debugger
 
@@ -67,10 +73,11 @@ function endOf(text, from, isEnd) {               // the first place from there,
 }
 function readCall(what, [opening, call]) {        // NAME(ARGUMENTS) ANSWER ; NOTES
   const start = opening.length, handle = /^-?\d+<[^ ]*(?=, |\) )/.exec(what.slice(start));  // a name has no blanks
-  const end = endOf(what, start + (handle ? handle[0].length : 0), next => /^\) (= |waits)/.test(next));
+  const from = start + (handle ? handle[0].length : 0), end = endOf(what, from, next => /^\) (= |waits)/.test(next));
   const stop = endOf(what, end + 2, next => next.startsWith(' ; '));
   const origin = /(?:^|, )from P\d+ at (\d+)/.exec(what.slice(stop + 3));
-  return { call, args: what.slice(start, end), answer: what.slice(end + 2, stop), origin: origin && Number(origin[1]) };
+  const args = what.slice(start, end), rest = what.slice(from, end), answer = what.slice(end + 2, stop);
+  return { call, args, rest, answer, origin: origin && Number(origin[1]) };
 }
 
 // ---- what a moment changed

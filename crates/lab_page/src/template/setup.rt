@@ -44,8 +44,10 @@ const LEGEND = [
   [sampleArrow('wake', 'tipw'), 'the last post or receive before a waiting call went on'],
   [line('ran', 20, 20, 1, 23) + label('soft', 28, 16, '+9'), 'local steps'],
   [line('tried', 20, 20, 1, 23), 'idle: steps without effect'],
+  ['<rect class="future" x="2" y="2" width="54" height="20"/>' + line('nowline', 2, 56, 2, 2),
+    'the chosen moment, and what comes after it'],
   [bar('stuckbar', 29, 2, 22, 42) + '<path class="cross" d="M23,6 l12,12 m0,-12 l-12,12"/>',
-    'waits for ever: deadlock, and who has it or could end it'],
+    'waits for ever: deadlock, and who has taken it or has it open too'],
 ];
 function fillLegend() {
   $('legend').innerHTML = LEGEND.map(([inner, text]) =>
@@ -62,7 +64,8 @@ const VERDICTS = {
 function fillTexts() {
   const ends = linesOf(D.ending).filter(text => /^ *end /.test(text));
   const parts = ends.map(text => text.replace(/^ *end (P\d+) +x.... +\+\d+ /, '$1 '));
-  $('lines').textContent = D.moments.map(m => m.event ? m.event.line : '').join('') + D.ending;
+  $('lines').innerHTML = [...D.moments.filter(m => m.event).map(m => m.event.line), ...D.ending.match(/.*\n/g)]
+    .map(text => `<li>${esc(text)}</li>`).join('');
   $('plan').textContent = D.schedule;
   $('ending').textContent = VERDICTS[D.verdict]; $('ending').className = D.verdict;
   $('atend').textContent = [...(parts.length ? ['At the end:'] : []), ...parts, circleText()].join('\n').trim();

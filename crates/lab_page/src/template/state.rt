@@ -5,14 +5,18 @@ pub const STATE: &str = r##"
 
 const esc = text => String(text).replace(/[&<>"]/g, c => '&#' + c.charCodeAt(0) + ';');
 const hex = w => 'x' + w.toString(16).toUpperCase().padStart(4, '0');
+const columns = c => c.codePointAt(0) < 0x1100 ? 1 : 2;  // the places that a character takes, at most
+const width = text => [...text].reduce((sum, c) => sum + columns(c), 0);
 function cut(text, most) {
-  if (text.length <= most) return text;
-  return most < 2 ? text.slice(0, Math.max(most, 0)) : text.slice(0, most - 1) + '\u2026';
+  if (width(text) <= most) return text;
+  let part = '', room = most < 2 ? most : most - 1;
+  for (const c of text) { room -= columns(c); if (room < 0) break; part += c; }
+  return most < 2 ? part : part + '\u2026';
 }
 function cutName(text, most) {                    // of a name with an input file the end stays
   const at = text.indexOf('='), tail = at < 0 ? '' : text.slice(at);
-  if (!tail || text.length <= most || tail.length > most - 4) return cut(text, most);
-  return cut(text.slice(0, at), most - tail.length) + tail;
+  if (!tail || width(text) <= most || width(tail) > most - 4) return cut(text, most);
+  return cut(text.slice(0, at), most - width(tail)) + tail;
 }
 function shown(output) {
   const isPlain = c => c >= ' ' && c <= '~' && c !== '\\';

@@ -4,7 +4,7 @@ pub const STUDY: &str = r##"
 // ---- the lines of a source, where the data have one
 
 function readSource({ text, rows, words }) {      // the lines, and those of them that have words
-  const lines = text.replace(/\n$/, '').split('\n').map((line, at) => ({ at, text: line.trimEnd() }));
+  const lines = text.replace(/\n$/, '').split('\n').map((line, at) => ({ at, text: visible(line.trimEnd()) }));
   const placed = rows.map(({ line, address, count }) => {
     const from = address - rows[0].address;
     return Object.assign(lines[line - 1], { address, words: words.slice(from, from + count) });
@@ -126,10 +126,14 @@ function didText(p, from) {                       // the instruction that a step
   const line = sourceAt(p.number, p.code, from), found = textAt(p.code, from);
   return line ? line.text.replace(/\s+/g, ' ').trim() : found ? found.text : '';
 }
+function nameIn(args) {                           // of a call on no object: the name in quotes, else what stands for it
+  const quoted = /^"([^"]*)"/.exec(args);
+  return cut(quoted ? quoted[1] : args.split(',')[0], 40);
+}
 function studyEvent(k, was, before) {
   const e = R[k], object = e.on === undefined ? undefined : study.state.objects.get(e.on) || before.get(e.on);
   addRow(k);
-  e.name = object ? nameOf(object) : e.args ? cut(e.args.split(/[",]/)[1] || '', 40) : '';
+  e.name = object ? nameOf(object) : e.args ? nameIn(e.args) : '';
   followWait(k, was);
   for (const c of e.changes) followChange(k, was, before, c);
   if (e.answer === '= 0' && object && object.made > 0 && /^sem_(wait|trywait|post)$/.test(e.call)) followHeld(k, object);

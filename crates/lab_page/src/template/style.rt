@@ -3,14 +3,14 @@
 pub const STYLE: &str = r##"
 :root {
   color-scheme: light dark;
-  --bg: #fbfaf6; --card: #ffffff; --ink: #1d1d1b; --soft: #62605a; --line: #d9d5ca; --lane: #9d9683; --local: #8d887b;
+  --bg: #fbfaf6; --card: #ffffff; --ink: #1d1d1b; --soft: #62605a; --line: #d9d5ca; --lane: #857e6c; --local: #7d786b;
   --sem: #8a4b00; --semfill: #fff0d9; --mq: #00558f; --mqfill: #e2f0fa; --obj: #55524b; --objfill: #f1eee6;
   --out: #00664a; --outfill: #e2f4ec; --bad: #b3200e; --badfill: #fdeae6; --now: #7a2a6b; --mark: #fff3b0;
 }
 @media (prefers-color-scheme: dark) { :root {
-  --bg: #15171b; --card: #1d2026; --ink: #ecebe6; --soft: #a5a49d; --line: #363a42; --lane: #686e7a; --local: #8c919b;
+  --bg: #15171b; --card: #1d2026; --ink: #ecebe6; --soft: #a5a49d; --line: #363a42; --lane: #7d8390; --local: #8c919b;
   --sem: #ffbf66; --semfill: #3a2a10; --mq: #7cc4f5; --mqfill: #10304a; --obj: #c3c1b8; --objfill: #2b2f36;
-  --out: #6ed3ad; --outfill: #10372a; --bad: #ff8a75; --badfill: #451a14; --now: #e39ad3; --mark: #5a4d0a;
+  --out: #6ed3ad; --outfill: #10372a; --bad: #ff8a75; --badfill: #451a14; --now: #e39ad3; --mark: #453a06;
 } }
 
 /* the page */
@@ -35,12 +35,12 @@ header { padding: 10px 16px 8px; border-bottom: 1px solid var(--line); backgroun
 .controls input { flex: 1 1 12rem; min-width: 8rem; accent-color: var(--now); }
 .of { white-space: nowrap; }
 .of label { color: var(--soft); margin-left: 4px; }
-button, select { font: inherit; color: inherit; background: var(--objfill); border: 1px solid var(--line); }
+button, select { font: inherit; color: inherit; background: var(--objfill); border: 1px solid var(--lane); }
 button, select { border-radius: 6px; padding: 2px 9px; min-width: 2.4em; cursor: pointer; }
 button:focus-visible, select:focus-visible, summary:focus-visible, input:focus-visible, [tabindex]:focus-visible {
   outline: 3px solid var(--now); outline-offset: 1px;
 }
-#left:focus-visible, #objects:focus-visible { outline-offset: -3px; }
+#left:focus-visible, #objects:focus-visible, #procs:focus-visible { outline-offset: -3px; }
 #count { min-width: 9.5em; text-align: right; }
 #short { margin: 6px 0 0; color: var(--soft); }
 #say { margin: 6px 0 0; min-height: 1.5em; max-height: 6em; overflow: auto; overflow-wrap: anywhere; }
@@ -88,7 +88,9 @@ pre .line { display: block; }
 kbd { border: 1px solid var(--line); border-radius: 4px; padding: 0 4px; font-size: 12px; background: var(--objfill); }
 #legend { display: flex; flex-wrap: wrap; gap: 6px 18px; padding: 0; margin: 4px 0; list-style: none; }
 #legend li { display: flex; align-items: center; gap: 6px; }
-#lines { white-space: pre; overflow-x: auto; }
+#lines { white-space: pre-wrap; overflow-wrap: anywhere; list-style: none; margin: 6px 0; padding: 0; font-size: 12.5px; }
+#lines li { padding-left: 2ch; }
+#lines [aria-current] { font-weight: 700; text-decoration: underline; border-left: 4px solid var(--now); }
 
 /* the picture: texts, boxes */
 svg text { font-size: 11px; fill: var(--ink); }
@@ -124,7 +126,7 @@ svg .cur rect { stroke-width: 3; }
 .kept { fill: var(--bg); stroke: var(--mq); stroke-width: 1.6; }
 .stuckbar { fill: var(--badfill); stroke: var(--bad); stroke-width: 2; }
 .cross { stroke: var(--bad); stroke-width: 3.5; stroke-linecap: round; }
-.future { fill: var(--bg); opacity: .68; pointer-events: none; }
+.future { fill: var(--now); opacity: .08; pointer-events: none; }
 .nowline { stroke: var(--now); stroke-width: 2; }
 .nowtag { fill: var(--now); }
 
@@ -136,6 +138,15 @@ svg .cur rect { stroke-width: 3; }
   #say { min-height: 3em; }
   aside { border-left: 0; border-top: 1px solid var(--line); }
   #objects { max-height: none; }
+  .top { flex-wrap: wrap; white-space: normal; }
+  h1 { overflow-wrap: anywhere; }
+  #schedule { flex-basis: 100%; white-space: nowrap; }
+}
+@media (max-width: 30rem) {
+  header, .bottom { padding-left: 8px; padding-right: 8px; }
+  #objects, #procs { padding-left: 8px; padding-right: 8px; }
+  .regs { grid-template-columns: repeat(3, auto); }
+  button, select { min-height: 2.2em; }
 }
 @media (max-width: 60rem) and (min-height: 40rem) {
   header { position: sticky; top: 0; z-index: 2; }
@@ -151,6 +162,7 @@ svg .cur rect { stroke-width: 3; }
   html, body { height: auto; }
   body, main, aside { display: block; }
   header, aside { border: 0; padding: 0; position: static; }
+  #say { max-height: none; }
   .controls, .keys, .future { display: none; }
   #left, #objects, #procs, .bottom { overflow: visible; max-height: none; }
   #head { position: static; }
