@@ -154,14 +154,18 @@ const seen = (() => {
   }
   function foreign() {                            // elements and handlers that the template doesn't have
     const scripts = document.querySelectorAll('script').length, acts = a => a.name.startsWith('on');
-    const found = list(document, 'body b, body img').concat(list(document, '*').filter(e => [...e.attributes].some(acts)));
-    return [...found.map(e => 'a text has become ' + e.outerHTML.slice(0, 60)), ...(scripts === 2 ? [] : [scripts + ' scripts'])];
+    const handlers = list(document, '*').filter(e => [...e.attributes].some(acts));
+    const found = [...list(document, 'body b, body img'), ...handlers];
+    const told = found.map(e => 'a text has become ' + e.outerHTML.slice(0, 60));
+    return scripts === 2 ? told : [...told, scripts + ' scripts'];
   }
   function printed() {                            // what paper would lack
     window.dispatchEvent(new Event('beforeprint'));
-    const bad = list(document, 'main *, .bottom *').filter(e => e instanceof HTMLElement && e.clientWidth &&
-      (e.scrollHeight > e.clientHeight + 1 || e.scrollWidth > e.clientWidth + 1) && getComputedStyle(e).overflowY !== 'visible');
-    const shut = list(document, '.bottom > details:not([open])'), hidden = list(document, '#lines > li').filter(e => !e.offsetHeight);
+    const isLarger = e => e.scrollHeight > e.clientHeight + 1 || e.scrollWidth > e.clientWidth + 1;
+    const html = list(document, 'main *, .bottom *').filter(e => e instanceof HTMLElement && e.clientWidth);
+    const bad = html.filter(e => isLarger(e) && getComputedStyle(e).overflowY !== 'visible');
+    const shut = list(document, '.bottom > details:not([open])');
+    const hidden = list(document, '#lines > li').filter(e => !e.offsetHeight);
     const boxes = document.querySelectorAll('#pic g.ev').length;
     window.dispatchEvent(new Event('afterprint'));
     return { cut: [...bad, ...shut, ...hidden].map(nameOf), boxes };
@@ -202,15 +206,17 @@ const seen = (() => {
       if (Math.min(...found) < least) bad.add(`${what}: ${color} on ${ground}: ${Math.min(...found).toFixed(2)}`);
     };
     const hasText = e => [...e.childNodes].some(node => node.nodeType === 3 && node.data.trim());
-    for (const e of list(document, 'body *').filter(e => hasText(e) && e.checkVisibility() && !/^(SCRIPT|title)$/.test(e.tagName))) {
+    const isSeen = e => hasText(e) && e.checkVisibility() && !/^(SCRIPT|title)$/.test(e.tagName);
+    for (const e of list(document, 'body *').filter(isSeen)) {
       const { color, fill } = getComputedStyle(e);
       check(e, e instanceof SVGElement ? fill : color, 4.5, 'text', behind(e));
     }
     const ground = parts(getComputedStyle(document.body).backgroundColor).slice(0, 3);
     const drawn = '.life, .ran, .tried, .arrow, .wake, .nowline, .cross, .stuckbar, .waitbar, .ev > rect, .kept';
-    for (const e of list(document, '#pic').flatMap(svg => list(svg, drawn))) check(e, getComputedStyle(e).stroke, 3, 'line', ground);
-    for (const e of list(document, '#pic .holds')) check(e, getComputedStyle(e).fill, 3, 'bar', ground);
-    for (const e of list(document, 'button, select')) check(e, getComputedStyle(e).borderTopColor, 3, 'border', behind(e.parentElement));
+    const pic = document.getElementById('pic'), buttons = list(document, 'button, select');
+    for (const e of list(pic, drawn)) check(e, getComputedStyle(e).stroke, 3, 'line', ground);
+    for (const e of list(pic, '.holds')) check(e, getComputedStyle(e).fill, 3, 'bar', ground);
+    for (const e of buttons) check(e, getComputedStyle(e).borderTopColor, 3, 'border', behind(e.parentElement));
     return [...bad];
   }
   return { go, moment, moments, picture, spoilt, open, pace, items, current, heads, isMarked, foreign, printed, faint };

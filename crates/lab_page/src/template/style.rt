@@ -76,7 +76,7 @@ details.card > div { padding: 0 10px 8px; }
 .regs { display: grid; grid-template-columns: repeat(5, auto); gap: 0 8px; justify-content: start; font-size: 12.5px; }
 .regs i, pre i { font-style: normal; color: var(--soft); }
 .part { display: flex; gap: 1ch; overflow-wrap: anywhere; }
-.part i { font-style: normal; }
+.part i { font-style: normal; flex: none; }
 .part > span { min-width: 0; }
 .held { display: block; }
 pre .here { font-weight: 700; background: var(--objfill); display: block; }
