@@ -19,11 +19,11 @@ use Rattle.lc3_table.specs.declared.operation.Operation.TheVariants as op
 use Rattle.lc3_word.specs.Segment.{first_device}
 
 -- the sizes, with one more line
-sizes-append : (ls : List (Line Operand)) (l : Line Operand) → sum_by size (ls ++ l ∷ []) ≡ sum_by size ls + size l
+pub sizes-append : (ls : List (Line Operand)) (l : Line Operand) → sum_by size (ls ++ l ∷ []) ≡ sum_by size ls + size l
 sizes-append ls l = sum_by-append size ls (l ∷ []) ∙ omega arith
 
 -- the origin, with a line that is no `.ORIG`
-origin-append : (ls : List (Line Operand)) (l : Line Operand) → origin_named l ≡ None → origin (ls ++ l ∷ []) ≡ origin ls
+pub origin-append : (ls : List (Line Operand)) (l : Line Operand) → origin_named l ≡ None → origin (ls ++ l ∷ []) ≡ origin ls
 origin-append [] l h = rw h refl
 origin-append (k ∷ ls) l h = ap (unwrap_or (origin_named k)) (origin-append ls l h)
 
@@ -36,7 +36,7 @@ origin-step : (o : Option ℕ) (rest n : ℕ) → is_some o ≡ false → rest �
 origin-step None rest n h e = e
 origin-step (Some m) rest n h e = cc
 
-origin-first : (ls : List (Line Operand)) (l : Line Operand) (n : ℕ) → origin_named l ≡ Some n → list_any is_origin ls ≡ false → origin (ls ++ l ∷ []) ≡ n
+pub origin-first : (ls : List (Line Operand)) (l : Line Operand) (n : ℕ) → origin_named l ≡ Some n → list_any is_origin ls ≡ false → origin (ls ++ l ∷ []) ≡ n
 origin-first [] l n h none = rw h refl
 origin-first (k ∷ ls) l n h none =
     let parts = or_false (is_origin k) (list_any is_origin ls) none in
@@ -92,7 +92,7 @@ fits_from_test false n h = by (nat_le n first_device) refl h
     by true e k = grind (arith, nat_tests)
     by false e k = cc
 
-or_false-right : (b : Bool) → (b || false) ≡ b
+pub or_false-right : (b : Bool) → (b || false) ≡ b
 or_false-right true = refl
 or_false-right false = refl
 
@@ -104,7 +104,7 @@ origin-more ls l h = by (origin_named l) refl
     by (Some n) e = sym (origin-first ls l n e (unstarted_origin (list_any is_origin ls) l n h e).0)
 
 -- the addresses, with one more line
-addresses_after-append : (before ls : List (Line Operand)) (l : Line Operand) → addresses_after before (ls ++ l ∷ []) ≡ addresses_after before ls ++ address_after (before ++ ls) ∷ []
+pub addresses_after-append : (before ls : List (Line Operand)) (l : Line Operand) → addresses_after before (ls ++ l ∷ []) ≡ addresses_after before ls ++ address_after (before ++ ls) ∷ []
 addresses_after-append before [] l = ap (λ b. address_after b ∷ []) (sym (append-nil before))
 addresses_after-append before (k ∷ ls) l =
     ap (λ u. address_after before ∷ u)

@@ -1,4 +1,5 @@
 pub mod DraftLemmas
+pub mod FaultLemmas
 pub mod FieldSteps
 pub mod FirstFaults
 pub mod LabelLemmas
@@ -10,6 +11,7 @@ pub mod PassLemmas
 pub mod PlaceLemmas
 pub mod ReachLemmas
 pub mod ReadLemmas
+pub mod ReaderLemmas
 pub mod RowLemmas
 pub mod SizeLemmas
 pub mod SymbolsLemmas

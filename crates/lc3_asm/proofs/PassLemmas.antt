@@ -22,7 +22,7 @@ words_after known before (l ∷ ls) =
     Ok (record { line = length before + 1; address = address_after before; words = ws } ∷ rows))
 
 -- these lines, which stand after those before, each with the lines before it
-abbrev pairs_after : List (Line Operand) → List (Line Operand) → List (List (Line Operand) × Line Operand)
+abbrev pub pairs_after : List (Line Operand) → List (Line Operand) → List (List (Line Operand) × Line Operand)
 pairs_after before [] = []
 pairs_after before (l ∷ ls) = (before, l) ∷ pairs_after (before ++ l ∷ []) ls
 
@@ -34,7 +34,7 @@ take-front : (before ls : List (Line Operand)) → take (length before) (before 
 take-front [] ls = refl
 take-front (k ∷ before) ls = ap (λ u. k ∷ u) (take-front before ls)
 
-pairs-counted : (before ls : List (Line Operand)) → map (in_list (before ++ ls)) (enumerate_from (length before) ls) ≡ pairs_after before ls
+pub pairs-counted : (before ls : List (Line Operand)) → map (in_list (before ++ ls)) (enumerate_from (length before) ls) ≡ pairs_after before ls
 pairs-counted before [] = refl
 pairs-counted before (l ∷ ls) =
     let count : length before + 1 ≡ length (before ++ l ∷ []) = omega (arith, length-append before (l ∷ [])) in

@@ -4,3 +4,4 @@ pub mod Layouts
 pub mod Views
 pub mod Drafts
 pub mod Words
+pub mod Readings

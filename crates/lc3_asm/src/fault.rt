@@ -22,6 +22,15 @@ pub enum AsmFault {
     },
 }
 
+/// A fault of a text with the number of its line.
+#[derive(Clone, Copy, Debug, PartialEq, Eq)]
+pub struct LineFault {
+    /// The line with the fault, from 1.
+    pub line: usize,
+    /// What is wrong with it.
+    pub kind: Fault,
+}
+
 impl<T: Drop> From<AllocFailed<T>> for AsmFault {
     ghost use Rattle.lc3_asm.specs.declared.fault.AsmFault.TheVariants.{NoMemory};
 

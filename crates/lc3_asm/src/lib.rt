@@ -5,6 +5,7 @@
 //! what a line means in the specs of `lc3_table`.
 #![tactic(auto)]
 
+mod all_faults;
 mod assembled;
 mod draft;
 mod encoding;
@@ -14,13 +15,15 @@ mod layout;
 mod line;
 mod mark;
 mod passes;
+mod reader;
 mod statement;
 mod symbols;
 mod token;
 mod word;
 
+pub use all_faults::faults;
 pub use assembled::{Assembled, Row, listing};
-pub use fault::AsmFault;
+pub use fault::{AsmFault, LineFault};
 pub use mark::{Mark, fault_mark};
 pub use passes::assemble;
 pub use symbols::Symbols;

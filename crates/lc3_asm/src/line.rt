@@ -34,7 +34,7 @@ pub fn begins_with_dot(word: &[u8]) -> bool
 }
 
 /// The label that a token defines, in upper case.
-fn label_defined(alloc: Global, token: Token<'_>) -> Result<String, LineError>
+pub fn label_defined(alloc: Global, token: Token<'_>) -> Result<String, LineError>
     ensures exact { Gives string_bytes result (label_defined (token_of token.entry)) }
 {
     let Token::Word(word) = token else {

@@ -22,7 +22,7 @@ fn line_len(text: &[u8]) -> usize
 }
 
 /// The first line of a text, and what follows its line feed.
-fn first_line(text: &[u8]) -> (&[u8], Option<&[u8]>)
+pub fn first_line(text: &[u8]) -> (&[u8], Option<&[u8]>)
     ensures cut { lines text.now ≡ result.0.now ∷ lines_if result.1 }
     ensures shorter { IfSome result.1 (λ rest. length rest.now < length text.now) }
 {
@@ -57,7 +57,7 @@ fn first_pass(alloc: Global, source: &str) -> Result<Draft, AsmFault>
 
 /// How many lines a text has.
 #[tactic(auto, using(crate::proofs::TextLemmas::count_lines))]
-fn line_count(text: &[u8]) -> usize
+pub fn line_count(text: &[u8]) -> usize
     ensures count { result ≡ length (lines text.now) }
 {
     text.iter().filter(|byte| **byte == b'\n').count() + 1
