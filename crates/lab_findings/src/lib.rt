@@ -9,3 +9,5 @@ mod told;
 
 pub use finding::{Findings, find};
 pub use shortfall::Shortfall;
+pub use texts::{push_extent, push_round, push_schedule};
+pub use told::{Told, told_of};

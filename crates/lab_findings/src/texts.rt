@@ -9,7 +9,11 @@ use std::fmt::Write;
 
 /// Adds the line of a schedule.
 #[tactic(auto, unfolding(crate::specs::Texts::schedule_line))]
-fn push_schedule(alloc: Global, text: &mut String, schedule: &Schedule) -> Result<(), AllocError>
+pub fn push_schedule(
+    alloc: Global,
+    text: &mut String,
+    schedule: &Schedule,
+) -> Result<(), AllocError>
     ensures text { OnOk result (string_bytes text.new
         ≡ string_bytes text.old ++ schedule_line schedule.now) }
 {
@@ -50,11 +54,7 @@ fn push_steps(alloc: Global, text: &mut String, steps: &Schedule) -> Result<(), 
 }
 
 /// Adds the lines of a round, if there is one.
-pub(crate) fn push_round(
-    alloc: Global,
-    text: &mut String,
-    round: &Option<Round>,
-) -> Result<(), AllocError>
+pub fn push_round(alloc: Global, text: &mut String, round: &Option<Round>) -> Result<(), AllocError>
     ensures text { OnOk result (string_bytes text.new
         ≡ string_bytes text.old ++ round_text round.now) }
 {
@@ -75,7 +75,7 @@ fn extent_of(complete: bool) -> &'static str
 
 /// Adds the last line: whether an exploration of so many worlds is complete.
 #[tactic(auto, unfolding(crate::specs::Texts::extent_line))]
-pub(crate) fn push_extent(text: &mut String, complete: bool, worlds: u32) -> Result<(), AllocError>
+pub fn push_extent(text: &mut String, complete: bool, worlds: u32) -> Result<(), AllocError>
     ensures text { OnOk result (string_bytes text.new
         ≡ string_bytes text.old ++ extent_line complete worlds) }
 {

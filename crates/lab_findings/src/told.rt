@@ -1,7 +1,9 @@
 //! The ends that are told: each report once.
 ghost use Rattle.std.specs.Prelude.{◌≡◌, map, IfOk, OnOk, string_bytes, bytes_eq};
 ghost use Rattle.std.specs.List.{list_any};
-ghost use Rattle.lab_findings.specs.Private.Told.{IsTold, TellsNext};
+ghost use Rattle.lab_sched.specs.ScheduleTexts.{schedule_text};
+ghost use Rattle.lab_findings.specs.Texts.{report_of, told_ends, ends_text};
+ghost use Rattle.lab_findings.specs.Private.Told.{TellsNext};
 
 use crate::texts::push_end;
 use lab_explore::End;
@@ -10,7 +12,7 @@ use std::alloc::{AllocError, Global};
 
 /// The lines of the ends that are told, their reports and the texts of their schedules.
 #[derive(Drop)]
-pub(crate) struct Told {
+pub struct Told {
     pub text: String,
     pub reports: Vec<String>,
     pub schedules: Vec<String>,
@@ -47,9 +49,13 @@ impl Told {
     }
 }
 
-/// What is told of ends.
-pub(crate) fn told_of(alloc: Global, ends: &[End]) -> Result<Told, AllocError>
-    ensures told { IfOk result (λ told. IsTold told ends.now) }
+/// What is told of ends: each report once, with the schedule of the first end that has it.
+pub fn told_of(alloc: Global, ends: &[End]) -> Result<Told, AllocError>
+    ensures text { IfOk result (λ told. string_bytes told.text ≡ ends_text 1 (told_ends ends.now)) }
+    ensures reports { IfOk result (λ told. map string_bytes told.reports.items
+        ≡ map report_of (told_ends ends.now)) }
+    ensures schedules { IfOk result (λ told. map string_bytes told.schedules.items
+        ≡ map (λ e. schedule_text e.schedule) (told_ends ends.now)) }
 {
     let mut told = Told {
         text: String::new(alloc),
