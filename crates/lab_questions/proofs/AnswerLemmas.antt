@@ -1,0 +1,123 @@
+-- What answers on the ends of an exploration say of programs.
+use Rattle.std.proofs.Common.{ℕ, ◌≡◌, ◌<◌, List, [], ◌∷◌, get_or, Option, Some, None, All, IfSome, slice_get, length, map, sym, ap, subst, refl, ◌∙◌}
+use Rattle.std.proofs.lemmas.Option.{slice_get_within, get_or_from_slice_get}
+use Rattle.lab_sched.specs.declared.verdict.Verdict.TheVariants as verdict
+use Rattle.lab_sched.specs.Schedules.{steps_of}
+use Rattle.lab_sched.specs.Worlds.{WorldState, run, machine_of}
+use Rattle.lab_sched.specs.Verdicts.{IsVerdict, AreStuck}
+use Rattle.lab_sched.proofs.VerdictLemmas.{verdict_from}
+use Rattle.lab_explore.specs.declared.ends.End.{End}
+use Rattle.lab_explore.specs.Calls.{AreAlike}
+use Rattle.lab_explore.specs.Closed.{AreAtRest}
+use Rattle.lab_explore.specs.Ends.{IsEnd, AreEnds, HaveAllEnds, IsReported}
+use Rattle.lab_questions.specs.declared.word.Waiter.{Waiter}
+use Rattle.lab_questions.specs.declared.word.Word.{Word}
+use Rattle.lab_questions.specs.declared.word.Word.TheVariants.{Ended, Stuck, Halted, Empty, Same}
+use Rattle.lab_questions.specs.declared.answers.Answer.{Answer}
+use Rattle.lab_questions.specs.Requirements.{HoldsNoMessage, AreEmptied, outputs}
+use Rattle.lab_questions.specs.Judgments.{Meets, IsMet, IsFault, IsFaultIn, IsAnswer}
+use Rattle.lab_questions.specs.Programs.{AlwaysMeet, IsRefuted}
+use Rattle.lab_questions.specs.Texts.{schedule_of, schedule_at}
+
+all_at : (P : End → Type 0) (es : List End) (i : ℕ) (e : End) → All P es → slice_get es i ≡ Some e → P e
+all_at P es i e all has = subst P (get_or_from_slice_get es i e e has) (all i e (slice_get_within es i e has))
+
+emptied : (w v : WorldState) → AreAlike w v → AreEmptied v → AreEmptied w
+emptied w v alike empty i within =
+    let renaming = alike.kernel.2 in
+    subst HoldsNoMessage (renaming.places i) (empty (alike.kernel.0 i) ((renaming.permutation.within i).1 within))
+
+stuck : (w : WorldState) (e : End) → IsVerdict w e.verdict → IsVerdict e.world e.verdict → AreStuck e.world → AreStuck w
+stuck w e here there is =
+    let same : e.verdict ≡ verdict.Stuck = verdict_from e.world e.verdict there ∙ sym (verdict_from e.world verdict.Stuck is) in
+    subst (IsVerdict w) same here
+
+-- worlds at rest are as the word requires, if the ends are that they are alike, beside one and the same
+meets : (word : Word) (waiters : List Waiter) (first w v : WorldState) (e f : End) → AreAlike v e.world → AreAlike w f.world
+    → IsVerdict w f.verdict → IsVerdict f.world f.verdict
+    → Meets word waiters first e.world → Meets word waiters first f.world → Meets word waiters v w
+meets Ended waiters first w v e f other alike here there a b =
+    λ p s at. b p s (ap (λ ps. slice_get ps p) alike.processes ∙ at)
+meets Stuck waiters first w v e f other alike here there a b = stuck w f here there b
+meets Halted waiters first w v e f other alike here there a b =
+    λ p s at. b p s (ap (λ ps. slice_get ps p) alike.processes ∙ at)
+meets Empty waiters first w v e f other alike here there a b = emptied w f.world alike b
+meets Same waiters first w v e f other alike here there a b =
+    sym (written w f.world alike) ∙ b ∙ sym a ∙ written v e.world other
+  where
+    written : (x y : WorldState) → AreAlike x y → outputs y ≡ outputs x
+    written x y is = ap (λ ps. map (λ s. (machine_of s).output) ps) is.processes
+
+if_some : (P : End → Type 0) (o : Option End) (e : End) → o ≡ Some e → IfSome o P → P e
+if_some P None e is h = absurd (cc)
+if_some P (Some x) e is h = let same : x ≡ e = cc in subst P same h
+
+none_first : (es : List End) (i : ℕ) (e : End) → slice_get es 0 ≡ None → slice_get es i ≡ Some e → ⊥
+none_first [] i e none has = absurd (cc)
+none_first (x ∷ xs) i e none has = absurd (cc)
+
+-- where all ends were found, and each is as the word requires, every world at rest is
+pub always_meet : (word : Word) (waiters : List Waiter) (start : WorldState) (ends : List End) → AreEnds start ends → HaveAllEnds start ends
+    → All (IsMet word waiters ends) ends → AlwaysMeet word waiters start
+always_meet word waiters start ends each all met ps qs rest_p rest_q =
+    let one = all ps rest_p in
+    let two = all qs rest_q in
+    by (slice_get ends 0) refl one two
+  where
+    by : (o : Option End) → slice_get ends 0 ≡ o → IsReported ends (run start ps) → IsReported ends (run start qs) → Meets word waiters (run start ps) (run start qs)
+    by None at one two = absurd (none_first ends one.0 one.1 at one.2)
+    by (Some first) at one two =
+        let end = all_at (IsEnd start) ends two.0 two.1 each two.2 in
+        meets word waiters first.world (run start qs) (run start ps) one.1 two.1 one.3 two.3 two.4 end.verdict
+        (if_some (λ x. Meets word waiters x.world one.1.world) (slice_get ends 0) first at (all_at (IsMet word waiters ends) ends one.0 one.1 met one.2))
+        (if_some (λ x. Meets word waiters x.world two.1.world) (slice_get ends 0) first at (all_at (IsMet word waiters ends) ends two.0 two.1 met two.2))
+
+-- an end that isn't as the word requires shows that by its schedule, and that of the first
+pub refuted : (word : Word) (waiters : List Waiter) (start : WorldState) (ends : List End) (i : ℕ) → AreEnds start ends → IsFault word waiters ends i
+    → IsRefuted word waiters start (schedule_at ends 0) (schedule_at ends i)
+refuted word waiters start ends i each fault = by (slice_get ends 0) refl
+  where
+    by : (o : Option End) → slice_get ends 0 ≡ o → IsRefuted word waiters start (schedule_at ends 0) (schedule_at ends i)
+    by None at = absurd (fault.unmet (subst (λ o. IfSome o (λ x. Meets word waiters x.world fault.end.world)) (sym at) tt))
+    by (Some first) at =
+        let one = all_at (IsEnd start) ends 0 first each at in
+        let two = all_at (IsEnd start) ends i fault.end each fault.there in
+        let a = ap schedule_of (sym at) in
+        let b = ap schedule_of (sym fault.there) in
+        subst (λ x. IsRefuted word waiters start x (schedule_at ends i)) a (subst (λ x. IsRefuted word waiters start first.schedule x) b
+        (record {
+          first = one.effective;
+          first_rests = subst AreAtRest (sym one.leads) one.rests;
+          second = two.effective;
+          second_rests = subst AreAtRest (sym two.leads) two.rests;
+          unmet = λ met. fault.unmet (subst (λ o. IfSome o (λ x. Meets word waiters x.world fault.end.world)) (sym at)
+              (subst (λ w. Meets word waiters first.world w) two.leads (subst (λ v. Meets word waiters v (run start (steps_of fault.end.schedule))) one.leads met)));
+        }))
+
+fault_there : (word : Word) (waiters : List Waiter) (ends : List End) (o : Option ℕ) → IsFaultIn word waiters ends o → IfSome o (λ i. i < length ends)
+fault_there word waiters ends None fault = tt
+fault_there word waiters ends (Some i) fault = slice_get_within ends i fault.end fault.there
+
+-- the ends that answers name are there
+pub all_there : (waiters : List Waiter) (ends : List End) (answers : List Answer) → All (IsAnswer waiters ends) answers
+    → All (λ a. IfSome a.fault (λ i. i < length ends)) answers
+all_there waiters ends answers each k d within =
+    fault_there (get_or answers k d).word waiters ends (get_or answers k d).fault (each k d within)
+
+fault_refuted : (word : Word) (waiters : List Waiter) (start : WorldState) (ends : List End) → AreEnds start ends → (o : Option ℕ) → IsFaultIn word waiters ends o
+    → IfSome o (λ i. IsRefuted word waiters start (schedule_at ends 0) (schedule_at ends i))
+fault_refuted word waiters start ends sound None fault = tt
+fault_refuted word waiters start ends sound (Some i) fault = refuted word waiters start ends i sound fault
+
+-- and show it
+pub all_refuted : (waiters : List Waiter) (start : WorldState) (ends : List End) (answers : List Answer) → AreEnds start ends → All (IsAnswer waiters ends) answers
+    → All (λ a. IfSome a.fault (λ i. IsRefuted a.word waiters start (schedule_at ends 0) (schedule_at ends i))) answers
+all_refuted waiters start ends answers sound each k d within =
+    fault_refuted (get_or answers k d).word waiters start ends sound (get_or answers k d).fault (each k d within)
+
+-- a word without such an end holds of every world at rest
+pub all_met : (waiters : List Waiter) (start : WorldState) (ends : List End) (answers : List Answer) → AreEnds start ends → HaveAllEnds start ends
+    → All (IsAnswer waiters ends) answers → All (λ a. a.fault ≡ None → AlwaysMeet a.word waiters start) answers
+all_met waiters start ends answers sound all each k d within none =
+    let a = get_or answers k d in
+    always_meet a.word waiters start ends sound all (subst (IsFaultIn a.word waiters ends) none (each k d within))

@@ -1,0 +1,29 @@
+-- Loops over lists.
+use Rattle.std.proofs.Common.{ℕ, suc, ◌≡◌, ◌<◌, ◌≤◌, ◌+◌, false, List, [], ◌∷◌, is_some, Option, Some, None, All, Any, length, take, get_or, slice_get, subst, sym, ap, ◌∙◌, refl, arith}
+use Rattle.std.proofs.lemmas.List.{take_more, take_all}
+use Rattle.std.proofs.lemmas.List.Elements.{All-push}
+
+-- one element more
+pub all_more : {X : Type 0} (P : X → Type 0) (xs : List X) (i : ℕ) → i < length xs → All P (take i xs) → ((d : X) → P (get_or xs i d)) → All P (take (i + 1) xs)
+all_more P xs i within before last = λ k d h. (subst (All P) (sym (take_more xs i d within)) (All-push P (take i xs) (get_or xs i d) before (last d))) k d h
+
+-- all elements
+pub all_whole : {X : Type 0} (P : X → Type 0) (xs : List X) (i : ℕ) → length xs ≤ i → All P (take i xs) → All P xs
+all_whole P xs i past before = subst (All P) (take_all i xs past) before
+
+pub none_any : {X : Type 0} (P : X → Type 0) (xs : List X) → All (λ x. P x → ⊥) xs → Any P xs → ⊥
+none_any P xs none any = none any.0 any.1 any.2 (subst P (sym any.3) any.4)
+
+-- lists with the same at each place
+pub same_lists : {X : Type 0} (xs ys : List X) → length xs ≡ length ys → ((i : ℕ) → i < length xs → slice_get xs i ≡ slice_get ys i) → xs ≡ ys
+same_lists [] [] count each = refl
+same_lists [] (y ∷ ys) count each = absurd (omega (arith, count))
+same_lists (x ∷ xs) [] count each = absurd (omega (arith, count))
+same_lists (x ∷ xs) (y ∷ ys) count each =
+    let here : Some x ≡ Some y = each 0 (omega arith) in
+    let is : x ≡ y = cc in
+    ap (λ l. x ∷ l) (same_lists xs ys (omega (arith, count)) (λ i within. each (suc i) (omega (arith, within)))) ∙ ap (λ z. z ∷ ys) is
+
+pub none_from : (o : Option ℕ) → is_some o ≡ false → o ≡ None
+none_from None e = refl
+none_from (Some i) e = cc

@@ -1,0 +1,38 @@
+-- Whether ends are as they are required to be.
+use Rattle.std.specs.Prelude.{ℕ, ◌≡◌, List, Option, Some, None, All, IfSome, take, slice_get}
+use Rattle.lab_sched.specs.Verdicts.{AreStuck}
+use Rattle.lab_sched.specs.Worlds.{WorldState}
+use Rattle.lab_explore.specs.declared.ends.End.{End}
+use Rattle.lab_questions.specs.declared.word.Waiter.{Waiter}
+use Rattle.lab_questions.specs.declared.word.Word.{Word}
+use Rattle.lab_questions.specs.declared.word.Word.TheVariants.{Ended, Stuck, Halted, Empty, Same}
+use Rattle.lab_questions.specs.declared.answers.Answer.{Answer}
+use Rattle.lab_questions.specs.Requirements.{HaveSettled, HaveHalted, AreEmptied, outputs}
+
+-- a world at rest is as the word requires; beside the world of another end for what those have written
+abbrev pub Meets : Word → List Waiter → WorldState → WorldState → Type 0
+Meets Ended waiters other w = HaveSettled waiters w
+Meets Stuck waiters other w = AreStuck w
+Meets Halted waiters other w = HaveHalted waiters w
+Meets Empty waiters other w = AreEmptied w
+Meets Same waiters other w = outputs w ≡ outputs other
+
+-- an end is as the word requires, beside the first of the ends
+abbrev pub IsMet : Word → List Waiter → List End → End → Type 0
+IsMet word waiters ends e = IfSome (slice_get ends 0) (λ first. Meets word waiters first.world e.world)
+
+-- end number i, counted from 0, is the first that isn't as the word requires
+pub record IsFault (word : Word) (waiters : List Waiter) (ends : List End) (i : ℕ) : Type 0 where
+  pub end : End
+  pub there : slice_get ends i ≡ Some end
+  pub unmet : IsMet word waiters ends end → ⊥
+  pub first : All (IsMet word waiters ends) (take i ends)
+
+-- there is no such end, or this one
+abbrev pub IsFaultIn : Word → List Waiter → List End → Option ℕ → Type 0
+IsFaultIn word waiters ends None = All (IsMet word waiters ends) ends
+IsFaultIn word waiters ends (Some i) = IsFault word waiters ends i
+
+-- the answer on a word
+abbrev pub IsAnswer : List Waiter → List End → Answer → Type 0
+IsAnswer waiters ends a = IsFaultIn a.word waiters ends a.fault

@@ -1,0 +1,4 @@
+pub mod Requirements
+pub mod Judgments
+pub mod Programs
+pub mod Texts

@@ -1,0 +1,53 @@
+-- What answers say of the programs of a laboratory.
+use Rattle.std.specs.Prelude.{ℕ, ◌≡◌, ◌≢◌, IsTrue, false, None, List, All, Any}
+use Rattle.lab_sched.specs.declared.schedule.block.Block.{Block}
+use Rattle.lab_sched.specs.Schedules.{steps_of}
+use Rattle.lab_sched.specs.Worlds.{WorldState, run}
+use Rattle.lab_sched.specs.Execution.{AreEffective}
+use Rattle.lab_explore.specs.declared.exploring.Exploration.{Exploration}
+use Rattle.lab_explore.specs.Closed.{AreAtRest}
+use Rattle.lab_questions.specs.declared.word.Waiter.{Waiter}
+use Rattle.lab_questions.specs.declared.word.Word.{Word}
+use Rattle.lab_questions.specs.declared.word.Word.TheVariants.{Ended, Stuck, Halted, Empty, Same}
+use Rattle.lab_questions.specs.declared.answers.Answer.{Answer}
+use Rattle.lab_questions.specs.declared.failure.Failure.{Failure}
+use Rattle.lab_questions.specs.declared.failure.Failure.TheVariants.{Not, Endless, Incomplete}
+use Rattle.lab_questions.specs.Judgments.{Meets}
+
+-- whatever steps are taken from the start, effective or not, and whatever others: if the worlds after
+-- them are at rest, the second is as the word requires, beside the first
+abbrev pub AlwaysMeet : Word → List Waiter → WorldState → Type 0
+AlwaysMeet word waiters start = (ps qs : List ℕ) → AreAtRest (run start ps) → AreAtRest (run start qs)
+    → Meets word waiters (run start ps) (run start qs)
+
+-- the steps of both schedules, all effective, lead from the start to rest, and the second world isn't as
+-- the word requires, beside the first
+pub record IsRefuted (word : Word) (waiters : List Waiter) (start : WorldState) (a b : List Block) : Type 0 where
+  pub first : AreEffective start (steps_of a)
+  pub first_rests : AreAtRest (run start (steps_of a))
+  pub second : AreEffective start (steps_of b)
+  pub second_rests : AreAtRest (run start (steps_of b))
+  pub unmet : Meets word waiters (run start (steps_of a)) (run start (steps_of b)) → ⊥
+
+-- the word asks that each run comes to rest
+abbrev pub AsksRest : Word → Type 0
+AsksRest Ended = Unit {0}
+AsksRest Stuck = Unit {0}
+AsksRest Halted = Unit {0}
+AsksRest Empty = ⊥
+AsksRest Same = ⊥
+
+-- nothing was found that isn't as it is required, and everything was visited
+pub record Passes (found : Exploration) (answers : List Answer) : Type 0 where
+  pub met : All (λ a. a.fault ≡ None) answers
+  pub ends : Any (λ a. AsksRest a.word) answers → found.round ≡ None
+  pub complete : IsTrue found.complete
+
+-- the first of these that is so
+abbrev pub IsFailure : Exploration → List Answer → Failure → Type 0
+IsFailure found answers (Not word) = Any (λ a. (a.word ≡ word) × (a.fault ≢ None)) answers
+IsFailure found answers Endless =
+    All (λ a. a.fault ≡ None) answers × Any (λ a. AsksRest a.word) answers × (found.round ≢ None)
+IsFailure found answers Incomplete =
+    All (λ a. a.fault ≡ None) answers × (Any (λ a. AsksRest a.word) answers → found.round ≡ None)
+    × (found.complete ≡ false)

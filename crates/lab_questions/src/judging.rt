@@ -1,0 +1,42 @@
+//! Ends, judged.
+ghost use Rattle.std.specs.Prelude.{◌≡◌, ◌↔◌, IsTrue, IfSome, Some, slice_get};
+ghost use Rattle.lab_sched.specs.Verdicts.{AreStuck};
+ghost use Rattle.lab_questions.specs.Judgments.{Meets, IsFaultIn};
+
+use crate::processes::{have_halted, have_same_outputs, have_settled};
+use crate::queues::are_emptied;
+use crate::{Waiter, Word};
+use lab_explore::End;
+use lab_sched::{Verdict, World};
+
+/// Whether some process waits, and none can go on.
+fn is_stuck(world: &World) -> bool
+    ensures stuck { IsTrue result ↔ AreStuck world.now }
+{
+    matches!(world.verdict(), Verdict::Stuck)
+}
+
+/// Whether a world is as a word requires, beside another.
+fn is_met(word: Word, waiters: &[Waiter], other: &World, world: &World) -> bool
+    ensures met { IsTrue result ↔ Meets word waiters.now other.now world.now }
+{
+    match word {
+        Word::Ended => have_settled(waiters, world),
+        Word::Stuck => is_stuck(world),
+        Word::Halted => have_halted(waiters, world),
+        Word::Empty => are_emptied(world),
+        Word::Same => have_same_outputs(world, other),
+    }
+}
+
+/// The number of the first end, counted from 0, that isn't as a word requires, if there is one.
+pub(crate) fn fault_in(word: Word, waiters: &[Waiter], ends: &[End]) -> Option<usize>
+    ensures fault { IsFaultIn word waiters.now ends.now result }
+{
+    for number in 0..ends.len() {
+        if !is_met(word, waiters, &ends[0].world, &ends[number].world) {
+            return Some(number);
+        }
+    }
+    None
+}

@@ -1,0 +1,98 @@
+//! How processes have come to rest.
+ghost use Rattle.std.specs.Prelude.{◌≡◌, ◌↔◌, IsTrue, slice_get};
+ghost use Rattle.std.specs.Option.{option_map};
+ghost use Rattle.lc3_machine.specs.declared.want.How.TheVariants.{Halt};
+ghost use Rattle.lab_sched.specs.Worlds.{machine_of};
+ghost use Rattle.lab_sched.specs.Held.{process_view};
+ghost use Rattle.lab_questions.specs.Requirements.{MayWait, HasSettled, HasHalted, HaveSettled, HaveHalted, outputs};
+
+use crate::Waiter;
+use lab_sched::{Process, World};
+use lc3_machine::How;
+
+/// Whether process `pid` may wait at an address.
+fn may_wait(waiters: &[Waiter], pid: usize, pc: u16) -> bool
+    ensures may { IsTrue result ↔ MayWait waiters.now pid pc }
+{
+    for waiter in waiters {
+        if waiter.process == pid && waiter.first <= pc && pc <= waiter.last {
+            return true;
+        }
+    }
+    false
+}
+
+/// Whether process `pid` has ended, or waits where it may.
+fn has_settled(waiters: &[Waiter], pid: usize, process: &Process) -> bool
+    ensures settled { IsTrue result ↔ HasSettled waiters.now pid (process_view process.now) }
+{
+    match process {
+        Process::Running(_) => false,
+        Process::Waiting(waiting, _) => may_wait(waiters, pid, waiting.machine().pc()),
+        Process::Ended(_) => true,
+    }
+}
+
+/// Whether process `pid` has ended by HALT, or waits where it may.
+fn has_halted(waiters: &[Waiter], pid: usize, process: &Process) -> bool
+    ensures halted { IsTrue result ↔ HasHalted waiters.now pid (process_view process.now) }
+{
+    match process {
+        Process::Running(_) => false,
+        Process::Waiting(waiting, _) => may_wait(waiters, pid, waiting.machine().pc()),
+        Process::Ended(ended) => matches!(ended.how(), How::Halt),
+    }
+}
+
+/// Whether each process has ended, or waits where it may.
+pub(crate) fn have_settled(waiters: &[Waiter], world: &World) -> bool
+    ensures settled { IsTrue result ↔ HaveSettled waiters.now world.now }
+{
+    for pid in 0..world.count() {
+        if let Some(process) = world.process(pid) {
+            if !has_settled(waiters, pid, process) {
+                return false;
+            }
+        }
+    }
+    true
+}
+
+/// Whether each process has ended by HALT, or waits where it may.
+pub(crate) fn have_halted(waiters: &[Waiter], world: &World) -> bool
+    ensures halted { IsTrue result ↔ HaveHalted waiters.now world.now }
+{
+    for pid in 0..world.count() {
+        if let Some(process) = world.process(pid) {
+            if !has_halted(waiters, pid, process) {
+                return false;
+            }
+        }
+    }
+    true
+}
+
+/// What process `pid` of a world has written, if it is there.
+fn output_of(world: &World, pid: usize) -> Option<&[u8]>
+    ensures output { option_map (λ bytes. bytes.now) result ≡ slice_get (outputs world.now) pid }
+{
+    match world.process(pid) {
+        Some(process) => Some(process.machine().output()),
+        None => None,
+    }
+}
+
+/// Whether the processes of two worlds have written the same.
+pub(crate) fn have_same_outputs(world: &World, other: &World) -> bool
+    ensures same { IsTrue result ↔ (outputs world.now ≡ outputs other.now) }
+{
+    if world.count() != other.count() {
+        return false;
+    }
+    for pid in 0..world.count() {
+        if output_of(world, pid) != output_of(other, pid) {
+            return false;
+        }
+    }
+    true
+}

@@ -1,0 +1,123 @@
+//! The lines of answers.
+ghost use Rattle.std.specs.Prelude.{◌≡◌, ◌<◌, ◌++◌, Some, length, OnOk, IfOk, IfSome, All, string_bytes, flat_map, map};
+ghost use Rattle.lab_sched.specs.ScheduleTexts.{schedule_text};
+ghost use Rattle.lab_findings.specs.Texts.{told_ends, schedule_line};
+ghost use Rattle.lab_questions.specs.Texts.{word_text, schedule_at, first_lines, fault_lines, answer_lines, answers_text};
+
+use crate::{Answer, Word};
+use lab_explore::{End, Exploration};
+use lab_findings::{Told, push_extent, push_round, push_schedule, told_of};
+use std::alloc::{AllocError, Global};
+use std::fmt::Write;
+
+impl Word {
+    /// The word as it is written.
+    pub fn text(self) -> &'static str
+        ensures text { result.now ≡ word_text self }
+    {
+        match self {
+            Word::Ended => "ended",
+            Word::Stuck => "stuck",
+            Word::Halted => "halted",
+            Word::Empty => "empty",
+            Word::Same => "same",
+        }
+    }
+}
+
+/// Adds the line of the schedule of an end, by its number, counted from 0.
+fn push_schedule_at(
+    alloc: Global,
+    text: &mut String,
+    ends: &[End],
+    number: usize,
+) -> Result<(), AllocError>
+    requires there { number < length ends.now }
+    ensures text { OnOk result (string_bytes text.new
+        ≡ string_bytes text.old ++ schedule_line (schedule_at ends.now number)) }
+{
+    push_schedule(alloc, text, &ends[number].schedule)
+}
+
+/// Adds the line of the schedule of the first end, where a word compares others with it.
+fn push_first(alloc: Global, text: &mut String, ends: &[End], word: Word) -> Result<(), AllocError>
+    requires some { 0 < length ends.now }
+    ensures text { OnOk result (string_bytes text.new
+        ≡ string_bytes text.old ++ first_lines ends.now word) }
+{
+    match word {
+        Word::Same => push_schedule_at(alloc, text, ends, 0),
+        _ => Ok(()),
+    }
+}
+
+/// Adds the lines of a word that isn't so at an end.
+fn push_fault(
+    alloc: Global,
+    text: &mut String,
+    ends: &[End],
+    word: Word,
+    number: usize,
+) -> Result<(), AllocError>
+    requires there { number < length ends.now }
+    ensures text { OnOk result (string_bytes text.new
+        ≡ string_bytes text.old ++ fault_lines ends.now word (Some number)) }
+{
+    let name = word.text();
+    write!(text, "not {name}\n")?;
+    push_first(alloc, text, ends, word)?;
+    push_schedule_at(alloc, text, ends, number)
+}
+
+/// Adds the lines of an answer.
+fn push_answer(
+    alloc: Global,
+    text: &mut String,
+    ends: &[End],
+    answer: Answer,
+) -> Result<(), AllocError>
+    requires there { IfSome answer.fault (λ i. i < length ends.now) }
+    ensures text { OnOk result (string_bytes text.new
+        ≡ string_bytes text.old ++ answer_lines ends.now answer) }
+{
+    match answer.fault {
+        Some(number) => push_fault(alloc, text, ends, answer.word, number),
+        None => Ok(()),
+    }
+}
+
+/// Adds the lines of answers.
+fn push_answers(
+    alloc: Global,
+    text: &mut String,
+    ends: &[End],
+    answers: &[Answer],
+) -> Result<(), AllocError>
+    requires there { All (λ a. IfSome a.fault (λ i. i < length ends.now)) answers.now }
+    ensures text { OnOk result (string_bytes text.new
+        ≡ string_bytes text.old ++ flat_map (answer_lines ends.now) answers.now) }
+{
+    for answer in answers {
+        push_answer(alloc, text, ends, *answer)?;
+    }
+    Ok(())
+}
+
+/// Tells an exploration and answers.
+pub(crate) fn tell(
+    alloc: Global,
+    found: &Exploration,
+    answers: &[Answer],
+) -> Result<Told, AllocError>
+    requires there { All (λ a. IfSome a.fault (λ i. i < length found.now.ends.items)) answers.now }
+    ensures text { IfOk result (λ told.
+        string_bytes told.text ≡ answers_text found.now answers.now) }
+    ensures schedules { IfOk result (λ told. map string_bytes told.schedules.items
+        ≡ map (λ e. schedule_text e.schedule) (told_ends found.now.ends.items)) }
+{
+    let mut told = told_of(alloc, &found.ends)?;
+    push_answers(alloc, &mut told.text, &found.ends, answers)?;
+    push_round(alloc, &mut told.text, &found.round)?;
+    push_extent(&mut told.text, found.complete, found.worlds)?;
+    Ok(told)
+}
