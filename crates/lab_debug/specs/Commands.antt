@@ -9,7 +9,7 @@ use Rattle.lab_sched.specs.declared.schedule.block.Block.{Block}
 use Rattle.lab_sched.specs.declared.schedule.fault.SchedFault.{SchedFault}
 use Rattle.lab_sched.specs.ScheduleTexts.{reading_of_words}
 use Rattle.lab_debug.specs.declared.command.Command.{Command}
-use Rattle.lab_debug.specs.declared.command.Command.TheVariants.{Step, Run, Until, Regs, Mem, Dis, Procs, Mqs, Sems, Fds, Out, Profile, Quit}
+use Rattle.lab_debug.specs.declared.command.Command.TheVariants.{Step, Run, Until, Regs, Mem, Dis, Procs, Mqs, Sems, Fds, Out, Profile, Help, Quit}
 use Rattle.lab_debug.specs.declared.command.Range.{Range}
 use Rattle.lab_debug.specs.declared.command.Refusal.{Refusal}
 use Rattle.lab_debug.specs.declared.command.Refusal.TheVariants.{UnknownCommand, BadOperands}
@@ -116,6 +116,7 @@ showing_command name ws =
     if is_named (codes "fds") name then or_bad (of_process Fds ws) else
     if is_named (codes "out") name then or_bad (of_process Out ws) else
     if is_named (codes "profile") name then or_bad (bare_of Profile ws) else
+    if is_named (codes "help") name then or_bad (bare_of Help ws) else
     Err UnknownCommand
 
 -- a command other than `run` by its name and its operands

@@ -4,10 +4,11 @@ use Rattle.std.specs.List.{list_all}
 use Rattle.lab_sched.specs.Worlds.{Process, WorldState, step_effect_in, step, run, machine_of}
 use Rattle.lab_sched.specs.Schedules.{steps_of}
 use Rattle.lab_debug.specs.declared.command.Command.{Command}
-use Rattle.lab_debug.specs.declared.command.Command.TheVariants.{Step, Run, Until, Regs, Mem, Dis, Procs, Mqs, Sems, Fds, Out, Profile, Quit}
+use Rattle.lab_debug.specs.declared.command.Command.TheVariants.{Step, Run, Until, Regs, Mem, Dis, Procs, Mqs, Sems, Fds, Out, Profile, Help, Quit}
 use Rattle.lab_debug.specs.declared.command.Refusal.{Refusal}
 use Rattle.lab_debug.specs.declared.command.Refusal.TheVariants.{UnknownCommand, BadOperands, NoProcess}
 use Rattle.lab_debug.specs.Commands.{words_of, command_of}
+use Rattle.lab_debug.specs.Help.{help_text}
 use Rattle.lab_debug.specs.Script.{Effect, Script, script}
 use Rattle.lab_texts.specs.Texts.{status_text, procs_text, profile_text, regs_text, mem_text, dis_text, out_text}
 use Rattle.lab_texts.specs.Objects.{mqs_text, sems_text, fds_text}
@@ -57,6 +58,7 @@ accepted_effect w Sems = text_effect sems_text w
 accepted_effect w (Fds pid) = text_effect (fds_text pid) w
 accepted_effect w (Out pid) = text_effect (out_text pid) w
 accepted_effect w Profile = text_effect profile_text w
+accepted_effect w Help = text_effect (λ v. help_text) w
 accepted_effect w Quit = record { text = []; world = w; ends = true }
 
 -- whether process pid is there
@@ -77,6 +79,7 @@ are_there w Sems = true
 are_there w (Fds pid) = is_there w pid
 are_there w (Out pid) = is_there w pid
 are_there w Profile = true
+are_there w Help = true
 are_there w Quit = true
 
 -- what a command does; it is refused where a process that it names isn't there

@@ -1,5 +1,6 @@
 pub mod Lines
 pub mod Script
 pub mod Commands
+pub mod Help
 pub mod Effects
 pub mod Private

@@ -56,6 +56,8 @@ pub enum Command {
     },
     /// The profile of the machine.
     Profile,
+    /// The commands.
+    Help,
     /// The end of the session.
     Quit,
 }
@@ -218,6 +220,9 @@ fn read_showing(name: &[u8], operands: &[&[u8]]) -> Result<Command, Refusal>
     }
     if is_name("profile", name) {
         return read_bare(Command::Profile, operands).ok_or(Refusal::BadOperands);
+    }
+    if is_name("help", name) {
+        return read_bare(Command::Help, operands).ok_or(Refusal::BadOperands);
     }
     Err(Refusal::UnknownCommand)
 }

@@ -7,12 +7,14 @@ ghost use Rattle.lab_sched.specs.Schedules.{steps_of};
 ghost use Rattle.lab_sched.specs.declared.stepped.Stepped.TheVariants.{Same};
 ghost use Rattle.lab_debug.specs.Commands.{step_count_max};
 ghost use Rattle.lab_texts.specs.Texts.{status_text};
+ghost use Rattle.lab_debug.specs.Help.{help_text};
 ghost use Rattle.lab_texts.specs.Verdicts.{verdict_text};
 ghost use Rattle.lab_debug.specs.Private.Replies.{effect_of};
 ghost use Rattle.lab_debug.specs.Effects.{is_at, world_until, is_there, are_there, accepted_effect, command_effect, line_effect, refusal_text};
 ghost use Rattle.lab_debug.specs.Private.Ranges.{IsCommand};
 
 use crate::command::{Command, Refusal, read_command};
+use crate::help::HELP;
 use crate::operands::split_words;
 use lab_sched::{Block, Schedule, Stepped, World};
 use lab_texts::{
@@ -39,6 +41,14 @@ fn refuse(alloc: Global, refusal: Refusal) -> Result<Reply, AllocError>
         Refusal::NoProcess => String::from_str(alloc, "? no such process\n")?,
     };
     Ok(Reply { text, ends: false })
+}
+
+/// The text of `help`.
+#[tactic(auto, unfolding(crate::specs::Help::help_text))]
+fn help_text(alloc: Global) -> Result<String, AllocError>
+    ensures text { IfOk result (λ s. string_bytes s ≡ help_text) }
+{
+    String::from_str(alloc, HELP)
 }
 
 /// Takes the steps of a schedule.
@@ -126,7 +136,12 @@ fn are_there(world: &World, command: &Command) -> bool
         | Command::Out { pid } => is_there(world, *pid),
         Command::Mem(range) | Command::Dis(range) => is_there(world, range.pid),
         Command::Run(schedule) => blocks_are_there(world, schedule.blocks()),
-        Command::Procs | Command::Mqs | Command::Sems | Command::Profile | Command::Quit => true,
+        Command::Procs
+        | Command::Mqs
+        | Command::Sems
+        | Command::Profile
+        | Command::Help
+        | Command::Quit => true,
     }
 }
 
@@ -161,6 +176,7 @@ fn carry_out(alloc: Global, world: &mut World, command: Command) -> Result<Reply
         Command::Fds { pid } => fds_text(alloc, world, pid)?,
         Command::Out { pid } => out_text(alloc, world, pid)?,
         Command::Profile => profile_text(alloc, world)?,
+        Command::Help => help_text(alloc)?,
         Command::Quit => {
             let text = String::new(alloc);
             return Ok(Reply { text, ends: true });

@@ -4,6 +4,7 @@
 mod command;
 mod effect;
 mod fault;
+mod help;
 mod lines;
 mod operands;
 mod script;
