@@ -2,12 +2,11 @@
 ghost use Rattle.std.specs.Prelude.{◌≡◌, false};
 
 use crate::complaint::{At, Complaint};
-use crate::programs::{Programs, laboratory, read_programs};
+use crate::programs::{Programs, fault_of, read_programs};
 use crate::progress::Progress;
 use lab_arguments::Setup;
-use lab_debug::session;
+use lab_debug::{Session, session};
 use lab_io::{Input, Output};
-use lab_sched::World;
 use std::alloc::Global;
 use std::io::{Read, Write};
 use std::rt::Files;
@@ -25,7 +24,10 @@ pub fn debug_programs<'a, T: Files, R: Read, W: Write, P: Progress>(
     requires output_healthy { output.old.failed ≡ false }
 {
     let Programs { programs, .. } = read_programs(rt, alloc, setup.programs.as_slice(), progress)?;
-    let fresh = laboratory(alloc, programs.as_slice(), setup.profile)?;
-    session(alloc, World::from(fresh), input, output).at("session")?;
+    let start = match Session::new(alloc, programs, setup.profile) {
+        Ok(start) => start,
+        Err(fault) => return Err(fault_of(fault)),
+    };
+    session(alloc, start, input, output).at("session")?;
     Ok(())
 }

@@ -116,7 +116,14 @@ pub fn laboratory(
 ) -> Result<Fresh, Complaint<'static>> {
     match Fresh::new(alloc, programs, profile) {
         Ok(fresh) => Ok(fresh),
-        Err(FreshFault::Count) => Err(Reason::Count.at("programs")),
-        Err(FreshFault::NoMemory) => Err(Reason::NoMemory.at("run")),
+        Err(fault) => Err(fault_of(fault)),
+    }
+}
+
+/// What is said where there is no laboratory of some programs.
+pub fn fault_of(fault: FreshFault) -> Complaint<'static> {
+    match fault {
+        FreshFault::Count => Reason::Count.at("programs"),
+        FreshFault::NoMemory => Reason::NoMemory.at("run"),
     }
 }

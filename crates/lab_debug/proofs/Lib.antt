@@ -2,4 +2,5 @@ pub mod LineLemmas
 pub mod PendingLemmas
 pub mod ScriptLemmas
 pub mod NumberLemmas
-pub mod UntilLemmas
+pub mod StepLemmas
+pub mod BlockLemmas

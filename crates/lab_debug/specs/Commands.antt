@@ -7,9 +7,10 @@ use Rattle.lc3_word.specs.Numbers.{number}
 use Rattle.ipc_kernel.specs.Limits.{process_max}
 use Rattle.lab_sched.specs.declared.schedule.block.Block.{Block}
 use Rattle.lab_sched.specs.declared.schedule.fault.SchedFault.{SchedFault}
+use Rattle.lab_sched.specs.Schedules.{most_steps}
 use Rattle.lab_sched.specs.ScheduleTexts.{reading_of_words}
 use Rattle.lab_debug.specs.declared.command.Command.{Command}
-use Rattle.lab_debug.specs.declared.command.Command.TheVariants.{Step, Run, Until, Regs, Mem, Dis, Procs, Mqs, Sems, Fds, Out, Profile, Help, Quit}
+use Rattle.lab_debug.specs.declared.command.Command.TheVariants.{Step, Run, Until, Back, Regs, Mem, Dis, Procs, Mqs, Sems, Fds, Out, Profile, Help, Quit}
 use Rattle.lab_debug.specs.declared.command.Range.{Range}
 use Rattle.lab_debug.specs.declared.command.Refusal.{Refusal}
 use Rattle.lab_debug.specs.declared.command.Refusal.TheVariants.{UnknownCommand, BadOperands}
@@ -70,6 +71,12 @@ until_of ws =
     option_and_then (λ w. option_and_then (λ p. option_and_then (λ a.
     option_map (λ n. Until p a n) (count_of w.2)) (address_of w.1)) (process_of w.0)) (three_of ws)
 
+-- N: a number of steps, of any schedule; one where it isn't given
+abbrev pub back_of : List (List ℕ) → Option Command
+back_of [] = Some (Back 1)
+back_of (w ∷ ws) =
+    option_and_then (λ word. option_map Back (number_within 1 most_steps word)) (one_of (w ∷ ws))
+
 -- P: a process
 abbrev pub of_process : (ℕ → Command) → List (List ℕ) → Option Command
 of_process make ws = option_and_then (λ w. option_map make (process_of w)) (one_of ws)
@@ -124,6 +131,7 @@ unfoldable pub plain_command : List ℕ → List (List ℕ) → Result Command R
 plain_command name ws =
     if is_named (codes "step") name then or_bad (step_of ws) else
     if is_named (codes "until") name then or_bad (until_of ws) else
+    if is_named (codes "back") name then or_bad (back_of ws) else
     if is_named (codes "quit") name then or_bad (bare_of Quit ws) else
     showing_command name ws
 

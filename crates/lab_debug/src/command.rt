@@ -2,10 +2,10 @@
 ghost use Rattle.std.specs.Prelude.{◌≡◌, ◌≤◌, ◌+◌, IfOk, IfSome, map, codes};
 ghost use Rattle.lab_sched.specs.ScheduleTexts.{reading_of_words};
 ghost use Rattle.lab_debug.specs.Private.Ranges.{IsCommand};
-ghost use Rattle.lab_debug.specs.Commands.{step_of, until_of, bare_of, of_process, range_of, of_range, run_of, is_named, showing_command, plain_command, command_of};
+ghost use Rattle.lab_debug.specs.Commands.{step_of, until_of, back_of, bare_of, of_process, range_of, of_range, run_of, is_named, showing_command, plain_command, command_of};
 
 use crate::operands::{address_in, count_in, number_in, one, process_in, three, two};
-use lab_sched::{SchedFault, Schedule};
+use lab_sched::{MOST_STEPS, SchedFault, Schedule};
 use std::alloc::{AllocError, Global};
 
 /// A range of memory of a process: so many words from an address on.
@@ -30,6 +30,10 @@ pub enum Command {
     Until {
         pid: usize,
         address: u16,
+        count: u32,
+    },
+    /// The state before the last so many steps that had an effect.
+    Back {
         count: u32,
     },
     /// The registers of a process.
@@ -100,6 +104,18 @@ fn read_until(operands: &[&[u8]]) -> Option<Command>
         address,
         count,
     })
+}
+
+/// `N`, to go back; one where it isn't given
+fn read_back(operands: &[&[u8]]) -> Option<Command>
+    ensures value { result ≡ back_of (map (λ word. word.now) operands.now) }
+    ensures ranges { IfSome result (λ command. IsCommand command) }
+{
+    if operands.is_empty() {
+        return Some(Command::Back { count: 1 });
+    }
+    let count = number_in(1, MOST_STEPS, one(operands)?)?;
+    Some(Command::Back { count })
 }
 
 /// `P`, of its registers
@@ -238,6 +254,9 @@ fn read_plain(name: &[u8], operands: &[&[u8]]) -> Result<Command, Refusal>
     }
     if is_name("until", name) {
         return read_until(operands).ok_or(Refusal::BadOperands);
+    }
+    if is_name("back", name) {
+        return read_back(operands).ok_or(Refusal::BadOperands);
     }
     if is_name("quit", name) {
         return read_bare(Command::Quit, operands).ok_or(Refusal::BadOperands);

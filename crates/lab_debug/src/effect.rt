@@ -1,27 +1,27 @@
 //! What a line of a script does.
-ghost use Rattle.std.specs.Prelude.{◌≡◌, true, false, ◌≤◌, ◌<◌, IfOk, OnOk, string_bytes, length, replicate, slice_get};
+ghost use Rattle.std.specs.Prelude.{◌≡◌, false, ◌≤◌, ◌<◌, IfOk, OnOk, string_bytes, length, replicate};
 ghost use Rattle.ipc_kernel.specs.Limits.{process_max};
 ghost use Rattle.std.specs.List.{list_all};
-ghost use Rattle.lab_sched.specs.Worlds.{run};
-ghost use Rattle.lab_sched.specs.Schedules.{steps_of};
-ghost use Rattle.lab_sched.specs.declared.stepped.Stepped.TheVariants.{Same};
+ghost use Rattle.lab_debug.specs.Sessions.{state_of, after_steps};
 ghost use Rattle.lab_debug.specs.Commands.{step_count_max};
 ghost use Rattle.lab_texts.specs.Texts.{status_text};
 ghost use Rattle.lab_debug.specs.Help.{help_text};
 ghost use Rattle.lab_texts.specs.Verdicts.{verdict_text};
 ghost use Rattle.lab_debug.specs.Private.Replies.{effect_of};
-ghost use Rattle.lab_debug.specs.Effects.{is_at, world_until, is_there, are_there, accepted_effect, command_effect, line_effect, refusal_text};
+ghost use Rattle.lab_debug.specs.Effects.{steps_text, is_there, are_there, accepted_effect, command_effect, line_effect, refusal_text};
 ghost use Rattle.lab_debug.specs.Private.Ranges.{IsCommand};
 
 use crate::command::{Command, Refusal, read_command};
 use crate::help::HELP;
 use crate::operands::split_words;
-use lab_sched::{Block, Schedule, Stepped, World};
+use crate::state::Session;
+use lab_sched::{Block, Schedule, World};
 use lab_texts::{
     dis_text, fds_text, mem_text, mqs_text, out_text, procs_text, profile_text, regs_text,
     sems_text, status_text, verdict_text,
 };
 use std::alloc::{AllocError, Global};
+use std::fmt::Write;
 
 /// What a line answers: its text, and whether it ends the session.
 #[derive(Drop)]
@@ -51,63 +51,32 @@ fn help_text(alloc: Global) -> Result<String, AllocError>
     String::from_str(alloc, HELP)
 }
 
-/// Takes the steps of a schedule.
-fn run_schedule(world: &mut World, schedule: &Schedule) -> Result<(), AllocError>
-    ensures world { OnOk result (world.new ≡ run world.old (steps_of schedule.now)) }
+/// The text of how many steps are left.
+fn steps_text(alloc: Global, count: u64) -> Result<String, AllocError>
+    ensures text { IfOk result (λ s. string_bytes s ≡ steps_text count) }
 {
-    match world.run(schedule) {
-        Ok(()) => Ok(()),
-        Err(_) => Err(AllocError),
-    }
+    let mut text = String::new(alloc);
+    write!(text, "steps {count}\n")?;
+    Ok(text)
 }
 
 /// Takes so many steps of a process.
 #[tactic(auto, unfolding(lab_sched::specs::Schedules::steps_of))]
-fn step_times(alloc: Global, world: &mut World, pid: usize, count: u32) -> Result<(), AllocError>
+fn step_times(
+    alloc: Global,
+    session: &mut Session,
+    pid: usize,
+    count: u32,
+) -> Result<(), AllocError>
     requires process { pid < process_max }
     requires some { 1 ≤ count }
     requires few { count ≤ step_count_max }
-    ensures world { OnOk result (world.new ≡ run world.old (replicate count pid)) }
+    ensures state { OnOk result
+        (state_of session.new ≡ after_steps (state_of session.old) (replicate count pid)) }
 {
     let mut schedule = Schedule::new(alloc);
     schedule.push(pid, count)?;
-    run_schedule(world, &schedule)
-}
-
-/// Whether the program counter of process `pid` is at an address.
-fn is_at(world: &World, pid: usize, address: u16) -> bool
-    ensures value { result ≡ is_at address (slice_get world.now.processes pid) }
-{
-    match world.process(pid) {
-        Some(process) => process.machine().pc() == address,
-        None => false,
-    }
-}
-
-/// Whether a step did nothing.
-fn is_same(stepped: Stepped) -> bool
-    ensures yes { result ≡ true → stepped ≡ Same }
-    ensures no { result ≡ false → stepped ≡ Same → ⊥ }
-{
-    matches!(stepped, Stepped::Same)
-}
-
-/// Takes at most so many steps of a process: up to an address, and only steps that have an effect.
-fn step_until(world: &mut World, pid: usize, address: u16, count: u32) -> Result<(), AllocError>
-    ensures world { OnOk result (world.new ≡ world_until pid address world.old count) }
-{
-    for i in 0..count {
-        if is_at(world, pid, address) {
-            return Ok(());
-        }
-        let Ok(stepped) = world.step(pid) else {
-            return Err(AllocError);
-        };
-        if is_same(stepped) {
-            return Ok(());
-        }
-    }
-    Ok(())
+    session.run(&schedule)
 }
 
 /// Whether process `pid` is there.
@@ -136,7 +105,8 @@ fn are_there(world: &World, command: &Command) -> bool
         | Command::Out { pid } => is_there(world, *pid),
         Command::Mem(range) | Command::Dis(range) => is_there(world, range.pid),
         Command::Run(schedule) => blocks_are_there(world, schedule.blocks()),
-        Command::Procs
+        Command::Back { .. }
+        | Command::Procs
         | Command::Mqs
         | Command::Sems
         | Command::Profile
@@ -146,36 +116,53 @@ fn are_there(world: &World, command: &Command) -> bool
 }
 
 /// Carries out a command whose processes are there.
-fn carry_out(alloc: Global, world: &mut World, command: Command) -> Result<Reply, AllocError>
+fn carry_out(alloc: Global, session: &mut Session, command: Command) -> Result<Reply, AllocError>
     requires ranges { IsCommand command }
-    ensures effect { IfOk result (λ r. effect_of r world.new ≡ accepted_effect world.old command) }
+    ensures effect { IfOk result (λ r. effect_of r (state_of session.new)
+        ≡ accepted_effect (state_of session.old) command) }
 {
     let text = match command {
         Command::Step { pid, count } => {
-            step_times(alloc, world, pid, count)?;
-            status_text(alloc, world, pid)?
+            step_times(alloc, session, pid, count)?;
+            status_text(alloc, session.world(), pid)?
         }
         Command::Run(schedule) => {
-            run_schedule(world, &schedule)?;
-            verdict_text(alloc, world)?
+            session.run(&schedule)?;
+            verdict_text(alloc, session.world())?
         }
         Command::Until {
             pid,
             address,
             count,
         } => {
-            step_until(world, pid, address, count)?;
-            status_text(alloc, world, pid)?
+            session.step_until(pid, address, count)?;
+            status_text(alloc, session.world(), pid)?
         }
-        Command::Regs { pid } => regs_text(alloc, world, pid)?,
-        Command::Mem(range) => mem_text(alloc, world, range.pid, range.address, range.count)?,
-        Command::Dis(range) => dis_text(alloc, world, range.pid, range.address, range.count)?,
-        Command::Procs => procs_text(alloc, world)?,
-        Command::Mqs => mqs_text(alloc, world)?,
-        Command::Sems => sems_text(alloc, world)?,
-        Command::Fds { pid } => fds_text(alloc, world, pid)?,
-        Command::Out { pid } => out_text(alloc, world, pid)?,
-        Command::Profile => profile_text(alloc, world)?,
+        Command::Back { count } => {
+            let left = session.back(alloc, count)?;
+            steps_text(alloc, left)?
+        }
+        Command::Regs { pid } => regs_text(alloc, session.world(), pid)?,
+        Command::Mem(range) => mem_text(
+            alloc,
+            session.world(),
+            range.pid,
+            range.address,
+            range.count,
+        )?,
+        Command::Dis(range) => dis_text(
+            alloc,
+            session.world(),
+            range.pid,
+            range.address,
+            range.count,
+        )?,
+        Command::Procs => procs_text(alloc, session.world())?,
+        Command::Mqs => mqs_text(alloc, session.world())?,
+        Command::Sems => sems_text(alloc, session.world())?,
+        Command::Fds { pid } => fds_text(alloc, session.world(), pid)?,
+        Command::Out { pid } => out_text(alloc, session.world(), pid)?,
+        Command::Profile => profile_text(alloc, session.world())?,
         Command::Help => help_text(alloc)?,
         Command::Quit => {
             let text = String::new(alloc);
@@ -186,12 +173,13 @@ fn carry_out(alloc: Global, world: &mut World, command: Command) -> Result<Reply
 }
 
 /// Carries out a command, or refuses it where a process isn't there.
-fn obey(alloc: Global, world: &mut World, command: Command) -> Result<Reply, AllocError>
+fn obey(alloc: Global, session: &mut Session, command: Command) -> Result<Reply, AllocError>
     requires ranges { IsCommand command }
-    ensures effect { IfOk result (λ r. effect_of r world.new ≡ command_effect world.old command) }
+    ensures effect { IfOk result (λ r. effect_of r (state_of session.new)
+        ≡ command_effect (state_of session.old) command) }
 {
-    if are_there(world, &command) {
-        carry_out(alloc, world, command)
+    if are_there(session.world(), &command) {
+        carry_out(alloc, session, command)
     } else {
         refuse(alloc, Refusal::NoProcess)
     }
@@ -199,8 +187,9 @@ fn obey(alloc: Global, world: &mut World, command: Command) -> Result<Reply, All
 
 /// Carries out a line.
 #[tactic(auto, unfolding(crate::specs::Effects::line_effect))]
-pub fn perform(alloc: Global, world: &mut World, line: &[u8]) -> Result<Reply, AllocError>
-    ensures effect { IfOk result (λ r. effect_of r world.new ≡ line_effect world.old line.now) }
+pub fn perform(alloc: Global, session: &mut Session, line: &[u8]) -> Result<Reply, AllocError>
+    ensures effect { IfOk result (λ r. effect_of r (state_of session.new)
+        ≡ line_effect (state_of session.old) line.now) }
 {
     let words = split_words(alloc, line)?;
     let Some((name, operands)) = words.as_slice().split_first() else {
@@ -208,7 +197,7 @@ pub fn perform(alloc: Global, world: &mut World, line: &[u8]) -> Result<Reply, A
         return Ok(Reply { text, ends: false });
     };
     match read_command(alloc, name, operands)? {
-        Ok(command) => obey(alloc, world, command),
+        Ok(command) => obey(alloc, session, command),
         Err(refusal) => refuse(alloc, refusal),
     }
 }

@@ -5,6 +5,7 @@ pub const HELP: &str = "\
 step P N        N steps of process P\n\
 until P ADDR N  at most N steps of P, until its PC is ADDR\n\
 run BLOCKS      the steps of a schedule, as 0*12 1*13\n\
+back N          takes back the last N steps that had an effect; without N one\n\
 procs           where each process stands\n\
 regs P          the registers, the PC and the code of P\n\
 mem P ADDR N    N words of P's memory\n\

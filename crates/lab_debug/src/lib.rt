@@ -8,9 +8,12 @@ mod help;
 mod lines;
 mod operands;
 mod script;
+mod state;
+mod stepping;
 
 pub use fault::SessionFault;
 pub use script::session;
+pub use state::Session;
 
 /// The most bytes of a line, without its line feed.
 pub const LINE_LIMIT: usize = 65_536;

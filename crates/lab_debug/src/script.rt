@@ -4,34 +4,35 @@ ghost use Rattle.std.specs.Option.{option_map};
 ghost use Rattle.std.specs.Io.KnownBytes.{Appends};
 ghost use Rattle.lab_io.specs.Device.{AppendsPrefix};
 ghost use Rattle.lab_debug.specs.Effects.{session};
+ghost use Rattle.lab_debug.specs.Sessions.{state_of};
 ghost use Rattle.lab_debug.specs.Script.{Explains};
 
 use crate::LINE_COUNT_LIMIT;
 use crate::effect::perform;
 use crate::fault::SessionFault;
 use crate::lines::Pending;
+use crate::state::Session;
 use lab_io::{Input, Output};
-use lab_sched::World;
 use std::alloc::Global;
 use std::io::{Read, Write};
 
-/// Carries out the lines of a script on a world.
+/// Carries out the lines of a script on the state of a session.
 fn perform_lines<R: Read, W: Write>(
     alloc: Global,
-    world: &mut World,
+    state: &mut Session,
     input: &mut Input<R>,
     output: &mut Output<W>,
 ) -> Result<(), SessionFault>
     ensures written { IfSome (R.remaining input.old.device) (λ bytes. OnOk result (Appends
         (W.contents output.old.device) (W.contents output.new.device)
-        (session world.old bytes).text)) }
-    ensures world { IfSome (R.remaining input.old.device) (λ bytes.
-        OnOk result ((session world.old bytes).end ≡ Ok world.new)) }
+        (session (state_of state.old) bytes).text)) }
+    ensures state { IfSome (R.remaining input.old.device) (λ bytes.
+        OnOk result ((session (state_of state.old) bytes).end ≡ Ok (state_of state.new))) }
     ensures prefix { IfSome (R.remaining input.old.device) (λ bytes. OnErr result (AppendsPrefix
         (W.contents output.old.device) (W.contents output.new.device)
-        (session world.old bytes).text)) }
+        (session (state_of state.old) bytes).text)) }
     ensures fault { IfErr result (λ e. Explains e
-        (option_map (session world.old) (R.remaining input.old.device))
+        (option_map (session (state_of state.old)) (R.remaining input.old.device))
         input.new.failed output.new.failed) }
 {
     let mut pending = Pending::new();
@@ -39,7 +40,7 @@ fn perform_lines<R: Read, W: Write>(
         let Some(line) = pending.read_line(alloc, input)? else {
             return Ok(());
         };
-        let reply = perform(alloc, world, line.as_slice())?;
+        let reply = perform(alloc, state, line.as_slice())?;
         let Ok(()) = output.write_all(reply.text.as_bytes()) else {
             return Err(SessionFault::Write);
         };
@@ -60,23 +61,23 @@ fn perform_lines<R: Read, W: Write>(
 /// Carries out the lines of a script, and writes the text of each before the next is read.
 pub fn session<R: Read, W: Write>(
     alloc: Global,
-    world: World,
+    state: Session,
     input: &mut Input<R>,
     output: &mut Output<W>,
-) -> Result<World, SessionFault>
+) -> Result<Session, SessionFault>
     ensures written { IfSome (R.remaining input.old.device) (λ bytes. OnOk result (Appends
         (W.contents output.old.device) (W.contents output.new.device)
-        (session world bytes).text)) }
-    ensures world { IfSome (R.remaining input.old.device) (λ bytes.
-        IfOk result (λ last. (session world bytes).end ≡ Ok last)) }
+        (session (state_of state) bytes).text)) }
+    ensures state { IfSome (R.remaining input.old.device) (λ bytes.
+        IfOk result (λ last. (session (state_of state) bytes).end ≡ Ok (state_of last))) }
     ensures prefix { IfSome (R.remaining input.old.device) (λ bytes. OnErr result (AppendsPrefix
         (W.contents output.old.device) (W.contents output.new.device)
-        (session world bytes).text)) }
+        (session (state_of state) bytes).text)) }
     ensures fault { IfErr result (λ e. Explains e
-        (option_map (session world) (R.remaining input.old.device))
+        (option_map (session (state_of state)) (R.remaining input.old.device))
         input.new.failed output.new.failed) }
 {
-    let mut world = world;
-    perform_lines(alloc, &mut world, input, output)?;
-    Ok(world)
+    let mut state = state;
+    perform_lines(alloc, &mut state, input, output)?;
+    Ok(state)
 }

@@ -2,7 +2,7 @@
 //! passes whichever allocation fails.
 ghost use Rattle.std.specs.Prelude.{◌≤◌};
 
-use crate::programs::{FIRST, SECOND, world};
+use crate::programs::{FIRST, SECOND, start_session};
 use lab_debug::{SessionFault, session};
 use lab_io::{Input, Output, SlowIn, SlowOut};
 use lab_sched::FreshFault;
@@ -45,11 +45,11 @@ fn is_so_far(text: &[u8], end: usize) -> bool {
 
 /// What a session writes whose reads fail after so many bytes, one a call.
 fn read_once(alloc: Global, before: usize) -> Result<Option<Vec<u8>>, FreshFault> {
-    let world = world(alloc, &[FIRST, SECOND])?;
+    let start = start_session(alloc, &[FIRST, SECOND])?;
     let mut text = Vec::with_capacity(alloc, 1024)?;
     let end = session(
         alloc,
-        world,
+        start,
         &mut Input::new(SlowIn::new(SCRIPT, 1, before)),
         &mut Output::new(&mut text),
     );
@@ -85,10 +85,10 @@ fn write_once(
 ) -> Result<Option<SessionFault>, FreshFault>
     requires moves { 1 ≤ most }
 {
-    let world = world(alloc, &[FIRST, SECOND])?;
+    let start = start_session(alloc, &[FIRST, SECOND])?;
     let end = session(
         alloc,
-        world,
+        start,
         &mut Input::new(SCRIPT),
         &mut Output::new(SlowOut::new(room, most, before)),
     );

@@ -1,4 +1,5 @@
 //! Programs for tests, as the words that the assembler makes of the repository's examples, and worlds of them.
+use lab_debug::Session;
 use lab_sched::{Fresh, FreshFault, Program, World};
 use lc3_table::Profile;
 use lc3_word::Image;
@@ -47,12 +48,29 @@ fn program(alloc: Global, words: &[u16]) -> Result<Program, AllocError> {
     }
 }
 
-fn fresh_once(alloc: Global, programs: &[&[u16]]) -> Result<Fresh, FreshFault> {
+fn listed(alloc: Global, programs: &[&[u16]]) -> Result<Vec<Program>, AllocError> {
     let mut list = Vec::new(alloc);
     for words in programs {
         list.push(program(alloc, words)?)?;
     }
+    Ok(list)
+}
+
+fn fresh_once(alloc: Global, programs: &[&[u16]]) -> Result<Fresh, FreshFault> {
+    let list = listed(alloc, programs)?;
     Fresh::new(alloc, list.as_slice(), Profile::A)
+}
+
+fn session_once(alloc: Global, programs: &[&[u16]]) -> Result<Session, FreshFault> {
+    Session::new(alloc, listed(alloc, programs)?, Profile::A)
+}
+
+/// A session of these programs in profile A. What is refused for memory is tried once more.
+pub fn start_session(alloc: Global, programs: &[&[u16]]) -> Result<Session, FreshFault> {
+    match session_once(alloc, programs) {
+        Err(FreshFault::NoMemory) => session_once(alloc, programs),
+        made => made,
+    }
 }
 
 /// The laboratory of these programs in profile A. What is refused for memory is tried once more.

@@ -1,0 +1,126 @@
+//! Steps of a world, and which of them have an effect.
+ghost use Rattle.std.specs.Prelude.{◌≡◌, ◌++◌, true, false, IfOk, OnOk, length, replicate, slice_get, take};
+ghost use Rattle.lab_sched.specs.Worlds.{run};
+ghost use Rattle.lab_sched.specs.Schedules.{steps_of};
+ghost use Rattle.lab_sched.specs.declared.stepped.Stepped.TheVariants.{Same};
+ghost use Rattle.lab_debug.specs.Sessions.{effective, is_at, steps_until};
+
+use lab_sched::{Block, Stepped, World};
+use std::alloc::{AllocError, Global};
+
+/// Whether the program counter of process `pid` is at an address.
+fn is_at(world: &World, pid: usize, address: u16) -> bool
+    ensures value { result ≡ is_at address (slice_get world.now.processes pid) }
+{
+    match world.process(pid) {
+        Some(process) => process.machine().pc() == address,
+        None => false,
+    }
+}
+
+/// Whether a step did nothing.
+fn is_same(stepped: Stepped) -> bool
+    ensures yes { result ≡ true → stepped ≡ Same }
+    ensures no { result ≡ false → stepped ≡ Same → ⊥ }
+{
+    matches!(stepped, Stepped::Same)
+}
+
+/// Takes at most so many steps of a process: up to an address, and only steps that have an effect.
+/// It tells how many.
+pub fn step_until(
+    world: &mut World,
+    pid: usize,
+    address: u16,
+    count: u32,
+) -> Result<u32, AllocError>
+    ensures steps { IfOk result
+        (λ taken. replicate taken pid ≡ steps_until pid address world.old count) }
+    ensures world { IfOk result (λ taken. world.new ≡ run world.old (replicate taken pid)) }
+{
+    for i in 0..count {
+        if is_at(world, pid, address) {
+            return Ok(i);
+        }
+        let Ok(stepped) = world.step(pid) else {
+            return Err(AllocError);
+        };
+        if is_same(stepped) {
+            return Ok(i);
+        }
+    }
+    Ok(count)
+}
+
+/// Takes so many steps of a process, and tells how many had an effect.
+fn run_effective(world: &mut World, pid: usize, count: u32) -> Result<u32, AllocError>
+    ensures steps { IfOk result
+        (λ taken. replicate taken pid ≡ effective world.old (replicate count pid)) }
+    ensures world { OnOk result (world.new ≡ run world.old (replicate count pid)) }
+{
+    for i in 0..count {
+        let Ok(stepped) = world.step(pid) else {
+            return Err(AllocError);
+        };
+        if is_same(stepped) {
+            return Ok(i);
+        }
+    }
+    Ok(count)
+}
+
+/// Adds steps of a process at the end, if there are any.
+pub fn push_steps(blocks: &mut Vec<Block>, pid: usize, count: u32) -> Result<(), AllocError>
+    ensures steps { OnOk result
+        (steps_of blocks.new.items ≡ steps_of blocks.old.items ++ replicate count pid) }
+{
+    if count > 0 {
+        blocks.push(Block { pid, count })?;
+    }
+    Ok(())
+}
+
+/// Takes the steps of blocks. It tells those that had an effect, and how many they are.
+pub fn effective_blocks(
+    alloc: Global,
+    world: &mut World,
+    blocks: &[Block],
+) -> Result<(Vec<Block>, u64), AllocError>
+    ensures steps { IfOk result
+        (λ kept. steps_of kept.0.items ≡ effective world.old (steps_of blocks.now)) }
+    ensures total { IfOk result (λ kept. kept.1 ≡ length (steps_of kept.0.items)) }
+{
+    let mut kept = Vec::new(alloc);
+    let mut total: u64 = 0;
+    for block in blocks {
+        let count = run_effective(world, block.pid, block.count)?;
+        push_steps(&mut kept, block.pid, count)?;
+        let Some(sum) = total.checked_add(u64::from(count)) else {
+            return Err(AllocError);
+        };
+        total = sum;
+    }
+    Ok((kept, total))
+}
+
+/// Takes the first `most` steps of blocks, or all where there are fewer, and tells which.
+pub fn run_first(
+    alloc: Global,
+    world: &mut World,
+    blocks: &[Block],
+    most: u64,
+) -> Result<Vec<Block>, AllocError>
+    ensures steps { IfOk result
+        (λ taken. steps_of taken.items ≡ take most (steps_of blocks.now)) }
+    ensures world { IfOk result (λ taken. world.new ≡ run world.old (steps_of taken.items)) }
+{
+    let mut taken = Vec::new(alloc);
+    let mut left = most;
+    for block in blocks {
+        let count = u64::from(block.count).min(left) as u32;
+        let _ = run_effective(world, block.pid, count)?;
+        push_steps(&mut taken, block.pid, count)?;
+        left -= u64::from(count);
+    }
+    Ok(taken)
+}
