@@ -1,4 +1,4 @@
-//! Sources of processes: which label and which line an address has.
+//! Sources of processes, and what they are assembled to.
 #![tactic(auto)]
 
 mod source;
