@@ -10,7 +10,8 @@ use Rattle.std.proofs.lemmas.List.Folds.{list_any-append}
 use Rattle.lc3_table.specs.Statements.{option_or}
 use Rattle.lc3_table.specs.declared.operation.Fault.TheVariants as fault
 use Rattle.lc3_asm.specs.Texts.{place_fault, is_duplicate}
-use Rattle.lc3_asm.specs.Private.Addresses.{AreKept, addresses, addresses_after}
+use Rattle.lc3_asm.specs.Private.Tables.{AreKept}
+use Rattle.lc3_asm.specs.Addresses.{addresses, addresses_after}
 use Rattle.lc3_asm.proofs.PassLemmas.{labels_after, labels-passed}
 use Rattle.lc3_asm.proofs.SymbolsLemmas.{absent}
 use Rattle.lc3_table.specs.Meaning.{size}

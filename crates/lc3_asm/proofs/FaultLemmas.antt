@@ -11,7 +11,7 @@ use Rattle.lc3_table.specs.declared.operation.Fault.TheVariants as fault
 use Rattle.lc3_word.specs.Segment.{first_device}
 use Rattle.lc3_asm.specs.Texts.{At, LineWords, at_line, lines, lines_after, line_after, lines_read, is_end, is_origin, is_duplicate, label_of, labels, value, address_after, place_fault, with_earlier, words_at, all_ok, words_of_lines, program_with_words, program_of, program_of_lines, program}
 use Rattle.lc3_asm.specs.Faults.{Reading, outcome, told_once, fitted, kept, fault_of, numbered, reading_with, reading_after, reading, unless_unknown, label_fault, label_faults, faults_of, faults, refused_for, has_faults}
-use Rattle.lc3_asm.specs.Private.Views.{seen_line}
+use Rattle.lc3_asm.specs.Views.{seen_line}
 use Rattle.lc3_asm.specs.declared.line.Line.{Line as Read}
 use Rattle.lc3_asm.specs.declared.fault.LineFault.{LineFault}
 use Rattle.lc3_asm.proofs.PassLemmas.{pairs_after, pairs-counted}

@@ -8,7 +8,7 @@ use Rattle.lc3_table.specs.declared.fields.Field.{Field}
 use Rattle.lc3_table.specs.declared.operation.Fault.{Fault}
 use Rattle.lc3_table.specs.declared.operation.Form.{Form}
 use Rattle.lc3_table.specs.declared.operation.Form.TheVariants as form
-use Rattle.lc3_asm.specs.Private.Views.{seen_operand}
+use Rattle.lc3_asm.specs.Views.{seen_operand}
 use Rattle.lc3_asm.specs.declared.statement.Operand.{Operand as Read}
 use Rattle.lc3_asm.proofs.OperandSteps.{with_front}
 

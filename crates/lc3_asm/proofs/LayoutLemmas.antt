@@ -13,8 +13,8 @@ use Rattle.lc3_table.specs.declared.operation.Operation.{Operation}
 use Rattle.lc3_table.specs.declared.operation.Operation.TheVariants as op
 use Rattle.lc3_table.specs.declared.operation.Fault.{Fault}
 use Rattle.lc3_asm.specs.Texts.{LineWords, At, row, value, address_after, words_of, rows_of}
-use Rattle.lc3_asm.specs.Private.Addresses.{addresses_after}
-use Rattle.lc3_asm.specs.Private.Views.{seen_line}
+use Rattle.lc3_asm.specs.Addresses.{addresses_after}
+use Rattle.lc3_asm.specs.Views.{seen_line}
 use Rattle.lc3_asm.specs.Private.Layouts.{words_and_rows}
 use Rattle.lc3_asm.specs.declared.assembled.Row.{Row}
 use Rattle.lc3_asm.specs.declared.line.Line.{Line as Read}

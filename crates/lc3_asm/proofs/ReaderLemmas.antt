@@ -7,7 +7,7 @@ use Rattle.std.proofs.lemmas.List.Folds.{list_any-append}
 use Rattle.lc3_table.specs.Statements.{Line, Blank, LabelAlone, Operand}
 use Rattle.lc3_table.specs.Meaning.{size}
 use Rattle.lc3_asm.specs.Texts.{origin, origin_named, is_origin, address_after, labels, entry, label_of}
-use Rattle.lc3_asm.specs.Private.Addresses.{addresses}
+use Rattle.lc3_asm.specs.Addresses.{addresses}
 use Rattle.lc3_asm.specs.Faults.{bare_line}
 use Rattle.lc3_asm.specs.Private.Readings.{AreTables}
 use Rattle.lc3_asm.proofs.DraftLemmas.{address-next, origin-append, origin-first, sizes-append, labels-append, addresses_after-append, or_false-right}

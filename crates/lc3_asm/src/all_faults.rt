@@ -2,9 +2,9 @@
 
 ghost use Rattle.std.specs.Prelude.{◌≡◌, ◌+◌, ◌∷◌, ◌++◌, [], Some, IfOk, slice_get, OnOk};
 ghost use Rattle.lc3_asm.specs.Texts.{program, value, labels};
-ghost use Rattle.lc3_asm.specs.Private.Views.{seen_line};
+ghost use Rattle.lc3_asm.specs.Views.{seen_line};
 ghost use Rattle.lc3_table.specs.Meaning.{words};
-ghost use Rattle.lc3_asm.specs.Faults.{reading, unless_unknown, fault_of, numbered, label_faults, faults, refused_for};
+ghost use Rattle.lc3_asm.specs.Faults.{reading, unless_unknown, fault_of, numbered, label_faults, faults_of, faults, refused_for};
 
 use crate::encoding::line_words;
 use crate::fault::{LineError, LineFault};
@@ -15,7 +15,7 @@ use lc3_table::Fault;
 use std::alloc::{AllocError, Global};
 
 /// The lines of a text up to `.END`, with the faults of its reading.
-fn reading(alloc: Global, source: &str) -> Result<Reader, AllocError>
+pub fn reading(alloc: Global, source: &str) -> Result<Reader, AllocError>
     ensures read { IfOk result (λ reader. reader ≡ reading source.now) }
 {
     let mut reader = Reader::new(alloc);
@@ -87,23 +87,34 @@ fn push_label_faults(
     Ok(())
 }
 
-/// The faults of the lines of a text and of the labels that they name; of a text without a statement
-/// its one fault.
-fn faults_found(alloc: Global, source: &str) -> Result<Vec<LineFault>, AllocError>
-    ensures all { IfOk result (λ found. found.items ≡ faults source.now) }
+/// The faults of a text of this many lines that was read so: those of its lines and of the labels that
+/// they name; of a text without a statement its one fault.
+pub fn faults_of(
+    alloc: Global,
+    line_count: usize,
+    reader: &Reader,
+) -> Result<Vec<LineFault>, AllocError>
+    ensures all { IfOk result (λ found. found.items ≡ faults_of line_count reader.now) }
 {
-    let reader = reading(alloc, source)?;
     let mut found = Vec::new(alloc);
     if !has_faults(reader.faults()) && !reader.started() {
         found.push(LineFault {
-            line: line_count(source.as_bytes()),
+            line: line_count,
             kind: Fault::NoOrig,
         })?;
         return Ok(found);
     }
     found.extend_from_slice(reader.faults())?;
-    push_label_faults(alloc, &reader, &mut found)?;
+    push_label_faults(alloc, reader, &mut found)?;
     Ok(found)
+}
+
+/// The faults of the lines of a text and of the labels that they name.
+fn faults_found(alloc: Global, source: &str) -> Result<Vec<LineFault>, AllocError>
+    ensures all { IfOk result (λ found. found.items ≡ faults source.now) }
+{
+    let reader = reading(alloc, source)?;
+    faults_of(alloc, line_count(source.as_bytes()), &reader)
 }
 
 /// All the faults of a source text: those of its lines in their order, and then those of the labels

@@ -5,10 +5,11 @@ ghost use Rattle.std.specs.List.{list_any};
 ghost use Rattle.lc3_word.specs.Segment.{first_device};
 ghost use Rattle.lc3_asm.specs.Texts.{is_origin, origin, labels, address_after, place_fault};
 ghost use Rattle.lc3_table.specs.Statements.{Line, Operand, order_fault};
-ghost use Rattle.lc3_asm.specs.Private.Views.{seen_line};
-ghost use Rattle.lc3_asm.specs.Private.Addresses.{AreKept, addresses};
+ghost use Rattle.lc3_asm.specs.Views.{seen_line};
+ghost use Rattle.lc3_asm.specs.Private.Tables.{AreKept};
+ghost use Rattle.lc3_asm.specs.Addresses.{addresses};
 ghost use Rattle.lc3_table.specs.Meaning.{size};
-ghost use Rattle.lc3_asm.specs.Private.Drafts.{AddsLine};
+ghost use Rattle.lc3_asm.specs.Private.Results.{AddsLine};
 
 use crate::fault::LineError;
 use crate::line::{Line, read_line};

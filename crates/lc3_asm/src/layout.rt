@@ -3,8 +3,8 @@
 ghost use Rattle.std.specs.Prelude.{◌≡◌, ◌≤◌, ◌++◌, [], length, map, sum_by, OnOk, IfOk};
 ghost use Rattle.lc3_table.specs.Meaning.{size};
 ghost use Rattle.lc3_asm.specs.Texts.{row, words_of_lines};
-ghost use Rattle.lc3_asm.specs.Private.Views.{seen_line};
-ghost use Rattle.lc3_asm.specs.Private.Addresses.{addresses};
+ghost use Rattle.lc3_asm.specs.Views.{seen_line};
+ghost use Rattle.lc3_asm.specs.Addresses.{addresses};
 ghost use Rattle.lc3_asm.specs.Private.Layouts.{Lays, words_and_rows};
 
 use crate::assembled::Row;

@@ -21,9 +21,14 @@ mod symbols;
 mod token;
 mod word;
 
-pub use all_faults::faults;
+pub use all_faults::{faults, faults_of, reading};
 pub use assembled::{Assembled, Row, listing};
 pub use fault::{AsmFault, LineFault};
+pub use line::Line;
 pub use mark::{Mark, fault_mark};
-pub use passes::assemble;
+pub use passes::{assemble, first_line, line_count};
+pub use reader::Reader;
+pub use statement::{Operand, token_operation, without_colon};
 pub use symbols::Symbols;
+pub use token::{Token, first_token, without_separators};
+pub use word::{is_label, register};

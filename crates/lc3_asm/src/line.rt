@@ -1,7 +1,8 @@
 //! A line of a source text.
 
 ghost use Rattle.std.specs.Prelude.{◌≡◌, option_map, string_bytes, map, ◌≤◌, ◌^◌, IfOk, None};
-ghost use Rattle.lc3_asm.specs.Private.Views.{token_of, Gives, seen_line};
+ghost use Rattle.lc3_asm.specs.Views.{token_of, seen_line};
+ghost use Rattle.lc3_asm.specs.Private.Results.{Gives};
 ghost use Rattle.lc3_table.specs.Statements.{label_defined, begins_with_dot, operation_order, order_fault, with_operands, unless, Operates, line_of, line};
 
 use crate::fault::LineError;

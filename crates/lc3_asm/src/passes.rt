@@ -3,7 +3,7 @@
 ghost use Rattle.std.specs.Prelude.{◌≡◌, ◌<◌, ◌∷◌, Ok, IfOk, IfErr, IfSome, length, ◌≤◌, ◌==◌};
 ghost use Rattle.std.specs.List.{position_or_len};
 ghost use Rattle.lc3_asm.specs.Texts.{lines, lines_read, program_of, program, IsFault};
-ghost use Rattle.lc3_asm.specs.Private.Drafts.{lines_if};
+ghost use Rattle.lc3_asm.specs.Views.{lines_if};
 
 use crate::assembled::Assembled;
 use crate::draft::Draft;

@@ -6,9 +6,10 @@ ghost use Rattle.lc3_word.specs.Segment.{first_device};
 ghost use Rattle.lc3_asm.specs.Texts.{is_origin, is_end, origin, origin_named, labels, address_after, place_fault, is_duplicate, label_of};
 ghost use Rattle.lc3_table.specs.Statements.{Line, Operand, option_or};
 ghost use Rattle.lc3_table.specs.Meaning.{size};
-ghost use Rattle.lc3_asm.specs.Private.Views.{Gives, seen_line, token_of};
+ghost use Rattle.lc3_asm.specs.Private.Results.{Gives};
+ghost use Rattle.lc3_asm.specs.Views.{seen_line, token_of};
 ghost use Rattle.lc3_asm.specs.Private.Readings.{AreTables};
-ghost use Rattle.lc3_asm.specs.Private.Addresses.{addresses};
+ghost use Rattle.lc3_asm.specs.Addresses.{addresses};
 ghost use Rattle.lc3_asm.specs.Faults.{Reading, has_faults, is_too_long, line_behind, told_once, outcome, printable_or_blank, operation_named, new_label, label_begun, bare_line, stand_in, fitted, kept, numbered, reading_with};
 ghost use Rattle.lc3_table.specs.Tokens.{tokens};
 

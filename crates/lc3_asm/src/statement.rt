@@ -1,7 +1,8 @@
 //! Operands of a statement.
 
 ghost use Rattle.std.specs.Prelude.{◌≡◌, ◌<◌, ◌≤◌, IfOk, string_bytes, map, IsAscii, is_some, option_map, Option, Some, None, IfSome, IfNone, nat_abs, true, nat_le, ◌&&◌, length, ◌||◌, ◌-ℤ◌, pos};
-ghost use Rattle.lc3_asm.specs.Private.Views.{token_of, seen_operand, Gives};
+ghost use Rattle.lc3_asm.specs.Views.{token_of, seen_operand};
+ghost use Rattle.lc3_asm.specs.Private.Results.{Gives};
 ghost use Rattle.lc3_table.specs.Words.{upper, register};
 ghost use Rattle.std.specs.List.{list_all};
 ghost use Rattle.lc3_table.specs.Statements.{is_between, characters, onto, fault_in, token_fault, operand_by_register, operand_by_number, operand, operands, all_operands, escape, is_string_byte, takes_register, takes_label, accepts, forms, token_operation, without_colon};

@@ -3,7 +3,7 @@
 ghost use Rattle.std.specs.Prelude.{◌≡◌, ℕ, List, [], ◌∷◌, ◌++◌, OnOk, OnErr, string_bytes, false, length, option_map, slice_get};
 ghost use Rattle.lc3_asm.specs.Texts.{value};
 ghost use Rattle.lc3_asm.specs.Symbols.{symbol_list};
-ghost use Rattle.lc3_asm.specs.Private.Addresses.{is_defined};
+ghost use Rattle.lc3_asm.specs.Private.Tables.{is_defined};
 ghost use Rattle.lc3_asm.specs.Listings.{symbol_line, symbols_text};
 
 use indexmap::IndexMap;
@@ -73,7 +73,7 @@ impl Symbols {
     }
 
     /// Appends a line for each label: its name and its address.
-    pub(crate) fn push_lines(&self, text: &mut String) -> Result<(), AllocError>
+    pub fn push_lines(&self, text: &mut String) -> Result<(), AllocError>
         ensures text { OnOk result (string_bytes text.new
             ≡ string_bytes text.old ++ symbols_text self.now) }
     {

@@ -4,7 +4,7 @@ ghost use Rattle.std.specs.Prelude.{◌≡◌, ◌<◌, ◌≤◌, IsTrue, true,
 ghost use Rattle.std.specs.List.{prefix_len};
 ghost use Rattle.lc3_table.specs.Tokens.{is_separator, is_word_byte, tokens, tokens_from, Inside};
 ghost use Rattle.lc3_asm.specs.Private.Words.{starts_with_word};
-ghost use Rattle.lc3_asm.specs.Private.Views.{token_of};
+ghost use Rattle.lc3_asm.specs.Views.{token_of};
 
 use std::alloc::{AllocError, Global};
 

@@ -26,3 +26,5 @@ mod objects;
 mod processes;
 #[cfg(test)]
 mod texts;
+#[cfg(test)]
+mod warnings;

@@ -4,7 +4,7 @@ use Rattle.std.specs.List.{list_any}
 use Rattle.lc3_table.specs.Statements.{Line, Operand}
 use Rattle.lc3_table.specs.Meaning.{size}
 use Rattle.lc3_asm.specs.Texts.{labels, is_origin, origin}
-use Rattle.lc3_asm.specs.Private.Addresses.{addresses}
+use Rattle.lc3_asm.specs.Addresses.{addresses}
 use Rattle.lc3_word.specs.Segment.{first_device}
 
 -- the tables of the lines read so far

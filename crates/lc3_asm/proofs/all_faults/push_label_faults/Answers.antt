@@ -2,8 +2,8 @@ use Rattle.std.proofs.Common.{◌∙◌, ◌+◌, ◌++◌, [], sym, ap, get_or,
 use Rattle.lc3_asm.specs.Faults.{label_faults, numbered, fault_of}
 use Rattle.lc3_asm.specs.Texts.{value, labels}
 use Rattle.lc3_table.specs.Meaning.{words}
-use Rattle.lc3_asm.specs.Private.Views.{seen_line}
-use Rattle.lc3_asm.specs.Private.Addresses.{addresses}
+use Rattle.lc3_asm.specs.Views.{seen_line}
+use Rattle.lc3_asm.specs.Addresses.{addresses}
 use Rattle.lc3_asm.proofs.LayoutLemmas.{address_at}
 use Rattle.lc3_asm.proofs.FaultLemmas.{label_faults_after, label-faults-passed, labels-more}
 use Rattle.lc3_asm.proofs.all_faults.push_label_faults.Goals as goal

@@ -1,6 +1,6 @@
 use Rattle.std.proofs.Common.{◌≡◌, ◌++◌, map, take, drop}
 use Rattle.lc3_asm.specs.Faults.{label_faults}
-use Rattle.lc3_asm.specs.Private.Views.{seen_line}
+use Rattle.lc3_asm.specs.Views.{seen_line}
 use Rattle.lc3_asm.proofs.FaultLemmas.{label_faults_after}
 use Rattle.lc3_asm.proofs.all_faults.push_label_faults.Given as goal
 

@@ -1,6 +1,6 @@
 use Rattle.std.proofs.Common.{◌≡◌}
 use Rattle.lc3_asm.specs.Faults.{reading_after, reading}
-use Rattle.lc3_asm.specs.Private.Drafts.{lines_if}
+use Rattle.lc3_asm.specs.Views.{lines_if}
 use Rattle.lc3_asm.proofs.TextLemmas.{left}
 use Rattle.lc3_asm.proofs.all_faults.reading.Given as goal
 

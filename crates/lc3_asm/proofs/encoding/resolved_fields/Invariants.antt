@@ -1,7 +1,7 @@
 use Rattle.std.proofs.Common.{◌≡◌, map, drop}
 use Rattle.lc3_table.specs.Meaning.{resolved_fields}
 use Rattle.lc3_asm.specs.Texts.{value}
-use Rattle.lc3_asm.specs.Private.Views.{seen_operand}
+use Rattle.lc3_asm.specs.Views.{seen_operand}
 use Rattle.lc3_asm.proofs.OperandSteps.{with_front}
 use Rattle.lc3_asm.proofs.encoding.resolved_fields.Given as goal
 

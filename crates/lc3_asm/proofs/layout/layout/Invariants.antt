@@ -2,7 +2,7 @@ use Rattle.std.proofs.Common.{◌≡◌, ◌≤◌, [], length, map, take, drop}
 use Rattle.std.specs.Prelude.{sum_by}
 use Rattle.lc3_table.specs.Meaning.{size}
 use Rattle.lc3_asm.specs.Texts.{words_of_lines}
-use Rattle.lc3_asm.specs.Private.Views.{seen_line}
+use Rattle.lc3_asm.specs.Views.{seen_line}
 use Rattle.lc3_asm.specs.Private.Layouts.{words_and_rows}
 use Rattle.lc3_asm.proofs.PassLemmas.{words_after}
 use Rattle.lc3_asm.proofs.layout.layout.Given as goal

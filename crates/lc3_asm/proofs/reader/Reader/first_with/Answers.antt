@@ -1,5 +1,5 @@
 use Rattle.std.proofs.Common.{map, ap}
-use Rattle.lc3_asm.specs.Private.Views.{seen_line}
+use Rattle.lc3_asm.specs.Views.{seen_line}
 use Rattle.lc3_asm.proofs.ReaderLemmas.{first-kept, first-new}
 use Rattle.lc3_asm.proofs.reader.Reader.first_with.Goals as goal
 

@@ -1,6 +1,6 @@
 use Rattle.std.proofs.Common.{map, ap}
 use Rattle.lc3_asm.specs.Texts.{label_of}
-use Rattle.lc3_asm.specs.Private.Views.{seen_line}
+use Rattle.lc3_asm.specs.Views.{seen_line}
 use Rattle.lc3_asm.proofs.ReaderLemmas.{bare-room}
 use Rattle.lc3_asm.proofs.reader.Reader.fitted.Goals as goal
 

@@ -2,7 +2,7 @@ use Rattle.std.proofs.Common.{rules, ◌≡◌, ◌∙◌, sym, ap, map, ◌++�
 use Rattle.std.proofs.lemmas.List.{map-append}
 use Rattle.std.specs.Prelude.{◌||◌, string_bytes, is_some}
 use Rattle.lc3_asm.specs.Texts.{entry, label_of, is_origin}
-use Rattle.lc3_asm.specs.Private.Views.{seen_line}
+use Rattle.lc3_asm.specs.Views.{seen_line}
 use Rattle.lc3_asm.proofs.DraftLemmas.{entry-some, entry-none}
 use Rattle.lc3_asm.proofs.ReaderLemmas.{tables-more}
 use Rattle.lc3_asm.proofs.reader.Reader.with.Goals as goal

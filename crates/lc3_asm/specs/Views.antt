@@ -1,7 +1,7 @@
--- What the code's values say, in the words of the definition, and what a reader of the code gives.
-use Rattle.std.specs.Prelude.{◌≡◌, option_map, Result, Ok, Err, map, string_bytes}
+-- What the code's values say, in the words of the definition.
+use Rattle.std.specs.Prelude.{ℕ, List, [], Option, Some, None, option_map, map, string_bytes}
+use Rattle.std.specs.Borrow.{Bor}
 use Rattle.lc3_table.specs.Statements.{Line, Blank, LabelAlone, Operates, Operand, Register, Number, Label, Characters}
-use Rattle.lc3_table.specs.declared.operation.Fault.{Fault}
 use Rattle.lc3_table.specs.Tokens.{Token, Word, Quoted, Unclosed}
 use Rattle.lc3_asm.specs.declared.token.Token.{Token as ReadToken}
 use Rattle.lc3_asm.specs.declared.token.Token.TheVariants as tokens
@@ -9,8 +9,7 @@ use Rattle.lc3_asm.specs.declared.statement.Operand.{Operand as Read}
 use Rattle.lc3_asm.specs.declared.statement.Operand.TheVariants as read
 use Rattle.lc3_asm.specs.declared.line.Line.{Line as ReadLine}
 use Rattle.lc3_asm.specs.declared.line.Line.TheVariants as lines
-use Rattle.lc3_asm.specs.declared.fault.LineError.{LineError}
-use Rattle.lc3_asm.specs.declared.fault.LineError.TheVariants as errors
+use Rattle.lc3_asm.specs.Texts.{lines as text_lines}
 
 -- an operand, by what it holds
 abbrev pub seen_operand : Read → Operand
@@ -18,16 +17,6 @@ seen_operand (read.Register r) = Register r
 seen_operand (read.Number z) = Number z
 seen_operand (read.Label name) = Label (string_bytes name)
 seen_operand (read.Characters cs) = Characters cs.items
-
--- a fault is the one that the definition has; of want of memory nothing is said
-abbrev pub Fails : {Y : Type 0} → LineError → Result Y Fault → Type 0
-Fails errors.Memory read = Unit {0}
-Fails (errors.Fault f) read = read ≡ Err f
-
--- what a function returned, seen by view, is what the definition gives, unless memory ran out
-abbrev pub Gives : {X Y : Type 0} → (X → Y) → Result X LineError → Result Y Fault → Type 0
-Gives view (Ok x) read = read ≡ Ok (view x)
-Gives view (Err e) read = Fails e read
 
 -- a line, by what it holds
 abbrev pub seen_line : ReadLine → Line Operand
@@ -40,3 +29,8 @@ abbrev pub token_of : ReadToken → Token
 token_of (tokens.Word w) = Word w.now
 token_of (tokens.Quoted s) = Quoted s.now
 token_of tokens.Unclosed = Unclosed
+
+-- the lines of what follows a line feed
+abbrev pub lines_if : Option (Bor (List ℕ)) → List (List ℕ)
+lines_if None = []
+lines_if (Some text) = text_lines text.now

@@ -1,22 +1,14 @@
--- The addresses of a text's lines and of its labels, as an assembler's tables keep them.
-use Rattle.std.specs.Prelude.{ℕ, ◌≡◌, ◌≤◌, List, [], ◌∷◌, ◌++◌, Bool, false, is_some}
+-- The tables of an assembler.
+use Rattle.std.specs.Prelude.{ℕ, ◌≡◌, ◌≤◌, List, Bool, false, is_some}
 use Rattle.std.specs.List.{list_any}
 use Rattle.lc3_table.specs.Statements.{Line, Operand}
 use Rattle.lc3_asm.specs.Texts.{value, labels, is_origin, origin, address_after}
+use Rattle.lc3_asm.specs.Addresses.{addresses}
 use Rattle.lc3_word.specs.Segment.{first_device}
 
 -- whether the label is there
 abbrev pub is_defined : List (List ℕ × ℕ) → List ℕ → Bool
 is_defined known name = is_some (value known name)
-
--- the addresses of these lines, which stand after those before
-abbrev pub addresses_after : List (Line Operand) → List (Line Operand) → List ℕ
-addresses_after before [] = []
-addresses_after before (l ∷ ls) = address_after before ∷ addresses_after (before ++ l ∷ []) ls
-
--- the addresses of the lines of a text
-abbrev pub addresses : List (Line Operand) → List ℕ
-addresses ls = addresses_after [] ls
 
 -- the tables of an assembler, as they follow from the lines read so far
 pub record AreKept (symbols : List (List ℕ × ℕ)) (places : List ℕ) (started : Bool) (first : ℕ) (address : ℕ) (lines : List (Line Operand)) : Type 0 where

@@ -1,0 +1,91 @@
+//! Characters as they are shown.
+use std::fmt;
+use std::fmt::Write;
+
+/// The most characters of a word that a text shows.
+const SHOWN: usize = 40;
+
+/// Whether a character has no picture: a control character, or one that tells how others are drawn.
+fn has_no_picture(character: char) -> bool {
+    matches!(
+        u32::from(character),
+        0..=8 | 10..=0x1F | 0x7F..=0x9F | 0x200B..=0x200F | 0x2028..=0x202E | 0x2060..=0x206F | 0xFEFF
+    )
+}
+
+/// The character, or `?` in the place of one without a picture.
+pub(crate) fn picture(character: char) -> char {
+    if has_no_picture(character) {
+        '?'
+    } else {
+        character
+    }
+}
+
+/// A word of a source inside a text: of one with over 40 characters the first 40 and `...`.
+#[derive(Clone, Copy)]
+pub(crate) struct Excerpt<'a>(pub &'a str);
+
+impl fmt::Display for Excerpt<'_> {
+    fn fmt<W: fmt::Write>(&self, f: &mut fmt::Formatter<W>) -> fmt::Result {
+        for character in self.0.chars().take(SHOWN) {
+            f.write_char(picture(character))?;
+        }
+        if self.0.chars().nth(SHOWN).is_some() {
+            write!(f, "...")?;
+        }
+        Ok(())
+    }
+}
+
+/// A character by its number, as `U+00E9`.
+#[derive(Clone, Copy)]
+pub(crate) struct Number(pub char);
+
+impl fmt::Display for Number {
+    fn fmt<W: fmt::Write>(&self, f: &mut fmt::Formatter<W>) -> fmt::Result {
+        let number = u32::from(self.0);
+        write!(f, "U+{number:04X}")
+    }
+}
+
+/// A number with commas at the thousands; it is less than a million in magnitude.
+#[derive(Clone, Copy)]
+pub(crate) struct Grouped(pub i64);
+
+impl fmt::Display for Grouped {
+    fn fmt<W: fmt::Write>(&self, f: &mut fmt::Formatter<W>) -> fmt::Result {
+        let magnitude = self.0.unsigned_abs();
+        let thousands = magnitude / 1000;
+        let rest = magnitude % 1000;
+        if self.0 < 0 {
+            write!(f, "-")?;
+        }
+        if thousands == 0 {
+            write!(f, "{rest}")
+        } else {
+            write!(f, "{thousands},{rest:03}")
+        }
+    }
+}
+
+/// Whether a character is a quote of print.
+pub(crate) fn is_typographic_quote(character: char) -> bool {
+    matches!(
+        character,
+        '\u{2018}' | '\u{2019}' | '\u{201C}'..='\u{201F}' | '\u{AB}' | '\u{BB}'
+    )
+}
+
+/// Whether a character is a dash.
+pub(crate) fn is_dash(character: char) -> bool {
+    matches!(character, '\u{2010}'..='\u{2015}' | '\u{2212}')
+}
+
+/// Whether a character is a blank that separates no words.
+pub(crate) fn is_other_blank(character: char) -> bool {
+    matches!(
+        character,
+        '\u{A0}' | '\u{2000}'..='\u{200B}' | '\u{202F}' | '\u{3000}' | '\u{FEFF}'
+    )
+}

@@ -1,0 +1,21 @@
+//! Messages about a source: everything that is wrong with it, each fault in words and with its place.
+#![tactic(auto)]
+
+mod characters;
+mod forms;
+mod labels;
+mod lines;
+mod message;
+mod misspelt;
+mod operands;
+mod operations;
+mod parts;
+mod plain;
+mod references;
+mod report;
+mod strings;
+mod texts;
+mod told;
+mod words;
+
+pub use report::{Report, Wish, report_on};

@@ -1,0 +1,104 @@
+//! A message and its place.
+ghost use Rattle.std.specs.Prelude.{◌≡◌, ◌<◌, ◌≤◌, IfSome, length};
+
+use lc3_table::Fault;
+use std::fmt;
+
+/// A part of a line that isn't empty, by the places of its bytes.
+#[derive(Clone, Copy)]
+pub(crate) struct Span {
+    /// The place of its first byte in the line, from 0.
+    pub start: usize,
+    /// The place behind its last byte.
+    pub end: usize,
+}
+
+/// What a message is about.
+#[derive(Clone, Copy)]
+pub(crate) enum Kind {
+    /// A fault, for which the source is refused.
+    Fault(Fault),
+    /// Bytes that are no text.
+    NotUtf8,
+    /// A warning, by its name.
+    Warning(&'static str),
+}
+
+impl Kind {
+    /// Whether the source is refused for it.
+    pub fn is_error(self) -> bool {
+        !matches!(self, Kind::Warning(_))
+    }
+}
+
+impl fmt::Display for Kind {
+    fn fmt<W: fmt::Write>(&self, f: &mut fmt::Formatter<W>) -> fmt::Result {
+        match *self {
+            Kind::Fault(fault) => write!(f, "{fault:?}"),
+            Kind::NotUtf8 => write!(f, "NotUtf8"),
+            Kind::Warning(name) => write!(f, "{name}"),
+        }
+    }
+}
+
+/// What is said of a place in a line.
+#[derive(Drop)]
+pub(crate) struct Remark {
+    /// What it is about, if there is a part to mark.
+    pub mark: Option<Span>,
+    pub text: String,
+}
+
+/// What is said of a place of a source.
+#[derive(Drop)]
+pub(crate) struct Message {
+    /// The line, from 1.
+    pub line: usize,
+    /// The place of its first character in the line, from 1, in characters.
+    pub column: usize,
+    /// What of the line it is about, if there is a part to mark.
+    pub mark: Option<Span>,
+    pub kind: Kind,
+    pub text: String,
+}
+
+/// The part of a line between these places, where it lies within the line and isn't empty.
+fn span_within(line: &str, mark: Span) -> Option<Span>
+    ensures within { IfSome result
+        (λ span. (span.start < span.end) × (span.end ≤ length line.now)) }
+{
+    if mark.start < mark.end && mark.end <= line.len() {
+        Some(mark)
+    } else {
+        None
+    }
+}
+
+/// How many characters a line has in front of a place.
+fn characters_before(line: &str, place: usize) -> usize {
+    line.get(..place).unwrap_or("").chars().count()
+}
+
+/// The message about a place of the line with this number, from 1. What is marked lies within the line.
+pub(crate) fn message_on(line: &str, number: usize, kind: Kind, remark: Remark) -> Message
+    ensures line { result.line ≡ number }
+    ensures kind { result.kind ≡ kind }
+    ensures mark { IfSome result.mark
+        (λ span. (span.start < span.end) × (span.end ≤ length line.now)) }
+{
+    let mark = match remark.mark {
+        Some(mark) => span_within(line, mark),
+        None => None,
+    };
+    let start = match mark {
+        Some(mark) => mark.start,
+        None => 0,
+    };
+    Message {
+        line: number,
+        column: characters_before(line, start).saturating_add(1),
+        mark,
+        kind,
+        text: remark.text,
+    }
+}

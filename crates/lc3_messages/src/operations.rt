@@ -1,0 +1,180 @@
+//! Words in the place of a label or of an operation.
+use crate::characters::{Excerpt, picture};
+use crate::message::{Remark, Span};
+use crate::parts::{Part, part_at, text_of};
+use crate::texts::{Place, Source};
+use crate::words::{did_you_mean, is_number, is_operation, is_register, operation_meant, upper};
+use lc3_asm::{Token, is_label, without_colon};
+use std::alloc::{AllocError, Global};
+
+/// The most characters that a label has.
+const LABEL_LENGTH: usize = 80;
+
+/// A word without the `:` that may end a label.
+pub(crate) fn name_of(word: &str) -> &str {
+    word.get(..without_colon(word.as_bytes()).len())
+        .unwrap_or(word)
+}
+
+/// The first character that can't stand in a label.
+fn other_character(name: &str) -> Option<char> {
+    name.chars().find(|character| !character.is_ascii_alphanumeric() && *character != '_')
+}
+
+/// What is said of a name that has no form of a label.
+fn no_label(alloc: Global, name: &str) -> Result<String, AllocError> {
+    let shown = Excerpt(name);
+    match name.as_bytes().first() {
+        Some(b'/' | b'#' | b'*') => {
+            return format!(in alloc; "{shown} is no label; a comment begins with ;");
+        }
+        Some(b'0'..=b'9') => {
+            return format!(in alloc; "{shown} is no label; a label begins with a letter or _");
+        }
+        _ => {}
+    }
+    if let Some(character) = other_character(name) {
+        let character = picture(character);
+        return format!(in alloc;
+            "{shown} is no label; a label has letters, digits and _ alone, and no {character}"
+        );
+    }
+    let count = name.len();
+    format!(in alloc;
+        "{shown} is no label; it has {count} characters, and a label has at most {LABEL_LENGTH}"
+    )
+}
+
+/// What is said of a word that can't be the label of its line.
+pub(crate) fn bad_label(alloc: Global, place: Place<'_>) -> Result<Remark, AllocError> {
+    let name = name_of(place.word());
+    let shown = Excerpt(name);
+    let bytes = name.as_bytes();
+    let text = if is_label(bytes) {
+        String::from_str(alloc, ".ORIG takes no label")?
+    } else if bytes.is_empty() {
+        String::from_str(alloc, "a : stands right behind a label")?
+    } else if is_number(bytes) {
+        format!(in alloc; "{shown} is a number, so it can't be a label")?
+    } else if is_register(bytes) {
+        format!(in alloc; "{shown} is a register, so it can't be a label")?
+    } else if is_operation(bytes) {
+        format!(in alloc; "{shown} is an operation, so it can't be a label")?
+    } else {
+        no_label(alloc, name)?
+    };
+    Ok(place.remark(text))
+}
+
+/// What is said of a token of the line.
+fn remark_on(line: &str, part: Part<'_>, text: String) -> Remark {
+    Remark {
+        mark: Some(Span {
+            start: part.start,
+            end: part.end,
+        }),
+        text,
+    }
+}
+
+/// What is said of a word that names no operation, where this one may have been meant.
+fn no_operation(
+    alloc: Global,
+    line: &str,
+    part: Part<'_>,
+    meant: Option<&str>,
+) -> Result<Remark, AllocError> {
+    let shown = Excerpt(text_of(line, part));
+    let mean = did_you_mean(alloc, meant)?;
+    let text = format!(in alloc; "{shown} is no operation and no directive{mean}")?;
+    Ok(remark_on(line, part, text))
+}
+
+/// The operation that the first token of a line was meant to name, if it is spelled nearly like one and has no `:`.
+fn first_meant(alloc: Global, word: &str) -> Result<Option<&'static str>, AllocError> {
+    if word.ends_with(':') {
+        return Ok(None);
+    }
+    operation_meant(alloc, word.as_bytes())
+}
+
+/// What is said where a word stands behind what may be a label, and neither names an operation.
+fn two_words(
+    alloc: Global,
+    source: &Source<'_>,
+    line: &str,
+    first: Part<'_>,
+    second: Part<'_>,
+) -> Result<Remark, AllocError> {
+    let first_meant = first_meant(alloc, text_of(line, first))?;
+    let second_word = text_of(line, second).as_bytes();
+    let name = upper(alloc, second_word)?;
+    if first_meant.is_some() && source.labels.definition(&name).is_some() {
+        return no_operation(alloc, line, first, first_meant);
+    }
+    let second_meant = operation_meant(alloc, second_word)?;
+    if second_meant.is_none() && first_meant.is_some() {
+        return no_operation(alloc, line, first, first_meant);
+    }
+    no_operation(alloc, line, second, second_meant)
+}
+
+/// What is said where an operand stands behind what may be a label.
+fn operand_behind(
+    alloc: Global,
+    line: &str,
+    first: Part<'_>,
+    second: Part<'_>,
+) -> Result<Remark, AllocError> {
+    let word = text_of(line, first);
+    let meant = first_meant(alloc, word)?;
+    if meant.is_some() {
+        return no_operation(alloc, line, first, meant);
+    }
+    let shown = Excerpt(name_of(word));
+    let text = match second.token {
+        Token::Word(operand) if is_number(operand) => format!(in alloc;
+            "behind the label {shown} stands an operation or a directive, as .FILL before a number"
+        )?,
+        Token::Word(_) if word.ends_with(':') => format!(in alloc;
+            "behind the label {shown} stands an operation or a directive"
+        )?,
+        Token::Word(_) => return no_operation(alloc, line, first, None),
+        _ => format!(in alloc;
+            "behind the label {shown} stands an operation or a directive, as .STRINGZ before a string"
+        )?,
+    };
+    Ok(remark_on(line, second, text))
+}
+
+/// What is said of a line in which no operation stands where one has to.
+pub(crate) fn bad_operation(
+    alloc: Global,
+    source: &Source<'_>,
+    place: Place<'_>,
+) -> Result<Remark, AllocError> {
+    let line = place.line;
+    let bytes = line.as_bytes();
+    let Some(first) = part_at(bytes, 0) else {
+        return Ok(place.remark(String::new(alloc)));
+    };
+    match (first.token, part_at(bytes, 1)) {
+        (Token::Word([b'.', ..]), _) | (Token::Word(_), None) => {
+            let meant = operation_meant(alloc, text_of(line, first).as_bytes())?;
+            no_operation(alloc, line, first, meant)
+        }
+        (Token::Word(_), Some(second)) => match second.token {
+            Token::Word(word) if !is_number(word) && !is_register(word) => {
+                two_words(alloc, source, line, first, second)
+            }
+            _ => operand_behind(alloc, line, first, second),
+        },
+        _ => {
+            let text = String::from_str(
+                alloc,
+                "a string begins no statement; here stands a label, an operation or a directive",
+            )?;
+            Ok(remark_on(line, first, text))
+        }
+    }
+}

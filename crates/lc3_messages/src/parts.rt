@@ -1,0 +1,46 @@
+//! The tokens of a line with their places.
+ghost use Rattle.std.specs.Prelude.{◌≡◌, ◌<◌, ◌≤◌, IfSome, length};
+
+use lc3_asm::{Token, first_token, without_separators};
+
+/// A token of a line, and where it stands.
+#[derive(Clone, Copy)]
+pub(crate) struct Part<'a> {
+    pub token: Token<'a>,
+    /// The place of its first byte in the line, from 0.
+    pub start: usize,
+    /// The place behind its last byte.
+    pub end: usize,
+}
+
+/// The token with this number, from 0, if there is one.
+pub(crate) fn part_at(line: &[u8], number: usize) -> Option<Part<'_>> {
+    let mut rest = line;
+    for _ in 0..number {
+        let (_, after) = first_token(rest)?;
+        rest = after;
+    }
+    let rest = without_separators(rest);
+    let (token, after) = first_token(rest)?;
+    Some(Part {
+        token,
+        start: line.len().saturating_sub(rest.len()),
+        end: line.len().saturating_sub(after.len()),
+    })
+}
+
+/// How many tokens a line has.
+pub(crate) fn part_count(line: &[u8]) -> usize {
+    let mut rest = line;
+    let mut count = 0_usize;
+    while let Some((_, after)) = first_token(rest) {
+        rest = after;
+        count = count.saturating_add(1);
+    }
+    count
+}
+
+/// The text of a part of a line.
+pub(crate) fn text_of<'a>(line: &'a str, part: Part<'_>) -> &'a str {
+    line.get(part.start..part.end).unwrap_or("")
+}

@@ -1,0 +1,60 @@
+//! Characters that can't stand in a word.
+use crate::characters::{Number, is_dash, is_other_blank, is_typographic_quote};
+use crate::message::{Remark, Span};
+use std::alloc::{AllocError, Global};
+
+/// Whether a character may stand in a word.
+fn is_plain(character: char) -> bool {
+    let number = u32::from(character);
+    0x21 <= number && number <= 0x7E
+}
+
+/// The first character in a part of a line that can't stand in a word, and its place.
+fn bad_character(line: &str, mark: Span) -> Option<(usize, char)> {
+    line.char_indices().find(|(i, character)| mark.start <= *i
+        && *i < mark.end
+        && !is_plain(*character))
+}
+
+/// What is said of a character that can't stand in a word.
+fn text_of(alloc: Global, character: char, is_first: bool) -> Result<String, AllocError> {
+    let number = Number(character);
+    if is_first && character == '\u{FEFF}' {
+        return format!(in alloc;
+            "the file begins with a byte order mark, {number}; save it as UTF-8 without one"
+        );
+    }
+    if is_typographic_quote(character) {
+        return format!(in alloc;
+            "this is a typographic quote, {number}; a string stands between two \""
+        );
+    }
+    if is_dash(character) {
+        return format!(in alloc; "this is a dash, {number}; a minus is written -");
+    }
+    if is_other_blank(character) {
+        return format!(in alloc;
+            "this is a blank of another kind, {number}; blanks, tabs and commas separate words"
+        );
+    }
+    format!(in alloc;
+        "the character {number} can't stand in a word; words have characters from x21 to x7E"
+    )
+}
+
+/// What is said of a word with a character that can't stand in one.
+pub(crate) fn bad_token(
+    alloc: Global,
+    line: &str,
+    number: usize,
+    word: Span,
+) -> Result<Remark, AllocError> {
+    let (at, character) = bad_character(line, word).unwrap_or((word.start, ' '));
+    Ok(Remark {
+        mark: Some(Span {
+            start: at,
+            end: at.saturating_add(character.len_utf8()),
+        }),
+        text: text_of(alloc, character, number == 1 && at == 0)?,
+    })
+}

@@ -1,0 +1,275 @@
+//! All messages about a source, as they are written.
+use crate::characters::{Excerpt, picture};
+use crate::labels::labels_of;
+use crate::lines::{end_of, lines_of};
+use crate::message::{Kind, Message, Remark, Span, message_on};
+use crate::misspelt::misspelt_remark;
+use crate::operations::name_of;
+use crate::texts::{Source, line_at, remark};
+use crate::told::{Finding, MISSPELT, What, findings};
+use crate::words::operation_word;
+use lc3_asm::{faults_of, reading};
+use lc3_table::Profile;
+use lc3_warnings::{Kind as WarningKind, Warning, push_text};
+use std::alloc::{AllocError, Global};
+use std::fmt::Write;
+
+/// The most messages of a source that are written.
+const MOST: usize = 100;
+
+/// The most characters of a line that is written below its message.
+const LENGTH: usize = 200;
+
+/// What is asked about the warnings of a source.
+#[derive(Clone, Copy)]
+pub struct Wish<'a> {
+    /// The machine that the warnings are about.
+    pub profile: Profile,
+    /// The names of the warnings that are left out.
+    pub allowed: &'a [&'a str],
+}
+
+/// The lines that tell what is wrong with a source, and how many messages there are.
+#[derive(Drop)]
+pub struct Report {
+    /// The lines, each with its line feed.
+    pub text: String,
+    pub errors: usize,
+    pub warnings: usize,
+}
+
+/// Adds a line as it is shown, and a `^` below each character of the mark.
+fn push_marked(text: &mut String, line: &str, mark: Span) -> Result<(), AllocError> {
+    push_shown(text, line)?;
+    text.push('\n')?;
+    for character in line.get(..mark.start).unwrap_or("").chars() {
+        text.push(if character == '\t' { '\t' } else { ' ' })?;
+    }
+    let count = line.get(mark.start..mark.end).unwrap_or("").chars().count();
+    push_carets(text, count)?;
+    text.push('\n')
+}
+
+/// Adds a line as it is shown.
+fn push_shown(text: &mut String, line: &str) -> Result<(), AllocError> {
+    for character in line.chars() {
+        text.push(picture(character))?;
+    }
+    Ok(())
+}
+
+/// Adds so many `^`.
+fn push_carets(text: &mut String, count: usize) -> Result<(), AllocError> {
+    for _ in 0..count {
+        text.push('^')?;
+    }
+    Ok(())
+}
+
+/// Adds the lines of a message.
+fn push_message(
+    text: &mut String,
+    file: &str,
+    line: &str,
+    message: &Message,
+) -> Result<(), AllocError> {
+    let number = message.line;
+    let column = message.column;
+    let sort = if message.kind.is_error() {
+        "error"
+    } else {
+        "warning"
+    };
+    let told = message.text.as_str();
+    let kind = message.kind;
+    write!(text, "{file}:{number}:{column}: {sort}: {told} [{kind}]\n")?;
+    match message.mark {
+        Some(mark) if line.chars().nth(LENGTH).is_none() => push_marked(text, line, mark),
+        _ => Ok(()),
+    }
+}
+
+/// Adds a number of errors or of warnings.
+fn push_count(text: &mut String, count: usize, name: &str) -> Result<(), AllocError> {
+    if count == 1 {
+        write!(text, "1 {name}")
+    } else {
+        write!(text, "{count} {name}s")
+    }
+}
+
+/// Adds the line with the numbers of errors and warnings, if there are any.
+fn push_counts(
+    text: &mut String,
+    file: &str,
+    errors: usize,
+    warnings: usize,
+) -> Result<(), AllocError> {
+    let all = errors.saturating_add(warnings);
+    if all == 0 {
+        return Ok(());
+    }
+    write!(text, "lc3lab: {file}: ")?;
+    if errors > 0 {
+        push_count(text, errors, "error")?;
+    }
+    if errors > 0 && warnings > 0 {
+        text.push_str(", ")?;
+    }
+    if warnings > 0 {
+        push_count(text, warnings, "warning")?;
+    }
+    if all > MOST {
+        write!(text, " ({MOST} of {all} are shown)")?;
+    }
+    text.push('\n')
+}
+
+/// The word that a warning about a line speaks of: the one that is marked, or the operation of another line.
+fn word_spoken_of<'a>(source: &Source<'a>, line: &'a str, warning: Warning) -> &'a str {
+    match warning.kind {
+        WarningKind::LostReturn { writer } => operation_word(line_at(source, writer)),
+        _ => line.get(warning.start..warning.end).unwrap_or(""),
+    }
+}
+
+/// What is said of a warning about a line.
+fn warning_remark<'a>(
+    alloc: Global,
+    source: &Source<'a>,
+    line: &'a str,
+    warning: Warning,
+) -> Result<Remark, AllocError> {
+    let word = word_spoken_of(source, line, warning);
+    let shown = Excerpt(name_of(word));
+    let shown = format!(in alloc; "{shown}")?;
+    let mut text = String::new(alloc);
+    push_text(&mut text, warning.kind, &shown)?;
+    Ok(Remark {
+        mark: Some(Span {
+            start: warning.start,
+            end: warning.end,
+        }),
+        text,
+    })
+}
+
+/// The message about a finding.
+fn message_of<'a>(
+    alloc: Global,
+    source: &Source<'a>,
+    line: &'a str,
+    finding: Finding,
+) -> Result<Message, AllocError> {
+    match finding.what {
+        What::Fault(fault) => {
+            let remark = remark(alloc, source, finding.line, fault)?;
+            Ok(message_on(line, finding.line, Kind::Fault(fault), remark))
+        }
+        What::Misspelt(meant) => {
+            let remark = misspelt_remark(alloc, line, meant)?;
+            Ok(message_on(line, finding.line, Kind::Warning(MISSPELT), remark))
+        }
+        What::Warning(warning) => {
+            let remark = warning_remark(alloc, source, line, warning)?;
+            let kind = Kind::Warning(warning.kind.name());
+            Ok(message_on(line, finding.line, kind, remark))
+        }
+    }
+}
+
+/// Adds the messages about the first findings.
+fn push_messages(
+    alloc: Global,
+    text: &mut String,
+    file: &str,
+    source: &Source<'_>,
+    findings: &[Finding],
+) -> Result<(), AllocError> {
+    for finding in findings.iter().take(MOST) {
+        let line = line_at(source, finding.line);
+        let message = message_of(alloc, source, line, *finding)?;
+        push_message(text, file, line, &message)?;
+    }
+    Ok(())
+}
+
+/// The messages about a text.
+fn text_report(
+    alloc: Global,
+    file: &str,
+    content: &str,
+    wish: Wish<'_>,
+) -> Result<Report, AllocError> {
+    let lines = lines_of(alloc, content)?;
+    let reader = reading(alloc, content)?;
+    let labels = labels_of(alloc, &lines, &reader)?;
+    let names = labels.names(alloc)?;
+    let source = Source {
+        lines: &lines,
+        reader: &reader,
+        labels: &labels,
+        names: &names,
+    };
+    let faults = faults_of(alloc, lines.len(), &reader)?;
+    let findings = findings(alloc, &source, &faults, content, wish)?;
+    let errors = findings.iter().filter(|it| it.what.is_error()).count();
+    let warnings = findings.len().saturating_sub(errors);
+    let mut text = String::new(alloc);
+    push_messages(alloc, &mut text, file, &source, &findings)?;
+    push_counts(&mut text, file, errors, warnings)?;
+    Ok(Report {
+        text,
+        errors,
+        warnings,
+    })
+}
+
+/// The message about bytes that are no UTF-8 from a place on.
+fn no_text_report(
+    alloc: Global,
+    file: &str,
+    bytes: &[u8],
+    place: usize,
+) -> Result<Report, AllocError> {
+    let (front, rest) = bytes.split_at(place.min(bytes.len()));
+    let (line, before) = end_of(std::str::from_utf8(front).unwrap_or(""));
+    let remark = match (bytes, rest.first()) {
+        ([0xFF, 0xFE, ..] | [0xFE, 0xFF, ..], _) | (_, None) => String::from_str(
+            alloc,
+            "the file is UTF-16; save it as UTF-8",
+        )?,
+        (_, Some(byte)) => format!(in alloc;
+            "the byte x{byte:02X} is no UTF-8; save the file as UTF-8"
+        )?,
+    };
+    let message = Message {
+        line,
+        column: before.saturating_add(1),
+        mark: None,
+        kind: Kind::NotUtf8,
+        text: remark,
+    };
+    let mut text = String::new(alloc);
+    push_message(&mut text, file, "", &message)?;
+    push_counts(&mut text, file, 1, 0)?;
+    Ok(Report {
+        text,
+        errors: 1,
+        warnings: 0,
+    })
+}
+
+/// All messages about the bytes of a source, by its lines, and behind them a line with their numbers. `file` is the name of
+/// the source as it is shown. At most 100 messages are written; all are counted.
+pub fn report_on(
+    alloc: Global,
+    file: &str,
+    bytes: &[u8],
+    wish: Wish<'_>,
+) -> Result<Report, AllocError> {
+    match std::str::from_utf8(bytes) {
+        Ok(content) => text_report(alloc, file, content, wish),
+        Err(error) => no_text_report(alloc, file, bytes, error.valid_up_to()),
+    }
+}

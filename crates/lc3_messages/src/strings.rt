@@ -1,0 +1,119 @@
+//! Strings without an end, and what can't stand in one.
+use crate::characters::{Number, is_typographic_quote, picture};
+use crate::message::{Remark, Span};
+use std::alloc::{AllocError, Global};
+
+/// Whether a character may stand behind the backslash of an escape.
+fn is_escape(character: char) -> bool {
+    matches!(
+        character,
+        'n' | 't' | 'r' | 'a' | 'b' | 'f' | 'v' | 'e' | '0' | '"' | '\\'
+    )
+}
+
+/// Whether a character may stand in a string as itself.
+fn is_string_character(character: char) -> bool {
+    matches!(character, ' '..='~' | '\t')
+}
+
+/// What is bad in a string.
+#[derive(Clone, Copy)]
+enum Bad {
+    /// An escape with this character behind its backslash.
+    Escape(char),
+    Character(char),
+}
+
+/// The first bad thing in a text, and its place.
+fn first_bad(text: &str) -> Option<(usize, Bad)> {
+    let mut backslash = None;
+    for (i, character) in text.char_indices() {
+        match backslash {
+            Some(at) => {
+                if !is_escape(character) {
+                    return Some((at, Bad::Escape(character)));
+                }
+                backslash = None;
+            }
+            None if character == '\\' => backslash = Some(i),
+            None => if !is_string_character(character) {
+                return Some((i, Bad::Character(character)));
+            },
+        }
+    }
+    None
+}
+
+/// Whether a string has a quote at its end.
+fn is_closed(text: &str) -> bool {
+    let mut is_escaped = false;
+    for character in text.chars().skip(1) {
+        if is_escaped {
+            is_escaped = false;
+        } else if character == '"' {
+            return true;
+        } else {
+            is_escaped = character == '\\';
+        }
+    }
+    false
+}
+
+/// What is said of a string without an end.
+fn unclosed(alloc: Global, text: &str) -> Result<String, AllocError> {
+    match text
+        .chars()
+        .find(|character| is_typographic_quote(*character))
+    {
+        Some(character) => {
+            let number = Number(character);
+            format!(in alloc; "this string has no end; a \" closes it, and {number} doesn't")
+        }
+        None => String::from_str(alloc, "this string has no end; a \" closes it"),
+    }
+}
+
+/// What is said of a bad string.
+pub(crate) fn bad_string(alloc: Global, line: &str, string: Span) -> Result<Remark, AllocError> {
+    let text = line.get(string.start..string.end).unwrap_or("");
+    if !is_closed(text) {
+        return Ok(Remark {
+            mark: Some(Span {
+                start: string.start,
+                end: string.end,
+            }),
+            text: unclosed(alloc, text)?,
+        });
+    }
+    let inside = string.start.saturating_add(1);
+    let content = line.get(inside..string.end.saturating_sub(1)).unwrap_or("");
+    let (place, bad) = first_bad(content).unwrap_or((0, Bad::Character('"')));
+    let start = inside.saturating_add(place);
+    match bad {
+        Bad::Escape(character) => {
+            let length = character.len_utf8().saturating_add(1);
+            let shown = picture(character);
+            Ok(Remark {
+                mark: Some(Span {
+                    start,
+                    end: start.saturating_add(length),
+                }),
+                text: format!(in alloc;
+                    "\\{shown} is no escape; the escapes are \\n \\t \\r \\a \\b \\f \\v \\e \\0 \\\" \\\\"
+                )?,
+            })
+        }
+        Bad::Character(character) => {
+            let number = Number(character);
+            Ok(Remark {
+                mark: Some(Span {
+                    start,
+                    end: start.saturating_add(character.len_utf8()),
+                }),
+                text: format!(in alloc;
+                    "the character {number} can't stand in a string; strings have characters from x20 to x7E, tabs and escapes"
+                )?,
+            })
+        }
+    }
+}

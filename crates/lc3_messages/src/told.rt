@@ -1,0 +1,140 @@
+//! What is told of a text.
+ghost use Rattle.std.specs.Prelude.{◌≡◌, true, false, not, IfOk, OnOk, filter, IsPermutation};
+ghost use Rattle.std.specs.List.Sorted.{IsNonDecreasingBy};
+ghost use Rattle.lc3_messages.specs.Private.Told.{names_a_label};
+
+use crate::misspelt::push_misspelt;
+use crate::report::Wish;
+use crate::texts::{Source, word_at_fault};
+use crate::words::upper;
+use lc3_asm::{LineFault, without_colon};
+use lc3_table::Fault;
+use lc3_warnings::{Warning, warnings};
+use std::alloc::{AllocError, Global};
+
+/// The name of the warning about a line that is read as a label and was meant as an operation.
+pub(crate) const MISSPELT: &str = "misspelt";
+
+/// What is found in a line.
+#[derive(Clone, Copy)]
+pub(crate) enum What {
+    Fault(Fault),
+    Warning(Warning),
+    /// The line is read as a label, and this operation was meant.
+    Misspelt(&'static str),
+}
+
+impl What {
+    /// Whether the source is refused for it.
+    pub fn is_error(self) -> bool {
+        matches!(self, What::Fault(_))
+    }
+}
+
+/// What is found in the line with this number, from 1.
+#[derive(Clone, Copy)]
+pub(crate) struct Finding {
+    pub line: usize,
+    pub what: What,
+}
+
+/// Whether a fault is about a label that a line names, or defines again.
+fn names_a_label(kind: Fault) -> bool
+    ensures value { result ≡ names_a_label kind }
+{
+    matches!(kind, Fault::Undefined | Fault::DuplicateLabel)
+}
+
+/// Whether a fault may be one only because of an earlier fault: the label that a line names, or defines again, is one that
+/// a faulty line may define.
+fn may_follow(alloc: Global, source: &Source<'_>, fault: LineFault) -> Result<bool, AllocError>
+    ensures labels { IfOk result (λ follows. follows ≡ true → names_a_label fault.kind ≡ true) }
+{
+    if !names_a_label(fault.kind) {
+        return Ok(false);
+    }
+    let word = word_at_fault(alloc, source, fault)?;
+    let name = upper(alloc, without_colon(word.as_bytes()))?;
+    if fault.kind == Fault::Undefined {
+        Ok(source.labels.is_meant(&name))
+    } else {
+        Ok(source.labels.definition(&name) == Some(fault.line))
+    }
+}
+
+/// The faults that aren't told only because of an earlier one. All that are about no label are told.
+fn told_faults(
+    alloc: Global,
+    source: &Source<'_>,
+    faults: &[LineFault],
+) -> Result<Vec<LineFault>, AllocError>
+    ensures told { IfOk result (λ told.
+        filter (λ f. not (names_a_label f.kind)) told.items
+        ≡ filter (λ f. not (names_a_label f.kind)) faults.now) }
+{
+    let mut told = Vec::new(alloc);
+    for fault in faults {
+        let follows = may_follow(alloc, source, *fault)?;
+        if !follows {
+            told.push(*fault)?;
+        }
+    }
+    Ok(told)
+}
+
+/// Sorts by the lines; what is found in one line stays in its order.
+fn sort_by_line(found: &mut Vec<Finding>) -> Result<(), AllocError>
+    ensures ordered { OnOk result (IsNonDecreasingBy (λ f. f.line) found.new.items) }
+    ensures same { IsPermutation found.old.items found.new.items }
+{
+    found.sort_by_key(|finding| finding.line)?;
+    Ok(())
+}
+
+/// Adds the warnings of a text that aren't left out.
+fn push_warnings(
+    alloc: Global,
+    content: &str,
+    wish: Wish<'_>,
+    found: &mut Vec<Finding>,
+) -> Result<(), AllocError> {
+    for warning in &warnings(alloc, content, wish.profile)? {
+        if !is_allowed(warning.kind.name(), wish.allowed) {
+            found.push(Finding {
+                line: warning.line,
+                what: What::Warning(*warning),
+            })?;
+        }
+    }
+    Ok(())
+}
+
+/// Whether a warning of this name is left out.
+fn is_allowed(name: &str, allowed: &[&str]) -> bool {
+    allowed.iter().any(|left_out| *left_out == name)
+}
+
+/// What is told of a text with these faults, by its lines; in one line the fault comes first.
+pub(crate) fn findings(
+    alloc: Global,
+    source: &Source<'_>,
+    faults: &[LineFault],
+    content: &str,
+    wish: Wish<'_>,
+) -> Result<Vec<Finding>, AllocError>
+    ensures ordered { IfOk result (λ found. IsNonDecreasingBy (λ f. f.line) found.items) }
+{
+    let mut found = Vec::new(alloc);
+    for fault in &told_faults(alloc, source, faults)? {
+        found.push(Finding {
+            line: fault.line,
+            what: What::Fault(fault.kind),
+        })?;
+    }
+    push_warnings(alloc, content, wish, &mut found)?;
+    if !is_allowed(MISSPELT, wish.allowed) {
+        push_misspelt(alloc, source, &mut found)?;
+    }
+    sort_by_line(&mut found)?;
+    Ok(found)
+}

@@ -1,0 +1,89 @@
+-- Labels that are added to others.
+use Rattle.std.proofs.Common.{◌≡◌, ℕ, zero, suc, ◌+◌, ◌<◌, Bool, true, false, ◌||◌, List, [], ◌∷◌, ◌++◌, length, take, map, get_or, slice_get, refl, ap, sym, ◌∙◌, Option, Some, None, option_map, is_some}
+use Rattle.std.specs.Prelude.{bytes_eq, string_bytes, String, cond}
+use Rattle.std.specs.List.{list_any}
+use Rattle.std.specs.HashSet.{HashSet, contains_text}
+use Rattle.std.proofs.lemmas.List.{take_more, map-append}
+use Rattle.std.proofs.lemmas.List.Folds.{list_any_none}
+use Rattle.std.proofs.lemmas.Slice.Eq.{bytes_eq-Decides}
+use Rattle.lc3_spelling.specs.Edits.{near_edits, IsNearest}
+use Rattle.lc3_warnings.specs.Labels.{bare_operations, is_near}
+use Rattle.lc3_warnings.specs.Private.Names.{is_among}
+
+or-assoc : (a b c : Bool) → ((a || b) || c) ≡ (a || (b || c))
+or-assoc true b c = refl
+or-assoc false b c = refl
+
+pub or-false : (a : Bool) → (a || false) ≡ a
+or-false true = refl
+or-false false = refl
+
+pub any-append : {X : Type 0} (p : X → Bool) (xs ys : List X) → list_any p (xs ++ ys) ≡ (list_any p xs || list_any p ys)
+any-append p [] ys = refl
+any-append p (x ∷ xs) ys = ap (λ b. p x || b) (any-append p xs ys) ∙ sym (or-assoc (p x) (list_any p xs) (list_any p ys))
+
+-- one element more in which something may be found
+pub any-more : {X Y : Type 0} (p : Y → Bool) (f : X → Y) (xs : List X) (i : ℕ) (d x : X) → i < length xs → x ≡ get_or xs i d
+    → list_any p (map f (take (i + 1) xs)) ≡ (list_any p (map f (take i xs)) || p (f x))
+any-more p f xs i d x h is =
+    ap (λ ys. list_any p (map f ys)) (take_more xs i d h ∙ ap (λ y. take i xs ++ y ∷ []) (sym is))
+    ∙ ap (list_any p) (map-append f (take i xs) (x ∷ []))
+    ∙ any-append p (map f (take i xs)) (f x ∷ [])
+    ∙ ap (λ b. list_any p (map f (take i xs)) || b) (or-false (p (f x)))
+
+-- the same behind something else
+pub any-behind : {X Y : Type 0} (p : Y → Bool) (f : X → Y) (xs : List X) (i : ℕ) (d x : X) → i < length xs → x ≡ get_or xs i d
+    → (a b c : Bool) → b ≡ (a || list_any p (map f (take i xs))) → c ≡ (b || p (f x)) → c ≡ (a || list_any p (map f (take (i + 1) xs)))
+any-behind p f xs i d x h is a b c e g =
+    g ∙ ap (λ u. u || p (f x)) e ∙ or-assoc a (list_any p (map f (take i xs))) (p (f x))
+    ∙ ap (λ u. a || u) (sym (any-more p f xs i d x h is))
+
+-- what labels contain, by the words that are kept
+pub among-kept : {Z : Type 0} (name : List ℕ) (ks : List (String Z)) → list_any (λ k. bytes_eq name (string_bytes k)) ks ≡ is_among (map string_bytes ks) name
+among-kept name [] = refl
+among-kept name (k ∷ ks) = ap (λ b. bytes_eq name (string_bytes k) || b) (among-kept name ks)
+
+bytes_eq-sym : (a b : List ℕ) (x y : Bool) → bytes_eq a b ≡ x → bytes_eq b a ≡ y → x ≡ y
+bytes_eq-sym a b true true h k = refl
+bytes_eq-sym a b false false h k = refl
+bytes_eq-sym a b true false h k = sym ((bytes_eq-Decides b a).1 (sym ((bytes_eq-Decides a b).0 h))) ∙ k
+bytes_eq-sym a b false true h k = sym h ∙ (bytes_eq-Decides a b).1 (sym ((bytes_eq-Decides b a).0 k))
+
+cond-or : (a b : Bool) → cond a true b ≡ (b || a)
+cond-or true true = refl
+cond-or true false = refl
+cond-or false true = refl
+cond-or false false = refl
+
+-- what labels contain with one more
+pub among-more : {Z S : Type 0} (name word : List ℕ) (old new : HashSet (String Z) S) → contains_text new word ≡ cond (bytes_eq name word) true (contains_text old word)
+    → is_among (map string_bytes new.keys) word ≡ (is_among (map string_bytes old.keys) word || bytes_eq word name)
+among-more name word old new e =
+    sym (among-kept word new.keys) ∙ e ∙ cond-or (bytes_eq name word) (contains_text old word)
+    ∙ ap (λ b. b || bytes_eq name word) (among-kept word old.keys)
+    ∙ ap (λ b. is_among (map string_bytes old.keys) word || b) (bytes_eq-sym name word (bytes_eq name word) (bytes_eq word name) refl refl)
+
+some_any : {X : Type 0} (t : X → List ℕ) (w : List ℕ) (names : List X) (i least : ℕ) → option_map (λ n. near_edits w (t n)) (slice_get names i) ≡ Some (Some least)
+    → list_any (λ n. is_some (near_edits w (t n))) names ≡ true
+some_any t w [] i least e = absurd (cc)
+some_any t w (n ∷ names) zero least e = by_first (near_edits w (t n)) (list_any (λ m. is_some (near_edits w (t m))) names) e
+  where
+    by_first : (o : Option ℕ) (b : Bool) → Some o ≡ Some (Some least) → (is_some o || b) ≡ true
+    by_first None b h = absurd (cc)
+    by_first (Some x) b h = refl
+some_any t w (n ∷ names) (suc i) least e = ap (λ b. is_some (near_edits w (t n)) || b) (some_any t w names i least e) ∙ or-true (is_some (near_edits w (t n)))
+  where
+    or-true : (a : Bool) → (a || true) ≡ true
+    or-true true = refl
+    or-true false = refl
+
+-- whether a nearest name is found, by the names
+pub near_any : {X : Type 0} (t : X → List ℕ) (w : List ℕ) (names : List X) (found : Option ℕ) → IsNearest t w names found
+    → is_some found ≡ list_any (λ n. is_some (near_edits w (t n))) names
+near_any t w names None none = sym (list_any_none (λ n. is_some (near_edits w (t n))) names (λ k d h. ap is_some (none k d h)))
+near_any t w names (Some i) some = sym (some_any t w names i some.0 some.1)
+
+-- whether a name is near one of the names of operations without operands
+pub near_bare : (w : List ℕ) → list_any (λ o. is_some (near_edits w o)) bare_operations ≡ is_near w
+unfolding is_near
+near_bare w = refl

@@ -1,0 +1,93 @@
+-- The labels that lines name, and the label that no line names.
+use Rattle.std.specs.Prelude.{ℕ, Bool, true, false, not, ◌&&◌, ◌||◌, bytes_eq, codes, Option, Some, None, is_some, List, [], ◌∷◌, ◌==◌, ◌-◌, length, slice_index, if◌then◌else◌}
+use Rattle.std.specs.List.{list_any}
+use Rattle.lc3_table.specs.declared.operation.Operation.TheVariants as op
+use Rattle.lc3_table.specs.Tokens.{Token, Word, tokens}
+use Rattle.lc3_table.specs.Statements.{Line, LabelAlone, Operates, Operand, Label, option_or}
+use Rattle.lc3_asm.specs.Texts.{label_of}
+use Rattle.lc3_spelling.specs.Edits.{near_edits}
+use Rattle.lc3_warnings.specs.declared.flow.Flow.{Flow}
+use Rattle.lc3_warnings.specs.declared.flow.Flow.TheVariants.{GoesOn, Stops}
+use Rattle.lc3_warnings.specs.declared.flow.Next.{Next}
+use Rattle.lc3_warnings.specs.declared.around.Around.{Around}
+use Rattle.lc3_warnings.specs.declared.warning.Kind.{Kind}
+use Rattle.lc3_warnings.specs.declared.warning.Kind.TheVariants as kind
+
+-- whether an operand is this label
+abbrev pub is_label : List ℕ → Operand → Bool
+is_label name (Label n) = bytes_eq name n
+is_label name x = false
+
+-- whether a line names this label
+abbrev pub names_label : List ℕ → Line Operand → Bool
+names_label name (Operates l o xs) = list_any (is_label name) xs
+names_label name _ = false
+
+-- whether a line is a JSR that names this label
+abbrev pub calls_label : List ℕ → Line Operand → Bool
+calls_label name (Operates l op.JumpSubroutine xs) = list_any (is_label name) xs
+calls_label name _ = false
+
+-- the labels that lines name
+abbrev pub named : List (Line Operand) → List ℕ → Bool
+named ls name = list_any (names_label name) ls
+
+-- the labels that JSRs name, so where subroutines begin
+abbrev pub called : List (Line Operand) → List ℕ → Bool
+called ls name = list_any (calls_label name) ls
+
+-- whether a label, if there is one, is one of these
+abbrev pub is_one_of : (List ℕ → Bool) → Option (List ℕ) → Bool
+is_one_of labels None = false
+is_one_of labels (Some name) = labels name
+
+-- whether a line defines one of these labels
+abbrev pub defines_one : (List ℕ → Bool) → Line Operand → Bool
+defines_one labels l = is_one_of labels (label_of l)
+
+-- the names of the operations and directives without operands
+abbrev pub bare_operations : List (List ℕ)
+bare_operations =
+    codes "RET" ∷ codes "RTI" ∷ codes "NOP" ∷ codes "GETC" ∷ codes "OUT" ∷ codes "PUTS" ∷ codes "IN" ∷ codes "PUTSP"
+    ∷ codes "HALT" ∷ codes ".END" ∷ []
+
+-- whether a name is spelled nearly like one of those
+unfoldable pub is_near : List ℕ → Bool
+is_near name = list_any (λ o. is_some (near_edits name o)) bare_operations
+
+-- whether the first of these tokens ends with `:`
+abbrev pub has_colon : List Token → Bool
+has_colon (Word w ∷ ts) = slice_index w (length w - 1) == 58
+has_colon ts = false
+
+-- whether a line that nothing names was rather meant as an operation: a label alone, without `:`, spelled nearly like one
+abbrev pub was_meant : List ℕ → Line Operand → Bool
+was_meant bytes (LabelAlone name) = not (has_colon (tokens bytes)) && is_near name
+was_meant bytes _ = false
+
+-- whether a label between such lines may be there for the reader: nothing with words stands before it, or
+-- execution goes on there from an instruction to an instruction
+abbrev pub is_for_reader : Option Flow → Option Flow → Bool
+is_for_reader None behind = true
+is_for_reader (Some GoesOn) (Some GoesOn) = true
+is_for_reader (Some GoesOn) (Some Stops) = true
+is_for_reader before behind = false
+
+-- what the next line with words is to execution
+abbrev pub flow_behind : Option Next → Option Flow
+flow_behind None = None
+flow_behind (Some n) = Some n.flow
+
+-- whether the label of a line that stands so may be there for the reader
+abbrev pub may_be_for_reader : Around → Bool
+may_be_for_reader a = is_for_reader a.previous (option_or a.here (flow_behind a.next))
+
+-- the warning of a label that isn't one of those that are named, of a line that stands so
+abbrev pub unused : (List ℕ → Bool) → List ℕ → Line Operand → Around → Option (List ℕ) → Option Kind
+unused labels bytes l a None = None
+unused labels bytes l a (Some name) =
+    if labels name || may_be_for_reader a || was_meant bytes l then None else Some kind.UnusedLabel
+
+-- No line names the label of the line.
+abbrev pub unused_label : (List ℕ → Bool) → List ℕ → Line Operand → Around → Option Kind
+unused_label labels bytes l a = unused labels bytes l a (label_of l)

@@ -1,0 +1,66 @@
+-- The names and the texts of warnings.
+use Rattle.std.specs.Prelude.{ℕ, ℤ, List, ◌++◌, codes}
+use Rattle.std.specs.Fmt.{decimal}
+use Rattle.lc3_word.specs.Words.{number_text}
+use Rattle.lc3_table.specs.declared.operation.Form.{Form}
+use Rattle.lc3_table.specs.declared.operation.Form.TheVariants as form
+use Rattle.lc3_warnings.specs.declared.warning.Kind.{Kind}
+use Rattle.lc3_warnings.specs.declared.warning.Kind.TheVariants as kind
+
+-- the name of a warning
+abbrev pub warning_name : Kind → List ℕ
+warning_name (kind.Wraps f value) = codes "wraps"
+warning_name kind.UnknownTrap = codes "unknown-trap"
+warning_name kind.UnusedLabel = codes "unused-label"
+warning_name kind.StartsInData = codes "starts-in-data"
+warning_name (kind.RunsIntoData n) = codes "runs-into-data"
+warning_name kind.RunsPastEnd = codes "runs-past-end"
+warning_name (kind.LostReturn n) = codes "r7"
+warning_name (kind.AfterEnd n) = codes "after-end"
+
+-- the numbers of a signed field, which stands as an operand of this form
+abbrev pub field_text : Form → List ℕ
+field_text form.RegisterOrImmediate = codes "a number from -16 to 15"
+field_text form.Offset = codes "a number from -32 to 31"
+field_text form.Target = codes "a number from -256 to 255"
+field_text form.FarTarget = codes "a number from -1,024 to 1,023"
+field_text f = codes "a number"
+
+-- a word that is taken as a number
+unfoldable pub taken_text : List ℕ → ℤ → List ℕ
+taken_text word value = word ++ codes " is taken as " ++ number_text value
+
+-- the numbers that stand here
+unfoldable pub here_text : List ℕ → List ℕ
+here_text field = codes "; here stands " ++ field
+
+-- a word that is taken as a number, where these numbers stand
+unfoldable pub wraps_text : List ℕ → ℤ → List ℕ → List ℕ
+wraps_text word value field = taken_text word value ++ here_text field
+
+-- execution that goes on into data
+abbrev pub into_data_text : ℕ → List ℕ
+into_data_text n = codes "execution goes on into the data of line " ++ decimal n ++ codes "; is a HALT missing?"
+
+-- lines behind `.END`
+abbrev pub after_end_text : ℕ → List ℕ
+after_end_text n = codes "nothing behind the .END of line " ++ decimal n ++ codes " is read"
+
+-- a label that no line names
+unfoldable pub unused_text : List ℕ → List ℕ
+unused_text word = codes "no line names the label " ++ word
+
+-- an operation in a line that has written R7
+unfoldable pub lost_text : List ℕ → ℕ → List ℕ
+lost_text word n = word ++ codes " in line " ++ decimal n ++ codes " has written R7, so this goes back behind it; store R7 before it and load it again"
+
+-- the text of a warning about a word
+abbrev pub warning_text : Kind → List ℕ → List ℕ
+warning_text (kind.Wraps f value) word = wraps_text word value (field_text f)
+warning_text kind.UnknownTrap word = codes "this trap ends the process as badtrap; the traps are x20 to x25, x40 to x46 and x50 to x56"
+warning_text kind.UnusedLabel word = unused_text word
+warning_text kind.StartsInData word = codes "execution begins here, and this is data"
+warning_text (kind.RunsIntoData n) word = into_data_text n
+warning_text kind.RunsPastEnd word = codes "execution goes on behind this last word; is a HALT missing?"
+warning_text (kind.LostReturn n) word = lost_text word n
+warning_text (kind.AfterEnd n) word = after_end_text n

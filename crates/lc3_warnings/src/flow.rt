@@ -1,0 +1,102 @@
+//! Where execution goes from the lines of a text.
+
+ghost use Rattle.std.specs.Prelude.{◌≡◌, ◌+◌, map, drop, ◌≤◌, length, ◌||◌};
+ghost use Rattle.lc3_asm.specs.Views.{seen_line, seen_operand};
+ghost use Rattle.lc3_warnings.specs.Flows.{is_known_trap, trap_flow, trap_flow_of, operation_flow, flow_of, next_from};
+
+use lc3_asm::{Line, Operand};
+use lc3_table::Operation;
+
+/// What a line with words is to execution.
+#[derive(Clone, Copy, Debug, PartialEq, Eq)]
+pub enum Flow {
+    /// Words that aren't meant to be executed.
+    Data,
+    /// An instruction behind which execution can go on.
+    GoesOn,
+    /// An instruction behind which it never goes on.
+    Stops,
+}
+
+/// A line with words, by its number, from 1.
+#[derive(Clone, Copy, Debug, PartialEq, Eq)]
+pub struct Next {
+    pub line: usize,
+    pub flow: Flow,
+}
+
+/// Whether a trap has this vector.
+pub fn is_known_trap(vector: i64) -> bool
+    ensures value { result ≡ is_known_trap vector }
+{
+    matches!(vector, 0x20..=0x25 | 0x40..=0x46 | 0x50..=0x56)
+}
+
+/// Where execution goes from a TRAP with this vector.
+fn trap_flow(vector: i64) -> Flow
+    ensures value { result ≡ trap_flow vector }
+{
+    if is_known_trap(vector) && vector != 0x25 {
+        Flow::GoesOn
+    } else {
+        Flow::Stops
+    }
+}
+
+/// Where execution goes from a TRAP with these operands.
+fn trap_flow_of(operands: &[Operand]) -> Flow
+    ensures value { result ≡ trap_flow_of (map seen_operand operands.now) }
+{
+    match operands.first() {
+        Some(Operand::Number(vector)) => trap_flow(*vector),
+        _ => Flow::GoesOn,
+    }
+}
+
+/// What an operation with these operands is to execution; `.ORIG` and `.END` have no words.
+fn operation_flow(operation: Operation, operands: &[Operand]) -> Option<Flow>
+    ensures value { result ≡ operation_flow operation (map seen_operand operands.now) }
+{
+    match operation {
+        Operation::Origin | Operation::End => None,
+        Operation::Fill | Operation::Block | Operation::Text => Some(Flow::Data),
+        Operation::Halt
+        | Operation::Return
+        | Operation::Jump
+        | Operation::ReturnInterrupt
+        | Operation::Branch {
+            negative: true,
+            zero: true,
+            positive: true,
+        } => Some(Flow::Stops),
+        Operation::Trap => Some(trap_flow_of(operands)),
+        _ => Some(Flow::GoesOn),
+    }
+}
+
+/// What a line is to execution, if it has words.
+pub fn flow_of(line: &Line) -> Option<Flow>
+    ensures value { result ≡ flow_of (seen_line line.now) }
+{
+    match line {
+        Line::Operates {
+            operation,
+            operands,
+            ..
+        } => operation_flow(*operation, operands),
+        _ => None,
+    }
+}
+
+/// The first line with words behind this many lines.
+pub fn next_from(lines: &[Line], behind: usize) -> Option<Next>
+    requires within { behind ≤ length lines.now }
+    ensures value { result ≡ next_from behind (map seen_line (drop behind lines.now)) }
+{
+    for i in behind..lines.len() {
+        if let Some(flow) = flow_of(&lines[i]) {
+            return Some(Next { line: i + 1, flow });
+        }
+    }
+    None
+}

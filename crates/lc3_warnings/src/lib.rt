@@ -1,0 +1,21 @@
+//! What the assembler accepts and people don't mean: warnings about the lines of a source.
+//!
+//! Each kind of warning is a definition of its own in specs/: Numbers, Labels, Around, Returns and Warnings.
+#![tactic(auto)]
+
+mod around;
+mod flow;
+mod line_kinds;
+mod marks;
+mod names;
+mod numbers;
+mod returns;
+mod setting;
+mod texts;
+mod unused;
+mod walk;
+mod warning;
+
+pub use texts::push_text;
+pub use walk::warnings;
+pub use warning::{Kind, Warning};

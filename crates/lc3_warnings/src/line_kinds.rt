@@ -1,0 +1,80 @@
+//! The warnings of a line.
+
+ghost use Rattle.std.specs.Prelude.{◌≡◌, ◌+◌, ◌++◌, map, length, reverse, OnOk};
+ghost use Rattle.std.specs.List.{flat_map};
+ghost use Rattle.lc3_warnings.specs.Private.Settings.{seen_setting};
+ghost use Rattle.lc3_asm.specs.Views.{seen_line};
+ghost use Rattle.lc3_warnings.specs.Warnings.{if_accepted, told, told_of, line_kinds};
+
+use crate::around::{Around, runs_into_data, runs_past_end, starts_in_data};
+use crate::marks::span_of;
+use crate::numbers::{unknown_trap, wraps};
+use crate::returns::lost_return;
+use crate::setting::Settings;
+use crate::unused::unused_label;
+use crate::warning::{Kind, Warning};
+use lc3_asm::Line;
+use std::alloc::{AllocError, Global};
+
+/// A warning that is told of accepted texts alone.
+fn if_accepted(accepted: bool, kind: Option<Kind>) -> Option<Kind>
+    ensures value { result ≡ if_accepted accepted kind }
+{
+    if accepted { kind } else { None }
+}
+
+/// Adds the warnings of a line that there are.
+fn push_kinds(
+    found: &mut Vec<Warning>,
+    number: usize,
+    bytes: &[u8],
+    line: &Line,
+    kinds: &[Option<Kind>],
+) -> Result<(), AllocError>
+    ensures told { OnOk result (map told_of found.new.items
+        ≡ map told_of found.old.items ++ flat_map (told number) kinds.now) }
+{
+    for kind in kinds {
+        if let Some(kind) = kind {
+            let span = span_of(bytes, line, *kind);
+            found.push(Warning {
+                line: number,
+                start: span.start,
+                end: span.end,
+                kind: *kind,
+            })?;
+        }
+    }
+    Ok(())
+}
+
+/// Adds the warnings of a line, which stands so behind these lines.
+pub fn push_line(
+    alloc: Global,
+    found: &mut Vec<Warning>,
+    setting: &Settings,
+    before: &[Line],
+    bytes: &[u8],
+    line: &Line,
+    around: Around,
+) -> Result<(), AllocError>
+    ensures told { OnOk result (map told_of found.new.items ≡ map told_of found.old.items
+        ++ flat_map (told (length before.now + 1)) (line_kinds (seen_setting setting.now) bytes.now
+        (seen_line line.now) around (reverse (map seen_line before.now)))) }
+{
+    let accepted = setting.accepted;
+    let unused = unused_label(alloc, &setting.named, bytes, line, around)?;
+    let kinds = [
+        wraps(bytes, line),
+        unknown_trap(line),
+        if_accepted(accepted, unused),
+        if_accepted(accepted, starts_in_data(around)),
+        if_accepted(accepted, runs_into_data(around)),
+        if_accepted(accepted, runs_past_end(around)),
+        if_accepted(
+            accepted,
+            lost_return(setting.profile, &setting.called, line, before),
+        ),
+    ];
+    push_kinds(found, before.len() + 1, bytes, line, &kinds)
+}

@@ -1,0 +1,123 @@
+//! The labels that lines name.
+
+ghost use Rattle.std.specs.Prelude.{◌≡◌, ℕ, List, [], ◌||◌, bytes_eq, string_bytes, map, OnOk, IfOk};
+ghost use Rattle.std.specs.List.{list_any};
+ghost use Rattle.lc3_warnings.specs.Private.Names.{is_among};
+ghost use Rattle.lc3_asm.specs.Views.{seen_line, seen_operand};
+ghost use Rattle.lc3_warnings.specs.Labels.{is_label, names_label, calls_label, named, called, defines_one};
+
+use indexmap::IndexSet;
+use lc3_asm::{Line, Operand};
+use lc3_table::Operation;
+use std::alloc::{AllocError, Global};
+use std::marker::Model;
+
+/// Labels, in upper case.
+#[derive(Drop)]
+pub struct Names {
+    words: IndexSet<String>,
+}
+
+impl Model for Names {
+    ghost Value = { List (List ℕ) };
+
+    ghost view = { λ s. map string_bytes s.words.keys };
+}
+
+impl Names {
+    /// No labels.
+    fn new(alloc: Global) -> Self
+        ensures empty { result ≡ [] }
+    {
+        Names {
+            words: IndexSet::new(alloc),
+        }
+    }
+
+    /// Whether the label is one of them.
+    pub fn contains(&self, name: &str) -> bool
+        ensures value { result ≡ is_among self.now name.now }
+    {
+        self.words.contains(name)
+    }
+
+    /// Adds a label.
+    fn insert(&mut self, alloc: Global, name: &str) -> Result<(), AllocError>
+        ensures added { OnOk result ((word : List ℕ) →
+            is_among self.new word ≡ (is_among self.old word || bytes_eq word name.now)) }
+    {
+        self.words.insert(String::from_str(alloc, name)?)?;
+        Ok(())
+    }
+
+    /// Adds the labels among operands.
+    fn add_labels(&mut self, alloc: Global, operands: &[Operand]) -> Result<(), AllocError>
+        ensures added { OnOk result ((name : List ℕ) → is_among self.new name
+            ≡ (is_among self.old name || list_any (is_label name) (map seen_operand operands.now))) }
+    {
+        for operand in operands {
+            if let Operand::Label(name) = operand {
+                self.insert(alloc, name.as_str())?;
+            }
+        }
+        Ok(())
+    }
+
+    /// Adds the labels that a line names.
+    fn add_line(&mut self, alloc: Global, line: &Line) -> Result<(), AllocError>
+        ensures added { OnOk result ((name : List ℕ) →
+            is_among self.new name ≡ (is_among self.old name || names_label name (seen_line line.now))) }
+    {
+        match line {
+            Line::Operates { operands, .. } => self.add_labels(alloc, operands),
+            _ => Ok(()),
+        }
+    }
+
+    /// Adds the label that a line names, if it is a JSR.
+    fn add_call(&mut self, alloc: Global, line: &Line) -> Result<(), AllocError>
+        ensures added { OnOk result ((name : List ℕ) →
+            is_among self.new name ≡ (is_among self.old name || calls_label name (seen_line line.now))) }
+    {
+        match line {
+            Line::Operates {
+                operation: Operation::JumpSubroutine,
+                operands,
+                ..
+            } => self.add_labels(alloc, operands),
+            _ => Ok(()),
+        }
+    }
+
+    /// Whether a line defines one of them.
+    pub fn has_label_of(&self, line: &Line) -> bool
+        ensures value { result ≡ defines_one (is_among self.now) (seen_line line.now) }
+    {
+        match line.label() {
+            Some(name) => self.contains(name),
+            None => false,
+        }
+    }
+}
+
+/// The labels that lines name.
+pub fn named(alloc: Global, lines: &[Line]) -> Result<Names, AllocError>
+    ensures all { IfOk result (λ names. is_among names ≡ named (map seen_line lines.now)) }
+{
+    let mut names = Names::new(alloc);
+    for line in lines {
+        names.add_line(alloc, line)?;
+    }
+    Ok(names)
+}
+
+/// The labels that JSRs name.
+pub fn called(alloc: Global, lines: &[Line]) -> Result<Names, AllocError>
+    ensures all { IfOk result (λ names. is_among names ≡ called (map seen_line lines.now)) }
+{
+    let mut names = Names::new(alloc);
+    for line in lines {
+        names.add_call(alloc, line)?;
+    }
+    Ok(names)
+}

@@ -1,0 +1,165 @@
+//! Numbers of fields that mean other numbers.
+
+ghost use Rattle.std.specs.Prelude.{◌≡◌, ◌≤◌, map, []};
+ghost use Rattle.lc3_table.specs.Tokens.{tokens};
+ghost use Rattle.lc3_asm.specs.Views.{seen_line, seen_operand};
+ghost use Rattle.lc3_warnings.specs.Numbers.{is_in_digits_of_bits, field_value, is_bits_of, wrapped, wrapped_in, number_in, number_among, last_form, last_word, wraps_as, wraps, unknown_trap};
+
+use crate::flow::is_known_trap;
+use crate::warning::Kind;
+use lc3_asm::{Line, Operand, Token, first_token};
+use lc3_table::{Form, Operation, low_word};
+use lc3_word::Off;
+
+/// Whether a number is written in hexadecimal or binary digits.
+#[tactic(auto, unfolding(crate::specs::Numbers::is_in_digits_of_bits))]
+fn is_in_digits_of_bits(word: &[u8]) -> bool
+    ensures value { result ≡ is_in_digits_of_bits word.now }
+{
+    matches!(
+        word,
+        [b'x' | b'X' | b'b' | b'B', ..] | [b'0', b'x' | b'X', ..]
+    )
+}
+
+/// The signed value of a field of `B` bits that holds a number.
+#[tactic(auto, unfolding(crate::specs::Numbers::field_value))]
+fn field_value<const B: u32>(number: i64) -> Off<B>
+    requires some_bits { 1 ≤ B }
+    requires word_bits { B ≤ 16 }
+    ensures value { result ≡ field_value B number }
+{
+    Off::of_low_bits(low_word(number))
+}
+
+/// Whether a number is the bits of this value in a field of `B` bits, or in a word.
+#[tactic(auto, unfolding(crate::specs::Numbers::is_bits_of))]
+fn is_bits_of<const B: u32>(held: Off<B>, number: i64) -> bool
+    ensures answer { result ≡ is_bits_of B held.entry number }
+{
+    let is_field = number == i64::from(held.low_bits());
+    let is_word = number == i64::from(held.word());
+    is_field || is_word
+}
+
+/// The value that a field of `B` bits has for a number which this word writes, if it means another number.
+fn wrapped<const B: u32>(word: &[u8], number: i64) -> Option<i16>
+    requires some_bits { 1 ≤ B }
+    requires word_bits { B ≤ 16 }
+    ensures value { result ≡ wrapped B word.now number }
+{
+    let held = field_value::<B>(number);
+    let is_same = number == i64::from(held.get());
+    let is_bits = is_in_digits_of_bits(word) && is_bits_of(held, number);
+    if is_same || is_bits {
+        None
+    } else {
+        Some(held.get())
+    }
+}
+
+/// The same in a field of this form.
+fn wrapped_in(form: Form, word: &[u8], number: i64) -> Option<i16>
+    ensures value { result ≡ wrapped_in form word.now number }
+{
+    match form {
+        Form::RegisterOrImmediate => wrapped::<5>(word, number),
+        Form::Offset => wrapped::<6>(word, number),
+        Form::Target => wrapped::<9>(word, number),
+        Form::FarTarget => wrapped::<11>(word, number),
+        _ => None,
+    }
+}
+
+/// The number that an operand is.
+fn number_in(operand: &Operand) -> Option<i64>
+    ensures value { result ≡ number_in (seen_operand operand.now) }
+{
+    match operand {
+        Operand::Number(number) => Some(*number),
+        _ => None,
+    }
+}
+
+/// The number among the operands.
+fn number_among(operands: &[Operand]) -> Option<i64>
+    ensures value { result ≡ number_among (map seen_operand operands.now) }
+{
+    for i in 0..operands.len() {
+        if let Some(number) = number_in(&operands[i]) {
+            return Some(number);
+        }
+    }
+    None
+}
+
+/// What stands as the last operand.
+fn last_form(operation: Operation) -> Option<Form>
+    ensures value { result ≡ last_form operation }
+{
+    operation.forms().last().copied()
+}
+
+/// The last word of a line.
+fn last_word(bytes: &[u8]) -> &[u8]
+    ensures value { result.now ≡ last_word [] (tokens bytes.now) }
+{
+    let mut last: &[u8] = &[];
+    let mut rest = bytes;
+    while let Some((token, after)) = first_token(rest) {
+        if let Token::Word(word) = token {
+            last = word;
+        }
+        rest = after;
+    }
+    last
+}
+
+/// Whether this number, in a place of this form, means another one.
+fn wraps_as(form: Form, word: &[u8], number: i64) -> Option<Kind>
+    ensures value { result ≡ wraps_as form word.now number }
+{
+    match wrapped_in(form, word, number) {
+        Some(value) => Some(Kind::Wraps { form, value }),
+        None => None,
+    }
+}
+
+/// Whether a number of the line means another one.
+pub fn wraps(bytes: &[u8], line: &Line) -> Option<Kind>
+    ensures value { result ≡ wraps bytes.now (seen_line line.now) }
+{
+    let Line::Operates {
+        operation,
+        operands,
+        ..
+    } = line
+    else {
+        return None;
+    };
+    let Some(number) = number_among(operands) else {
+        return None;
+    };
+    let Some(form) = last_form(*operation) else {
+        return None;
+    };
+    wraps_as(form, last_word(bytes), number)
+}
+
+/// Whether the line is a TRAP with a vector that no trap has.
+pub fn unknown_trap(line: &Line) -> Option<Kind>
+    ensures value { result ≡ unknown_trap (seen_line line.now) }
+{
+    let Line::Operates {
+        operation: Operation::Trap,
+        operands,
+        ..
+    } = line
+    else {
+        return None;
+    };
+    match operands.first() {
+        Some(Operand::Number(vector)) if !is_known_trap(*vector) => Some(Kind::UnknownTrap),
+        _ => None,
+    }
+}

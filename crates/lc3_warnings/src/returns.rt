@@ -1,0 +1,141 @@
+//! Returns of subroutines that have lost the address in R7.
+
+ghost use Rattle.std.specs.Prelude.{◌≡◌, map, reverse};
+ghost use Rattle.std.specs.List.{list_any};
+ghost use Rattle.lc3_warnings.specs.Private.Names.{is_among};
+ghost use Rattle.lc3_asm.specs.Views.{seen_line, seen_operand};
+ghost use Rattle.lc3_warnings.specs.Returns.{is_r7, has_r7, writes_r7, line_writes_r7, ends_subroutine, body, lost_in, is_return, lost_return};
+
+use crate::flow::{Flow, flow_of};
+use crate::names::Names;
+use crate::warning::Kind;
+use lc3_asm::{Line, Operand};
+use lc3_table::{Operation, Profile};
+
+/// Whether an operand is R7.
+fn is_r7(operand: &Operand) -> bool
+    ensures value { result ≡ is_r7 (seen_operand operand.now) }
+{
+    match operand {
+        Operand::Register(register) => register.number() == 7,
+        _ => false,
+    }
+}
+
+/// Whether R7 is among operands.
+fn any_r7(operands: &[Operand]) -> bool
+    ensures value { result ≡ list_any is_r7 (map seen_operand operands.now) }
+{
+    for i in 0..operands.len() {
+        if is_r7(&operands[i]) {
+            return true;
+        }
+    }
+    false
+}
+
+/// Whether a line has the operand R7.
+fn has_r7(line: &Line) -> bool
+    ensures value { result ≡ has_r7 (seen_line line.now) }
+{
+    match line {
+        Line::Operates { operands, .. } => any_r7(operands),
+        _ => false,
+    }
+}
+
+/// Whether an operation puts the address behind it into R7.
+fn writes_r7(profile: Profile, operation: Operation) -> bool
+    ensures value { result ≡ writes_r7 profile operation }
+{
+    match operation {
+        Operation::JumpSubroutine | Operation::JumpSubroutineRegister => true,
+        Operation::Trap
+        | Operation::Getc
+        | Operation::Out
+        | Operation::Puts
+        | Operation::In
+        | Operation::Putsp => profile == Profile::A,
+        _ => false,
+    }
+}
+
+/// Whether a line does.
+fn line_writes_r7(profile: Profile, line: &Line) -> bool
+    ensures value { result ≡ line_writes_r7 profile (seen_line line.now) }
+{
+    match line {
+        Line::Operates { operation, .. } => writes_r7(profile, *operation),
+        _ => false,
+    }
+}
+
+/// Whether no subroutine goes on behind a line.
+fn ends_subroutine(line: &Line) -> bool
+    ensures value { result ≡ ends_subroutine (seen_line line.now) }
+{
+    match line {
+        Line::Operates {
+            operation: Operation::Branch { .. },
+            ..
+        } => false,
+        _ => matches!(flow_of(line), Some(Flow::Data | Flow::Stops)),
+    }
+}
+
+/// The number of the line that has written R7 where a subroutine goes back in this line, which stands below these;
+/// none where a line between has the operand R7.
+fn lost_in(profile: Profile, entries: &Names, line: &Line, above: &[Line]) -> Option<usize>
+    ensures value { result ≡ lost_in profile
+        (body (is_among entries.now) (seen_line line.now) (reverse (map seen_line above.now))) }
+{
+    let mut writer = None;
+    let mut below = line;
+    let mut rest = above;
+    while let Some((next, others)) = rest.split_last() {
+        if entries.has_label_of(below) || ends_subroutine(next) {
+            return writer;
+        }
+        if has_r7(next) {
+            return None;
+        }
+        if writer.is_none() && line_writes_r7(profile, next) {
+            writer = Some(rest.len());
+        }
+        below = next;
+        rest = others;
+    }
+    writer
+}
+
+/// Whether a line is RET or JMP R7.
+fn is_return(line: &Line) -> bool
+    ensures value { result ≡ is_return (seen_line line.now) }
+{
+    match line {
+        Line::Operates {
+            operation: Operation::Return,
+            ..
+        } => true,
+        Line::Operates {
+            operation: Operation::Jump,
+            operands,
+            ..
+        } => any_r7(operands),
+        _ => false,
+    }
+}
+
+/// Whether a subroutine goes back in this line, which stands below these, behind one that has written R7.
+pub fn lost_return(profile: Profile, entries: &Names, line: &Line, above: &[Line]) -> Option<Kind>
+    ensures value { result ≡ lost_return profile (is_among entries.now) (seen_line line.now)
+        (reverse (map seen_line above.now)) }
+{
+    if !is_return(line) {
+        return None;
+    }
+    match lost_in(profile, entries, line, above) {
+        Some(writer) => Some(Kind::LostReturn { writer }),
+        None => None,
+    }
+}

@@ -1,0 +1,42 @@
+//! What the warnings of a line rest on beside the lines around it.
+
+ghost use Rattle.std.specs.Prelude.{◌≡◌, map, IfOk};
+ghost use Rattle.lc3_asm.specs.Views.{seen_line};
+ghost use Rattle.lc3_warnings.specs.Private.Settings.{seen_setting};
+ghost use Rattle.lc3_warnings.specs.Warnings.{setting_of};
+
+use crate::names::{Names, called, named};
+use lc3_asm::Line;
+use lc3_table::Profile;
+use std::alloc::{AllocError, Global};
+
+/// What the warnings of the lines of a text rest on.
+#[derive(Drop)]
+pub struct Settings {
+    /// The machine that the warnings are about.
+    pub profile: Profile,
+    /// Whether the text has no fault.
+    pub accepted: bool,
+    /// The labels that lines name.
+    pub named: Names,
+    /// The labels that JSRs name.
+    pub called: Names,
+}
+
+/// The setting of these lines, of a text that is accepted or not.
+pub fn setting_of(
+    alloc: Global,
+    profile: Profile,
+    accepted: bool,
+    lines: &[Line],
+) -> Result<Settings, AllocError>
+    ensures value { IfOk result
+        (λ setting. seen_setting setting ≡ setting_of profile accepted (map seen_line lines.now)) }
+{
+    Ok(Settings {
+        profile,
+        accepted,
+        named: named(alloc, lines)?,
+        called: called(alloc, lines)?,
+    })
+}

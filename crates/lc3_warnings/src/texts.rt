@@ -1,0 +1,166 @@
+//! The names and the texts of warnings.
+
+ghost use Rattle.std.specs.Prelude.{◌≡◌, ◌++◌, Some, OnOk, string_bytes};
+ghost use Rattle.lc3_word.specs.Words.{number_text};
+ghost use Rattle.lc3_warnings.specs.Texts.{warning_name, field_text, taken_text, here_text, wraps_text, unused_text, lost_text, into_data_text, after_end_text, warning_text};
+
+use crate::warning::Kind;
+use lc3_table::Form;
+use std::alloc::AllocError;
+use std::fmt;
+use std::fmt::Write;
+
+impl Kind {
+    /// The name of the warning.
+    pub fn name(self) -> &'static str
+        ensures name { result.now ≡ warning_name self }
+    {
+        match self {
+            Kind::Wraps { .. } => "wraps",
+            Kind::UnknownTrap => "unknown-trap",
+            Kind::UnusedLabel => "unused-label",
+            Kind::StartsInData => "starts-in-data",
+            Kind::RunsIntoData { .. } => "runs-into-data",
+            Kind::RunsPastEnd => "runs-past-end",
+            Kind::LostReturn { .. } => "r7",
+            Kind::AfterEnd { .. } => "after-end",
+        }
+    }
+}
+
+/// The numbers of a signed field, which stands as an operand of this form.
+fn field_text(form: Form) -> &'static str
+    ensures text { result.now ≡ field_text form }
+{
+    match form {
+        Form::RegisterOrImmediate => "a number from -16 to 15",
+        Form::Offset => "a number from -32 to 31",
+        Form::Target => "a number from -256 to 255",
+        Form::FarTarget => "a number from -1,024 to 1,023",
+        _ => "a number",
+    }
+}
+
+/// Adds the text of a warning. `word` is the word that it speaks of, as it is shown: the one that is marked, and of a
+/// return the operation of the line that has written R7.
+pub fn push_text(text: &mut String, kind: Kind, word: &str) -> Result<(), AllocError>
+    ensures text { OnOk result (string_bytes text.new
+        ≡ string_bytes text.old ++ warning_text kind word.now) }
+{
+    match kind {
+        Kind::Wraps { form, value } => push_wraps(text, word, value, field_text(form)),
+        Kind::UnknownTrap => text.push_str(
+            "this trap ends the process as badtrap; the traps are x20 to x25, x40 to x46 and x50 to x56",
+        ),
+        Kind::UnusedLabel => push_unused(text, word),
+        Kind::StartsInData => text.push_str("execution begins here, and this is data"),
+        Kind::RunsIntoData { next } => push_into_data(text, next),
+        Kind::RunsPastEnd => {
+            text.push_str("execution goes on behind this last word; is a HALT missing?")
+        }
+        Kind::LostReturn { writer } => push_lost(text, word, writer),
+        Kind::AfterEnd { end } => push_after_end(text, end),
+    }
+}
+
+/// A number as a message shows it.
+#[derive(Clone, Copy)]
+struct Shown {
+    number: i16,
+}
+
+impl fmt::Display for Shown {
+    ghost output = { λ s. Some (number_text s.number) };
+
+    fn fmt<W: fmt::Write>(&self, f: &mut fmt::Formatter<W>) -> fmt::Result {
+        let number = self.number;
+        write!(f, "#{number}")
+    }
+}
+
+/// Adds that a word is taken as a number.
+#[tactic(auto, unfolding(crate::specs::Texts::taken_text))]
+fn push_taken(text: &mut String, word: &str, value: i16) -> Result<(), AllocError>
+    ensures text { OnOk result (string_bytes text.new
+        ≡ string_bytes text.old ++ taken_text word.now value) }
+{
+    let shown = Shown { number: value };
+    match write!(text, "{word} is taken as {shown}") {
+        Ok(()) => Ok(()),
+        Err(error) => Err(error),
+    }
+}
+
+/// Adds which numbers stand here.
+#[tactic(auto, unfolding(crate::specs::Texts::here_text))]
+fn push_here(text: &mut String, field: &str) -> Result<(), AllocError>
+    ensures text { OnOk result (string_bytes text.new
+        ≡ string_bytes text.old ++ here_text field.now) }
+{
+    match write!(text, "; here stands {field}") {
+        Ok(()) => Ok(()),
+        Err(error) => Err(error),
+    }
+}
+
+/// Adds that a word is taken as a number, where these numbers stand.
+#[tactic(auto, unfolding(crate::specs::Texts::wraps_text))]
+fn push_wraps(text: &mut String, word: &str, value: i16, field: &str) -> Result<(), AllocError>
+    ensures text { OnOk result (string_bytes text.new
+        ≡ string_bytes text.old ++ wraps_text word.now value field.now) }
+{
+    push_taken(text, word, value)?;
+    push_here(text, field)
+}
+
+/// Adds that no line names a label.
+#[tactic(auto, unfolding(crate::specs::Texts::unused_text))]
+fn push_unused(text: &mut String, label: &str) -> Result<(), AllocError>
+    ensures text { OnOk result (string_bytes text.new
+        ≡ string_bytes text.old ++ unused_text label.now) }
+{
+    match write!(text, "no line names the label {label}") {
+        Ok(()) => Ok(()),
+        Err(error) => Err(error),
+    }
+}
+
+/// Adds that an operation has written R7.
+#[tactic(auto, unfolding(crate::specs::Texts::lost_text))]
+fn push_lost(text: &mut String, operation: &str, line: usize) -> Result<(), AllocError>
+    ensures text { OnOk result (string_bytes text.new
+        ≡ string_bytes text.old ++ lost_text operation.now line) }
+{
+    match write!(
+        text,
+        "{operation} in line {line} has written R7, so this goes back behind it; store R7 before it and load it again"
+    ) {
+        Ok(()) => Ok(()),
+        Err(error) => Err(error),
+    }
+}
+
+/// Adds that execution goes on into the data of a line.
+fn push_into_data(text: &mut String, line: usize) -> Result<(), AllocError>
+    ensures text { OnOk result (string_bytes text.new
+        ≡ string_bytes text.old ++ into_data_text line) }
+{
+    match write!(
+        text,
+        "execution goes on into the data of line {line}; is a HALT missing?"
+    ) {
+        Ok(()) => Ok(()),
+        Err(error) => Err(error),
+    }
+}
+
+/// Adds that nothing behind the `.END` of a line is read.
+fn push_after_end(text: &mut String, line: usize) -> Result<(), AllocError>
+    ensures text { OnOk result (string_bytes text.new
+        ≡ string_bytes text.old ++ after_end_text line) }
+{
+    match write!(text, "nothing behind the .END of line {line} is read") {
+        Ok(()) => Ok(()),
+        Err(error) => Err(error),
+    }
+}

@@ -1,0 +1,150 @@
+//! The warnings of a text.
+
+ghost use Rattle.std.specs.Prelude.{◌≡◌, ◌+◌, ◌++◌, [], map, drop, length, IfOk, OnOk, ◌<◌, ◌^◌, option_map};
+ghost use Rattle.lc3_table.specs.Statements.{option_or};
+ghost use Rattle.lc3_warnings.specs.Private.Settings.{seen_setting};
+ghost use Rattle.lc3_asm.specs.Texts.{lines};
+ghost use Rattle.lc3_asm.specs.Faults.{reading, faults, has_faults};
+ghost use Rattle.lc3_asm.specs.Views.{lines_if};
+ghost use Rattle.lc3_asm.specs.Views.{seen_line};
+ghost use Rattle.lc3_table.specs.Tokens.{tokens};
+ghost use Rattle.lc3_warnings.specs.Flows.{flow_of, next_from};
+ghost use Rattle.lc3_warnings.specs.Warnings.{told_of, lines_told, has_token, first_with_token, after_end, is_accepted, warnings};
+
+use crate::around::Around;
+use crate::flow::{Flow, Next, flow_of, next_from};
+use crate::line_kinds::push_line;
+use crate::marks::token_span;
+use crate::setting::{Settings, setting_of};
+use crate::warning::{Kind, Warning};
+use lc3_asm::{Line, Reader, faults_of, first_line, first_token, line_count, reading};
+use lc3_table::Profile;
+use std::alloc::{AllocError, Global};
+
+/// This line, if it has words, or else the one before it.
+fn last_of(here: Option<Flow>, previous: Option<Flow>) -> Option<Flow>
+    ensures value { result ≡ option_or here previous }
+{
+    match here {
+        Some(flow) => Some(flow),
+        None => previous,
+    }
+}
+
+/// The first line with words behind line `i`, from 0, where `first` is the first from it on.
+fn next_behind(read: &[Line], i: usize, first: Option<Next>) -> Option<Next>
+    requires within { i < length read.now }
+    requires first { first ≡ next_from i (map seen_line (drop i read.now)) }
+    ensures value { result ≡ next_from (i + 1) (map seen_line (drop (i + 1) read.now)) }
+{
+    if flow_of(&read[i]).is_some() {
+        next_from(read, i + 1)
+    } else {
+        first
+    }
+}
+
+/// Adds the warnings of lines, and gives what follows them in their text.
+fn push_lines<'a>(
+    alloc: Global,
+    found: &mut Vec<Warning>,
+    setting: &Settings,
+    text: &'a [u8],
+    read: &[Line],
+) -> Result<Option<&'a [u8]>, AllocError>
+    ensures told { OnOk result (map told_of found.new.items ≡ map told_of found.old.items
+        ++ lines_told (seen_setting setting.now) [] (lines text.now) (map seen_line read.now)) }
+    ensures rest { IfOk result (λ rest. lines_if rest ≡ drop (length read.now) (lines text.now)) }
+{
+    let mut rest = Some(text);
+    let mut previous: Option<Flow> = None;
+    let mut first = next_from(read, 0);
+    for (i, line) in read.iter().enumerate() {
+        let Some(left) = rest else { return Ok(None) };
+        let (bytes, after) = first_line(left);
+        let here = flow_of(line);
+        let next = next_behind(read, i, first);
+        let around = Around {
+            previous,
+            here,
+            next,
+        };
+        push_line(alloc, found, setting, &read[..i], bytes, line, around)?;
+        previous = last_of(here, previous);
+        first = next;
+        rest = after;
+    }
+    Ok(rest)
+}
+
+/// Whether a line has a token.
+fn has_token(bytes: &[u8]) -> bool
+    ensures value { result ≡ has_token (tokens bytes.now) }
+{
+    first_token(bytes).is_some()
+}
+
+/// The number of the first line with a token among those that stand behind so many others, and the line.
+fn first_with_token(behind: usize, rest: Option<&[u8]>) -> Option<(usize, &[u8])>
+    requires small { behind < 2 ^ 63 }
+    ensures value { option_map (λ e. e.0) result ≡ first_with_token behind (lines_if rest.entry) }
+{
+    let mut number = behind;
+    let mut left = rest;
+    while let Some(text) = left {
+        let (bytes, after) = first_line(text);
+        number += 1;
+        if has_token(bytes) {
+            return Some((number, bytes));
+        }
+        left = after;
+    }
+    None
+}
+
+/// Adds the warning of what stands behind `.END`, which is in this line.
+fn push_after_end(
+    found: &mut Vec<Warning>,
+    end: usize,
+    rest: Option<&[u8]>,
+) -> Result<(), AllocError>
+    requires small { end < 2 ^ 63 }
+    ensures told { OnOk result (map told_of found.new.items
+        ≡ map told_of found.old.items ++ after_end end (lines_if rest.entry)) }
+{
+    if let Some((line, bytes)) = first_with_token(end, rest) {
+        let span = token_span(bytes, 0);
+        found.push(Warning {
+            line,
+            start: span.start,
+            end: span.end,
+            kind: Kind::AfterEnd { end },
+        })?;
+    }
+    Ok(())
+}
+
+/// Whether a text that was read so has no fault.
+fn is_accepted(alloc: Global, text: &str, reader: &Reader) -> Result<bool, AllocError>
+    requires read { reader.now ≡ reading text.now }
+    ensures value { IfOk result (λ accepted. accepted ≡ is_accepted text.now) }
+{
+    let faults = faults_of(alloc, line_count(text.as_bytes()), reader)?;
+    Ok(faults.is_empty())
+}
+
+/// The warnings of a source text, by line, for programs on this machine.
+#[tactic(auto, using(crate::proofs::WalkLemmas::all_told))]
+pub fn warnings(alloc: Global, text: &str, profile: Profile) -> Result<Vec<Warning>, AllocError>
+    ensures told { IfOk result
+        (λ found. map told_of found.items ≡ warnings profile text.now) }
+{
+    let reader = reading(alloc, text)?;
+    let accepted = is_accepted(alloc, text, &reader)?;
+    let lines = reader.lines();
+    let setting = setting_of(alloc, profile, accepted, lines)?;
+    let mut found = Vec::new(alloc);
+    let rest = push_lines(alloc, &mut found, &setting, text.as_bytes(), lines)?;
+    push_after_end(&mut found, lines.len(), rest)?;
+    Ok(found)
+}

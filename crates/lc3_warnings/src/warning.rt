@@ -1,0 +1,37 @@
+//! A warning about a line.
+
+use lc3_table::Form;
+
+/// What a warning says.
+#[derive(Clone, Copy, Debug, PartialEq, Eq)]
+pub enum Kind {
+    /// The number of an instruction's field means another one, this value; the form says which field it is.
+    Wraps { form: Form, value: i16 },
+    /// The vector of a TRAP is none of those that are known.
+    UnknownTrap,
+    /// No line names the label that the line defines.
+    UnusedLabel,
+    /// Execution begins at data.
+    StartsInData,
+    /// Execution goes on into the data of the line of this number, from 1.
+    RunsIntoData { next: usize },
+    /// Execution goes on behind the last word.
+    RunsPastEnd,
+    /// A subroutine goes back, and the line of this number, from 1, has written R7.
+    LostReturn { writer: usize },
+    /// The line stands behind the `.END` of the line of this number, from 1.
+    AfterEnd { end: usize },
+}
+
+/// A warning about a line of a text.
+#[derive(Clone, Copy, Debug, PartialEq, Eq)]
+pub struct Warning {
+    /// The number of the line, from 1.
+    pub line: usize,
+    /// Where the word that it is about begins in the line, in bytes from 0.
+    pub start: usize,
+    /// Where that word ends.
+    pub end: usize,
+    /// What is said.
+    pub kind: Kind,
+}
