@@ -1,6 +1,6 @@
 -- Steps in blocks.
 use native.Mathlib.Numerals.{unary_clauses}
-use Rattle.std.proofs.Common.{◌≡◌, ℕ, zero, suc, ◌+◌, ◌-◌, ◌<◌, ◌≤◌, ◌++◌, List, [], ◌∷◌, replicate, take, drop, drop-cons, get_or, length, min, refl, sym, ap, ◌∙◌, arith, append_assoc, append-nil}
+use Rattle.std.proofs.Common.{◌≡◌, ℕ, zero, suc, ◌+◌, ◌-◌, ◌<◌, ◌++◌, List, [], ◌∷◌, replicate, take, drop, drop-cons, get_or, length, min, refl, sym, ap, ◌∙◌, arith, append_assoc, append-nil}
 use Rattle.std.proofs.lemmas.List.{length-append, length-replicate}
 use Rattle.lab_sched.specs.declared.schedule.block.Block.{Block}
 use Rattle.lab_sched.specs.Worlds.{WorldState, run}
@@ -9,7 +9,7 @@ use Rattle.lab_sched.proofs.ScheduleRuns.{steps_of-append}
 use Rattle.lab_debug.specs.Sessions.{effective}
 use Rattle.lab_debug.proofs.StepLemmas.{effective-append, run-same}
 
-steps-cons : (b : Block) (bs : List Block) → steps_of (b ∷ bs) ≡ replicate b.count b.pid ++ steps_of bs
+pub steps-cons : (b : Block) (bs : List Block) → steps_of (b ∷ bs) ≡ replicate b.count b.pid ++ steps_of bs
 unfolding steps_of
 steps-cons b bs = refl
 

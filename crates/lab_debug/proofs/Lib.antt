@@ -4,3 +4,6 @@ pub mod ScriptLemmas
 pub mod NumberLemmas
 pub mod StepLemmas
 pub mod BlockLemmas
+pub mod BreakLemmas
+pub mod TakenLemmas
+pub mod PlayLemmas

@@ -1,5 +1,5 @@
 -- Steps of a process, and which of them have an effect.
-use Rattle.std.proofs.Common.{◌≡◌, ℕ, zero, suc, ◌+◌, ◌-◌, ◌<◌, ◌≤◌, ◌||◌, ◌++◌, List, [], ◌∷◌, Bool, true, false, replicate, slice_get, refl, sym, ap, ◌∙◌, arith, append_assoc, append-nil, if◌then◌else◌}
+use Rattle.std.proofs.Common.{◌≡◌, ℕ, zero, suc, ◌+◌, ◌-◌, ◌<◌, ◌||◌, ◌++◌, List, [], ◌∷◌, Bool, true, false, replicate, slice_get, refl, sym, ap, ◌∙◌, arith, append-nil}
 use Rattle.lab_sched.specs.Worlds.{WorldState, StepEffect, nothing, local_step, kernel_step, step_effect_in, step, after, run}
 use Rattle.lab_sched.specs.Held.{stepped_of}
 use Rattle.ipc_kernel.specs.declared.call.Answer.TheVariants.{Done, Wait}
@@ -7,18 +7,18 @@ use Rattle.lab_sched.specs.declared.stepped.Stepped.TheVariants.{Same}
 use Rattle.lab_debug.specs.Sessions.{is_at, halts, steps_until, effective}
 use Rattle.lab_sched.specs.Verdicts.{is_nothing}
 
-nothing-from : (t : StepEffect) → stepped_of t ≡ Same → is_nothing t ≡ true
+pub nothing-from : (t : StepEffect) → stepped_of t ≡ Same → is_nothing t ≡ true
 nothing-from nothing e = refl
 nothing-from (local_step n) e = cc
 nothing-from (kernel_step m c (Done r)) e = cc
 nothing-from (kernel_step m c Wait) e = cc
 
-something-from : (t : StepEffect) → (stepped_of t ≡ Same → ⊥) → is_nothing t ≡ false
+pub something-from : (t : StepEffect) → (stepped_of t ≡ Same → ⊥) → is_nothing t ≡ false
 something-from nothing e = absurd (e refl)
 something-from (local_step n) e = refl
 something-from (kernel_step m c a) e = refl
 
-stays : (w : WorldState) (pid : ℕ) (t : StepEffect) → is_nothing t ≡ true → after w pid t ≡ w
+pub stays : (w : WorldState) (pid : ℕ) (t : StepEffect) → is_nothing t ≡ true → after w pid t ≡ w
 stays w pid nothing e = refl
 stays w pid (local_step n) e = cc
 stays w pid (kernel_step m c a) e = cc
@@ -28,7 +28,7 @@ or-true true = refl
 or-true false = refl
 
 -- one more of the same at the front of the rest
-replicate-more : (n p : ℕ) (xs : List ℕ) → replicate (n + 1) p ++ xs ≡ replicate n p ++ p ∷ xs
+pub replicate-more : (n p : ℕ) (xs : List ℕ) → replicate (n + 1) p ++ xs ≡ replicate n p ++ p ∷ xs
 replicate-more zero p xs = refl
 replicate-more (suc n) p xs =
     let next : suc n + 1 ≡ suc (n + 1) = omega arith in
@@ -101,7 +101,7 @@ unfolding effective
 effective-rests zero w p e = refl
 effective-rests (suc n) w p e = rw e (effective-rests n w p e)
 
-run-rests : (n : ℕ) (w : WorldState) (p : ℕ) → step w p ≡ w → run w (replicate n p) ≡ w
+pub run-rests : (n : ℕ) (w : WorldState) (p : ℕ) → step w p ≡ w → run w (replicate n p) ≡ w
 unfolding run
 run-rests zero w p same = refl
 run-rests (suc n) w p same = ap (λ v. run v (replicate n p)) same ∙ run-rests n w p same

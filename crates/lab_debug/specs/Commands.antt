@@ -10,8 +10,9 @@ use Rattle.lab_sched.specs.declared.schedule.fault.SchedFault.{SchedFault}
 use Rattle.lab_sched.specs.Schedules.{most_steps}
 use Rattle.lab_sched.specs.ScheduleTexts.{reading_of_words}
 use Rattle.lab_debug.specs.declared.command.Command.{Command}
-use Rattle.lab_debug.specs.declared.command.Command.TheVariants.{Step, Run, Until, Back, Regs, Mem, Dis, Procs, Mqs, Sems, Fds, Out, Profile, Help, Quit}
+use Rattle.lab_debug.specs.declared.command.Command.TheVariants.{Step, Run, Play, Until, Back, Regs, Mem, Dis, Procs, Mqs, Sems, Fds, Out, Where, Code, Labels, Go, Break, Clear, Breaks, Steps, Taken, Profile, Help, Quit}
 use Rattle.lab_debug.specs.declared.command.Range.{Range}
+use Rattle.lab_debug.specs.declared.breaks.Place.{Place}
 use Rattle.lab_debug.specs.declared.command.Refusal.{Refusal}
 use Rattle.lab_debug.specs.declared.command.Refusal.TheVariants.{UnknownCommand, BadOperands}
 
@@ -92,15 +93,35 @@ range_of ws =
 abbrev pub of_range : (Range → Command) → List (List ℕ) → Option Command
 of_range make ws = option_map make (range_of ws)
 
+-- P ADDR: an address of a process
+abbrev pub place_of : List (List ℕ) → Option Place
+place_of ws =
+    option_and_then (λ w. option_and_then (λ p. option_map (λ a. record { pid = p; address = a })
+    (address_of w.1)) (process_of w.0)) (two_of ws)
+
+-- a command on an address of a process
+abbrev pub of_place : (Place → Command) → List (List ℕ) → Option Command
+of_place make ws = option_map make (place_of ws)
+
+-- P, or P N: a process, and a number of steps; the most where it isn't given
+abbrev pub go_of : List (List ℕ) → Option Command
+go_of (p ∷ []) = option_map (λ pid. Go pid step_count_max) (process_of p)
+go_of (p ∷ n ∷ []) = option_and_then (λ pid. option_map (λ count. Go pid count) (count_of n)) (process_of p)
+go_of ws = None
+
 -- nothing
 abbrev pub bare_of : Command → List (List ℕ) → Option Command
 bare_of command [] = Some command
 bare_of command (w ∷ ws) = None
 
--- BLOCKS: a schedule
-abbrev pub run_of : Result (List Block) SchedFault → Result Command Refusal
-run_of (Ok schedule) = Ok (Run schedule)
-run_of (Err fault) = Err BadOperands
+-- the schedule that was read, if any
+abbrev pub read_schedule : Result (List Block) SchedFault → Option (List Block)
+read_schedule (Ok schedule) = Some schedule
+read_schedule (Err fault) = None
+
+-- BLOCKS: a command on a schedule
+abbrev pub of_blocks : (List Block → Command) → List (List ℕ) → Option Command
+of_blocks make ws = option_map make (read_schedule (reading_of_words ws))
 
 -- a command, or the refusal of its operands
 abbrev pub or_bad : Option Command → Result Command Refusal
@@ -110,6 +131,25 @@ or_bad None = Err BadOperands
 -- whether a word is this one, in lower case
 unfoldable pub is_named : List ℕ → List ℕ → Bool
 is_named name word = bytes_eq name word
+
+-- a command on breaks or on the steps of the session, by its name and its operands
+unfoldable pub breaking_command : List ℕ → List (List ℕ) → Result Command Refusal
+breaking_command name ws =
+    if is_named (codes "break") name then or_bad (of_place Break ws) else
+    if is_named (codes "clear") name then or_bad (of_place Clear ws) else
+    if is_named (codes "breaks") name then or_bad (bare_of Breaks ws) else
+    if is_named (codes "go") name then or_bad (go_of ws) else
+    if is_named (codes "steps") name then or_bad (bare_of Steps ws) else
+    if is_named (codes "schedule") name then or_bad (bare_of Taken ws) else
+    Err UnknownCommand
+
+-- a command that shows where a process stands in its source, by its name and its operands
+unfoldable pub placing_command : List ℕ → List (List ℕ) → Result Command Refusal
+placing_command name ws =
+    if is_named (codes "where") name then or_bad (of_process Where ws) else
+    if is_named (codes "code") name then or_bad (of_range Code ws) else
+    if is_named (codes "labels") name then or_bad (of_process Labels ws) else
+    breaking_command name ws
 
 -- a command that only shows something, by its name and its operands
 unfoldable pub showing_command : List ℕ → List (List ℕ) → Result Command Refusal
@@ -124,9 +164,9 @@ showing_command name ws =
     if is_named (codes "out") name then or_bad (of_process Out ws) else
     if is_named (codes "profile") name then or_bad (bare_of Profile ws) else
     if is_named (codes "help") name then or_bad (bare_of Help ws) else
-    Err UnknownCommand
+    placing_command name ws
 
--- a command other than `run` by its name and its operands
+-- a command without a schedule by its name and its operands
 unfoldable pub plain_command : List ℕ → List (List ℕ) → Result Command Refusal
 plain_command name ws =
     if is_named (codes "step") name then or_bad (step_of ws) else
@@ -138,4 +178,6 @@ plain_command name ws =
 -- a command by its name and its operands
 unfoldable pub command_of : List ℕ → List (List ℕ) → Result Command Refusal
 command_of name ws =
-    if is_named (codes "run") name then run_of (reading_of_words ws) else plain_command name ws
+    if is_named (codes "run") name then or_bad (of_blocks Run ws) else
+    if is_named (codes "play") name then or_bad (of_blocks Play ws) else
+    plain_command name ws

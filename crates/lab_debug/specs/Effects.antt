@@ -1,16 +1,21 @@
 -- What a line of a script does.
-use Rattle.std.specs.Prelude.{ℕ, Bool, true, false, if◌then◌else◌, nat_lt, Result, Ok, Err, List, [], ◌∷◌, ◌++◌, codes, length, replicate}
+use Rattle.std.specs.Prelude.{ℕ, Bool, true, false, if◌then◌else◌, nat_lt, Option, Some, None, Result, Ok, Err, List, [], ◌∷◌, ◌++◌, codes, length, replicate}
 use Rattle.std.specs.List.{list_all}
 use Rattle.lab_sched.specs.Worlds.{WorldState}
 use Rattle.lab_sched.specs.Schedules.{steps_of}
 use Rattle.lab_debug.specs.declared.command.Command.{Command}
-use Rattle.lab_debug.specs.declared.command.Command.TheVariants.{Step, Run, Until, Back, Regs, Mem, Dis, Procs, Mqs, Sems, Fds, Out, Profile, Help, Quit}
+use Rattle.lab_debug.specs.declared.command.Command.TheVariants.{Step, Run, Play, Until, Back, Regs, Mem, Dis, Procs, Mqs, Sems, Fds, Out, Where, Code, Labels, Go, Break, Clear, Breaks, Steps, Taken, Profile, Help, Quit}
 use Rattle.lab_debug.specs.declared.command.Refusal.{Refusal}
-use Rattle.lab_debug.specs.declared.command.Refusal.TheVariants.{UnknownCommand, BadOperands, NoProcess}
+use Rattle.lab_debug.specs.declared.command.Refusal.TheVariants.{UnknownCommand, BadOperands, NoProcess, NoLabel, NoBreak}
 use Rattle.lab_debug.specs.Commands.{words_of, command_of}
+use Rattle.lab_debug.specs.Labels.{LabelSeen, listing_of, label_address, addressed, command_at, second_label, with_zero, has_labels}
+use Rattle.lab_debug.specs.Places.{where_text, code_text, labels_text}
+use Rattle.lab_debug.specs.declared.breaks.Place.{Place}
+use Rattle.lab_debug.specs.Breaks.{has_break, with_break, without_break, break_text, clear_text, breaks_text, steps_to_break, steps_played, stopped_process}
+use Rattle.lab_debug.specs.Taken.{taken_text}
 use Rattle.lab_debug.specs.Help.{help_text}
 use Rattle.std.specs.Fmt.{decimal}
-use Rattle.lab_debug.specs.Sessions.{SessionState, after_steps, steps_until, back}
+use Rattle.lab_debug.specs.Sessions.{SessionState, with_breaks, after_steps, steps_until, effective, back}
 use Rattle.lab_debug.specs.Script.{Effect, Script, script}
 use Rattle.lab_texts.specs.Texts.{status_text, procs_text, profile_text, regs_text, mem_text, dis_text, out_text}
 use Rattle.lab_texts.specs.Objects.{mqs_text, sems_text, fds_text}
@@ -21,6 +26,8 @@ abbrev pub refusal_text : Refusal → List ℕ
 refusal_text UnknownCommand = codes "? unknown command\n"
 refusal_text BadOperands = codes "? bad operands\n"
 refusal_text NoProcess = codes "? no such process\n"
+refusal_text NoLabel = codes "? no such label\n"
+refusal_text NoBreak = codes "? no such break\n"
 
 -- a text of a world, and nothing else
 abbrev pub text_effect : (WorldState → List ℕ) → SessionState → Effect SessionState
@@ -38,12 +45,48 @@ back_effect s = record { text = steps_text (length s.steps); world = s; ends = f
 abbrev pub refusal_effect : Refusal → SessionState → Effect SessionState
 refusal_effect refusal s = record { text = refusal_text refusal; world = s; ends = false }
 
+-- a text of a session, and nothing else
+abbrev pub shown_effect : List ℕ → SessionState → Effect SessionState
+shown_effect text s = record { text = text; world = s; ends = false }
+
+-- a break is set, which may be there already
+abbrev pub break_effect : SessionState → Place → Effect SessionState
+break_effect s place = shown_effect (break_text s.listings place) (with_breaks s (with_break s.breaks place))
+
+-- a break is taken off
+abbrev pub clear_effect : SessionState → Place → Effect SessionState
+clear_effect s place =
+    if has_break s.breaks place then shown_effect (clear_text s.listings place) (with_breaks s (without_break s.breaks place))
+    else refusal_effect NoBreak s
+
+-- after how many of all its steps a schedule stopped
+unfoldable pub stop_text : ℕ → ℕ → List ℕ
+stop_text n all = codes "stopped after " ++ decimal n ++ codes " of " ++ decimal all ++ codes "\n"
+
+-- where a schedule stopped, and the status line of the process that stopped it; else the verdict line
+abbrev pub play_text : ℕ → ℕ → Option ℕ → WorldState → List ℕ
+play_text n all None w = verdict_text w
+play_text n all (Some pid) w = stop_text n all ++ status_text pid w
+
+-- the steps of a schedule up to a break
+abbrev pub play_effect : SessionState → List ℕ → Effect SessionState
+play_effect s ps =
+    text_effect (play_text (length (steps_played s.breaks s.world ps)) (length ps) (stopped_process s.breaks s.world ps))
+    (after_steps s (steps_played s.breaks s.world ps))
+
 -- what a command does, where its processes are there
 abbrev pub accepted_effect : SessionState → Command → Effect SessionState
 accepted_effect s (Step pid n) = text_effect (status_text pid) (after_steps s (replicate n pid))
 accepted_effect s (Run schedule) = text_effect verdict_text (after_steps s (steps_of schedule))
 accepted_effect s (Until pid address n) = text_effect (status_text pid) (after_steps s (steps_until pid address s.world n))
 accepted_effect s (Back n) = back_effect (back n s)
+accepted_effect s (Play schedule) = play_effect s (steps_of schedule)
+accepted_effect s (Go pid n) = text_effect (status_text pid) (after_steps s (steps_to_break s.breaks pid s.world n))
+accepted_effect s (Break place) = break_effect s place
+accepted_effect s (Clear place) = clear_effect s place
+accepted_effect s Breaks = shown_effect (breaks_text s.listings s.breaks) s
+accepted_effect s Steps = shown_effect (steps_text (length (effective s.start s.steps))) s
+accepted_effect s Taken = shown_effect (taken_text (effective s.start s.steps)) s
 accepted_effect s (Regs pid) = text_effect (regs_text pid) s
 accepted_effect s (Mem range) = text_effect (mem_text range.pid range.address range.count) s
 accepted_effect s (Dis range) = text_effect (dis_text range.pid range.address range.count) s
@@ -52,6 +95,9 @@ accepted_effect s Mqs = text_effect mqs_text s
 accepted_effect s Sems = text_effect sems_text s
 accepted_effect s (Fds pid) = text_effect (fds_text pid) s
 accepted_effect s (Out pid) = text_effect (out_text pid) s
+accepted_effect s (Where pid) = text_effect (where_text pid (listing_of s.listings pid)) s
+accepted_effect s (Code range) = text_effect (code_text range.pid range.address range.count (listing_of s.listings range.pid)) s
+accepted_effect s (Labels pid) = text_effect (λ v. labels_text (listing_of s.listings pid)) s
 accepted_effect s Profile = text_effect profile_text s
 accepted_effect s Help = text_effect (λ v. help_text) s
 accepted_effect s Quit = record { text = []; world = s; ends = true }
@@ -64,8 +110,15 @@ is_there w pid = nat_lt pid (length w.processes)
 abbrev pub are_there : WorldState → Command → Bool
 are_there w (Step pid n) = is_there w pid
 are_there w (Run schedule) = list_all (λ b. is_there w b.pid) schedule
+are_there w (Play schedule) = list_all (λ b. is_there w b.pid) schedule
 are_there w (Until pid address n) = is_there w pid
 are_there w (Back n) = true
+are_there w (Go pid n) = is_there w pid
+are_there w (Break place) = is_there w place.pid
+are_there w (Clear place) = is_there w place.pid
+are_there w Breaks = true
+are_there w Steps = true
+are_there w Taken = true
 are_there w (Regs pid) = is_there w pid
 are_there w (Mem range) = is_there w range.pid
 are_there w (Dis range) = is_there w range.pid
@@ -74,6 +127,9 @@ are_there w Mqs = true
 are_there w Sems = true
 are_there w (Fds pid) = is_there w pid
 are_there w (Out pid) = is_there w pid
+are_there w (Where pid) = is_there w pid
+are_there w (Code range) = is_there w range.pid
+are_there w (Labels pid) = is_there w pid
 are_there w Profile = true
 are_there w Help = true
 are_there w Quit = true
@@ -87,10 +143,41 @@ abbrev pub reading_effect : SessionState → Result Command Refusal → Effect S
 reading_effect s (Ok command) = command_effect s command
 reading_effect s (Err refusal) = refusal_effect refusal s
 
+-- what a command does, or its refusal
+abbrev pub placed_effect : SessionState → Option Command → Effect SessionState
+placed_effect s None = refusal_effect BadOperands s
+placed_effect s (Some command) = accepted_effect s command
+
+-- what a command does at the address that its label stands for, or the refusal of the label
+abbrev pub located_effect : SessionState → Command → Result ℕ Refusal → Effect SessionState
+located_effect s command (Err refusal) = refusal_effect refusal s
+located_effect s command (Ok a) = placed_effect s (command_at a command)
+
+-- what a command does with a label of this process as its address; other commands have none
+abbrev pub labelled_effect : SessionState → Command → LabelSeen → Option ℕ → Effect SessionState
+labelled_effect s command label None = refusal_effect BadOperands s
+labelled_effect s command label (Some pid) =
+    if is_there s.world pid then located_effect s command (label_address (listing_of s.listings pid) label)
+    else refusal_effect NoProcess s
+
+-- what a line does that was read with the address 0 in the place of a label
+abbrev pub label_effect : SessionState → LabelSeen → Result Command Refusal → Effect SessionState
+label_effect s label (Err refusal) = refusal_effect refusal s
+label_effect s label (Ok command) = labelled_effect s command label (addressed command)
+
+-- what a command by its name and its operands does, where this label is one of them
+abbrev pub operands_effect : SessionState → List ℕ → List (List ℕ) → Option LabelSeen → Effect SessionState
+operands_effect s name ws None = reading_effect s (command_of name ws)
+operands_effect s name ws (Some label) = label_effect s label (command_of name (with_zero ws))
+
+-- the label among these operands, where labels are read
+abbrev pub label_among : SessionState → List (List ℕ) → Option LabelSeen
+label_among s ws = if has_labels s.listings then second_label ws else None
+
 -- a line without words does nothing
 abbrev pub words_effect : SessionState → List (List ℕ) → Effect SessionState
 words_effect s [] = text_effect (λ v. []) s
-words_effect s (name ∷ operands) = reading_effect s (command_of name operands)
+words_effect s (name ∷ ws) = operands_effect s name ws (label_among s ws)
 
 -- what a line does
 unfoldable pub line_effect : SessionState → List ℕ → Effect SessionState

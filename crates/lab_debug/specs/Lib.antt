@@ -1,6 +1,10 @@
 pub mod Lines
 pub mod Script
 pub mod Commands
+pub mod Labels
+pub mod Places
+pub mod Breaks
+pub mod Taken
 pub mod Help
 pub mod Sessions
 pub mod Effects

@@ -2,3 +2,6 @@
 pub mod Replies
 pub mod Ranges
 pub mod Reading
+pub mod LabelViews
+pub mod Runs
+pub mod Stops

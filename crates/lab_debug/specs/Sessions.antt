@@ -1,24 +1,36 @@
 -- The state of a session, and the state before its last steps.
-use Rattle.std.specs.Prelude.{ℕ, ◌-◌, ◌||◌, ◌==◌, zero, suc, Bool, true, false, Option, Some, None, if◌then◌else◌, List, [], ◌∷◌, ◌++◌, length, take, slice_get}
+use Rattle.std.specs.Prelude.{ℕ, ◌-◌, ◌||◌, ◌==◌, zero, suc, Bool, false, Option, Some, None, if◌then◌else◌, List, [], ◌∷◌, ◌++◌, length, take, slice_get}
 use Rattle.lab_sched.specs.Worlds.{Process, WorldState, step_effect_in, step, run, machine_of}
 use Rattle.lab_sched.specs.Verdicts.{is_nothing}
 use Rattle.lab_sched.specs.Schedules.{steps_of}
 use Rattle.lab_sched.specs.Starts.{fresh}
+use Rattle.lab_sources.specs.declared.listing.Listing.{Listing}
+use Rattle.lab_debug.specs.declared.breaks.Place.{Place}
 use Rattle.lab_debug.specs.declared.state.Session.{Session}
 
--- the world at the start of a session, the process of each step since then, and the world now
+-- the sources of the processes, where they were given as such, the breaks, the world at the start of a session, the process of each step since then, and the world now
 pub record SessionState : Type 0 where
+  pub listings : List (Option Listing)
+  pub breaks : List Place
   pub start : WorldState
   pub steps : List ℕ
   pub world : WorldState
 
 -- a session before its first step
-abbrev pub session_from : WorldState → SessionState
-session_from w = record { start = w; steps = []; world = w }
+abbrev pub session_from : List (Option Listing) → WorldState → SessionState
+session_from ls w = record { listings = ls; breaks = []; start = w; steps = []; world = w }
+
+-- a session that has taken these steps, and is in this world
+abbrev pub with_steps : SessionState → List ℕ → WorldState → SessionState
+with_steps s ps w = record { listings = s.listings; breaks = s.breaks; start = s.start; steps = ps; world = w }
+
+-- a session with these breaks
+abbrev pub with_breaks : SessionState → List Place → SessionState
+with_breaks s bs = record { listings = s.listings; breaks = bs; start = s.start; steps = s.steps; world = s.world }
 
 -- a session after further steps
 abbrev pub after_steps : SessionState → List ℕ → SessionState
-after_steps s ps = record { start = s.start; steps = s.steps ++ ps; world = run s.world ps }
+after_steps s ps = with_steps s (s.steps ++ ps) (run s.world ps)
 
 -- those of some steps from a world on that have an effect
 unfoldable pub effective : WorldState → List ℕ → List ℕ
@@ -36,7 +48,7 @@ steps_before n s = without_last n (effective s.start s.steps)
 
 -- a session before the last n of its steps with an effect: the other ones, from its start
 abbrev pub back : ℕ → SessionState → SessionState
-back n s = record { start = s.start; steps = steps_before n s; world = run s.start (steps_before n s) }
+back n s = with_steps s (steps_before n s) (run s.start (steps_before n s))
 
 -- whether the program counter of a process is at an address
 abbrev pub is_at : ℕ → Option Process → Bool
@@ -55,4 +67,4 @@ steps_until pid address w (suc n) =
 
 -- the state of a session, as the code keeps it
 abbrev pub state_of : Session → SessionState
-state_of s = record { start = fresh s.profile s.programs.items; steps = steps_of s.taken.items; world = s.world }
+state_of s = record { listings = s.listings.items; breaks = s.breaks.items; start = fresh s.profile s.programs.items; steps = steps_of s.taken.items; world = s.world }

@@ -2,9 +2,11 @@
 ghost use Rattle.std.specs.Prelude.{◌≡◌, ◌≤◌, ◌+◌, IfOk, IfSome, map, codes};
 ghost use Rattle.lab_sched.specs.ScheduleTexts.{reading_of_words};
 ghost use Rattle.lab_debug.specs.Private.Ranges.{IsCommand};
-ghost use Rattle.lab_debug.specs.Commands.{step_of, until_of, back_of, bare_of, of_process, range_of, of_range, run_of, is_named, showing_command, plain_command, command_of};
+ghost use Rattle.lab_debug.specs.Commands.{step_of, until_of, back_of, bare_of, of_process, range_of, of_range, of_blocks, read_schedule, is_named, showing_command, plain_command, command_of};
 
+use crate::breaks::Place;
 use crate::operands::{address_in, count_in, number_in, one, process_in, three, two};
+use crate::placing::read_placing;
 use lab_sched::{MOST_STEPS, SchedFault, Schedule};
 use std::alloc::{AllocError, Global};
 
@@ -26,12 +28,29 @@ pub enum Command {
     },
     /// The steps of a schedule.
     Run(Schedule),
+    /// The steps of a schedule, up to a break.
+    Play(Schedule),
     /// At most so many steps of a process, up to an address.
     Until {
         pid: usize,
         address: u16,
         count: u32,
     },
+    /// At most so many steps of a process, up to a break.
+    Go {
+        pid: usize,
+        count: u32,
+    },
+    /// A break to set.
+    Break(Place),
+    /// A break to take off.
+    Clear(Place),
+    /// The breaks.
+    Breaks,
+    /// How many steps had an effect.
+    Steps,
+    /// The schedule of the steps that had an effect.
+    Taken,
     /// The state before the last so many steps that had an effect.
     Back {
         count: u32,
@@ -58,6 +77,16 @@ pub enum Command {
     Out {
         pid: usize,
     },
+    /// Where a process stands in its source.
+    Where {
+        pid: usize,
+    },
+    /// A range of memory of a process with its labels and the lines of its source.
+    Code(Range),
+    /// The labels of a process.
+    Labels {
+        pid: usize,
+    },
     /// The profile of the machine.
     Profile,
     /// The commands.
@@ -66,7 +95,7 @@ pub enum Command {
     Quit,
 }
 
-ghost use Rattle.lab_debug.specs.declared.command.Command.TheVariants.{Regs, Mem, Dis, Fds, Out};
+ghost use Rattle.lab_debug.specs.declared.command.Command.TheVariants.{Regs, Mem, Dis, Fds, Out, Run, Play};
 
 /// Why a line is refused, in this order.
 #[derive(Clone, Copy, Debug, PartialEq, Eq)]
@@ -77,6 +106,10 @@ pub enum Refusal {
     BadOperands,
     /// A process that is named isn't there.
     NoProcess,
+    /// A label that is named isn't in the source of its process, or the process has no source.
+    NoLabel,
+    /// There is no break at the place.
+    NoBreak,
 }
 
 /// `P N`
@@ -146,7 +179,7 @@ fn read_out(operands: &[&[u8]]) -> Option<Command>
 }
 
 /// `P ADDR N`, a range of its memory
-fn read_range(operands: &[&[u8]]) -> Option<Range>
+pub fn read_range(operands: &[&[u8]]) -> Option<Range>
     ensures value { result ≡ range_of (map (λ word. word.now) operands.now) }
     ensures range { IfSome result (λ range. range.address + range.count ≤ 65536) }
 {
@@ -184,7 +217,7 @@ fn read_dis(operands: &[&[u8]]) -> Option<Command>
 }
 
 /// A command without operands
-fn read_bare(command: Command, operands: &[&[u8]]) -> Option<Command>
+pub fn read_bare(command: Command, operands: &[&[u8]]) -> Option<Command>
     requires ranges { IsCommand command }
     ensures value { result ≡ bare_of command (map (λ word. word.now) operands.now) }
     ensures ranges { IfSome result (λ c. IsCommand c) }
@@ -198,7 +231,7 @@ fn read_bare(command: Command, operands: &[&[u8]]) -> Option<Command>
 
 /// Whether a word is this name.
 #[tactic(auto, unfolding(crate::specs::Commands::is_named))]
-fn is_name(name: &str, word: &[u8]) -> bool
+pub fn is_name(name: &str, word: &[u8]) -> bool
     ensures value { result ≡ is_named name.now word.now }
 {
     name.as_bytes() == word
@@ -240,10 +273,10 @@ fn read_showing(name: &[u8], operands: &[&[u8]]) -> Result<Command, Refusal>
     if is_name("help", name) {
         return read_bare(Command::Help, operands).ok_or(Refusal::BadOperands);
     }
-    Err(Refusal::UnknownCommand)
+    read_placing(name, operands)
 }
 
-/// A command other than `run` by its name and its operands.
+/// A command without a schedule by its name and its operands.
 #[tactic(auto, unfolding(crate::specs::Commands::plain_command))]
 fn read_plain(name: &[u8], operands: &[&[u8]]) -> Result<Command, Refusal>
     ensures value { result ≡ plain_command name.now (map (λ word. word.now) operands.now) }
@@ -265,18 +298,39 @@ fn read_plain(name: &[u8], operands: &[&[u8]]) -> Result<Command, Refusal>
 }
 
 /// `BLOCKS`, a schedule
-fn read_run(alloc: Global, operands: &[&[u8]]) -> Result<Result<Command, Refusal>, AllocError>
+fn read_schedule(alloc: Global, operands: &[&[u8]]) -> Result<Option<Schedule>, AllocError>
     ensures value { IfOk result (λ read.
-        read ≡ run_of (reading_of_words (map (λ word. word.now) operands.now))) }
-    ensures ranges { IfOk result (λ read. IfOk read (λ command. IsCommand command)) }
+        read ≡ read_schedule (reading_of_words (map (λ word. word.now) operands.now))) }
 {
     match Schedule::read_words(alloc, operands) {
-        Ok(schedule) => Ok(Ok(Command::Run(schedule))),
+        Ok(schedule) => Ok(Some(schedule)),
         Err(SchedFault::NoMemory) => Err(AllocError),
-        Err(SchedFault::BadBlock { .. } | SchedFault::TooLong { .. }) => {
-            Ok(Err(Refusal::BadOperands))
-        }
+        Err(SchedFault::BadBlock { .. } | SchedFault::TooLong { .. }) => Ok(None),
     }
+}
+
+/// `BLOCKS`, a schedule to run
+fn read_run(alloc: Global, operands: &[&[u8]]) -> Result<Option<Command>, AllocError>
+    ensures value { IfOk result (λ read.
+        read ≡ of_blocks Run (map (λ word. word.now) operands.now)) }
+    ensures ranges { IfOk result (λ read. IfSome read (λ command. IsCommand command)) }
+{
+    let Some(schedule) = read_schedule(alloc, operands)? else {
+        return Ok(None);
+    };
+    Ok(Some(Command::Run(schedule)))
+}
+
+/// `BLOCKS`, a schedule to run up to a break
+fn read_play(alloc: Global, operands: &[&[u8]]) -> Result<Option<Command>, AllocError>
+    ensures value { IfOk result (λ read.
+        read ≡ of_blocks Play (map (λ word. word.now) operands.now)) }
+    ensures ranges { IfOk result (λ read. IfSome read (λ command. IsCommand command)) }
+{
+    let Some(schedule) = read_schedule(alloc, operands)? else {
+        return Ok(None);
+    };
+    Ok(Some(Command::Play(schedule)))
 }
 
 /// A command by its name and its operands.
@@ -291,7 +345,10 @@ pub fn read_command(
     ensures ranges { IfOk result (λ read. IfOk read (λ command. IsCommand command)) }
 {
     if is_name("run", name) {
-        return read_run(alloc, operands);
+        return Ok(read_run(alloc, operands)?.ok_or(Refusal::BadOperands));
+    }
+    if is_name("play", name) {
+        return Ok(read_play(alloc, operands)?.ok_or(Refusal::BadOperands));
     }
     Ok(read_plain(name, operands))
 }

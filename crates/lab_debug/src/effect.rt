@@ -1,20 +1,28 @@
 //! What a line of a script does.
-ghost use Rattle.std.specs.Prelude.{◌≡◌, false, ◌≤◌, ◌<◌, IfOk, OnOk, string_bytes, length, replicate};
+ghost use Rattle.std.specs.Prelude.{◌≡◌, false, ◌≤◌, ◌<◌, IfOk, OnOk, string_bytes, length, replicate, map, option_map, ◌∷◌};
 ghost use Rattle.ipc_kernel.specs.Limits.{process_max};
 ghost use Rattle.std.specs.List.{list_all};
+ghost use Rattle.lab_sched.specs.Schedules.{steps_of};
 ghost use Rattle.lab_debug.specs.Sessions.{state_of, after_steps};
 ghost use Rattle.lab_debug.specs.Commands.{step_count_max};
 ghost use Rattle.lab_texts.specs.Texts.{status_text};
 ghost use Rattle.lab_debug.specs.Help.{help_text};
 ghost use Rattle.lab_texts.specs.Verdicts.{verdict_text};
 ghost use Rattle.lab_debug.specs.Private.Replies.{effect_of};
-ghost use Rattle.lab_debug.specs.Effects.{steps_text, is_there, are_there, accepted_effect, command_effect, line_effect, refusal_text};
+ghost use Rattle.lab_debug.specs.Effects.{steps_text, is_there, are_there, clear_effect, play_effect, accepted_effect, command_effect, located_effect, labelled_effect, label_among, words_effect, line_effect, refusal_text};
+ghost use Rattle.lab_debug.specs.Labels.{addressed};
+ghost use Rattle.lab_debug.specs.Private.LabelViews.{label_seen};
 ghost use Rattle.lab_debug.specs.Private.Ranges.{IsCommand};
 
+use crate::breaks::{Place, break_text, breaks_text, clear_text, has_break};
 use crate::command::{Command, Refusal, read_command};
 use crate::help::HELP;
+use crate::label::{Label, second_label, with_zero};
 use crate::operands::split_words;
+use crate::places::{code_text, labels_text, where_text};
+use crate::playing::play_text;
 use crate::state::Session;
+use crate::taken::taken_text;
 use lab_sched::{Block, Schedule, World};
 use lab_texts::{
     dis_text, fds_text, mem_text, mqs_text, out_text, procs_text, profile_text, regs_text,
@@ -39,6 +47,8 @@ fn refuse(alloc: Global, refusal: Refusal) -> Result<Reply, AllocError>
         Refusal::UnknownCommand => String::from_str(alloc, "? unknown command\n")?,
         Refusal::BadOperands => String::from_str(alloc, "? bad operands\n")?,
         Refusal::NoProcess => String::from_str(alloc, "? no such process\n")?,
+        Refusal::NoBreak => String::from_str(alloc, "? no such break\n")?,
+        Refusal::NoLabel => String::from_str(alloc, "? no such label\n")?,
     };
     Ok(Reply { text, ends: false })
 }
@@ -100,12 +110,23 @@ fn are_there(world: &World, command: &Command) -> bool
     match command {
         Command::Step { pid, .. }
         | Command::Until { pid, .. }
+        | Command::Go { pid, .. }
         | Command::Regs { pid }
         | Command::Fds { pid }
-        | Command::Out { pid } => is_there(world, *pid),
-        Command::Mem(range) | Command::Dis(range) => is_there(world, range.pid),
-        Command::Run(schedule) => blocks_are_there(world, schedule.blocks()),
+        | Command::Out { pid }
+        | Command::Where { pid }
+        | Command::Labels { pid } => is_there(world, *pid),
+        Command::Mem(range) | Command::Dis(range) | Command::Code(range) => is_there(
+            world, range.pid,
+        ),
+        Command::Break(place) | Command::Clear(place) => is_there(world, place.pid),
+        Command::Run(schedule) | Command::Play(schedule) => {
+            blocks_are_there(world, schedule.blocks())
+        }
         Command::Back { .. }
+        | Command::Breaks
+        | Command::Steps
+        | Command::Taken
         | Command::Procs
         | Command::Mqs
         | Command::Sems
@@ -113,6 +134,30 @@ fn are_there(world: &World, command: &Command) -> bool
         | Command::Help
         | Command::Quit => true,
     }
+}
+
+/// Takes a break off, or refuses it where there is none.
+fn clear(alloc: Global, session: &mut Session, place: Place) -> Result<Reply, AllocError>
+    ensures effect { IfOk result (λ r. effect_of r (state_of session.new)
+        ≡ clear_effect (state_of session.old) place) }
+{
+    if has_break(session.breaks(), place) {
+        session.clear_break(alloc, place)?;
+        let text = clear_text(alloc, session.listings(), place)?;
+        Ok(Reply { text, ends: false })
+    } else {
+        refuse(alloc, Refusal::NoBreak)
+    }
+}
+
+/// Takes the steps of a schedule up to a break.
+fn play(alloc: Global, session: &mut Session, schedule: &Schedule) -> Result<Reply, AllocError>
+    ensures effect { IfOk result (λ r. effect_of r (state_of session.new)
+        ≡ play_effect (state_of session.old) (steps_of schedule.now)) }
+{
+    let (taken, stopped) = session.play(alloc, schedule)?;
+    let text = play_text(alloc, session.world(), taken, schedule.total(), stopped)?;
+    Ok(Reply { text, ends: false })
 }
 
 /// Carries out a command whose processes are there.
@@ -130,6 +175,7 @@ fn carry_out(alloc: Global, session: &mut Session, command: Command) -> Result<R
             session.run(&schedule)?;
             verdict_text(alloc, session.world())?
         }
+        Command::Play(schedule) => return play(alloc, session, &schedule),
         Command::Until {
             pid,
             address,
@@ -141,6 +187,24 @@ fn carry_out(alloc: Global, session: &mut Session, command: Command) -> Result<R
         Command::Back { count } => {
             let left = session.back(alloc, count)?;
             steps_text(alloc, left)?
+        }
+        Command::Go { pid, count } => {
+            session.go(pid, count)?;
+            status_text(alloc, session.world(), pid)?
+        }
+        Command::Break(place) => {
+            session.set_break(alloc, place)?;
+            break_text(alloc, session.listings(), place)?
+        }
+        Command::Clear(place) => return clear(alloc, session, place),
+        Command::Breaks => breaks_text(alloc, session.listings(), session.breaks())?,
+        Command::Steps => {
+            let (_, total) = session.effective(alloc)?;
+            steps_text(alloc, total)?
+        }
+        Command::Taken => {
+            let (blocks, _) = session.effective(alloc)?;
+            taken_text(alloc, blocks.as_slice())?
         }
         Command::Regs { pid } => regs_text(alloc, session.world(), pid)?,
         Command::Mem(range) => mem_text(
@@ -162,6 +226,16 @@ fn carry_out(alloc: Global, session: &mut Session, command: Command) -> Result<R
         Command::Sems => sems_text(alloc, session.world())?,
         Command::Fds { pid } => fds_text(alloc, session.world(), pid)?,
         Command::Out { pid } => out_text(alloc, session.world(), pid)?,
+        Command::Where { pid } => { where_text(alloc, session.world(), pid, session.listing(pid))? }
+        Command::Code(range) => code_text(
+            alloc,
+            session.world(),
+            range.pid,
+            session.listing(range.pid),
+            range.address,
+            range.count,
+        )?,
+        Command::Labels { pid } => labels_text(alloc, session.listing(pid))?,
         Command::Profile => profile_text(alloc, session.world())?,
         Command::Help => help_text(alloc)?,
         Command::Quit => {
@@ -185,6 +259,83 @@ fn obey(alloc: Global, session: &mut Session, command: Command) -> Result<Reply,
     }
 }
 
+/// Carries out a command at the address that its label stands for, or refuses it.
+fn obey_at(
+    alloc: Global,
+    session: &mut Session,
+    command: Command,
+    address: Result<u16, Refusal>,
+) -> Result<Reply, AllocError>
+    requires ranges { IsCommand command }
+    ensures effect { IfOk result (λ r. effect_of r (state_of session.new)
+        ≡ located_effect (state_of session.old) command address) }
+{
+    match address {
+        Ok(address) => match command.at(address) {
+            Some(command) => carry_out(alloc, session, command),
+            None => refuse(alloc, Refusal::BadOperands),
+        },
+        Err(refusal) => refuse(alloc, refusal),
+    }
+}
+
+/// Carries out a command with a label as its address, or refuses it.
+fn obey_labelled(
+    alloc: Global,
+    session: &mut Session,
+    command: Command,
+    label: Label<'_>,
+) -> Result<Reply, AllocError>
+    requires ranges { IsCommand command }
+    ensures effect { IfOk result (λ r. effect_of r (state_of session.new) ≡ labelled_effect
+        (state_of session.old) command (label_seen label.entry) (addressed command)) }
+{
+    let Some(pid) = command.addressed() else {
+        return refuse(alloc, Refusal::BadOperands);
+    };
+    if is_there(session.world(), pid) {
+        let address = session.address_of(pid, label);
+        obey_at(alloc, session, command, address)
+    } else {
+        refuse(alloc, Refusal::NoProcess)
+    }
+}
+
+/// The label among the operands, where labels are read.
+fn label_among<'a>(session: &Session, operands: &[&'a [u8]]) -> Option<Label<'a>>
+    ensures value { option_map label_seen result
+        ≡ label_among (state_of session.now) (map (λ word. word.now) operands.now) }
+{
+    if session.has_labels() {
+        second_label(operands)
+    } else {
+        None
+    }
+}
+
+/// Carries out a command by its name and its operands.
+fn perform_words(
+    alloc: Global,
+    session: &mut Session,
+    name: &[u8],
+    operands: &[&[u8]],
+) -> Result<Reply, AllocError>
+    ensures effect { IfOk result (λ r. effect_of r (state_of session.new)
+        ≡ words_effect (state_of session.old) (name.now ∷ map (λ word. word.now) operands.now)) }
+{
+    let Some(label) = label_among(session, operands) else {
+        return match read_command(alloc, name, operands)? {
+            Ok(command) => obey(alloc, session, command),
+            Err(refusal) => refuse(alloc, refusal),
+        };
+    };
+    let operands = with_zero(alloc, operands)?;
+    match read_command(alloc, name, operands.as_slice())? {
+        Ok(command) => obey_labelled(alloc, session, command, label),
+        Err(refusal) => refuse(alloc, refusal),
+    }
+}
+
 /// Carries out a line.
 #[tactic(auto, unfolding(crate::specs::Effects::line_effect))]
 pub fn perform(alloc: Global, session: &mut Session, line: &[u8]) -> Result<Reply, AllocError>
@@ -196,8 +347,5 @@ pub fn perform(alloc: Global, session: &mut Session, line: &[u8]) -> Result<Repl
         let text = String::new(alloc);
         return Ok(Reply { text, ends: false });
     };
-    match read_command(alloc, name, operands)? {
-        Ok(command) => obey(alloc, session, command),
-        Err(refusal) => refuse(alloc, refusal),
-    }
+    perform_words(alloc, session, name, operands)
 }

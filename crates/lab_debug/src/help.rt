@@ -4,16 +4,26 @@
 pub const HELP: &str = "\
 step P N        N steps of process P\n\
 until P ADDR N  at most N steps of P, until its PC is ADDR\n\
+go P N          at most N steps of P, until its PC is at a break; without N 1,000,000\n\
 run BLOCKS      the steps of a schedule, as 0*12 1*13\n\
+play BLOCKS     the same, until a process comes to a break\n\
 back N          takes back the last N steps that had an effect; without N one\n\
+steps           how many steps had an effect\n\
+schedule        the schedule of these steps\n\
+break P ADDR    sets a break\n\
+clear P ADDR    takes a break off\n\
+breaks          the breaks\n\
 procs           where each process stands\n\
 regs P          the registers, the PC and the code of P\n\
 mem P ADDR N    N words of P's memory\n\
 dis P ADDR N    the same with the text of each word\n\
+code P ADDR N   the same with labels and the lines of the source\n\
+where P         the label and the line of the source at which P stands\n\
+labels P        the labels of P with their addresses\n\
 out P           what P has written\n\
 mqs             the queues\n\
 sems            the semaphores\n\
 fds P           the descriptors and slots of P\n\
 profile         the machine that the processes are\n\
 quit            ends the session\n\
-P is a process, as 0. ADDR is an address, as x3000.\n";
+P is a process, as 0. ADDR is an address, as x3000; of a program given as a source also a label, as LOOP or LOOP+2.\n";

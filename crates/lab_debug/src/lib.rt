@@ -1,15 +1,22 @@
 //! The debugger: a session of commands over a world.
 #![tactic(auto)]
 
+mod breaking;
+mod breaks;
 mod command;
 mod effect;
 mod fault;
 mod help;
+mod label;
 mod lines;
 mod operands;
+mod places;
+mod placing;
+mod playing;
 mod script;
 mod state;
 mod stepping;
+mod taken;
 
 pub use fault::SessionFault;
 pub use script::session;

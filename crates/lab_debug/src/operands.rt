@@ -51,7 +51,7 @@ pub fn address_in(word: &[u8]) -> Option<u16>
 }
 
 /// The most steps that a command asks for.
-const STEP_COUNT_MAX: u32 = 1_000_000;
+pub const STEP_COUNT_MAX: u32 = 1_000_000;
 
 /// A number of steps, from 1 to [`STEP_COUNT_MAX`].
 pub fn count_in(word: &[u8]) -> Option<u32>

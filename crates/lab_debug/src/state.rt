@@ -1,21 +1,31 @@
 //! The state of a session: its programs, the steps that were taken, and the world after them.
-ghost use Rattle.std.specs.Prelude.{◌≡◌, ◌↔◌, Err, IfOk, OnOk, OnErr, length};
+ghost use Rattle.std.specs.Prelude.{◌≡◌, ◌↔◌, Err, IfOk, OnOk, OnErr, length, option_map};
 ghost use Rattle.lab_sched.specs.Schedules.{steps_of};
 ghost use Rattle.lab_sched.specs.Starts.{IsCount, fresh};
 ghost use Rattle.lab_sched.specs.declared.fresh.FreshFault.TheVariants.{Count};
-ghost use Rattle.lab_debug.specs.Sessions.{session_from, after_steps, steps_until, back, state_of};
+ghost use Rattle.lab_debug.specs.Breaks.{with_break, without_break, steps_to_break, steps_played, stopped_process};
+ghost use Rattle.lab_debug.specs.Labels.{listing_of, label_address, has_labels};
+ghost use Rattle.lab_debug.specs.Private.LabelViews.{label_seen};
+ghost use Rattle.lab_debug.specs.Sessions.{session_from, with_breaks, effective, after_steps, steps_until, back, state_of};
 
-use crate::stepping::{effective_blocks, push_steps, run_first, step_until};
+use crate::breaks::{Place, with_break, without_break};
+use crate::command::Refusal;
+use crate::label::{Label, moved};
+use crate::playing::{Played, play_blocks};
+use crate::stepping::{effective_blocks, push_steps, run_first, step_to_break, step_until};
 use lab_sched::{Block, Fresh, FreshFault, Program, Schedule, World};
+use lab_sources::Listing;
 use lc3_table::Profile;
 use std::alloc::{AllocError, Global};
 
 /// A session of the debugger. It keeps its programs and the steps that were taken, so that it can
-/// go back.
+/// go back, and the sources of the programs that were given as such.
 #[derive(Drop)]
 pub struct Session {
     programs: Vec<Program>,
+    listings: Vec<Option<Listing>>,
     profile: Profile,
+    breaks: Vec<Place>,
     taken: Vec<Block>,
     world: World,
 }
@@ -30,23 +40,37 @@ fn start_of(alloc: Global, programs: &[Program], profile: Profile) -> Result<Wor
     }
 }
 
+/// The listing of the source of process `pid`, where it was given as one.
+pub fn listing_in(listings: &[Option<Listing>], pid: usize) -> Option<&Listing>
+    ensures listing { option_map (λ l. l.now) result ≡ listing_of listings.now pid }
+{
+    match listings.get(pid) {
+        Some(Some(listing)) => Some(listing),
+        _ => None,
+    }
+}
+
 impl Session {
     /// The session of 1 to 64 programs, process 0 with the first of them, on machines of this
-    /// profile, before the first step.
+    /// profile, before the first step. The listings are those of the programs' sources in the same
+    /// order; a program without one is an object file.
     #[tactic(auto, unfolding(lab_sched::specs::Schedules::steps_of))]
     pub fn new(
         alloc: Global,
         programs: Vec<Program>,
+        listings: Vec<Option<Listing>>,
         profile: Profile,
     ) -> Result<Session, FreshFault>
         ensures count { (result ≡ Err Count) ↔ (¬ IsCount (length programs.items)) }
         ensures start { IfOk result
-            (λ s. state_of s ≡ session_from (fresh profile programs.items)) }
+            (λ s. state_of s ≡ session_from listings.items (fresh profile programs.items)) }
     {
         let fresh = Fresh::new(alloc, programs.as_slice(), profile)?;
         Ok(Session {
             programs,
+            listings,
             profile,
+            breaks: Vec::new(alloc),
             taken: Vec::new(alloc),
             world: World::from(fresh),
         })
@@ -57,6 +81,113 @@ impl Session {
         ensures world { result.now ≡ (state_of self.now).world }
     {
         &self.world
+    }
+
+    /// Whether a program was given as a source, so that labels are read.
+    pub(crate) fn has_labels(&self) -> bool
+        ensures value { result ≡ has_labels (state_of self.now).listings }
+    {
+        self.listings.iter().any(|listing| listing.is_some())
+    }
+
+    /// The listing of the source of process `pid`, where it was given as one.
+    pub(crate) fn listing(&self, pid: usize) -> Option<&Listing>
+        ensures listing { option_map (λ l. l.now) result
+            ≡ listing_of (state_of self.now).listings pid }
+    {
+        listing_in(&self.listings, pid)
+    }
+
+    /// The address that a label of process `pid` stands for. It is refused where the source has no
+    /// such label, and where the address would be outside memory.
+    pub(crate) fn address_of(&self, pid: usize, label: Label<'_>) -> Result<u16, Refusal>
+        ensures address { result ≡ label_address (listing_of (state_of self.now).listings pid)
+            (label_seen label.entry) }
+    {
+        let Some(listing) = self.listing(pid) else {
+            return Err(Refusal::NoLabel);
+        };
+        let Some(address) = listing.source.address_of(label.name) else {
+            return Err(Refusal::NoLabel);
+        };
+        moved(label.is_before, label.count, address).ok_or(Refusal::BadOperands)
+    }
+
+    /// The listings of the processes' sources.
+    pub(crate) fn listings(&self) -> &[Option<Listing>]
+        ensures listings { result.now ≡ (state_of self.now).listings }
+    {
+        self.listings.as_slice()
+    }
+
+    /// The breaks, in the order of process and address.
+    pub(crate) fn breaks(&self) -> &[Place]
+        ensures breaks { result.now ≡ (state_of self.now).breaks }
+    {
+        self.breaks.as_slice()
+    }
+
+    /// Sets a break, which may be there already.
+    pub(crate) fn set_break(&mut self, alloc: Global, place: Place) -> Result<(), AllocError>
+        ensures state { OnOk result
+            (state_of self.new ≡ with_breaks (state_of self.old) (with_break (state_of self.old).breaks place)) }
+    {
+        self.breaks = with_break(alloc, &self.breaks, place)?;
+        Ok(())
+    }
+
+    /// Takes a break off.
+    pub(crate) fn clear_break(&mut self, alloc: Global, place: Place) -> Result<(), AllocError>
+        ensures state { OnOk result (state_of self.new
+            ≡ with_breaks (state_of self.old) (without_break (state_of self.old).breaks place)) }
+    {
+        self.breaks = without_break(alloc, &self.breaks, place)?;
+        Ok(())
+    }
+
+    /// Takes at most so many steps of a process: up to one that leads to a break, and only steps
+    /// that have an effect.
+    pub(crate) fn go(&mut self, pid: usize, count: u32) -> Result<(), AllocError>
+        ensures state { OnOk result (state_of self.new ≡ after_steps (state_of self.old)
+            (steps_to_break (state_of self.old).breaks pid (state_of self.old).world count)) }
+    {
+        let (taken, _) = step_to_break(&mut self.world, &self.breaks, pid, count)?;
+        push_steps(&mut self.taken, pid, taken)
+    }
+
+    /// Takes the steps of a schedule, up to one with an effect that leads its process to a break;
+    /// with how many steps were taken, and the process that came to a break, if one did.
+    #[tactic(auto, using(crate::proofs::BlockLemmas::steps_both))]
+    pub(crate) fn play(
+        &mut self,
+        alloc: Global,
+        schedule: &Schedule,
+    ) -> Result<(u64, Option<usize>), AllocError>
+        ensures state { OnOk result (state_of self.new ≡ after_steps (state_of self.old)
+            (steps_played (state_of self.old).breaks (state_of self.old).world (steps_of schedule.now))) }
+        ensures total { IfOk result (λ played. played.0 ≡ length
+            (steps_played (state_of self.old).breaks (state_of self.old).world (steps_of schedule.now))) }
+        ensures stopped { IfOk result (λ played. played.1 ≡ stopped_process
+            (state_of self.old).breaks (state_of self.old).world (steps_of schedule.now)) }
+    {
+        let Played {
+            steps,
+            total,
+            stopped,
+        } = play_blocks(alloc, &mut self.world, &self.breaks, schedule.blocks())?;
+        self.taken.extend_from_slice(steps.as_slice())?;
+        Ok((total, stopped))
+    }
+
+    /// The steps that had an effect, and how many they are. The programs are run again from their
+    /// start.
+    pub(crate) fn effective(&self, alloc: Global) -> Result<(Vec<Block>, u64), AllocError>
+        ensures steps { IfOk result (λ kept. steps_of kept.0.items
+            ≡ effective (state_of self.now).start (state_of self.now).steps) }
+        ensures total { IfOk result (λ kept. kept.1 ≡ length (steps_of kept.0.items)) }
+    {
+        let mut world = start_of(alloc, self.programs.as_slice(), self.profile)?;
+        effective_blocks(alloc, &mut world, self.taken.as_slice())
     }
 
     /// Takes the steps of a schedule.
@@ -94,8 +225,7 @@ impl Session {
         ensures left { IfOk result (λ left. left ≡ length (state_of self.new).steps) }
         ensures err { OnErr result (self.new ≡ self.old) }
     {
-        let mut world = start_of(alloc, self.programs.as_slice(), self.profile)?;
-        let (kept, total) = effective_blocks(alloc, &mut world, self.taken.as_slice())?;
+        let (kept, total) = self.effective(alloc)?;
         let left = total.saturating_sub(u64::from(count));
         let mut world = start_of(alloc, self.programs.as_slice(), self.profile)?;
         let taken = run_first(alloc, &mut world, kept.as_slice(), left)?;

@@ -3,8 +3,11 @@ ghost use Rattle.std.specs.Prelude.{◌≡◌, ◌++◌, true, false, IfOk, OnOk
 ghost use Rattle.lab_sched.specs.Worlds.{run};
 ghost use Rattle.lab_sched.specs.Schedules.{steps_of};
 ghost use Rattle.lab_sched.specs.declared.stepped.Stepped.TheVariants.{Same};
+ghost use Rattle.lab_debug.specs.Breaks.{steps_to_break, stopped_process};
+ghost use Rattle.lab_debug.specs.Private.Stops.{only_if};
 ghost use Rattle.lab_debug.specs.Sessions.{effective, is_at, steps_until};
 
+use crate::breaks::{Place, is_at_break};
 use lab_sched::{Block, Stepped, World};
 use std::alloc::{AllocError, Global};
 
@@ -50,6 +53,34 @@ pub fn step_until(
         }
     }
     Ok(count)
+}
+
+/// Takes at most so many steps of a process: up to one that leads to a break, and only steps that
+/// have an effect. It tells how many, and whether the last one led to a break.
+pub fn step_to_break(
+    world: &mut World,
+    breaks: &[Place],
+    pid: usize,
+    count: u32,
+) -> Result<(u32, bool), AllocError>
+    ensures steps { IfOk result
+        (λ taken. replicate taken.0 pid ≡ steps_to_break breaks.now pid world.old count) }
+    ensures stop { IfOk result (λ taken.
+        only_if taken.1 pid ≡ stopped_process breaks.now world.old (replicate count pid)) }
+    ensures world { IfOk result (λ taken. world.new ≡ run world.old (replicate taken.0 pid)) }
+{
+    for i in 0..count {
+        let Ok(stepped) = world.step(pid) else {
+            return Err(AllocError);
+        };
+        if is_same(stepped) {
+            return Ok((i, false));
+        }
+        if is_at_break(world, breaks, pid) {
+            return Ok((i + 1, true));
+        }
+    }
+    Ok((count, false))
 }
 
 /// Takes so many steps of a process, and tells how many had an effect.

@@ -1,6 +1,11 @@
-//! Sources of processes, and what they are assembled to.
+//! Sources of processes, what they are assembled to, and their labels and lines by address.
 #![tactic(auto)]
 
+mod labels;
+mod lines;
+mod listing;
 mod source;
 
+pub use labels::Near;
+pub use listing::{Content, Listing, NearestLabel};
 pub use source::Source;

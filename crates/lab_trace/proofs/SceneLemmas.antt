@@ -15,10 +15,10 @@ use Rattle.lab_trace.specs.Tallies.{TallyState, new_account, account_in, account
 use Rattle.lab_trace.specs.Units.{AreFew, IsFew}
 use Rattle.lab_trace.proofs.UnitLemmas.{few-more, after-few}
 use Rattle.lab_trace.specs.Scenes.{Scene, first_scene, has_effect, line_by, tally_by, before_at, line, next_tally, next, events, scene_after, IsKept}
-use Rattle.lab_trace.specs.declared.lines.Widths.{Widths}
+use Rattle.lab_trace.specs.Forms.{Form}
 use Rattle.lab_trace.specs.declared.tally.Account.{Account}
 
-pub events-append : (v : Widths) (s : Scene) (xs ys : List ℕ) → events v s (xs ++ ys) ≡ events v s xs ++ events v (scene_after s xs) ys
+pub events-append : (v : Form) (s : Scene) (xs ys : List ℕ) → events v s (xs ++ ys) ≡ events v s xs ++ events v (scene_after s xs) ys
 unfolding events scene_after
 events-append v s [] ys = refl
 events-append v s (x ∷ xs) ys =
@@ -39,12 +39,12 @@ pub scene-none : (s : Scene) → scene_after s [] ≡ s
 unfolding scene_after
 scene-none s = refl
 
-pub events-none : (v : Widths) (s : Scene) → events v s [] ≡ []
+pub events-none : (v : Form) (s : Scene) → events v s [] ≡ []
 unfolding events
 events-none v s = refl
 
 -- one step
-events-one : (v : Widths) (s : Scene) (p : ℕ) → events v s (p ∷ []) ≡ line v s p
+events-one : (v : Form) (s : Scene) (p : ℕ) → events v s (p ∷ []) ≡ line v s p
 unfolding events
 events-one v s p = append-nil (line v s p)
 
@@ -57,7 +57,7 @@ abbrev pub renumbered : Scene → ℕ → Scene
 renumbered s n = record { number = n; world = s.world; tally = s.tally }
 
 -- a step without effect has no line, and changes nothing but the number
-line-still : (v : Widths) (s : Scene) (p : ℕ) → step_effect_in s.world p ≡ nothing → line v s p ≡ []
+line-still : (v : Form) (s : Scene) (p : ℕ) → step_effect_in s.world p ≡ nothing → line v s p ≡ []
 unfolding line
 line-still v s p e =
     ap (λ (b : Bool). if b then line_by v s.number (step s.world p).kernel s.tally p (before_at s p) (slice_get (step s.world p).processes p) else [])
@@ -75,7 +75,7 @@ next-still s p e =
     ap (λ w. as_scene w (next_tally s p)) (ap (λ t. after s.world p t) e) ∙ ap (λ t. as_scene s.world t) (tallied-still s p e)
 
 -- so do n of them
-events-still : (n : ℕ) (v : Widths) (s : Scene) (p : ℕ) → step_effect_in s.world p ≡ nothing → events v s (replicate n p) ≡ []
+events-still : (n : ℕ) (v : Form) (s : Scene) (p : ℕ) → step_effect_in s.world p ≡ nothing → events v s (replicate n p) ≡ []
 unfolding events
 events-still zero v s p e = refl
 events-still (suc n) v s p e =
@@ -91,21 +91,21 @@ scene-still (suc n) s p e =
     ap (λ x. scene_after x (replicate n p)) (next-still s p e) ∙ scene-still n (renumbered s (s.number + 1)) p e ∙ ap (λ k. renumbered s k) same
 
 -- what a step is told as stands for: itself, or so many steps without effect
-pub record Stands (v : Widths) (s : Scene) (p k : ℕ) : Type 0 where
+pub record Stands (v : Form) (s : Scene) (p k : ℕ) : Type 0 where
   pub lines : events v s (replicate k p) ≡ line v s p
   pub scene : scene_after s (replicate k p) ≡ renumbered (next s p) (s.number + k)
 
-stands-one : (v : Widths) (s : Scene) (p k : ℕ) → k ≡ 1 → Stands v s p k
+stands-one : (v : Form) (s : Scene) (p k : ℕ) → k ≡ 1 → Stands v s p k
 stands-one v s p k one =
     subst (λ n. Stands v s p n) (sym one) (record { lines = events-one v s p; scene = scene-one s p })
 
-stands-still : (v : Widths) (s : Scene) (p k : ℕ) → step_effect_in s.world p ≡ nothing → Stands v s p k
+stands-still : (v : Form) (s : Scene) (p k : ℕ) → step_effect_in s.world p ≡ nothing → Stands v s p k
 stands-still v s p k e = record {
   lines = events-still k v s p e ∙ sym (line-still v s p e);
   scene = scene-still k s p e ∙ sym (ap (λ x. renumbered x (s.number + k)) (next-still s p e));
 }
 
-pub stands : (v : Widths) (s : Scene) (p k : ℕ) (t : Stepped) → t ≡ stepped_of (step_effect_in s.world p) → ((t ≡ stepped.Same → ⊥) → k ≡ 1) → Stands v s p k
+pub stands : (v : Form) (s : Scene) (p k : ℕ) (t : Stepped) → t ≡ stepped_of (step_effect_in s.world p) → ((t ≡ stepped.Same → ⊥) → k ≡ 1) → Stands v s p k
 stands v s p k t is one = by (step_effect_in s.world p) refl
   where
     other : (u : StepEffect) → step_effect_in s.world p ≡ u → (stepped_of u ≡ stepped.Same → ⊥) → Stands v s p k
@@ -118,18 +118,18 @@ stands v s p k t is one = by (step_effect_in s.world p) refl
     by (kernel_step m c Wait) at = other (kernel_step m c Wait) at (λ e. cc)
 
 -- the lines of a block from its step number k on
-pub events-from : (v : Widths) (s : Scene) (n k p : ℕ) → k ≤ n
+pub events-from : (v : Form) (s : Scene) (n k p : ℕ) → k ≤ n
     → events v s (replicate n p) ≡ events v s (replicate k p) ++ events v (scene_after s (replicate k p)) (replicate (n - k) p)
 events-from v s n k p h =
     let parts : k + (n - k) ≡ n = omega arith in
     ap (λ (m : ℕ). events v s (replicate m p)) (sym parts) ∙ ap (events v s) (sym (replicate-append-replicate k (n - k) p)) ∙ events-append v s (replicate k p) (replicate (n - k) p)
 
-events-first : (v : Widths) (s : Scene) (n p : ℕ) → events v s (replicate (suc n) p) ≡ line v s p ++ events v (next s p) (replicate n p)
+events-first : (v : Form) (s : Scene) (n p : ℕ) → events v s (replicate (suc n) p) ≡ line v s p ++ events v (next s p) (replicate n p)
 unfolding events
 events-first v s n p = refl
 
 -- the line of step number k of a block, and those behind it
-pub events-at : (v : Widths) (s u : Scene) (n k p : ℕ) → k < n → u ≡ scene_after s (replicate k p)
+pub events-at : (v : Form) (s u : Scene) (n k p : ℕ) → k < n → u ≡ scene_after s (replicate k p)
     → events v s (replicate n p) ≡ events v s (replicate k p) ++ (line v u p ++ events v (next u p) (replicate (n - k - 1) p))
 events-at v s u n k p h is =
     let parts : n - k ≡ suc (n - k - 1) = omega arith in
@@ -139,14 +139,14 @@ events-at v s u n k p h is =
     ∙ ap (λ (l : List ℕ). events v s (replicate k p) ++ l) (events-first v u (n - k - 1) p)
 
 -- k steps of a block more
-pub events-more : (v : Widths) (s u : Scene) (done k p : ℕ) → u ≡ scene_after s (replicate done p) → Stands v u p k
+pub events-more : (v : Form) (s u : Scene) (done k p : ℕ) → u ≡ scene_after s (replicate done p) → Stands v u p k
     → events v s (replicate (done + k) p) ≡ events v s (replicate done p) ++ line v u p
 events-more v s u done k p is stand =
     ap (events v s) (sym (replicate-append-replicate done k p)) ∙ events-append v s (replicate done p) (replicate k p)
     ∙ ap (λ (x : Scene). events v s (replicate done p) ++ events v x (replicate k p)) (sym is)
     ∙ ap (λ (l : List ℕ). events v s (replicate done p) ++ l) stand.lines
 
-pub scene-more : (v : Widths) (s u : Scene) (done k p : ℕ) → u ≡ scene_after s (replicate done p) → Stands v u p k
+pub scene-more : (v : Form) (s u : Scene) (done k p : ℕ) → u ≡ scene_after s (replicate done p) → Stands v u p k
     → renumbered (next u p) (u.number + k) ≡ scene_after s (replicate (done + k) p)
 scene-more v s u done k p is stand =
     sym stand.scene ∙ ap (λ (x : Scene). scene_after x (replicate k p)) is ∙ sym (scene-append s (replicate done p) (replicate k p))

@@ -9,11 +9,11 @@ use Rattle.lab_sched.specs.Worlds.{WorldState, step}
 use Rattle.lab_sched.specs.Schedules.{steps_of}
 use Rattle.lab_sched.specs.declared.schedule.block.Block.{Block}
 use Rattle.lab_sched.proofs.ScheduleRuns.{steps-more, steps-split}
+use Rattle.lab_sources.specs.declared.source.Source.{Source}
 use Rattle.lab_trace.specs.Scenes.{Scene, scene_at, first_scene, line, next_tally, next, events, scene_after}
-use Rattle.lab_trace.specs.Lines.{widths_for}
 use Rattle.lab_trace.specs.Tallies.{TallyState, new_tally}
 use Rattle.lab_trace.specs.Traces.{ending, trace_with, trace_text}
-use Rattle.lab_trace.specs.declared.lines.Widths.{Widths}
+use Rattle.lab_trace.specs.Forms.{Form, form_for}
 use Rattle.lab_trace.proofs.SceneLemmas.{Stands, events-append, scene-append, events-from, events-at, events-more, scene-more}
 
 -- what holds, holds on an error
@@ -22,7 +22,7 @@ on_err (Ok x) P p = tt
 on_err (Err e) P p = p
 
 -- the lines of a block up to step number k were written
-pub prefix-from : (v : Widths) (s : Scene) (n k p : ℕ) (a b : Option (List ℕ)) → k ≤ n → Appends a b (events v s (replicate k p)) → AppendsPrefix a b (events v s (replicate n p))
+pub prefix-from : (v : Form) (s : Scene) (n k p : ℕ) (a b : Option (List ℕ)) → k ≤ n → Appends a b (events v s (replicate k p)) → AppendsPrefix a b (events v s (replicate n p))
 prefix-from v s n k p a b h sent = record {
   sent = events v s (replicate k p);
   unsent = events v (scene_after s (replicate k p)) (replicate (n - k) p);
@@ -31,21 +31,21 @@ prefix-from v s n k p a b h sent = record {
 }
 
 -- and then a beginning of its line
-pub prefix-at : (v : Widths) (s u : Scene) (n k p : ℕ) (a b c : Option (List ℕ)) (text : List ℕ) → k < n → u ≡ scene_after s (replicate k p) → text ≡ line v u p
+pub prefix-at : (v : Form) (s u : Scene) (n k p : ℕ) (a b c : Option (List ℕ)) (text : List ℕ) → k < n → u ≡ scene_after s (replicate k p) → text ≡ line v u p
     → Appends a b (events v s (replicate k p)) → AppendsPrefix b c text → AppendsPrefix a c (events v s (replicate n p))
 prefix-at v s u n k p a b c text h is shown sent part =
     AppendsPrefix-after a b c (events v s (replicate k p)) text (events v (next u p) (replicate (n - k - 1) p)) (events v s (replicate n p)) sent part
     (events-at v s u n k p h is ∙ ap (λ (l : List ℕ). events v s (replicate k p) ++ (l ++ events v (next u p) (replicate (n - k - 1) p))) (sym shown))
 
 -- or its whole line
-pub written-more : (v : Widths) (s u : Scene) (done k p : ℕ) (a b c : Option (List ℕ)) (text : List ℕ) → u ≡ scene_after s (replicate done p) → Stands v u p k → text ≡ line v u p
+pub written-more : (v : Form) (s u : Scene) (done k p : ℕ) (a b c : Option (List ℕ)) (text : List ℕ) → u ≡ scene_after s (replicate done p) → Stands v u p k → text ≡ line v u p
     → Appends a b (events v s (replicate done p)) → Appends b c text → Appends a c (events v s (replicate (done + k) p))
 written-more v s u done k p a b c text is stand shown sent more =
     let both = Appends-trans a b c (events v s (replicate done p)) text sent more in
     subst (λ (l : List ℕ). Appends a c l) (ap (λ (l : List ℕ). events v s (replicate done p) ++ l) shown ∙ sym (events-more v s u done k p is stand)) both
 
 -- the scene after a step of a block, or after its other steps where they have no effect
-pub scene-told : (v : Widths) (s : Scene) (first done k p : ℕ) (w x : WorldState) (t r : TallyState) → scene_at (first + done) w t ≡ scene_after s (replicate done p)
+pub scene-told : (v : Form) (s : Scene) (first done k p : ℕ) (w x : WorldState) (t r : TallyState) → scene_at (first + done) w t ≡ scene_after s (replicate done p)
     → Stands v (scene_at (first + done) w t) p k → x ≡ step w p → r ≡ next_tally (scene_at (first + done) w t) p → scene_at (first + (done + k)) x r ≡ scene_after s (replicate (done + k) p)
 scene-told v s first done k p w x t r is stand w-is t-is =
     let e : first + (done + k) ≡ (first + done) + k = omega arith in
@@ -60,7 +60,7 @@ scene-block s u x bs i d within u-is x-is =
     x-is ∙ ap (λ (y : Scene). scene_after y more) u-is ∙ sym (scene-append s (steps_of (take i bs)) more) ∙ ap (scene_after s) (sym (steps-more bs i d within))
 
 -- and its lines
-pub written-block : (v : Widths) (s u : Scene) (bs : List Block) (i : ℕ) (d : Block) (a b c : Option (List ℕ)) → i < length bs → u ≡ scene_after s (steps_of (take i bs))
+pub written-block : (v : Form) (s u : Scene) (bs : List Block) (i : ℕ) (d : Block) (a b c : Option (List ℕ)) → i < length bs → u ≡ scene_after s (steps_of (take i bs))
     → Appends a b (events v s (steps_of (take i bs))) → Appends b c (events v u (replicate (get_or bs i d).count (get_or bs i d).pid)) → Appends a c (events v s (steps_of (take (i + 1) bs)))
 written-block v s u bs i d a b c within is sent more =
     let steps : List ℕ = replicate (get_or bs i d).count (get_or bs i d).pid in
@@ -69,7 +69,7 @@ written-block v s u bs i d a b c within is sent more =
     subst (λ (l : List ℕ). Appends a c l) (ap (λ (y : Scene). events v s (steps_of (take i bs)) ++ events v y steps) is ∙ sym whole) both
 
 -- or a beginning of them
-pub prefix-block : (v : Widths) (s u : Scene) (bs : List Block) (i : ℕ) (d : Block) (a b c : Option (List ℕ)) → i < length bs → u ≡ scene_after s (steps_of (take i bs))
+pub prefix-block : (v : Form) (s u : Scene) (bs : List Block) (i : ℕ) (d : Block) (a b c : Option (List ℕ)) → i < length bs → u ≡ scene_after s (steps_of (take i bs))
     → Appends a b (events v s (steps_of (take i bs))) → AppendsPrefix b c (events v u (replicate (get_or bs i d).count (get_or bs i d).pid)) → AppendsPrefix a c (events v s (steps_of bs))
 prefix-block v s u bs i d a b c within is sent part =
     let steps : List ℕ = replicate (get_or bs i d).count (get_or bs i d).pid in
@@ -94,32 +94,32 @@ on_ok-map (Ok x) P Q f p = f p
 on_ok-map (Err e) P Q f p = tt
 
 -- a whole trace, by its parts
-pub trace-parts : (w : WorldState) (ps : List ℕ) (v : Widths) (t : TallyState) → v ≡ widths_for (length ps) (length w.processes) → t ≡ new_tally (length w.processes)
-    → trace_text w ps ≡ trace_with v (scene_at 1 w t) ps
+pub trace-parts : (w : WorldState) (ss : List (Option Source)) (ps : List ℕ) (v : Form) (t : TallyState) → v ≡ form_for (length ps) (length w.processes) ss → t ≡ new_tally (length w.processes)
+    → trace_text w ss ps ≡ trace_with v (scene_at 1 w t) ps
 unfolding trace_text
-trace-parts w ps v t v-is t-is =
+trace-parts w ss ps v t v-is t-is =
     ap (λ x. trace_with x (first_scene w) ps) (sym v-is) ∙ ap (λ x. trace_with v (scene_at 1 w x) ps) (sym t-is)
 
 -- what stands behind the lines, by the world and the tally that the steps led to
-pub trace-whole : (w u : WorldState) (ps : List ℕ) (v : Widths) (t r : TallyState) (n : ℕ) → v ≡ widths_for (length ps) (length w.processes) → t ≡ new_tally (length w.processes)
-    → scene_at n u r ≡ scene_after (scene_at 1 w t) ps → trace_text w ps ≡ events v (scene_at 1 w t) ps ++ ending v u r
-trace-whole w u ps v t r n v-is t-is led =
-    trace-parts w ps v t v-is t-is ∙ ap (λ (x : Scene). events v (scene_at 1 w t) ps ++ ending v x.world x.tally) (sym led)
+pub trace-whole : (w u : WorldState) (ss : List (Option Source)) (ps : List ℕ) (v : Form) (t r : TallyState) (n : ℕ) → v ≡ form_for (length ps) (length w.processes) ss → t ≡ new_tally (length w.processes)
+    → scene_at n u r ≡ scene_after (scene_at 1 w t) ps → trace_text w ss ps ≡ events v (scene_at 1 w t) ps ++ ending v u r
+trace-whole w u ss ps v t r n v-is t-is led =
+    trace-parts w ss ps v t v-is t-is ∙ ap (λ (x : Scene). events v (scene_at 1 w t) ps ++ ending v x.world x.tally) (sym led)
 
 -- all the lines are a beginning of the trace
-pub lines-prefix : (w : WorldState) (ps : List ℕ) (v : Widths) (t : TallyState) (a b : Option (List ℕ)) → v ≡ widths_for (length ps) (length w.processes)
-    → t ≡ new_tally (length w.processes) → Appends a b (events v (scene_at 1 w t) ps) → AppendsPrefix a b (trace_text w ps)
-lines-prefix w ps v t a b v-is t-is sent =
+pub lines-prefix : (w : WorldState) (ss : List (Option Source)) (ps : List ℕ) (v : Form) (t : TallyState) (a b : Option (List ℕ)) → v ≡ form_for (length ps) (length w.processes) ss
+    → t ≡ new_tally (length w.processes) → Appends a b (events v (scene_at 1 w t) ps) → AppendsPrefix a b (trace_text w ss ps)
+lines-prefix w ss ps v t a b v-is t-is sent =
     let last : Scene = scene_after (scene_at 1 w t) ps in
-    record { sent = events v (scene_at 1 w t) ps; unsent = ending v last.world last.tally; whole = trace-parts w ps v t v-is t-is; appended = sent }
+    record { sent = events v (scene_at 1 w t) ps; unsent = ending v last.world last.tally; whole = trace-parts w ss ps v t v-is t-is; appended = sent }
 
 -- a beginning of the lines is one of the trace
-pub prefix-lines : (w : WorldState) (ps : List ℕ) (v : Widths) (t : TallyState) (a b : Option (List ℕ)) → v ≡ widths_for (length ps) (length w.processes)
-    → t ≡ new_tally (length w.processes) → AppendsPrefix a b (events v (scene_at 1 w t) ps) → AppendsPrefix a b (trace_text w ps)
-prefix-lines w ps v t a b v-is t-is part =
-    subst (λ (l : List ℕ). AppendsPrefix a b l) (sym (trace-parts w ps v t v-is t-is)) (AppendsPrefix-longer a b (events v (scene_at 1 w t) ps) _ part)
+pub prefix-lines : (w : WorldState) (ss : List (Option Source)) (ps : List ℕ) (v : Form) (t : TallyState) (a b : Option (List ℕ)) → v ≡ form_for (length ps) (length w.processes) ss
+    → t ≡ new_tally (length w.processes) → AppendsPrefix a b (events v (scene_at 1 w t) ps) → AppendsPrefix a b (trace_text w ss ps)
+prefix-lines w ss ps v t a b v-is t-is part =
+    subst (λ (l : List ℕ). AppendsPrefix a b l) (sym (trace-parts w ss ps v t v-is t-is)) (AppendsPrefix-longer a b (events v (scene_at 1 w t) ps) _ part)
 
--- the widths, by the schedule and the world
-pub widths-are : (v : Widths) (total count : ℕ) (ps : List ℕ) (w : WorldState) → v ≡ widths_for total count → total ≡ length ps → count ≡ length w.processes
-    → v ≡ widths_for (length ps) (length w.processes)
-widths-are v total count ps w is steps processes = is ∙ ap (λ n. widths_for n count) steps ∙ ap (widths_for (length ps)) processes
+-- the form, by the schedule and the world
+pub form-is : (v : Form) (total count : ℕ) (ps : List ℕ) (w : WorldState) (ss : List (Option Source)) → v ≡ form_for total count ss → total ≡ length ps
+    → count ≡ length w.processes → v ≡ form_for (length ps) (length w.processes) ss
+form-is v total count ps w ss is steps processes = is ∙ ap (λ n. form_for n count ss) steps ∙ ap (λ n. form_for (length ps) n ss) processes

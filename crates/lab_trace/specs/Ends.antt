@@ -11,9 +11,8 @@ use Rattle.lab_texts.specs.Rows.{texts_below}
 use Rattle.lab_trace.specs.Calls.{call_text}
 use Rattle.lab_trace.specs.Objects.{held_place, level_text}
 use Rattle.lab_trace.specs.Services.{service_at}
-use Rattle.lab_trace.specs.Lines.{head, process_text}
 use Rattle.lab_trace.specs.Tallies.{TallyState, account_of}
-use Rattle.lab_trace.specs.declared.lines.Widths.{Widths}
+use Rattle.lab_trace.specs.Forms.{Form, process_text, head, line_end}
 use Rattle.lab_trace.specs.Units.{units_of, balance}
 use Rattle.lab_trace.specs.declared.units.UnitCount.{UnitCount}
 use Rattle.lab_trace.specs.declared.service.Service.{Service}
@@ -109,16 +108,16 @@ wait_text w t p m (Some s) =
     ++ object_part w t.units p s (held_place w.kernel p s (reg m 0))
 
 -- the line of process p, if it hasn't ended
-abbrev pub stand : Widths → WorldState → TallyState → ℕ → Process → List ℕ
-stand v w t p (Running m) = head v (codes "end") p m.pc (account_of t p).local ++ codes "runs" ++ codes "\n"
-stand v w t p (Waiting m c) = head v (codes "end") p m.pc (account_of t p).local ++ wait_text w t p m (service_at m) ++ codes "\n"
+abbrev pub stand : Form → WorldState → TallyState → ℕ → Process → List ℕ
+stand v w t p (Running m) = head v (codes "end") p m.pc (account_of t p).local ++ codes "runs" ++ line_end v false p m.pc
+stand v w t p (Waiting m c) = head v (codes "end") p m.pc (account_of t p).local ++ wait_text w t p m (service_at m) ++ line_end v false p m.pc
 stand v w t p (Ended e) = []
 
 -- where process p stands, if it hasn't ended
-abbrev pub stand_line : Widths → WorldState → TallyState → ℕ → Option Process → List ℕ
+abbrev pub stand_line : Form → WorldState → TallyState → ℕ → Option Process → List ℕ
 stand_line v w t p None = []
 stand_line v w t p (Some s) = stand v w t p s
 
 -- where each process stands that hasn't ended
-unfoldable pub end_lines : Widths → WorldState → TallyState → List ℕ
+unfoldable pub end_lines : Form → WorldState → TallyState → List ℕ
 end_lines v w t = texts_below (length w.processes) (λ p. stand_line v w t p (slice_get w.processes p))

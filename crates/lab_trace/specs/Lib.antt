@@ -10,6 +10,7 @@ pub mod Events
 pub mod Origins
 pub mod Units
 pub mod Tallies
+pub mod Forms
 pub mod Lines
 pub mod Scenes
 pub mod Ends

@@ -1,13 +1,12 @@
 -- The line of a step.
-use Rattle.std.specs.Prelude.{ℕ, ◌+◌, ◌-◌, max, Bool, true, false, if◌then◌else◌, Option, Some, None, is_some, List, [], ◌++◌, codes, length}
+use Rattle.std.specs.Prelude.{ℕ, Bool, false, ◌||◌, if◌then◌else◌, Option, Some, None, is_some, List, [], ◌++◌, codes}
 use Rattle.std.specs.Fmt.{decimal}
 use Rattle.lc3_table.specs.Text.{word_text}
 use Rattle.lc3_machine.specs.declared.want.How.{How}
 use Rattle.ipc_kernel.specs.Kernel.{KernelState}
 use Rattle.lab_sched.specs.Worlds.{Process}
-use Rattle.lc3_word.specs.Words.{hexadecimal_text}
 use Rattle.lab_texts.specs.Texts.{how_text}
-use Rattle.lab_trace.specs.Words.{bytes_text, at_left, at_right}
+use Rattle.lab_trace.specs.Words.{bytes_text}
 use Rattle.lab_trace.specs.Answers.{answer_text, result_of}
 use Rattle.lab_trace.specs.Objects.{held_place, level_text}
 use Rattle.lab_trace.specs.Services.{is_open, is_on_level}
@@ -15,30 +14,9 @@ use Rattle.lab_trace.specs.Questions.{Question, Before}
 use Rattle.lab_trace.specs.Events.{Event, local, calls, writes, ends, has_line}
 use Rattle.lab_trace.specs.Origins.{origin_by}
 use Rattle.lab_trace.specs.declared.origins.Origin.{Origin}
-use Rattle.lab_trace.specs.declared.lines.Widths.{Widths}
+use Rattle.lab_trace.specs.Forms.{Form, separator, head, line_end}
 use Rattle.lab_trace.specs.declared.tally.Account.{Account}
 use Rattle.lab_trace.specs.declared.service.Service.{Service}
-
--- the widths for a schedule of so many steps of so many processes
-abbrev pub widths_for : ℕ → ℕ → Widths
-widths_for total count = record { step = max 3 (length (decimal total)); process = 1 + length (decimal (count - 1)) }
-
--- process p by its number
-abbrev pub process_text : ℕ → List ℕ
-process_text p = codes "P" ++ decimal p
-
--- a process and a blank, in the width of the column
-unfoldable pub process_column : ℕ → ℕ → List ℕ
-process_column width p = at_left width (process_text p) ++ codes " "
-
--- counted steps and a blank, in the width of the column
-unfoldable pub local_column : ℕ → List ℕ
-local_column count = at_right 5 (codes "+" ++ decimal count) ++ codes " "
-
--- the columns before what happened: step, process, address, and the counted steps of the process since its last line
-unfoldable pub head : Widths → List ℕ → ℕ → ℕ → ℕ → List ℕ
-head v step p address count =
-    at_right v.step step ++ codes " " ++ process_column v.process p ++ hexadecimal_text address ++ codes " " ++ local_column count
 
 -- the place of the object whose level is told: of an open that isn't refused the one that it opened
 abbrev pub opened_place : KernelState → ℕ → Service → Option ℕ → Option ℕ
@@ -50,11 +28,6 @@ unfoldable pub told_place : KernelState → ℕ → Question → Process → Opt
 told_place k p q after =
     if is_open q.service then opened_place k p q.service (result_of after) else
     if is_on_level q.service then q.place else None
-
--- what stands before a note
-abbrev pub separator : Bool → List ℕ
-separator true = codes ", "
-separator false = codes " ; "
 
 -- the level after the step
 abbrev pub level_note : KernelState → Option ℕ → List ℕ
@@ -83,6 +56,10 @@ origin_note begun (Some o) = separator begun ++ origin_text o
 abbrev pub notes : KernelState → Account → Option Origin → Option ℕ → List ℕ
 notes k a origin place = level_note k place ++ origin_note (is_some place) origin ++ wait_note (is_some place) a.since
 
+-- whether a call has notes
+abbrev pub has_notes : Account → Option Origin → Option ℕ → Bool
+has_notes a origin place = is_some place || is_some origin || is_some a.since
+
 -- a call of process p; k is the kernel after it
 unfoldable pub call_line : KernelState → Account → List Origin → ℕ → Question → Process → List ℕ
 call_line k a os p q after = q.call ++ answer_text after q.reply ++ notes k a (origin_by q (result_of after) os) (told_place k p q after)
@@ -102,7 +79,14 @@ event_text k a os p b after (calls q) = call_line k a os p q after
 event_text k a os p b after (writes bytes) = output_text b.word bytes
 event_text k a os p b after (ends how) = end_text how
 
+-- whether notes stand behind what happened
+abbrev pub is_noted : KernelState → Account → List Origin → ℕ → Process → Event → Bool
+is_noted k a os p after (calls q) = has_notes a (origin_by q (result_of after) os) (told_place k p q after)
+is_noted k a os p after other = false
+
 -- the line of process p in step n, where its event has one
-abbrev pub event_line : Widths → ℕ → KernelState → Account → List Origin → ℕ → Before → Process → Event → List ℕ
+abbrev pub event_line : Form → ℕ → KernelState → Account → List Origin → ℕ → Before → Process → Event → List ℕ
 event_line v n k a os p b after e =
-    if has_line e then head v (decimal n) p b.pc a.local ++ event_text k a os p b after e ++ codes "\n" else []
+    if has_line e
+    then head v (decimal n) p b.pc a.local ++ event_text k a os p b after e ++ line_end v (is_noted k a os p after e) p b.pc
+    else []

@@ -10,7 +10,7 @@ use Rattle.lab_trace.specs.Events.{event_of}
 use Rattle.lab_trace.specs.Tallies.{TallyState, new_tally, account_of, tally_after, AreBelow}
 use Rattle.lab_trace.specs.Units.{AreFew}
 use Rattle.lab_trace.specs.Lines.{event_line}
-use Rattle.lab_trace.specs.declared.lines.Widths.{Widths}
+use Rattle.lab_trace.specs.Forms.{Form}
 
 -- the number of the next step, the world before it, and the tally
 pub record Scene : Type 0 where
@@ -37,7 +37,7 @@ before_in k p None = record { pc = 0; word = 0; written = 0; asking = None }
 before_in k p (Some s) = before k p (machine_of s)
 
 -- the line of step n of process p, by the process after it; k is the kernel after it
-abbrev pub line_by : Widths → ℕ → KernelState → TallyState → ℕ → Before → Option Process → List ℕ
+abbrev pub line_by : Form → ℕ → KernelState → TallyState → ℕ → Before → Option Process → List ℕ
 line_by v n k t p b None = []
 line_by v n k t p b (Some after) = event_line v n k (account_of t p) t.origins p b after (event_of b after)
 
@@ -51,7 +51,7 @@ abbrev pub before_at : Scene → ℕ → Before
 before_at s p = before_in s.world.kernel p (slice_get s.world.processes p)
 
 -- the line of the next step, of process p, or nothing
-unfoldable pub line : Widths → Scene → ℕ → List ℕ
+unfoldable pub line : Form → Scene → ℕ → List ℕ
 line v s p =
     if has_effect (stepped_of (step_effect_in s.world p))
     then line_by v s.number (step s.world p).kernel s.tally p (before_at s p) (slice_get (step s.world p).processes p)
@@ -69,7 +69,7 @@ abbrev pub next : Scene → ℕ → Scene
 next s p = scene_at (s.number + 1) (step s.world p) (next_tally s p)
 
 -- the lines of steps
-unfoldable pub events : Widths → Scene → List ℕ → List ℕ
+unfoldable pub events : Form → Scene → List ℕ → List ℕ
 events v s [] = []
 events v s (p ∷ ps) = line v s p ++ events v (next s p) ps
 

@@ -3,26 +3,26 @@ use Rattle.std.specs.Prelude.{◌≡◌, ◌<◌, ℕ, nat_le, slice_index_or, B
 use Rattle.lab_sched.specs.Worlds.{WorldState}
 use Rattle.lab_sched.specs.Schedules.{block}
 use Rattle.lab_sched.specs.declared.schedule.block.Block.{Block}
+use Rattle.lab_sources.specs.declared.source.Source.{Source}
 use Rattle.lab_texts.specs.Reports.{report_text}
-use Rattle.lab_trace.specs.Lines.{widths_for}
+use Rattle.lab_trace.specs.Forms.{Form, form_for}
 use Rattle.lab_trace.specs.Scenes.{Scene, first_scene, events, scene_after}
 use Rattle.lab_trace.specs.Ends.{end_lines}
-use Rattle.lab_trace.specs.declared.lines.Widths.{Widths}
 use Rattle.lab_trace.specs.Tallies.{TallyState}
 use Rattle.lab_trace.specs.declared.fault.TraceFault.{TraceFault}
 use Rattle.lab_trace.specs.declared.fault.TraceFault.TheVariants.{NoProcess, Write, NoMemory}
 
 -- what follows the lines of the steps
-abbrev pub ending : Widths → WorldState → TallyState → List ℕ
+abbrev pub ending : Form → WorldState → TallyState → List ℕ
 ending v w t = end_lines v w t ++ report_text w
 
--- the trace of steps from a scene on, in columns of these widths
-abbrev pub trace_with : Widths → Scene → List ℕ → List ℕ
+-- the trace of steps from a scene on, in this form
+abbrev pub trace_with : Form → Scene → List ℕ → List ℕ
 trace_with v s ps = events v s ps ++ ending v (scene_after s ps).world (scene_after s ps).tally
 
--- the trace of a world by these steps
-unfoldable pub trace_text : WorldState → List ℕ → List ℕ
-trace_text w ps = trace_with (widths_for (length ps) (length w.processes)) (first_scene w) ps
+-- the trace of a world by these steps; of each process its source stands in ss, where it was given as one
+unfoldable pub trace_text : WorldState → List (Option Source) → List ℕ → List ℕ
+trace_text w ss ps = trace_with (form_for (length ps) (length w.processes) ss) (first_scene w) ps
 
 -- how many steps come before the first of a process that isn't there, if there is one
 unfoldable pub missing_after : WorldState → List ℕ → Option ℕ

@@ -6,8 +6,8 @@ ghost use Rattle.lab_trace.specs.Services.{service_at};
 ghost use Rattle.lab_trace.specs.Ends.{object_part, since_part, wait_text, stand, stand_line, end_lines};
 
 use crate::arguments::push_call;
+use crate::form::Form;
 use crate::handles::{held_place, push_level};
-use crate::lines::{Widths, push_head};
 use crate::others::{others_title, push_others};
 use crate::service::{Service, service_at};
 use crate::takers::push_takers;
@@ -83,27 +83,27 @@ fn push_stand(
     alloc: Global,
     text: &mut String,
     world: &World,
-    widths: Widths,
+    form: &Form<'_>,
     tally: &Tally,
     pid: usize,
     process: &Process,
 ) -> Result<(), AllocError>
     requires process { pid < length world.now.processes }
     ensures text { OnOk result (string_bytes text.new ≡ string_bytes text.old
-        ++ stand widths world.now tally.now pid (process_view process.now)) }
+        ++ stand form.now world.now tally.now pid (process_view process.now)) }
 {
     let pc = process.machine().pc();
     let local = tally.account(pid).local;
     match process {
         Process::Running(_) => {
-            push_head(alloc, text, widths, "end", pid, pc, local)?;
+            form.push_head(alloc, text, "end", pid, pc, local)?;
             text.push_str("runs")?;
-            text.push_str("\n")
+            form.push_line_end(text, false, pid, pc)
         }
         Process::Waiting(_, _) => {
-            push_head(alloc, text, widths, "end", pid, pc, local)?;
+            form.push_head(alloc, text, "end", pid, pc, local)?;
             push_wait(alloc, text, world, tally, pid, process)?;
-            text.push_str("\n")
+            form.push_line_end(text, false, pid, pc)
         }
         Process::Ended(_) => Ok(()),
     }
@@ -114,16 +114,16 @@ fn push_stand_line(
     alloc: Global,
     text: &mut String,
     world: &World,
-    widths: Widths,
+    form: &Form<'_>,
     tally: &Tally,
     pid: usize,
 ) -> Result<(), AllocError>
     requires process { pid < length world.now.processes }
     ensures text { OnOk result (string_bytes text.new ≡ string_bytes text.old
-        ++ stand_line widths world.now tally.now pid (slice_get world.now.processes pid)) }
+        ++ stand_line form.now world.now tally.now pid (slice_get world.now.processes pid)) }
 {
     match world.process(pid) {
-        Some(process) => push_stand(alloc, text, world, widths, tally, pid, process),
+        Some(process) => push_stand(alloc, text, world, form, tally, pid, process),
         None => Ok(()),
     }
 }
@@ -134,14 +134,14 @@ pub fn push_ends(
     alloc: Global,
     text: &mut String,
     world: &World,
-    widths: Widths,
+    form: &Form<'_>,
     tally: &Tally,
 ) -> Result<(), AllocError>
     ensures text { OnOk result (string_bytes text.new ≡ string_bytes text.old
-        ++ end_lines widths world.now tally.now) }
+        ++ end_lines form.now world.now tally.now) }
 {
     for pid in 0..world.count() {
-        push_stand_line(alloc, text, world, widths, tally, pid)?;
+        push_stand_line(alloc, text, world, form, tally, pid)?;
     }
     Ok(())
 }

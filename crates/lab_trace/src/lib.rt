@@ -9,6 +9,7 @@ mod attributes;
 mod ends;
 mod fault;
 mod flags;
+mod form;
 mod handles;
 mod keeping;
 pub mod laws;
@@ -25,7 +26,7 @@ mod units;
 mod words;
 
 pub use fault::TraceFault;
-pub use lines::Widths;
+pub use form::Form;
 pub use step::{Traced, trace_step};
 pub use tally::{Account, Tally};
 pub use tracing::{ending, missing_after, steps_done, trace};

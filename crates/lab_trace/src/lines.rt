@@ -1,109 +1,27 @@
 //! The line of a step.
-ghost use Rattle.std.specs.Prelude.{◌≡◌, ◌≤◌, ◌<◌, ◌^◌, ◌++◌, OnOk, IfOk, length, string_bytes, drop};
-ghost use Rattle.std.specs.Fmt.{decimal};
+ghost use Rattle.std.specs.Prelude.{◌≡◌, ◌<◌, ◌++◌, OnOk, IfOk, length, string_bytes, drop};
 ghost use Rattle.lab_sched.specs.Held.{process_view};
 ghost use Rattle.lab_sched.specs.Worlds.{machine_of};
 ghost use Rattle.lab_trace.specs.Answers.{result_of};
 ghost use Rattle.lab_trace.specs.Private.Observed.{question_of};
 ghost use Rattle.lab_trace.specs.Origins.{first_in, origin_by};
 ghost use Rattle.lab_trace.specs.Tallies.{account_of};
-ghost use Rattle.lab_trace.specs.Lines.{widths_for, process_column, local_column, head, opened_place, told_place, separator, level_note, waited_text, wait_note, origin_text, origin_note, notes, call_line, output_text, end_text};
+ghost use Rattle.lab_trace.specs.Lines.{opened_place, told_place, level_note, waited_text, wait_note, origin_text, origin_note, notes, has_notes, call_line, output_text, end_text};
 
 use crate::answers::{push_answer, result_of};
 use crate::asking::{Asking, Observed};
+use crate::form::separator;
 use crate::handles::{held_place, push_level};
 use crate::origins::Origin;
 use crate::service::Service;
 use crate::tally::{Account, Tally};
-use crate::words::{push_address, push_at_left, push_at_right, push_bytes};
+use crate::words::push_bytes;
 use ipc_kernel::Kernel;
 use lab_sched::Process;
 use lab_texts::how_name;
 use lc3_machine::How;
 use lc3_table::WordText;
 use std::alloc::{AllocError, Global};
-
-/// The width of the column of counted steps.
-const LOCAL_WIDTH: usize = 5;
-
-/// The widths of the columns whose width a trace chooses.
-#[derive(Clone, Copy, Debug, PartialEq, Eq)]
-pub struct Widths {
-    /// The number of a step.
-    pub step: usize,
-    /// The process.
-    pub process: usize,
-}
-
-/// The number of decimal digits of a number.
-fn digits(alloc: Global, number: usize) -> Result<usize, AllocError>
-    ensures count { IfOk result (λ n. n ≡ length (decimal number)) }
-    ensures small { IfOk result (λ n. n < 2 ^ 63) }
-{
-    let text = format!(in alloc; "{number}")?;
-    Ok(text.len())
-}
-
-impl Widths {
-    /// The widths for a schedule of so many steps of so many processes.
-    pub fn new(alloc: Global, total: u32, count: usize) -> Result<Widths, AllocError>
-        requires some { 1 ≤ count }
-        ensures widths { IfOk result (λ v. v ≡ widths_for total count) }
-    {
-        let step = digits(alloc, total as usize)?.max(3);
-        let process = 1 + digits(alloc, count - 1)?;
-        Ok(Widths { step, process })
-    }
-}
-
-/// Adds a process and a blank, in the width of the column.
-#[tactic(auto, unfolding(crate::specs::Lines::process_column))]
-fn push_process(
-    alloc: Global,
-    text: &mut String,
-    width: usize,
-    pid: usize,
-) -> Result<(), AllocError>
-    ensures text { OnOk result (string_bytes text.new ≡ string_bytes text.old
-        ++ process_column width pid) }
-{
-    let process = format!(in alloc; "P{pid}")?;
-    push_at_left(text, width, &process)?;
-    text.push_str(" ")
-}
-
-/// Adds counted steps and a blank, in the width of the column.
-#[tactic(auto, unfolding(crate::specs::Lines::local_column))]
-fn push_local(alloc: Global, text: &mut String, local: u32) -> Result<(), AllocError>
-    ensures text { OnOk result (string_bytes text.new ≡ string_bytes text.old
-        ++ local_column local) }
-{
-    let local = format!(in alloc; "+{local}")?;
-    push_at_right(text, LOCAL_WIDTH, &local)?;
-    text.push_str(" ")
-}
-
-/// Adds the columns before what happened.
-#[tactic(auto, unfolding(crate::specs::Lines::head))]
-pub fn push_head(
-    alloc: Global,
-    text: &mut String,
-    widths: Widths,
-    step: &str,
-    pid: usize,
-    address: u16,
-    local: u32,
-) -> Result<(), AllocError>
-    ensures text { OnOk result (string_bytes text.new ≡ string_bytes text.old
-        ++ head widths step.now pid address local) }
-{
-    push_at_right(text, widths.step, step)?;
-    text.push_str(" ")?;
-    push_process(alloc, text, widths.process, pid)?;
-    push_address(text, address)?;
-    text.push_str(" ")?;
-    push_local(alloc, text, local)
-}
 
 /// The place of the object that an open opened, by its result.
 fn opened_place(
@@ -148,13 +66,6 @@ fn push_level_note(text: &mut String, kernel: &Kernel, place: Option<u8>) -> Res
     };
     text.push_str(" ; ")?;
     push_level(text, kernel, place)
-}
-
-/// What stands before a note.
-fn separator(begun: bool) -> &'static str
-    ensures text { result.now ≡ separator begun }
-{
-    if begun { ", " } else { " ; " }
 }
 
 /// Adds since when a process waited.
@@ -232,23 +143,25 @@ fn origin_of(tally: &Tally, asking: &Asking, after: &Process) -> Option<Origin>
     }
 }
 
-/// Adds the notes of a call.
+/// Adds the notes of a call, and tells whether there are some.
 fn push_notes(
     text: &mut String,
     kernel: &Kernel,
     account: Account,
     origin: Option<Origin>,
     place: Option<u8>,
-) -> Result<(), AllocError>
+) -> Result<bool, AllocError>
     ensures text { OnOk result (string_bytes text.new ≡ string_bytes text.old
         ++ notes kernel.now account origin place) }
+    ensures noted { IfOk result (λ noted. noted ≡ has_notes account origin place) }
 {
     push_level_note(text, kernel, place)?;
     push_origin_note(text, place.is_some(), origin)?;
-    push_wait_note(text, place.is_some(), account.since)
+    push_wait_note(text, place.is_some(), account.since)?;
+    Ok(place.is_some() || origin.is_some() || account.since.is_some())
 }
 
-/// Adds a call of process `pid`, its answer and its notes.
+/// Adds a call of process `pid`, its answer and its notes, and tells whether there are notes.
 #[tactic(auto, unfolding(crate::specs::Lines::call_line))]
 pub fn push_call_line(
     text: &mut String,
@@ -257,11 +170,14 @@ pub fn push_call_line(
     pid: usize,
     asking: &Asking,
     after: &Process,
-) -> Result<(), AllocError>
+) -> Result<bool, AllocError>
     requires process { pid < length kernel.now.processes }
     ensures text { OnOk result (string_bytes text.new ≡ string_bytes text.old
         ++ call_line kernel.now (account_of tally.now pid) tally.now.origins pid
         (question_of asking.now) (process_view after.now)) }
+    ensures noted { IfOk result (λ noted. noted ≡ has_notes (account_of tally.now pid)
+        (origin_by (question_of asking.now) (result_of (process_view after.now)) tally.now.origins)
+        (told_place kernel.now pid (question_of asking.now) (process_view after.now))) }
 {
     text.push_str(&asking.call)?;
     push_answer(text, after, &asking.reply)?;

@@ -7,12 +7,13 @@ ghost use Rattle.lab_trace.specs.Private.Observed.{before_of};
 ghost use Rattle.lab_trace.specs.Events.{event_of, has_line};
 ghost use Rattle.lab_trace.specs.Tallies.{account_of, account_after, waits_from};
 ghost use Rattle.lab_trace.specs.Units.{AreFew};
-ghost use Rattle.lab_trace.specs.Lines.{event_text, event_line};
+ghost use Rattle.lab_trace.specs.Lines.{event_text, is_noted, event_line};
 ghost use Rattle.lab_trace.specs.Scenes.{scene_at, has_effect, line_by, tally_by, line, next_tally};
 
 use crate::asking::{Observed, observe};
+use crate::form::Form;
 use crate::keeping::{keep_origins, keep_units};
-use crate::lines::{Widths, new_output, push_call_line, push_end, push_head, push_output};
+use crate::lines::{new_output, push_call_line, push_end, push_output};
 use crate::tally::{Account, Tally};
 use ipc_kernel::Kernel;
 use lab_sched::{Process, Stepped, World};
@@ -46,7 +47,7 @@ fn has_line(before: &Observed, after: &Process) -> bool
     }
 }
 
-/// Adds what happened in a step.
+/// Adds what happened in a step, and tells whether notes stand behind it.
 fn push_event(
     text: &mut String,
     kernel: &Kernel,
@@ -54,23 +55,28 @@ fn push_event(
     pid: usize,
     before: &Observed,
     after: &Process,
-) -> Result<(), AllocError>
+) -> Result<bool, AllocError>
     requires process { pid < length kernel.now.processes }
     ensures text { OnOk result (string_bytes text.new ≡ string_bytes text.old
         ++ event_text kernel.now (account_of tally.now pid) tally.now.origins pid
         (before_of before.now) (process_view after.now)
         (event_of (before_of before.now) (process_view after.now))) }
+    ensures noted { IfOk result (λ noted. noted
+        ≡ is_noted kernel.now (account_of tally.now pid) tally.now.origins pid
+        (process_view after.now) (event_of (before_of before.now) (process_view after.now))) }
 {
     match (&before.asking, after) {
         (Some(asking), _) => push_call_line(text, kernel, tally, pid, asking, after),
-        (None, Process::Ended(ended)) => push_end(text, ended.how()),
+        (None, Process::Ended(ended)) => {
+            push_end(text, ended.how())?;
+            Ok(false)
+        }
         (None, _) => {
             let bytes = new_output(before, after);
-            if bytes.is_empty() {
-                Ok(())
-            } else {
-                push_output(text, before.word, bytes)
+            if !bytes.is_empty() {
+                push_output(text, before.word, bytes)?;
             }
+            Ok(false)
         }
     }
 }
@@ -80,7 +86,7 @@ fn line_of(
     alloc: Global,
     kernel: &Kernel,
     tally: &Tally,
-    widths: Widths,
+    form: &Form<'_>,
     number: u32,
     pid: usize,
     before: &Observed,
@@ -88,7 +94,7 @@ fn line_of(
 ) -> Result<String, AllocError>
     requires process { pid < length kernel.now.processes }
     ensures line { IfOk result (λ s. string_bytes s
-        ≡ event_line widths number kernel.now (account_of tally.now pid) tally.now.origins pid
+        ≡ event_line form.now number kernel.now (account_of tally.now pid) tally.now.origins pid
         (before_of before.now) (process_view after.now)
         (event_of (before_of before.now) (process_view after.now))) }
 {
@@ -98,9 +104,9 @@ fn line_of(
     }
     let number = format!(in alloc; "{number}")?;
     let local = tally.account(pid).local;
-    push_head(alloc, &mut line, widths, &number, pid, before.pc, local)?;
-    push_event(&mut line, kernel, tally, pid, before, after)?;
-    line.push_str("\n")?;
+    form.push_head(alloc, &mut line, &number, pid, before.pc, local)?;
+    let begun = push_event(&mut line, kernel, tally, pid, before, after)?;
+    form.push_line_end(&mut line, begun, pid, before.pc)?;
     Ok(line)
 }
 
@@ -109,19 +115,19 @@ fn shown(
     alloc: Global,
     world: &World,
     tally: &Tally,
-    widths: Widths,
+    form: &Form<'_>,
     number: u32,
     pid: usize,
     before: &Observed,
 ) -> Result<String, AllocError>
     requires process { pid < length world.now.processes }
     ensures line { IfOk result (λ s. string_bytes s
-        ≡ line_by widths number world.now.kernel tally.now pid (before_of before.now)
+        ≡ line_by form.now number world.now.kernel tally.now pid (before_of before.now)
         (slice_get world.now.processes pid)) }
 {
     let kernel = world.kernel();
     match world.process(pid) {
-        Some(after) => line_of(alloc, kernel, tally, widths, number, pid, before, after),
+        Some(after) => line_of(alloc, kernel, tally, form, number, pid, before, after),
         None => Ok(String::new(alloc)),
     }
 }
@@ -187,7 +193,7 @@ pub fn trace_step(
     alloc: Global,
     world: &mut World,
     tally: &mut Tally,
-    widths: Widths,
+    form: &Form<'_>,
     number: u32,
     pid: usize,
 ) -> Result<Traced, AllocError>
@@ -196,7 +202,7 @@ pub fn trace_step(
     requires room { (account_of tally.old pid).local < number }
     requires few { AreFew number tally.old.units }
     ensures line { IfOk result (λ r. string_bytes r.line
-        ≡ line widths (scene_at number world.old tally.old) pid) }
+        ≡ line form.now (scene_at number world.old tally.old) pid) }
     ensures world { OnOk result (world.new ≡ step world.old pid) }
     ensures tally { OnOk result (tally.new
         ≡ next_tally (scene_at number world.old tally.old) pid) }
@@ -212,7 +218,7 @@ pub fn trace_step(
             stepped,
         });
     }
-    let line = shown(alloc, world, tally, widths, number, pid, &before)?;
+    let line = shown(alloc, world, tally, form, number, pid, &before)?;
     keep(world, tally, number, pid, &before)?;
     Ok(Traced { line, stepped })
 }

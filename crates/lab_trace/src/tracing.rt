@@ -12,11 +12,12 @@ ghost use Rattle.lab_trace.specs.declared.fault.TraceFault.TheVariants.{NoProces
 
 use crate::ends::push_ends;
 use crate::fault::TraceFault;
-use crate::lines::Widths;
+use crate::form::Form;
 use crate::step::trace_step;
 use crate::tally::Tally;
 use lab_io::Output;
 use lab_sched::{Block, Schedule, Stepped, World};
+use lab_sources::Source;
 use lab_texts::report_text;
 use std::alloc::{AllocError, Global};
 use std::io::Write;
@@ -69,7 +70,7 @@ fn trace_block<W: Write>(
     alloc: Global,
     world: &mut World,
     tally: &mut Tally,
-    widths: Widths,
+    form: &Form<'_>,
     first: u32,
     block: Block,
     output: &mut Output<W>,
@@ -81,15 +82,15 @@ fn trace_block<W: Write>(
         ≡ scene_after (scene_at first world.old tally.old) (replicate block.count block.pid)) }
     ensures written { OnOk result
         (Appends (W.contents output.old.device) (W.contents output.new.device)
-        (events widths (scene_at first world.old tally.old) (replicate block.count block.pid))) }
+        (events form.now (scene_at first world.old tally.old) (replicate block.count block.pid))) }
     ensures prefix { OnErr result
         (AppendsPrefix (W.contents output.old.device) (W.contents output.new.device)
-        (events widths (scene_at first world.old tally.old) (replicate block.count block.pid))) }
+        (events form.now (scene_at first world.old tally.old) (replicate block.count block.pid))) }
     ensures fault { IfErr result (λ e. IsFault e output.new.failed) }
 {
     let mut done = 0;
     while done < block.count {
-        let traced = trace_step(alloc, world, tally, widths, first + done, block.pid)?;
+        let traced = trace_step(alloc, world, tally, form, first + done, block.pid)?;
         write_text(&traced.line, output)?;
         done += steps_done(traced.stepped, block.count - done);
     }
@@ -101,7 +102,7 @@ fn trace_blocks<W: Write>(
     alloc: Global,
     world: &mut World,
     tally: &mut Tally,
-    widths: Widths,
+    form: &Form<'_>,
     blocks: &[Block],
     output: &mut Output<W>,
 ) -> Result<(), TraceFault>
@@ -112,15 +113,15 @@ fn trace_blocks<W: Write>(
         ≡ scene_after (scene_at 1 world.old tally.old) (steps_of blocks.now))) }
     ensures written { OnOk result
         (Appends (W.contents output.old.device) (W.contents output.new.device)
-        (events widths (scene_at 1 world.old tally.old) (steps_of blocks.now))) }
+        (events form.now (scene_at 1 world.old tally.old) (steps_of blocks.now))) }
     ensures prefix { OnErr result
         (AppendsPrefix (W.contents output.old.device) (W.contents output.new.device)
-        (events widths (scene_at 1 world.old tally.old) (steps_of blocks.now))) }
+        (events form.now (scene_at 1 world.old tally.old) (steps_of blocks.now))) }
     ensures fault { IfErr result (λ e. IsFault e output.new.failed) }
 {
     let mut number = 1;
     for block in blocks {
-        trace_block(alloc, world, tally, widths, number, *block, output)?;
+        trace_block(alloc, world, tally, form, number, *block, output)?;
         number += block.count;
     }
     Ok(())
@@ -131,33 +132,35 @@ pub fn ending(
     alloc: Global,
     world: &World,
     tally: &Tally,
-    widths: Widths,
+    form: &Form<'_>,
 ) -> Result<String, AllocError>
-    ensures text { IfOk result (λ s. string_bytes s ≡ ending widths world.now tally.now) }
+    ensures text { IfOk result (λ s. string_bytes s ≡ ending form.now world.now tally.now) }
 {
     let mut text = String::new(alloc);
-    push_ends(alloc, &mut text, world, widths, tally)?;
+    push_ends(alloc, &mut text, world, form, tally)?;
     let report = report_text(alloc, world)?;
     text.push_str(&report)?;
     Ok(text)
 }
 
 /// Takes the steps of a schedule and writes what happened: the line of each step as it is taken, then where each process
-/// stands that hasn't ended, then the report. A schedule that names a process that isn't there takes no step and writes
+/// stands that hasn't ended, then the report. Lines of a process with a source end with the nearest label of their address;
+/// `sources` has one for each process that was given as a source, and may be empty. A schedule that names a process that isn't there takes no step and writes
 /// nothing.
 pub fn trace<W: Write>(
     alloc: Global,
     world: &mut World,
+    sources: &[Option<Source>],
     schedule: &Schedule,
     output: &mut Output<W>,
 ) -> Result<(), TraceFault>
     ensures written { OnOk result
         (Appends (W.contents output.old.device) (W.contents output.new.device)
-        (trace_text world.old (steps_of schedule.now))) }
+        (trace_text world.old sources.now (steps_of schedule.now))) }
     ensures world { OnOk result (world.new ≡ run world.old (steps_of schedule.now)) }
     ensures prefix { OnErr result
         (AppendsPrefix (W.contents output.old.device) (W.contents output.new.device)
-        (trace_text world.old (steps_of schedule.now))) }
+        (trace_text world.old sources.now (steps_of schedule.now))) }
     ensures fault { IfErr result
         (λ e. Explains e world.old (steps_of schedule.now) output.new.failed) }
     ensures no_process { (done : ℕ)
@@ -169,9 +172,9 @@ pub fn trace<W: Write>(
     if let Some(done) = missing_after(world, schedule) {
         return Err(TraceFault::NoProcess { done });
     }
-    let widths = Widths::new(alloc, schedule.total(), world.count())?;
+    let form = Form::new(alloc, schedule.total(), world.count(), sources)?;
     let mut tally = Tally::new(alloc, world.count())?;
-    trace_blocks(alloc, world, &mut tally, widths, schedule.blocks(), output)?;
-    let text = ending(alloc, world, &tally, widths)?;
+    trace_blocks(alloc, world, &mut tally, &form, schedule.blocks(), output)?;
+    let text = ending(alloc, world, &tally, &form)?;
     write_text(&text, output)
 }

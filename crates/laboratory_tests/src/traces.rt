@@ -28,7 +28,7 @@ fn trace_once(
         return Err(FreshFault::NoMemory);
     };
     let mut output = Output::new(SlowOut::new(room, 1, before));
-    match trace(alloc, &mut world, &schedule, &mut output) {
+    match trace(alloc, &mut world, &[], &schedule, &mut output) {
         Err(TraceFault::NoMemory) => Err(FreshFault::NoMemory),
         end => Ok(end),
     }

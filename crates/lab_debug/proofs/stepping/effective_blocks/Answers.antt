@@ -1,6 +1,5 @@
-use Rattle.std.proofs.Common.{sym, ap, rules, ◌∙◌, ◌-◌, ◌+◌, ◌++◌, ◌≡◌, ◌≤◌, [], drop, length, take, min, replicate, arith, append-nil}
+use Rattle.std.proofs.Common.{sym, ap, rules, ◌∙◌, ◌+◌, ◌++◌, ◌≡◌, [], drop, arith, append-nil}
 use Rattle.std.proofs.lemmas.List.{drop_all}
-use Rattle.lab_sched.specs.Worlds.{run}
 use Rattle.lab_sched.specs.Schedules.{steps_of}
 use Rattle.lab_debug.specs.Sessions.{effective}
 use Rattle.lab_debug.proofs.BlockLemmas.{cut-block, effective-block, nothing-taken, no-effect, more-total, none-total}

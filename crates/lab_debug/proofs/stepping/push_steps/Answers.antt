@@ -1,4 +1,3 @@
-use Rattle.std.proofs.Common.{sym, ap, ◌∙◌}
 use Rattle.lab_debug.proofs.BlockLemmas.{push-block}
 use Rattle.lab_debug.proofs.stepping.push_steps.Goals as goal
 

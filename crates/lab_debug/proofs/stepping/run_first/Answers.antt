@@ -1,8 +1,6 @@
-use Rattle.std.proofs.Common.{sym, ap, rules, ◌∙◌, ◌-◌, ◌+◌, ◌++◌, ◌≡◌, ◌≤◌, [], drop, length, take, min, replicate, arith, append-nil}
+use Rattle.std.proofs.Common.{sym, ap, rules, ◌∙◌, ◌++◌, ◌≡◌, [], drop, take, arith, append-nil}
 use Rattle.std.proofs.lemmas.List.{drop_all}
-use Rattle.lab_sched.specs.Worlds.{run}
 use Rattle.lab_sched.specs.Schedules.{steps_of}
-use Rattle.lab_debug.specs.Sessions.{effective}
 use Rattle.lab_debug.proofs.BlockLemmas.{cut-block, take-more, nothing-taken, take-none, run-further, run-none}
 use Rattle.lab_debug.proofs.stepping.run_first.Goals as goal
 

@@ -5,4 +5,4 @@ use Rattle.lab_trace.proofs.ends.push_ends.Given as goal
 
 -- the lines so far are added
 abbrev pub invariant-loop-pid : goal.invariant-loop-pid
-invariant-loop-pid l = string_bytes l.text ≡ string_bytes l.initial.text ++ texts_below l.pid (λ p. stand_line l.widths l.world l.tally p (slice_get l.world.processes p))
+invariant-loop-pid l = string_bytes l.text ≡ string_bytes l.initial.text ++ texts_below l.pid (λ p. stand_line l.form l.world l.tally p (slice_get l.world.processes p))

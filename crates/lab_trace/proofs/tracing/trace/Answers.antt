@@ -6,37 +6,37 @@ use Rattle.lab_sched.specs.Schedules.{steps_of}
 use Rattle.lab_trace.specs.Scenes.{Scene, scene_at, events}
 use Rattle.lab_trace.specs.Tallies.{new_tally}
 use Rattle.lab_trace.proofs.SceneLemmas.{scene-world}
-use Rattle.lab_trace.proofs.WrittenLemmas.{on_err, on_ok, on_err-map, on_ok-map, trace-whole, lines-prefix, prefix-lines, widths-are}
+use Rattle.lab_trace.proofs.WrittenLemmas.{on_err, on_ok, on_err-map, on_ok-map, trace-whole, lines-prefix, prefix-lines, form-is}
 use Rattle.lab_trace.proofs.tracing.trace.Goals as goal
 
 pub returns-in_err-trace_blocks-clause-prefix : goal.returns-in_err-trace_blocks-clause-prefix
 returns-in_err-trace_blocks-clause-prefix g c =
     let ps = steps_of c.args.schedule.now in
-    let v = c.in_ok-widths.widths in
-    let wide = widths-are v c.total.result c.count.result ps c.args.world.now c.in_ok-widths.ensures.widths c.total.ensures.steps c.count.ensures.count in
+    let v = c.in_ok-form.form in
+    let wide = form-is v c.total.result c.count.result ps c.args.world.now c.args.sources.now c.in_ok-form.ensures.form c.total.ensures.steps c.count.ensures.count in
     let first = c.in_ok-tally.ensures.empty ∙ ap new_tally c.count-2.ensures.count in
     let part = rw c.blocks-2.ensures.value at c.in_err-trace_blocks.ensures.prefix in
-    on_err _ _ (prefix-lines c.args.world.now ps v c.in_ok-tally.tally _ _ wide first part)
+    on_err _ _ (prefix-lines c.args.world.now c.args.sources.now ps v c.in_ok-tally.tally _ _ wide first part)
 
 pub returns-in_err-text-clause-prefix : goal.returns-in_err-text-clause-prefix
 returns-in_err-text-clause-prefix g c =
     let ps = steps_of c.args.schedule.now in
-    let v = c.in_ok-widths.widths in
-    let wide = widths-are v c.total.result c.count.result ps c.args.world.now c.in_ok-widths.ensures.widths c.total.ensures.steps c.count.ensures.count in
+    let v = c.in_ok-form.form in
+    let wide = form-is v c.total.result c.count.result ps c.args.world.now c.args.sources.now c.in_ok-form.ensures.form c.total.ensures.steps c.count.ensures.count in
     let first = c.in_ok-tally.ensures.empty ∙ ap new_tally c.count-2.ensures.count in
     let sent = rw c.blocks-2.ensures.value at c.in_ok-trace_blocks.ensures.written in
-    on_err _ _ (lines-prefix c.args.world.now ps v c.in_ok-tally.tally _ _ wide first sent)
+    on_err _ _ (lines-prefix c.args.world.now c.args.sources.now ps v c.in_ok-tally.tally _ _ wide first sent)
 
 pub returns-clause-written : goal.returns-clause-written
 returns-clause-written g c =
     let ps = steps_of c.args.schedule.now in
-    let v = c.in_ok-widths.widths in
-    let wide = widths-are v c.total.result c.count.result ps c.args.world.now c.in_ok-widths.ensures.widths c.total.ensures.steps c.count.ensures.count in
+    let v = c.in_ok-form.form in
+    let wide = form-is v c.total.result c.count.result ps c.args.world.now c.args.sources.now c.in_ok-form.ensures.form c.total.ensures.steps c.count.ensures.count in
     let first = c.in_ok-tally.ensures.empty ∙ ap new_tally c.count-2.ensures.count in
     let sent = rw c.blocks-2.ensures.value at c.in_ok-trace_blocks.ensures.written in
     let led = rw c.blocks-2.ensures.value at c.in_ok-trace_blocks.ensures.scene in
     let s = scene_at 1 c.args.world.now c.in_ok-tally.tally in
-    let whole = trace-whole c.args.world.now c.trace_blocks.new.world ps v c.in_ok-tally.tally c.trace_blocks.new.tally led.0 wide first led.1
+    let whole = trace-whole c.args.world.now c.trace_blocks.new.world c.args.sources.now ps v c.in_ok-tally.tally c.trace_blocks.new.tally led.0 wide first led.1
     ∙ ap (λ (l : List ℕ). events v s ps ++ l) (sym (c.deref.ensures ∙ c.in_ok-text.ensures.text)) in
     on_ok-map c.write_text.result _ _
     (λ more. subst (λ (l : List ℕ). Appends (g.W.Write.contents c.args.output.now.device) (g.W.Write.contents c.write_text.new.output.device) l) (sym whole)
@@ -52,13 +52,13 @@ returns-clause-world g c =
 pub returns-clause-prefix : goal.returns-clause-prefix
 returns-clause-prefix g c =
     let ps = steps_of c.args.schedule.now in
-    let v = c.in_ok-widths.widths in
-    let wide = widths-are v c.total.result c.count.result ps c.args.world.now c.in_ok-widths.ensures.widths c.total.ensures.steps c.count.ensures.count in
+    let v = c.in_ok-form.form in
+    let wide = form-is v c.total.result c.count.result ps c.args.world.now c.args.sources.now c.in_ok-form.ensures.form c.total.ensures.steps c.count.ensures.count in
     let first = c.in_ok-tally.ensures.empty ∙ ap new_tally c.count-2.ensures.count in
     let sent = rw c.blocks-2.ensures.value at c.in_ok-trace_blocks.ensures.written in
     let led = rw c.blocks-2.ensures.value at c.in_ok-trace_blocks.ensures.scene in
     let s = scene_at 1 c.args.world.now c.in_ok-tally.tally in
-    let whole = trace-whole c.args.world.now c.trace_blocks.new.world ps v c.in_ok-tally.tally c.trace_blocks.new.tally led.0 wide first led.1
+    let whole = trace-whole c.args.world.now c.trace_blocks.new.world c.args.sources.now ps v c.in_ok-tally.tally c.trace_blocks.new.tally led.0 wide first led.1
     ∙ ap (λ (l : List ℕ). events v s ps ++ l) (sym (append-nil c.deref.result.now ∙ c.deref.ensures ∙ c.in_ok-text.ensures.text)) in
     on_err-map c.write_text.result _ _
     (λ part. AppendsPrefix-after _ _ _ (events v s ps) c.deref.result.now [] _ sent part whole)

@@ -13,7 +13,7 @@ loop-done-init g c =
     record {
       within = omega arith;
       scene = ap (λ n. scene_at n c.args.world.now c.args.tally.now) e ∙ sym (scene-none s);
-      written = rw (events-none c.args.widths s) (Appends-nil _);
+      written = rw (events-none c.args.form.now s) (Appends-nil _);
       kept = rw e c.requires.kept;
       there = c.requires.process;
     }
@@ -21,13 +21,13 @@ loop-done-init g c =
 pub returns-in_err-traced-clause-prefix : goal.returns-in_err-traced-clause-prefix
 returns-in_err-traced-clause-prefix g c =
     let s = scene_at c.args.first c.args.world.now c.args.tally.now in
-    on_err _ _ (prefix-from c.args.widths s c.args.block.count c.loop-done.done c.args.block.pid _ _ c.loop-done.invariant.within c.loop-done.invariant.written)
+    on_err _ _ (prefix-from c.args.form.now s c.args.block.count c.loop-done.done c.args.block.pid _ _ c.loop-done.invariant.within c.loop-done.invariant.written)
 
 pub returns-in_err-write_text-clause-prefix : goal.returns-in_err-write_text-clause-prefix
 returns-in_err-write_text-clause-prefix g c =
     let s = scene_at c.args.first c.args.world.now c.args.tally.now in
     let u = scene_at (c.args.first + c.loop-done.done) c.loop-done.world c.loop-done.tally in
-    on_err _ _ (prefix-at c.args.widths s u c.args.block.count c.loop-done.done c.args.block.pid _ _ _ c.deref.result.now c.loop-done-test.true c.loop-done.invariant.scene
+    on_err _ _ (prefix-at c.args.form.now s u c.args.block.count c.loop-done.done c.args.block.pid _ _ _ c.deref.result.now c.loop-done-test.true c.loop-done.invariant.scene
     (c.deref.ensures ∙ c.in_ok-traced.ensures.line) c.loop-done.invariant.written c.in_err-write_text.ensures.prefix)
 
 pub loop-done-preserved : goal.loop-done-preserved
@@ -35,14 +35,14 @@ loop-done-preserved g c =
     let s = scene_at c.args.first c.args.world.now c.args.tally.now in
     let u = scene_at (c.args.first + c.loop-done.done) c.loop-done.world c.loop-done.tally in
     let k = c.steps_done-done.result in
-    let stand = stands c.args.widths u c.args.block.pid k c.in_ok-traced.traced.stepped c.in_ok-traced.ensures.told c.steps_done-done.ensures.other in
-    let told = scene-told c.args.widths s c.args.first c.loop-done.done k c.args.block.pid c.loop-done.world c.trace_step.new.world c.loop-done.tally c.trace_step.new.tally
+    let stand = stands c.args.form.now u c.args.block.pid k c.in_ok-traced.traced.stepped c.in_ok-traced.ensures.told c.steps_done-done.ensures.other in
+    let told = scene-told c.args.form.now s c.args.first c.loop-done.done k c.args.block.pid c.loop-done.world c.trace_step.new.world c.loop-done.tally c.trace_step.new.tally
     c.loop-done.invariant.scene stand c.in_ok-traced.ensures.world c.in_ok-traced.ensures.tally in
     let len = ap (λ (w : WorldState). length w.processes) c.in_ok-traced.ensures.world ∙ length-step c.loop-done.world c.args.block.pid in
     record {
       within = omega arith;
       scene = told;
-      written = written-more c.args.widths s u c.loop-done.done k c.args.block.pid _ _ _ c.deref.result.now c.loop-done.invariant.scene stand
+      written = written-more c.args.form.now s u c.loop-done.done k c.args.block.pid _ _ _ c.deref.result.now c.loop-done.invariant.scene stand
           (c.deref.ensures ∙ c.in_ok-traced.ensures.line) c.loop-done.invariant.written c.in_ok-write_text.ensures.written;
       kept = subst IsKept (sym told) (kept-after s (replicate (c.loop-done.done + k) c.args.block.pid) c.requires.kept);
       there = omega (arith, len, c.loop-done.invariant.there);

@@ -10,7 +10,7 @@ invariant-loop-done g l = record {
   scene : record { number = l.first + l.done; world = l.world; tally = l.tally }
       ≡ scene_after (record { number = l.first; world = l.fn.world; tally = l.fn.tally }) (replicate l.done l.block.pid);
   written : Appends (g.W.Write.contents l.fn.output.device) (g.W.Write.contents l.output.device)
-      (events l.widths (record { number = l.first; world = l.fn.world; tally = l.fn.tally }) (replicate l.done l.block.pid));
+      (events l.form (record { number = l.first; world = l.fn.world; tally = l.fn.tally }) (replicate l.done l.block.pid));
   kept : IsKept (record { number = l.first + l.done; world = l.world; tally = l.tally });
   there : l.block.pid < length l.world.processes;
 }

@@ -15,7 +15,7 @@ loop-block-init g c =
     record {
       number = omega (arith, ap length steps_of-none);
       scene = sym (ap (scene_after s) steps_of-none ∙ scene-none s);
-      written = rw (steps_of-none, events-none c.args.widths s) (Appends-nil _);
+      written = rw (steps_of-none, events-none c.args.form.now s) (Appends-nil _);
       kept = c.requires.kept;
       count = refl;
     }
@@ -29,7 +29,7 @@ pub returns-in_err-trace_block-clause-prefix : goal.returns-in_err-trace_block-c
 returns-in_err-trace_block-clause-prefix g c =
     let s = scene_at 1 c.args.world.now c.args.tally.now in
     let u = scene_at c.loop-block.number c.loop-block.world c.loop-block.tally in
-    on_err _ _ (prefix-block c.args.widths s u c.args.blocks.now c.loop-block.block-index (block 0 0) _ _ _ c.loop-block-test.true
+    on_err _ _ (prefix-block c.args.form.now s u c.args.blocks.now c.loop-block.block-index (block 0 0) _ _ _ c.loop-block-test.true
     c.loop-block.invariant.scene c.loop-block.invariant.written c.in_err-trace_block.ensures.prefix)
 
 pub overflow_add-number : goal.overflow_add-number
@@ -51,7 +51,7 @@ loop-block-preserved g c =
     record {
       number = omega (arith, more, length-replicate count (get_or bs i (block 0 0)).pid, c.loop-block.invariant.number);
       scene = told;
-      written = written-block c.args.widths s u bs i (block 0 0) _ _ _ within c.loop-block.invariant.scene c.loop-block.invariant.written c.in_ok-trace_block.ensures.written;
+      written = written-block c.args.form.now s u bs i (block 0 0) _ _ _ within c.loop-block.invariant.scene c.loop-block.invariant.written c.in_ok-trace_block.ensures.written;
       kept = subst IsKept (sym told) (kept-after s (steps_of (take (i + 1) bs)) c.requires.kept);
       count = ap (λ (y : Scene). length y.world.processes) told ∙ length-scene s (steps_of (take (i + 1) bs));
     }

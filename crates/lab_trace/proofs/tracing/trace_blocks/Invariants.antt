@@ -11,7 +11,7 @@ invariant-loop-block g l = record {
   scene : record { number = l.number; world = l.world; tally = l.tally }
       ≡ scene_after (record { number = 1; world = l.fn.world; tally = l.fn.tally }) (steps_of (take l.block-index l.blocks));
   written : Appends (g.W.Write.contents l.fn.output.device) (g.W.Write.contents l.output.device)
-      (events l.widths (record { number = 1; world = l.fn.world; tally = l.fn.tally }) (steps_of (take l.block-index l.blocks)));
+      (events l.form (record { number = 1; world = l.fn.world; tally = l.fn.tally }) (steps_of (take l.block-index l.blocks)));
   kept : IsKept (record { number = l.number; world = l.world; tally = l.tally });
   count : length l.world.processes ≡ length l.fn.world.processes;
 }

@@ -1,0 +1,111 @@
+//! Labels as addresses.
+ghost use Rattle.std.specs.Prelude.{◌≡◌, ◌<◌, ◌≤◌, length, map, option_map, position, IfOk, IfSome};
+ghost use Rattle.lab_debug.specs.Labels.{LabelSeen, is_sign, distance_of, named, label_in, moved, second_label, with_zero};
+ghost use Rattle.lab_debug.specs.Private.LabelViews.{label_seen};
+
+use lc3_asm::is_label;
+use lc3_word::unsigned;
+use std::alloc::{AllocError, Global};
+
+/// A label of a source, and a number of words before it or behind it.
+#[derive(Clone, Copy, Debug)]
+pub struct Label<'a> {
+    /// The name, in either case.
+    pub name: &'a [u8],
+    /// Whether the words are counted before the label.
+    pub is_before: bool,
+    /// How many words, up to 99,999.
+    pub count: u32,
+}
+
+/// Where the first sign of a word stands.
+fn sign(word: &[u8]) -> Option<usize>
+    ensures place { result ≡ position is_sign word.now }
+    ensures within { IfSome result (λ i. i < length word.now) }
+{
+    word.iter().position(|byte| *byte == b'+' || *byte == b'-')
+}
+
+/// The most digits behind a sign.
+const MOST_DIGITS: usize = 5;
+
+/// The number that 1 to 5 decimal digits write.
+#[tactic(auto, unfolding(crate::specs::Labels::distance_of))]
+fn distance_in(digits: &[u8]) -> Option<u32>
+    ensures value { result ≡ distance_of digits.now }
+{
+    if digits.len() > MOST_DIGITS {
+        return None;
+    }
+    let value = unsigned(10, digits)?;
+    if value <= 99_999 { Some(value) } else { None }
+}
+
+/// A word that can be a label.
+fn named(name: &[u8], is_before: bool, count: u32) -> Option<Label<'_>>
+    ensures value { option_map label_seen result ≡ named name.now is_before count }
+{
+    if is_label(name) {
+        Some(Label {
+            name,
+            is_before,
+            count,
+        })
+    } else {
+        None
+    }
+}
+
+/// A label, or a label, a sign and 1 to 5 decimal digits.
+#[tactic(auto, unfolding(crate::specs::Labels::label_in))]
+fn label_in(word: &[u8]) -> Option<Label<'_>>
+    ensures value { option_map label_seen result ≡ label_in word.now }
+{
+    let Some(sign) = sign(word) else {
+        return named(word, false, 0);
+    };
+    let count = distance_in(&word[sign + 1..])?;
+    named(&word[..sign], word[sign] == b'-', count)
+}
+
+/// The label that stands as the second operand.
+pub fn second_label<'a>(operands: &[&'a [u8]]) -> Option<Label<'a>>
+    ensures value { option_map label_seen result
+        ≡ second_label (map (λ word. word.now) operands.now) }
+{
+    match operands {
+        [_, address, ..] => label_in(*address),
+        _ => None,
+    }
+}
+
+/// The operands with the address 0 in the place of the second one.
+pub fn with_zero<'a>(alloc: Global, operands: &[&'a [u8]]) -> Result<Vec<&'a [u8]>, AllocError>
+    ensures words { IfOk result (λ words. map (λ word. word.now) words.items
+        ≡ with_zero (map (λ word. word.now) operands.now)) }
+{
+    let mut words = operands.to_vec(alloc)?;
+    if words.len() > 1 {
+        words[1] = b"0";
+    }
+    Ok(words)
+}
+
+/// The address so many words before another one, or behind it.
+pub fn moved(is_before: bool, count: u32, address: u16) -> Option<u16>
+    ensures value { result ≡ moved is_before count address }
+{
+    let address = u64::from(address);
+    let count = u64::from(count);
+    if is_before {
+        if count <= address {
+            Some((address - count) as u16)
+        } else {
+            None
+        }
+    } else if address + count <= 65_535 {
+        Some((address + count) as u16)
+    } else {
+        None
+    }
+}

@@ -1,0 +1,109 @@
+//! The commands on labels and lines of a source, as they are written.
+ghost use Rattle.std.specs.Prelude.{◌≡◌, ◌+◌, ◌≤◌, map, IfOk, IfSome};
+ghost use Rattle.lab_debug.specs.Private.Ranges.{IsCommand};
+ghost use Rattle.lab_debug.specs.Commands.{of_process, of_range, placing_command};
+ghost use Rattle.lab_debug.specs.Labels.{addressed, range_at, command_at};
+ghost use Rattle.lab_debug.specs.declared.command.Command.TheVariants.{Where, Code, Labels};
+
+use crate::breaking::read_breaking;
+use crate::breaks::Place;
+use crate::command::{Command, Range, Refusal, is_name, read_range};
+use crate::operands::{one, process_in};
+
+/// `P`, of where it stands
+fn read_where(operands: &[&[u8]]) -> Option<Command>
+    ensures value { result ≡ of_process Where (map (λ word. word.now) operands.now) }
+    ensures ranges { IfSome result (λ command. IsCommand command) }
+{
+    let pid = process_in(one(operands)?)?;
+    Some(Command::Where { pid })
+}
+
+/// `P ADDR N`, of its words with their labels and lines
+fn read_code(operands: &[&[u8]]) -> Option<Command>
+    ensures value { result ≡ of_range Code (map (λ word. word.now) operands.now) }
+    ensures ranges { IfSome result (λ command. IsCommand command) }
+{
+    let range = read_range(operands)?;
+    Some(Command::Code(range))
+}
+
+/// `P`, of its labels
+fn read_labels(operands: &[&[u8]]) -> Option<Command>
+    ensures value { result ≡ of_process Labels (map (λ word. word.now) operands.now) }
+    ensures ranges { IfSome result (λ command. IsCommand command) }
+{
+    let pid = process_in(one(operands)?)?;
+    Some(Command::Labels { pid })
+}
+
+/// A command that shows where a process stands in its source, by its name and its operands.
+#[tactic(auto, unfolding(crate::specs::Commands::placing_command))]
+pub fn read_placing(name: &[u8], operands: &[&[u8]]) -> Result<Command, Refusal>
+    ensures value { result ≡ placing_command name.now (map (λ word. word.now) operands.now) }
+    ensures ranges { IfOk result (λ command. IsCommand command) }
+{
+    if is_name("where", name) {
+        return read_where(operands).ok_or(Refusal::BadOperands);
+    }
+    if is_name("code", name) {
+        return read_code(operands).ok_or(Refusal::BadOperands);
+    }
+    if is_name("labels", name) {
+        return read_labels(operands).ok_or(Refusal::BadOperands);
+    }
+    read_breaking(name, operands)
+}
+
+/// A range that begins at an address, where it ends within memory.
+fn range_at(range: Range, address: u16) -> Option<Range>
+    requires few { range.count ≤ 65536 }
+    ensures value { result ≡ range_at address range }
+    ensures range { IfSome result (λ r. r.address + r.count ≤ 65536) }
+{
+    let Range { pid, count, .. } = range;
+    if u32::from(address) + count <= 65_536 {
+        Some(Range {
+            pid,
+            address,
+            count,
+        })
+    } else {
+        None
+    }
+}
+
+impl Command {
+    /// The process in whose memory the command has an address.
+    pub fn addressed(&self) -> Option<usize>
+        ensures value { result ≡ addressed self.now }
+    {
+        match self {
+            Command::Until { pid, .. } => Some(*pid),
+            Command::Mem(range) | Command::Dis(range) | Command::Code(range) => Some(range.pid),
+            Command::Break(place) | Command::Clear(place) => Some(place.pid),
+            _ => None,
+        }
+    }
+
+    /// The command with this address in the place of its own, where its range ends within memory.
+    pub fn at(self, address: u16) -> Option<Command>
+        requires ranges { IsCommand self }
+        ensures value { result ≡ command_at address self }
+        ensures ranges { IfSome result (λ command. IsCommand command) }
+    {
+        match self {
+            Command::Until { pid, count, .. } => Some(Command::Until {
+                pid,
+                address,
+                count,
+            }),
+            Command::Break(Place { pid, .. }) => Some(Command::Break(Place { pid, address })),
+            Command::Clear(Place { pid, .. }) => Some(Command::Clear(Place { pid, address })),
+            Command::Mem(range) => Some(Command::Mem(range_at(range, address)?)),
+            Command::Dis(range) => Some(Command::Dis(range_at(range, address)?)),
+            Command::Code(range) => Some(Command::Code(range_at(range, address)?)),
+            _ => None,
+        }
+    }
+}

@@ -1,0 +1,65 @@
+-- How the lines of a trace are written, and the labels at their ends.
+use Rattle.std.specs.Prelude.{ℕ, ◌+◌, ◌-◌, max, Bool, true, false, Option, Some, None, List, [], ◌++◌, codes, length, slice_get}
+use Rattle.std.specs.Option.{option_and_then}
+use Rattle.std.specs.Fmt.{decimal}
+use Rattle.lc3_word.specs.Words.{hexadecimal_text}
+use Rattle.lab_sources.specs.Labels.{nearest, label_text}
+use Rattle.lab_sources.specs.declared.source.Source.{Source}
+use Rattle.lab_trace.specs.Words.{at_left, at_right}
+
+-- the widths of the columns whose width a trace chooses, the number of a step and the process, and of each process its
+-- source, where it was given as one
+pub record Form : Type 0 where
+  pub step : ℕ
+  pub process : ℕ
+  pub sources : List (Option Source)
+
+-- the form for a schedule of so many steps of so many processes with these sources
+abbrev pub form_for : ℕ → ℕ → List (Option Source) → Form
+form_for total count sources =
+    record { step = max 3 (length (decimal total)); process = 1 + length (decimal (count - 1)); sources = sources }
+
+-- process p by its number
+abbrev pub process_text : ℕ → List ℕ
+process_text p = codes "P" ++ decimal p
+
+-- a process and a blank, in the width of the column
+unfoldable pub process_column : ℕ → ℕ → List ℕ
+process_column width p = at_left width (process_text p) ++ codes " "
+
+-- counted steps and a blank, in the width of the column
+unfoldable pub local_column : ℕ → List ℕ
+local_column count = at_right 5 (codes "+" ++ decimal count) ++ codes " "
+
+-- the columns before what happened: step, process, address, and the counted steps of the process since its last line
+unfoldable pub head : Form → List ℕ → ℕ → ℕ → ℕ → List ℕ
+head v step p address count =
+    at_right v.step step ++ codes " " ++ process_column v.process p ++ hexadecimal_text address ++ codes " " ++ local_column count
+
+-- what stands before a note
+abbrev pub separator : Bool → List ℕ
+separator true = codes ", "
+separator false = codes " ; "
+
+-- the nearest label of an address in a source
+abbrev pub label_in : ℕ → Option Source → Option (List ℕ × ℕ)
+label_in address None = None
+label_in address (Some s) = nearest s.assembled address
+
+-- the nearest label of an address in the source of process p
+abbrev pub label_of : List (Option Source) → ℕ → ℕ → Option (List ℕ × ℕ)
+label_of sources p address = label_in address (option_and_then (λ s. s) (slice_get sources p))
+
+-- at which label an address is
+unfoldable pub at_text : List ℕ × ℕ → ℕ → List ℕ
+at_text l address = codes "at " ++ label_text l address
+
+-- the nearest label of an address, where there is one; `begun` says whether a note stands before it
+abbrev pub label_note : Bool → ℕ → Option (List ℕ × ℕ) → List ℕ
+label_note begun address None = []
+label_note begun address (Some l) = separator begun ++ at_text l address
+
+-- the end of a line of process p at an address: its nearest label, where there is one; `begun` says whether a note stands
+-- before it
+unfoldable pub line_end : Form → Bool → ℕ → ℕ → List ℕ
+line_end v begun p address = label_note begun address (label_of v.sources p address) ++ codes "\n"
