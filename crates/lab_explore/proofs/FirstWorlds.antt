@@ -72,7 +72,7 @@ at_unique t i w v h k =
     row_unique t k.0 w v (subst (λ r. IsRow t r w) same h.2) k.2
 
 -- what is reached is an advance
-reached_advance : (w v : WorldState) → AreReached w v → IsAdvance w v
+pub reached_advance : (w v : WorldState) → AreReached w v → IsAdvance w v
 reached_advance w v h = record {
   kernel = h.kernel;
   processes = λ p. both_weaker IsReached IsAhead (λ s u r. r.ahead) (slice_get w.processes p) (slice_get v.processes p) (h.processes p);

@@ -194,6 +194,13 @@ untried_stays w v asks rest h = record {
         let i : IsAhead (before_wait s) u = subst (λ x. Both IsAhead x (Some u)) (untried_at w p (Some s) a) (subst (λ x. Both IsAhead (slice_get (untried w).processes p) x) b (h.processes p)) in
         b ∙ ap (λ x. Some x) (stays (before_wait s) u (rest_at_call w p s (rest p s a) (asks p s a)) i) ∙ sym (untried_at w p (Some s) a)
 
+-- a level has the advance of whatever world any steps lead to, but for who waits
+pub reaches_world : (start : WorldState) (V : ℕ → WorldState → Type 0) → IsConsistent start.kernel → AskAgain start → AreLevels start V → (ps : List ℕ)
+    → (n : ℕ) × HasAdvance (V n) (untried (run start ps))
+reaches_world start V consistent starts levels ps =
+    let h = simulates start V levels ps (waiting start) start consistent starts (record { number = 0; has = levels.begins; few = omega arith }) in
+    (h.number, h.has)
+
 -- a level has the world at rest that any steps lead to, but for who waits; its number, and one for each process that waits, are
 -- no more than the calls among the steps
 pub reaches_end : (start : WorldState) (V : ℕ → WorldState → Type 0) → IsConsistent start.kernel → AskAgain start → AreLevels start V → (ps : List ℕ) → AreAtRest (run start ps)

@@ -8,7 +8,10 @@ mod Pushes
 mod Growths
 mod StepsOfRows
 mod FirstWorlds
-mod Walks
+mod WalkLemmas
+mod KeptEnds
 mod Explorations
 mod Bounds
 mod Cycles
+mod KeptConditions
+mod JudgedRows

@@ -4,4 +4,5 @@ pub mod Untried
 pub mod Closed
 pub mod Ends
 pub mod Rounds
+pub mod Reached
 pub mod Private

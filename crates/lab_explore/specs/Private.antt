@@ -4,3 +4,4 @@ pub mod Known
 pub mod Depths
 pub mod Walked
 pub mod Rising
+pub mod Judged

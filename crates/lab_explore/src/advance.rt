@@ -17,14 +17,14 @@ pub(crate) struct Ahead {
 
 /// What came of a process that runs.
 #[derive(Clone, Copy)]
-struct Ran {
-    taken: u32,
-    at_call: bool,
+pub(crate) struct Ran {
+    pub taken: u32,
+    pub at_call: bool,
 }
 
 /// Takes local steps of a process up to its next call, or as many as it may take. An error is want
 /// of memory.
-fn run_on(alloc: Global, process: &mut Process, most: u32) -> Result<Ran, AllocError>
+pub(crate) fn run_on(alloc: Global, process: &mut Process, most: u32) -> Result<Ran, AllocError>
     requires held { IsHeld process.old }
     ensures local { IfOk result
         (λ r. AreLocal r.taken (process_view process.old) (process_view process.new)) }

@@ -42,7 +42,7 @@ pub(crate) struct Collected {
 
 impl End {
     /// About how many bytes it takes, with its report and the texts of its schedule.
-    fn size(&self) -> usize {
+    pub(crate) fn size(&self) -> usize {
         let mut size = size_of::<End>()
             .saturating_add(self.world.kernel().size())
             .saturating_add(BLOCK.saturating_mul(self.schedule.blocks().len()));
@@ -66,7 +66,7 @@ fn is_open(verdict: Verdict) -> bool
 }
 
 /// The end that a walk came to.
-fn end_of(walk: Walk) -> Result<End, ExploreFault>
+pub(crate) fn end_of(walk: Walk) -> Result<End, ExploreFault>
     ensures end { IfOk result (λ e. (start : WorldState) → IsWalk start walk → IsEnd start e) }
     ensures world { IfOk result (λ e. e.world ≡ walk.world) }
     ensures calls { IfOk result (λ e. e.calls ≡ walk.calls) }

@@ -27,7 +27,7 @@ pub(crate) struct Walk {
 }
 
 /// Copies of processes.
-fn copies(alloc: Global, processes: &[Process]) -> Result<Vec<Process>, AllocError>
+pub(crate) fn copies(alloc: Global, processes: &[Process]) -> Result<Vec<Process>, AllocError>
     ensures copies { IfOk result (λ v. v.items ≡ processes.now) }
 {
     let mut copies = Vec::with_capacity(alloc, processes.len())?;

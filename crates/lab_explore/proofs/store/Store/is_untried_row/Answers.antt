@@ -7,7 +7,7 @@ use Rattle.lab_explore.specs.Untried.{untried}
 use Rattle.lab_explore.specs.Calls.{Both}
 use Rattle.lab_explore.specs.Private.Stored.{IsState}
 use Rattle.lab_explore.proofs.Pushes.{got}
-use Rattle.lab_explore.proofs.Walks.{by_places}
+use Rattle.lab_explore.proofs.WalkLemmas.{by_places}
 use Rattle.lab_explore.proofs.store.Store.is_untried_row.Goals as goal
 
 pub returns : goal.returns

@@ -1,5 +1,5 @@
 use Rattle.std.proofs.Common.{refl}
-use Rattle.lab_explore.proofs.Walks.{walk_none}
+use Rattle.lab_explore.proofs.WalkLemmas.{walk_none}
 use Rattle.lab_explore.proofs.walking.Walk.at.Goals as goal
 
 pub returns-clause-walk : goal.returns-clause-walk

@@ -1,6 +1,6 @@
 use Rattle.std.proofs.Common.{arith}
 use Rattle.lab_sched.specs.Worlds.{step_effect_in}
-use Rattle.lab_explore.proofs.Walks.{walk_more}
+use Rattle.lab_explore.proofs.WalkLemmas.{walk_more}
 use Rattle.lab_explore.proofs.walking.Walk.go.Goals as goal
 
 pub returns : goal.returns

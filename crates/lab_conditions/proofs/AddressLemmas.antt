@@ -1,0 +1,65 @@
+-- Addresses of four digits at most.
+use Rattle.std.proofs.Common.{◌≡◌, ℕ, ◌<◌, ◌≤◌, Bool, true, false, ◌&&◌, List, [], ◌∷◌, Option, Some, None, length, min, nat_lt, nat_le, refl, ap, sym, subst, ◌∙◌, arith}
+use Rattle.std.specs.Option.{option_map}
+use Rattle.std.specs.List.{list_all}
+use Rattle.std.specs.Char.{digit_value}
+use Rattle.std.specs.Str.Parse.{digits_value, AllDigits}
+use Rattle.std.proofs.lemmas.Bool.Decides.{nat_tests}
+use Rattle.std.proofs.lemmas.Int.Digits.{digits_value-lt}
+use Rattle.lc3_word.specs.Numbers.{unsigned_number}
+use Rattle.lab_conditions.specs.Written.{hexadecimal_in}
+
+both : (a b : Bool) → (a && b) ≡ true → (a ≡ true) × (b ≡ true)
+both true true h = (refl, refl)
+both true false h = absurd (cc)
+both false b h = absurd (cc)
+
+less : (a b : ℕ) → nat_lt a b ≡ true → a < b
+less a b h = grind (arith, nat_tests)
+
+all_digits : (cs : List ℕ) → list_all (λ c. nat_lt (digit_value c) 16) cs ≡ true → AllDigits 16 cs
+all_digits [] h = tt
+all_digits (c ∷ cs) h =
+    let two = both (nat_lt (digit_value c) 16) (list_all (λ c. nat_lt (digit_value c) 16) cs) h in
+    (less (digit_value c) 16 two.0, all_digits cs two.1)
+
+value_small : (ds : List ℕ) → length ds ≤ 4 → AllDigits 16 ds → digits_value 16 ds < 65536
+value_small [] few all = let h : digits_value 16 [] < 1 = digits_value-lt 16 [] all in omega (arith, h)
+value_small (a ∷ []) few all = let h : digits_value 16 (a ∷ []) < 16 = digits_value-lt 16 (a ∷ []) all in omega (arith, h)
+value_small (a ∷ b ∷ []) few all = let h : digits_value 16 (a ∷ b ∷ []) < 256 = digits_value-lt 16 (a ∷ b ∷ []) all in omega (arith, h)
+value_small (a ∷ b ∷ c ∷ []) few all = let h : digits_value 16 (a ∷ b ∷ c ∷ []) < 4096 = digits_value-lt 16 (a ∷ b ∷ c ∷ []) all in omega (arith, h)
+value_small (a ∷ b ∷ c ∷ d ∷ []) few all = digits_value-lt 16 (a ∷ b ∷ c ∷ d ∷ []) all
+value_small (a ∷ b ∷ c ∷ d ∷ e ∷ ds) few all = absurd (omega (arith, few))
+
+small : (digits : List ℕ) (n : ℕ) → length digits ≤ 4 → unsigned_number 16 digits ≡ Some n → n < 65536
+unfolding unsigned_number
+small [] n few e = absurd (cc)
+small (d ∷ ds) n few e = by (list_all (λ c. nat_lt (digit_value c) 16) (d ∷ ds)) refl
+  where
+    by : (b : Bool) → list_all (λ c. nat_lt (digit_value c) 16) (d ∷ ds) ≡ b → n < 65536
+    by true is =
+        let same : Some (digits_value 16 (d ∷ ds)) ≡ Some n = rw is at e in
+        let value : digits_value 16 (d ∷ ds) ≡ n = cc in
+        subst (λ x. x < 65536) value (value_small (d ∷ ds) few (all_digits (d ∷ ds) is))
+    by false is = let none : None ≡ Some n = rw is at e in absurd (cc)
+
+-- such a number is below 65536, and is given as it is
+pub address_small : (digits : List ℕ) (n : ℕ) → length digits ≤ 4 → Some n ≡ option_map (λ n. min n 1_000_000_000) (unsigned_number 16 digits)
+    → (n < 65536) × (Some n ≡ unsigned_number 16 digits)
+address_small digits n few e = by (unsigned_number 16 digits) refl
+  where
+    by : (o : Option ℕ) → unsigned_number 16 digits ≡ o → (n < 65536) × (Some n ≡ unsigned_number 16 digits)
+    by None is = let none : Some n ≡ None = e ∙ ap (option_map (λ n. min n 1_000_000_000)) is in absurd (cc)
+    by (Some v) is =
+        let some : Some n ≡ Some (min v 1_000_000_000) = e ∙ ap (option_map (λ n. min n 1_000_000_000)) is in
+        let value : n ≡ min v 1_000_000_000 = cc in
+        let few : v < 65536 = small digits v few is in
+        let same : n ≡ v = omega (arith, value, few) in
+        (omega (arith, same, few), ap (λ x. Some x) same ∙ sym is)
+
+short : (n : ℕ) → n ≤ 4 → nat_le n 4 ≡ true
+short n few = grind (arith, nat_tests)
+
+pub hexadecimal_here : (digits : List ℕ) (n : ℕ) → length digits ≤ 4 → Some n ≡ unsigned_number 16 digits → Some n ≡ hexadecimal_in digits
+unfolding hexadecimal_in
+hexadecimal_here digits n few e = rw (short (length digits) few) e

@@ -1,0 +1,67 @@
+-- Calls of processes that a kernel doesn't know.
+use Rattle.std.proofs.Common.{ℕ, ◌≡◌, ◌≤◌, true, false, not, List, [], length, Option, Some, None, IsTrue, refl, sym, ap, subst, ◌∙◌, slice_get, unwrap_or, arith}
+use Rattle.std.specs.Option.{option_map, option_and_then}
+use Rattle.std.proofs.lemmas.Option.{slice_get_past}
+use Rattle.ipc_kernel.specs.declared.process.Slot.{Slot}
+use Rattle.ipc_kernel.specs.declared.process.Descriptor.{Descriptor}
+use Rattle.ipc_kernel.specs.declared.process.OpenTables.{OpenTables}
+use Rattle.ipc_kernel.specs.declared.call.Call.{Call}
+use Rattle.ipc_kernel.specs.declared.call.Call.TheVariants.{MqOpen, MqClose, MqUnlink, MqSend, MqReceive, MqGetattr, MqSetattr, SemOpen, SemClose, SemUnlink, SemWait, SemTrywait, SemPost, SemGetvalue, Exit}
+use Rattle.ipc_kernel.specs.declared.call.Answer.{Answer}
+use Rattle.ipc_kernel.specs.declared.call.Answer.TheVariants.{Done, Wait}
+use Rattle.ipc_objects.specs.Queue.{QueueState}
+use Rattle.ipc_kernel.specs.Places.{place_at, queue_in, semaphore_value}
+use Rattle.ipc_kernel.specs.Kernel.{KernelState}
+use Rattle.ipc_kernel.specs.Processes.{process_at, descriptor_of, slot_of}
+use Rattle.ipc_kernel.specs.Outcomes.{open_queue, open_semaphore}
+use Rattle.ipc_kernel.specs.Queues.{mq_send, mq_receive}
+use Rattle.ipc_kernel.specs.Semaphores.{sem_wait}
+use Rattle.ipc_kernel.specs.Answer.{answer, is_done, may_wait}
+use Rattle.ipc_kernel.proofs.LawfulAnswers.{answer_may_wait}
+use Rattle.lab_conditions.specs.Conditions.{must_wait}
+
+-- such a process has nothing open
+closed : (ps : List OpenTables) (p : ℕ) → length ps ≤ p → process_at ps p ≡ record { descriptors = []; slots = [] }
+closed ps p past = let none : slice_get ps p ≡ None = slice_get_past ps p past in rw none refl
+
+abbrev queue_from : KernelState → Option Descriptor → Option (Descriptor × QueueState)
+queue_from k o = option_and_then (λ held. option_map (λ q. (held, q)) (queue_in (place_at k.places held.place))) o
+
+no_queue : (k : KernelState) (p d : ℕ) → length k.processes ≤ p → open_queue k p d ≡ None
+no_queue k p d past =
+    ap (λ t. queue_from k (unwrap_or (slice_get t.descriptors d) None)) (closed k.processes p past)
+    ∙ ap (λ o. queue_from k (unwrap_or o None)) (slice_get_past [] d (omega arith))
+
+abbrev semaphore_from : KernelState → Option Slot → Option (Slot × ℕ)
+semaphore_from k o = option_and_then (λ slot. option_map (λ v. (slot, v)) (semaphore_value (place_at k.places slot.place))) o
+
+no_semaphore : (k : KernelState) (p s : ℕ) → length k.processes ≤ p → open_semaphore k p s ≡ None
+no_semaphore k p s past =
+    ap (λ t. semaphore_from k (unwrap_or (slice_get t.slots s) None)) (closed k.processes p past)
+    ∙ ap (λ o. semaphore_from k (unwrap_or o None)) (slice_get_past [] s (omega arith))
+
+can_not : (c : Call) (a : Answer) → (a ≡ Wait → IsTrue (may_wait c)) → may_wait c ≡ false → is_done a ≡ true
+can_not c (Done r) may never = refl
+can_not c Wait may never = let yes : may_wait c ≡ true = may refl in cc
+
+done : (k : KernelState) (p : ℕ) (c : Call) → length k.processes ≤ p → is_done (answer k p c).0 ≡ true
+unfolding answer
+done k p (MqSend d words prio) past = ap (λ o. is_done (mq_send k prio words o).0) (no_queue k p d past)
+done k p (MqReceive d len) past = ap (λ o. is_done (mq_receive k len o).0) (no_queue k p d past)
+done k p (SemWait s) past = ap (λ o. is_done (sem_wait k o).0) (no_semaphore k p s past)
+done k p (MqOpen name flags attr) past = can_not (MqOpen name flags attr) _ (answer_may_wait k p (MqOpen name flags attr)) refl
+done k p (MqClose d) past = can_not (MqClose d) _ (answer_may_wait k p (MqClose d)) refl
+done k p (MqUnlink name) past = can_not (MqUnlink name) _ (answer_may_wait k p (MqUnlink name)) refl
+done k p (MqGetattr d) past = can_not (MqGetattr d) _ (answer_may_wait k p (MqGetattr d)) refl
+done k p (MqSetattr d flags) past = can_not (MqSetattr d flags) _ (answer_may_wait k p (MqSetattr d flags)) refl
+done k p (SemOpen name flags value) past = can_not (SemOpen name flags value) _ (answer_may_wait k p (SemOpen name flags value)) refl
+done k p (SemClose s) past = can_not (SemClose s) _ (answer_may_wait k p (SemClose s)) refl
+done k p (SemUnlink name) past = can_not (SemUnlink name) _ (answer_may_wait k p (SemUnlink name)) refl
+done k p (SemTrywait s) past = can_not (SemTrywait s) _ (answer_may_wait k p (SemTrywait s)) refl
+done k p (SemPost s) past = can_not (SemPost s) _ (answer_may_wait k p (SemPost s)) refl
+done k p (SemGetvalue s) past = can_not (SemGetvalue s) _ (answer_may_wait k p (SemGetvalue s)) refl
+done k p Exit past = can_not Exit _ (answer_may_wait k p Exit) refl
+
+-- a call of such a process doesn't wait
+pub none_waits : (k : KernelState) (p : ℕ) (c : Call) → length k.processes ≤ p → must_wait k p c ≡ false
+none_waits k p c past = ap not (done k p c past)

@@ -1,0 +1,122 @@
+//! Whether conditions hold of worlds.
+ghost use Rattle.std.specs.Prelude.{◌≡◌, ◌↔◌, ◌<◌, ℕ, All, Some, IfOk, IfSome, IsTrue, length, map, slice_get};
+ghost use Rattle.lab_sched.specs.Held.{process_view};
+ghost use Rattle.lab_sched.specs.Worlds.{Process as Seen};
+ghost use Rattle.lab_conditions.specs.Conditions.{is_so, how_many, PartHolds, Holds, NamesOnly, world_of};
+
+use crate::places::{has_queue, has_semaphore};
+use crate::{Condition, Part, State};
+use ipc_kernel::Kernel;
+use lab_sched::Process;
+use std::alloc::{AllocError, Global};
+
+/// How many of some processes over a kernel stand so.
+fn how_many(
+    alloc: Global,
+    state: State,
+    kernel: &Kernel,
+    processes: &[&Process],
+) -> Result<usize, AllocError>
+    ensures count { IfOk result (λ count. count ≡ how_many state
+        (world_of kernel.now (map (λ s. process_view s.now) processes.now))) }
+{
+    let mut count = 0;
+    for (pid, process) in processes.iter().enumerate() {
+        if state.is_so(alloc, kernel, pid, process)? {
+            count += 1;
+        }
+    }
+    Ok(count)
+}
+
+/// Whether one of some processes over a kernel is there and stands so.
+fn is_one_so(
+    alloc: Global,
+    pid: usize,
+    state: State,
+    kernel: &Kernel,
+    processes: &[&Process],
+) -> Result<bool, AllocError>
+    ensures so { IfOk result (λ so. IsTrue so ↔ ((s : Seen)
+        × (slice_get (map (λ s. process_view s.now) processes.now) pid ≡ Some s)
+        × IsTrue (is_so state kernel.now pid s))) }
+{
+    match processes.get(pid) {
+        Some(process) => state.is_so(alloc, kernel, pid, process),
+        None => Ok(false),
+    }
+}
+
+impl Part {
+    /// Whether the part holds of the world of some processes over a kernel. An error is want of
+    /// memory.
+    pub fn holds_in(
+        &self,
+        alloc: Global,
+        kernel: &Kernel,
+        processes: &[&Process],
+    ) -> Result<bool, AllocError>
+        ensures holds { IfOk result (λ holds. IsTrue holds ↔ PartHolds self.now
+            (world_of kernel.now (map (λ s. process_view s.now) processes.now))) }
+    {
+        match self {
+            Part::Semaphore {
+                name,
+                relation,
+                value,
+            } => Ok(has_semaphore(kernel, name, *relation, *value)),
+            Part::Queue {
+                name,
+                relation,
+                value,
+            } => Ok(has_queue(kernel, name, *relation, *value)),
+            Part::Of { process, state } => is_one_so(alloc, *process, *state, kernel, processes),
+            Part::MoreThan { state, number } => {
+                Ok(how_many(alloc, *state, kernel, processes)? > usize::from(*number))
+            }
+        }
+    }
+
+    /// Whether the part names no process but those below `count`.
+    fn names_only(&self, count: usize) -> bool
+        ensures only { IsTrue result ↔ NamesOnly count self.now }
+    {
+        match self {
+            Part::Of { process, .. } => *process < count,
+            Part::Semaphore { .. } | Part::Queue { .. } | Part::MoreThan { .. } => true,
+        }
+    }
+}
+
+impl Condition {
+    /// Whether the condition holds of the world of some processes over a kernel. An error is want of
+    /// memory.
+    pub fn holds_in(
+        &self,
+        alloc: Global,
+        kernel: &Kernel,
+        processes: &[&Process],
+    ) -> Result<bool, AllocError>
+        ensures holds { IfOk result (λ holds. IsTrue holds ↔ Holds self.now
+            (world_of kernel.now (map (λ s. process_view s.now) processes.now))) }
+    {
+        for part in &self.parts {
+            if !part.holds_in(alloc, kernel, processes)? {
+                return Ok(false);
+            }
+        }
+        Ok(true)
+    }
+
+    /// Whether the condition names no process but those of a run of so many.
+    pub fn names_only(&self, count: usize) -> bool
+        ensures only { IsTrue result ↔ All (NamesOnly count) self.now.parts.items }
+    {
+        for part in &self.parts {
+            if !part.names_only(count) {
+                return false;
+            }
+        }
+        true
+    }
+}

@@ -1,0 +1,213 @@
+//! Reading one part of a condition.
+ghost use Rattle.std.specs.Prelude.{◌≡◌, ◌≤◌, IfOk, IfSome, map};
+ghost use Rattle.std.specs.Option.{option_map, option_and_then};
+ghost use Rattle.lab_conditions.specs.Written.{relation_in, state_in, place_in, compared_in, name_of, state_of, state_of_some, processes_in, part_in};
+ghost use Rattle.ipc_names.specs.Name.{name_read};
+ghost use Rattle.lab_conditions.specs.declared.condition.Part.TheVariants.{Semaphore, Queue};
+
+use super::numbers::{number_in, process_in, range_in};
+use super::words::is_word;
+use crate::{Part, Relation, State};
+use ipc_names::Name;
+use std::alloc::{AllocError, Global};
+
+/// `>`, `<` or `=`
+#[tactic(auto, unfolding(crate::specs::Written::relation_in))]
+fn relation_in(word: &str) -> Option<Relation>
+    ensures value { result ≡ relation_in word.now }
+{
+    if is_word(">", word) {
+        return Some(Relation::More);
+    }
+    if is_word("<", word) {
+        return Some(Relation::Less);
+    }
+    if is_word("=", word) {
+        return Some(Relation::Equal);
+    }
+    None
+}
+
+/// The name that a word is, if it has the form of one.
+fn name_in(alloc: Global, word: &str) -> Result<Option<Name>, AllocError>
+    ensures name { IfOk result (λ name. name ≡ name_of (name_read word.now)) }
+{
+    let mut words = Vec::new(alloc);
+    for byte in word.as_bytes() {
+        words.push(u16::from(*byte))?;
+    }
+    match Name::read(alloc, &words)? {
+        Ok(name) => Ok(Some(name)),
+        Err(_) => Ok(None),
+    }
+}
+
+/// A name, and how a number is to stand to another.
+#[derive(Drop)]
+struct Compared {
+    name: Name,
+    relation: Relation,
+    value: u16,
+}
+
+/// `NAME > N`, `NAME < N` or `NAME = N`
+fn read_compared(alloc: Global, words: &[&str]) -> Result<Option<Compared>, AllocError>
+    ensures value { IfOk result (λ read. option_map (λ c. (c.name, c.relation, c.value)) read
+        ≡ compared_in (map (λ word. word.now) words.now)) }
+{
+    let [name, sign, number] = words else {
+        return Ok(None);
+    };
+    let Some(name) = name_in(alloc, name)? else {
+        return Ok(None);
+    };
+    let Some(relation) = relation_in(sign) else {
+        return Ok(None);
+    };
+    let Some(value) = number_in(number) else {
+        return Ok(None);
+    };
+    Ok(Some(Compared {
+        name,
+        relation,
+        value,
+    }))
+}
+
+/// A state of processes, with the words behind it.
+type Front<'a, 'b> = (State, &'a [&'b str]);
+
+/// `A` or `A-B`, behind `at`
+fn read_place<'a, 'b>(words: &'a [&'b str]) -> Option<Front<'a, 'b>>
+    ensures value { option_map (λ front. (front.0, map (λ word. word.now) front.1.now)) result
+        ≡ place_in (map (λ word. word.now) words.now) }
+{
+    let (word, rest) = words.split_first()?;
+    let state = range_in(word)?;
+    Some((state, rest))
+}
+
+/// `blocked`, `ended`, `crashed`, `at A` or `at A-B`
+fn read_state<'a, 'b>(words: &'a [&'b str]) -> Option<Front<'a, 'b>>
+    ensures value { option_map (λ front. (front.0, map (λ word. word.now) front.1.now)) result
+        ≡ state_in (map (λ word. word.now) words.now) }
+{
+    let (word, rest) = words.split_first()?;
+    if is_word("blocked", word) {
+        return Some((State::Blocked, rest));
+    }
+    if is_word("ended", word) {
+        return Some((State::Ended, rest));
+    }
+    if is_word("crashed", word) {
+        return Some((State::Crashed, rest));
+    }
+    if is_word("at", word) {
+        return read_place(rest);
+    }
+    None
+}
+
+/// A state of one process, with nothing behind it.
+fn read_state_of(process: usize, words: &[&str]) -> Option<Part>
+    ensures value { result
+        ≡ option_and_then (state_of process) (state_in (map (λ word. word.now) words.now)) }
+{
+    let (state, rest) = read_state(words)?;
+    if rest.is_empty() {
+        Some(Part::Of { process, state })
+    } else {
+        None
+    }
+}
+
+/// A state of some process, or behind it `> N`
+fn read_state_of_some(words: &[&str]) -> Option<Part>
+    ensures value { result
+        ≡ option_and_then state_of_some (state_in (map (λ word. word.now) words.now)) }
+{
+    let (state, rest) = read_state(words)?;
+    match rest {
+        [] => Some(Part::MoreThan { state, number: 0 }),
+        [sign, number] => {
+            if !is_word(">", sign) {
+                return None;
+            }
+            let number = number_in(number)?;
+            Some(Part::MoreThan { state, number })
+        }
+        _ => None,
+    }
+}
+
+/// A part that is about a semaphore.
+fn read_semaphore(alloc: Global, words: &[&str]) -> Result<Option<Part>, AllocError>
+    ensures value { IfOk result (λ part. part ≡ option_map (λ x. Semaphore x.0 x.1 x.2)
+        (compared_in (map (λ word. word.now) words.now))) }
+{
+    let Some(
+        Compared {
+            name,
+            relation,
+            value,
+        },
+    ) = read_compared(alloc, words)?
+    else {
+        return Ok(None);
+    };
+    Ok(Some(Part::Semaphore {
+        name,
+        relation,
+        value,
+    }))
+}
+
+/// A part that is about a queue.
+fn read_queue(alloc: Global, words: &[&str]) -> Result<Option<Part>, AllocError>
+    ensures value { IfOk result (λ part. part ≡ option_map (λ x. Queue x.0 x.1 x.2)
+        (compared_in (map (λ word. word.now) words.now))) }
+{
+    let Some(
+        Compared {
+            name,
+            relation,
+            value,
+        },
+    ) = read_compared(alloc, words)?
+    else {
+        return Ok(None);
+    };
+    Ok(Some(Part::Queue {
+        name,
+        relation,
+        value,
+    }))
+}
+
+/// A part that is about processes.
+fn read_processes(words: &[&str]) -> Option<Part>
+    ensures value { result ≡ processes_in (map (λ word. word.now) words.now) }
+{
+    let (word, rest) = words.split_first()?;
+    match process_in(word) {
+        Some(process) => read_state_of(process, rest),
+        None => read_state_of_some(words),
+    }
+}
+
+/// The part that words write, if they write one.
+#[tactic(auto, unfolding(crate::specs::Written::part_in))]
+pub(crate) fn read_part(alloc: Global, words: &[&str]) -> Result<Option<Part>, AllocError>
+    ensures value { IfOk result (λ part. part ≡ part_in (map (λ word. word.now) words.now)) }
+{
+    let Some((word, rest)) = words.split_first() else {
+        return Ok(None);
+    };
+    if is_word("sem", word) {
+        return read_semaphore(alloc, rest);
+    }
+    if is_word("mq", word) {
+        return read_queue(alloc, rest);
+    }
+    Ok(read_processes(words))
+}

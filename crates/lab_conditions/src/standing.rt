@@ -1,0 +1,115 @@
+//! How processes stand.
+ghost use Rattle.std.specs.Prelude.{◌≡◌, IfOk, is_some, not};
+ghost use Rattle.ipc_kernel.specs.Answer.{answer, is_done};
+ghost use Rattle.lab_sched.specs.Worlds.{next_action};
+ghost use Rattle.lab_sched.specs.Verdicts.{is_ended};
+ghost use Rattle.lab_sched.specs.Held.{process_view};
+ghost use Rattle.lab_conditions.specs.Conditions.{must_wait, call_next, call_of, is_blocked, has_crashed, stands_from, is_so};
+
+use crate::State;
+use ipc_kernel::{Call, Kernel};
+use lab_sched::{Next, Process, find_next};
+use lc3_machine::{How, Running};
+use std::alloc::{AllocError, Global};
+
+/// The call that a running process is about to make, if its next step is one.
+fn call_next(alloc: Global, running: &Running) -> Result<Option<Call>, AllocError>
+    ensures call { IfOk result (λ call. call ≡ call_next (next_action running.now)) }
+{
+    let mut process = Process::Running(running.copy(alloc)?);
+    match find_next(alloc, &mut process, 1) {
+        Next::Asks(call) => Ok(Some(call)),
+        Next::Moved(_) | Next::Ended => Ok(None),
+        Next::Short => Err(AllocError),
+    }
+}
+
+/// Whether a call of process `pid` must wait.
+#[tactic(auto, using(crate::proofs::PastProcesses::none_waits))]
+fn must_wait(kernel: &Kernel, pid: usize, call: &Call) -> bool
+    ensures value { result ≡ must_wait kernel.now pid call.now }
+{
+    pid < kernel.count() && !kernel.can_go(pid, call)
+}
+
+/// Whether process `pid` stands at a call that must wait.
+fn is_blocked(
+    alloc: Global,
+    kernel: &Kernel,
+    pid: usize,
+    process: &Process,
+) -> Result<bool, AllocError>
+    ensures value { IfOk result
+        (λ blocked. blocked ≡ is_blocked kernel.now pid (process_view process.now)) }
+{
+    match process {
+        Process::Running(running) => match call_next(alloc, running)? {
+            Some(call) => Ok(must_wait(kernel, pid, &call)),
+            None => Ok(false),
+        },
+        Process::Waiting(_, call) => Ok(must_wait(kernel, pid, call)),
+        Process::Ended(_) => Ok(false),
+    }
+}
+
+/// Whether a process has ended, and not by HALT.
+fn has_crashed(process: &Process) -> bool
+    ensures value { result ≡ has_crashed (process_view process.now) }
+{
+    match process {
+        Process::Ended(ended) => !matches!(ended.how(), How::Halt),
+        Process::Running(_) | Process::Waiting(_, _) => false,
+    }
+}
+
+/// Whether a process has ended.
+fn has_ended(process: &Process) -> bool
+    ensures value { result ≡ is_ended (process_view process.now) }
+{
+    matches!(process, Process::Ended(_))
+}
+
+/// Whether a process is about to make a call, or waits.
+fn is_at_call(alloc: Global, process: &Process) -> Result<bool, AllocError>
+    ensures value { IfOk result
+        (λ at_call. at_call ≡ is_some (call_of (process_view process.now))) }
+{
+    match process {
+        Process::Running(running) => Ok(call_next(alloc, running)?.is_some()),
+        Process::Waiting(_, _) => Ok(true),
+        Process::Ended(_) => Ok(false),
+    }
+}
+
+/// Whether a process stands at a call, with its program counter from one address to another.
+fn stands_from(alloc: Global, first: u16, last: u16, process: &Process) -> Result<bool, AllocError>
+    ensures value { IfOk result
+        (λ stands. stands ≡ stands_from first last (process_view process.now)) }
+{
+    let pc = process.machine().pc();
+    if pc < first || last < pc {
+        return Ok(false);
+    }
+    is_at_call(alloc, process)
+}
+
+impl State {
+    /// Whether process `pid`, over a kernel, stands so. An error is want of memory.
+    pub fn is_so(
+        self,
+        alloc: Global,
+        kernel: &Kernel,
+        pid: usize,
+        process: &Process,
+    ) -> Result<bool, AllocError>
+        ensures so { IfOk result
+            (λ so. so ≡ is_so self kernel.now pid (process_view process.now)) }
+    {
+        match self {
+            State::Blocked => is_blocked(alloc, kernel, pid, process),
+            State::Ended => Ok(has_ended(process)),
+            State::Crashed => Ok(has_crashed(process)),
+            State::At { first, last } => stands_from(alloc, first, last, process),
+        }
+    }
+}

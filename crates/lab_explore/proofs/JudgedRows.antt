@@ -1,0 +1,124 @@
+-- Rows whose worlds are judged, and the conditions that they reach.
+use Rattle.std.proofs.Common.{ℕ, zero, suc, ◌≡◌, ◌+◌, ◌++◌, ◌<◌, ◌≤◌, ◌↔◌, Bool, IsTrue, arith, List, [], ◌∷◌, Option, Some, None, refl, sym, ap, subst, ◌∙◌, slice_get, length, take, get_or, IfSome}
+use Rattle.std.specs.Option.{option_map}
+use Rattle.std.proofs.lemmas.List.{take_all, take_more}
+use Rattle.std.proofs.lemmas.Option.{slice_get-get_or}
+use Rattle.ipc_kernel.specs.Kernel.{KernelState}
+use Rattle.ipc_kernel.proofs.Consistents.{consistent_empty}
+use Rattle.lab_sched.specs.declared.process.Process.{Process as Kept}
+use Rattle.lab_sched.specs.declared.schedule.block.Block.{Block}
+use Rattle.lab_sched.specs.Worlds.{Process, WorldState, run}
+use Rattle.lab_sched.specs.Held.{process_view}
+use Rattle.lab_sched.specs.Starts.{initial_world}
+use Rattle.lab_sched.specs.Execution.{AreEffective}
+use Rattle.lab_sched.specs.Schedules.{steps_of}
+use Rattle.lab_conditions.specs.declared.condition.Condition.{Condition}
+use Rattle.lab_conditions.specs.Conditions.{Holds, world_of}
+use Rattle.ipc_kernel.specs.Alike.{IsConsistent}
+use Rattle.lab_explore.specs.declared.store.Row.{Row}
+use Rattle.lab_explore.specs.declared.store.Store.{Store}
+use Rattle.lab_explore.specs.Calls.{Both, Alongside}
+use Rattle.lab_explore.specs.Untried.{untried, AskAgain}
+use Rattle.lab_explore.specs.Reached.{LeadsTo, LeadsIfSome, NeverIfNone, NeverHold, AreReached}
+use Rattle.lab_explore.specs.Private.Stored.{IsState, IsRow, IsAt, IsLike, IsSearched}
+use Rattle.lab_explore.specs.declared.walking.Walk.{Walk}
+use Rattle.lab_explore.specs.Private.Walked.{IsWalk}
+use Rattle.lab_explore.specs.Private.Judged.{NoRowHolds, NoRowIfNone}
+use Rattle.lab_explore.proofs.AlikeWorlds.{consistent_run}
+use Rattle.lab_explore.proofs.AfterLocalSteps.{same_some}
+use Rattle.lab_explore.proofs.Pushes.{both_weaker, alongside_push}
+use Rattle.lab_explore.proofs.KeptConditions.{holds_alike, never_holds}
+
+-- the process at a place of a row's world
+row_process : (t : Store) (state : ℕ) (k : Kept) (a : Option ℕ) (b : Option Process) → a ≡ Some state → slice_get t.states.items state ≡ Some k → Both (IsState t) a b → b ≡ Some (process_view k)
+row_process t state k None b e at h = let none : None ≡ Some state = e in absurd (cc)
+row_process t state k (Some i) None e at h = absurd h
+row_process t state k (Some i) (Some s) e at h =
+    let is : Some i ≡ Some state = e in
+    let same : i ≡ state = cc in
+    sym h ∙ ap (λ j. option_map process_view (slice_get t.states.items j)) same ∙ ap (λ o. option_map process_view o) at
+
+-- one element more
+take_next : {A : Type 0} (xs : List A) (n : ℕ) (x : A) → slice_get xs n ≡ Some x → take (n + 1) xs ≡ take n xs ++ x ∷ []
+take_next [] n x at = let none : None ≡ Some x = at in absurd (cc)
+take_next (y ∷ ys) zero x at = let same : Some y ≡ Some x = at in let is : y ≡ x = cc in ap (λ z. z ∷ []) is
+take_next (y ∷ ys) (suc n) x at =
+    let same : suc n + 1 ≡ suc (n + 1) = omega arith in
+    ap (λ k. take k (y ∷ ys)) same ∙ ap (λ zs. y ∷ zs) (take_next ys n x at)
+
+-- a row's place
+pub place_in : (xs ys : List ℕ) (n : ℕ) → xs ≡ ys → n < length xs → slice_get ys n ≡ Some (get_or xs n 0)
+place_in xs ys n same within = subst (λ zs. slice_get zs n ≡ Some (get_or xs n 0)) same (slice_get-get_or xs n 0 within)
+
+pub row_more : (t : Store) (r : Row) (w : WorldState) (seen more : List Process) (n state : ℕ) (k : Kept) → IsRow t r w → slice_get r.states.items n ≡ Some state → slice_get t.states.items state ≡ Some k
+    → seen ≡ take n w.processes → more ≡ seen ++ process_view k ∷ [] → more ≡ take (n + 1) w.processes
+row_more t r w seen more n state k row place at so pushed =
+    let here = row_process t state k (slice_get r.states.items n) (slice_get w.processes n) place at (row.states n) in
+    pushed ∙ ap (λ xs. xs ++ process_view k ∷ []) so ∙ sym (take_next w.processes n (process_view k) here)
+
+-- as many as the row has places
+same_length : {A B : Type 0} (R : A → B → Type 0) (xs : List A) (ys : List B) → Alongside R xs ys → length ys ≤ length xs
+same_length R [] [] h = omega arith
+same_length R [] (y ∷ ys) h = absurd (h 0)
+same_length R (x ∷ xs) [] h = omega arith
+same_length R (x ∷ xs) (y ∷ ys) h = let rest = same_length R xs ys (λ p. h (suc p)) in omega (arith, rest)
+
+pub row_all : (t : Store) (r : Row) (w : WorldState) (seen : List Process) (n : ℕ) → IsRow t r w → length r.states.items ≤ n → seen ≡ take n w.processes → seen ≡ w.processes
+row_all t r w seen n row past so =
+    let few = same_length (IsState t) r.states.items w.processes row.states in
+    so ∙ take_all n w.processes (omega (arith, few, past))
+
+-- what is judged of a row's parts is judged of its world
+pub row_judged : (t : Store) (r : Row) (at : ℕ) (c : Condition) (k : KernelState) (ps : List Process) (holds : Bool) → slice_get t.rows.items at ≡ Some r → slice_get t.kernels.items r.kernel ≡ Some k
+    → ((w : WorldState) → IsRow t r w → ps ≡ w.processes) → (IsTrue holds ↔ Holds c (world_of k ps)) → (w : WorldState) → IsAt t at w → (IsTrue holds ↔ Holds c w)
+row_judged t r at c k ps holds there kernel processes judged w row =
+    let same : row.0 ≡ r = same_some row.0 r (slice_get t.rows.items at) row.1 there in
+    let is : IsRow t r w = subst (λ r. IsRow t r w) same row.2 in
+    let first : k ≡ w.kernel = same_some k w.kernel (slice_get t.kernels.items r.kernel) kernel is.kernel in
+    let world : world_of k ps ≡ w = ap (λ j. world_of j ps) first ∙ ap (λ ss. world_of w.kernel ss) (processes w is) in
+    subst (λ v. IsTrue holds ↔ Holds c v) world judged
+
+-- one condition more
+pub next_along : {A B : Type 0} (R : A → B → Type 0) (xs : List A) (ys zs : List B) (n : ℕ) (x : A) (y : B) → Alongside R (take n xs) ys → n < length xs → x ≡ get_or xs n x → R x y → zs ≡ ys ++ y ∷ []
+    → Alongside R (take (n + 1) xs) zs
+next_along R xs ys zs n x y h within read here pushed =
+    let more = take_more xs n x within ∙ ap (λ z. take n xs ++ z ∷ []) (sym read) in
+    subst (λ vs. Alongside R (take (n + 1) xs) vs) (sym pushed) (subst (λ us. Alongside R us (ys ++ y ∷ [])) (sym more) (alongside_push R (take n xs) ys x y h here))
+
+-- what is told of one condition
+pub leads_if : (c : Condition) (start : WorldState) (o : Option (List Block)) → IfSome o (λ s. LeadsTo start c s) → LeadsIfSome start c o
+leads_if c start None h = tt
+leads_if c start (Some s) h = h
+
+pub no_row_if : (c : Condition) (t : Store) (o : Option (List Block)) → (o ≡ None → NoRowHolds t c) → NoRowIfNone t c o
+no_row_if c t None h = h refl
+no_row_if c t (Some s) h = tt
+
+-- the schedule of a walk
+pub walk_schedule : (start : WorldState) (t : Store) (at : ℕ) (w : Walk) (s : List Block) → s ≡ w.schedule → IsWalk start w → IsLike t at w.world
+    → AreEffective start (steps_of s) × IsLike t at (run start (steps_of s))
+walk_schedule start t at w s same h like =
+    (subst (λ bs. AreEffective start (steps_of bs)) (sym same) h.effective, subst (λ bs. IsLike t at (run start (steps_of bs))) (sym same) (subst (IsLike t at) (sym h.leads) like))
+
+-- the world that steps lead to is alike one of which the condition holds
+pub leads_to : (c : Condition) (ps : List Kept) (t : Store) (at : ℕ) (s : List Block) → AreEffective (initial_world ps) (steps_of s) → IsLike t at (run (initial_world ps) (steps_of s))
+    → ((w : WorldState) → IsAt t at w → Holds c w) → LeadsTo (initial_world ps) c s
+leads_to c ps t at s effective like holds =
+    let start = initial_world ps in
+    record {
+      effective = effective;
+      holds = holds_alike c like.0 (run start (steps_of s)) (consistent_run (steps_of s) start (consistent_empty (length ps))) like.2 (holds like.0 like.1);
+    }
+
+never_if : (fresh start : WorldState) (t : Store) → fresh ≡ start → IsConsistent start.kernel → AskAgain start → untried start ≡ start → IsSearched start t → (c : Condition) (o : Option (List Block)) → NoRowIfNone t c o → NeverIfNone fresh c o
+never_if fresh start t same consistent asks first searched c None none = never_holds c fresh start t same consistent asks first searched none
+never_if fresh start t same consistent asks first searched c (Some s) none = tt
+
+-- where the search is whole, what no row has never holds
+pub never_hold : (fresh start : WorldState) (t : Store) (cs : List Condition) (found : List (Option (List Block))) → fresh ≡ start → IsConsistent start.kernel → AskAgain start → untried start ≡ start → IsSearched start t
+    → Alongside (NoRowIfNone t) cs found → NeverHold fresh cs found
+never_hold fresh start t cs found same consistent asks first searched none p =
+    both_weaker (NoRowIfNone t) (NeverIfNone fresh) (λ c o. never_if fresh start t same consistent asks first searched c o) (slice_get cs p) (slice_get found p) (none p)
+
+pub same_reached : (fresh start : WorldState) (cs : List Condition) (found : List (Option (List Block))) → fresh ≡ start → AreReached start cs found → AreReached fresh cs found
+same_reached fresh start cs found same each = subst (λ s. AreReached s cs found) (sym same) each

@@ -1,0 +1,69 @@
+//! Conditions that are judged of the worlds that a search keeps.
+ghost use Rattle.std.specs.Prelude.{◌≡◌, ◌↔◌, ℕ, None, IsTrue, map, IfOk, IfSome};
+ghost use Rattle.lab_sched.specs.Worlds.{WorldState};
+ghost use Rattle.lab_sched.specs.Held.{process_view};
+ghost use Rattle.lab_conditions.specs.Conditions.{Holds};
+ghost use Rattle.lab_explore.specs.Private.Stored.{IsRow, IsAt};
+
+use crate::ExploreFault;
+use crate::store::{Row, Store};
+use lab_conditions::Condition;
+use lab_sched::Process;
+use std::alloc::Global;
+
+impl Store {
+    /// The processes of the world of a row, in order.
+    fn processes_of(&self, alloc: Global, row: &Row) -> Result<Vec<&Process>, ExploreFault>
+        ensures processes { IfOk result (λ processes. (w : WorldState) → IsRow self.now row.now w
+            → map (λ s. process_view s.now) processes.items ≡ w.processes) }
+    {
+        let mut processes = Vec::new(alloc);
+        for state in &row.states {
+            let Some(process) = self.states.get(*state as usize) else {
+                return Err(ExploreFault::Unvouched);
+            };
+            processes.push(process)?;
+        }
+        Ok(processes)
+    }
+
+    /// Whether a condition holds of the world of a row.
+    fn row_holds(
+        &self,
+        alloc: Global,
+        at: usize,
+        condition: &Condition,
+    ) -> Result<bool, ExploreFault>
+        ensures holds { IfOk result (λ holds. (w : WorldState) → IsAt self.now at w
+            → IsTrue holds ↔ Holds condition.now w) }
+    {
+        let Some(row) = self.rows.get(at) else {
+            return Err(ExploreFault::Unvouched);
+        };
+        let Some(kernel) = self.kernels.get(row.kernel as usize) else {
+            return Err(ExploreFault::Unvouched);
+        };
+        let processes = self.processes_of(alloc, row)?;
+        let holds = condition.holds_in(alloc, kernel, processes.as_slice())?;
+        Ok(holds)
+    }
+
+    /// The first row of whose world a condition holds.
+    pub(crate) fn first_where(
+        &self,
+        alloc: Global,
+        condition: &Condition,
+    ) -> Result<Option<usize>, ExploreFault>
+        ensures some { IfOk result (λ first. IfSome first (λ at. (w : WorldState)
+            → IsAt self.now at w → Holds condition.now w)) }
+        ensures none { IfOk result (λ first. first ≡ None → (i : ℕ) (w : WorldState)
+            → IsAt self.now i w → Holds condition.now w → ⊥) }
+    {
+        for at in 0..self.rows.len() {
+            if self.row_holds(alloc, at, condition)? {
+                return Ok(Some(at));
+            }
+        }
+        Ok(None)
+    }
+}
