@@ -1,5 +1,5 @@
 -- What answers say of the programs of a laboratory.
-use Rattle.std.specs.Prelude.{ℕ, ◌≡◌, ◌≢◌, IsTrue, false, None, List, All, Any}
+use Rattle.std.specs.Prelude.{ℕ, ◌≡◌, ◌≢◌, IsTrue, false, Some, None, List, All, Any, slice_get}
 use Rattle.lab_sched.specs.declared.schedule.block.Block.{Block}
 use Rattle.lab_sched.specs.Schedules.{steps_of}
 use Rattle.lab_sched.specs.Worlds.{WorldState, run}
@@ -11,7 +11,7 @@ use Rattle.lab_questions.specs.declared.word.Word.{Word}
 use Rattle.lab_questions.specs.declared.word.Word.TheVariants.{Ended, Stuck, Halted, Empty, Same}
 use Rattle.lab_questions.specs.declared.answers.Answer.{Answer}
 use Rattle.lab_questions.specs.declared.failure.Failure.{Failure}
-use Rattle.lab_questions.specs.declared.failure.Failure.TheVariants.{Not, Endless, Incomplete}
+use Rattle.lab_questions.specs.declared.failure.Failure.TheVariants.{Not, Reached, Endless, Incomplete}
 use Rattle.lab_questions.specs.Judgments.{Meets}
 
 -- whatever steps are taken from the start, effective or not, and whatever others: if the worlds after
@@ -40,14 +40,17 @@ AsksRest Same = ⊥
 -- nothing was found that isn't as it is required, and everything was visited
 pub record Passes (found : Exploration) (answers : List Answer) : Type 0 where
   pub met : All (λ a. a.fault ≡ None) answers
+  pub unreached : All (λ s. s ≡ None) found.reached.items
   pub ends : Any (λ a. AsksRest a.word) answers → found.round ≡ None
   pub complete : IsTrue found.complete
 
 -- the first of these that is so
 abbrev pub IsFailure : Exploration → List Answer → Failure → Type 0
 IsFailure found answers (Not word) = Any (λ a. (a.word ≡ word) × (a.fault ≢ None)) answers
+IsFailure found answers (Reached i) =
+    All (λ a. a.fault ≡ None) answers × (s : List Block) × (slice_get found.reached.items i ≡ Some (Some s))
 IsFailure found answers Endless =
-    All (λ a. a.fault ≡ None) answers × Any (λ a. AsksRest a.word) answers × (found.round ≢ None)
+    All (λ a. a.fault ≡ None) answers × All (λ s. s ≡ None) found.reached.items × Any (λ a. AsksRest a.word) answers × (found.round ≢ None)
 IsFailure found answers Incomplete =
-    All (λ a. a.fault ≡ None) answers × (Any (λ a. AsksRest a.word) answers → found.round ≡ None)
+    All (λ a. a.fault ≡ None) answers × All (λ s. s ≡ None) found.reached.items × (Any (λ a. AsksRest a.word) answers → found.round ≡ None)
     × (found.complete ≡ false)

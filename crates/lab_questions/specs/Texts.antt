@@ -1,5 +1,10 @@
 -- The text that tells what was found and answered.
-use Rattle.std.specs.Prelude.{ℕ, Option, Some, None, List, [], ◌++◌, codes, flat_map, slice_get}
+use Rattle.std.specs.Prelude.{ℕ, ◌≡◌, Option, Some, None, Ok, List, [], ◌++◌, Any, codes, flat_map, length, min, slice_get, string_bytes}
+use Rattle.std.specs.Fmt.{decimal}
+use Rattle.lab_sched.specs.ScheduleTexts.{schedule_text, reading}
+use Rattle.lab_texts.specs.Rows.{texts_below}
+use Rattle.lab_conditions.specs.declared.condition.Condition.{Condition}
+use Rattle.lab_explore.specs.declared.rounds.Round.{Round}
 use Rattle.lab_sched.specs.declared.schedule.block.Block.{Block}
 use Rattle.lab_explore.specs.declared.ends.End.{End}
 use Rattle.lab_explore.specs.declared.exploring.Exploration.{Exploration}
@@ -43,8 +48,42 @@ fault_lines ends word (Some i) =
 abbrev pub answer_lines : List End → Answer → List ℕ
 answer_lines ends a = fault_lines ends a.word a.fault
 
--- the ends that are told, the answers, a round, if there is one, and whether these are all ends
-abbrev pub answers_text : Exploration → List Answer → List ℕ
-answers_text found answers =
+-- the lines of a condition, if it is there and was reached, with a schedule that leads there
+abbrev pub condition_lines : Option Condition → Option (Option (List Block)) → List ℕ
+condition_lines (Some c) (Some (Some s)) = codes "reached " ++ string_bytes c.text ++ codes "\n" ++ schedule_line s
+condition_lines c s = []
+
+-- the lines of conditions, in order
+unfoldable pub reached_lines : List Condition → List (Option (List Block)) → List ℕ
+reached_lines conditions reached =
+    texts_below (min (length conditions) (length reached)) (λ i. condition_lines (slice_get conditions i) (slice_get reached i))
+
+-- the ends that are told, the answers, what was reached, a round, if there is one, and whether these are all ends
+abbrev pub answers_text : List Condition → Exploration → List Answer → List ℕ
+answers_text conditions found answers =
     ends_text 1 (told_ends found.ends.items) ++ flat_map (answer_lines found.ends.items) answers
-    ++ round_text found.round ++ extent_line found.complete found.worlds
+    ++ reached_lines conditions found.reached.items ++ round_text found.round ++ extent_line found.complete found.worlds
+
+-- the last line where walks were taken
+unfoldable pub walks_line : ℕ → List ℕ
+walks_line walks = codes "incomplete " ++ decimal walks ++ codes " walks\n"
+
+-- the ends that are told, the answers, and how many walks were taken
+abbrev pub walks_text : Exploration → List Answer → List ℕ
+walks_text found answers =
+    ends_text 1 (told_ends found.ends.items) ++ flat_map (answer_lines found.ends.items) answers
+    ++ walks_line found.worlds
+
+-- the text of the schedule of an end that an answer names
+abbrev pub ShowsFault : List End → List Answer → List ℕ → Type 0
+ShowsFault ends answers text =
+    Any (λ a. (i : ℕ) × (a.fault ≡ Some i) × (text ≡ schedule_text (schedule_at ends i))) answers
+
+-- the text of the schedule that leads to condition number i
+abbrev pub ShowsReached : List (Option (List Block)) → ℕ → List ℕ → Type 0
+ShowsReached reached i text = (s : List Block) × (slice_get reached i ≡ Some (Some s)) × (text ≡ schedule_text s)
+
+-- the text of the schedule that those of a round, one behind the other, are read as
+abbrev pub ShowsRound : Round → List ℕ → Type 0
+ShowsRound r text = (blocks : List Block) × (text ≡ schedule_text blocks)
+    × (reading (schedule_text r.schedule ++ codes " " ++ schedule_text r.steps) ≡ Ok blocks)

@@ -2,6 +2,7 @@
 ghost use Rattle.std.specs.Prelude.{◌≡◌, None, map, string_bytes, All, Any, IfOk, IfSome, IsTrue};
 ghost use Rattle.lab_sched.specs.ScheduleTexts.{schedule_text};
 ghost use Rattle.lab_explore.specs.Ends.{AreEnds, HaveAllEnds};
+ghost use Rattle.lab_explore.specs.Reached.{AreReached, NeverHold};
 ghost use Rattle.lab_explore.specs.Rounds.{IsRound, CanBeRepeated, AreBounded};
 ghost use Rattle.lab_findings.specs.Texts.{told_ends};
 ghost use Rattle.lab_questions.specs.Judgments.{IsAnswer};
@@ -12,6 +13,7 @@ use crate::answers::answers_on;
 use crate::failure::failure_of;
 use crate::texts::tell;
 use crate::{Answer, Failure, Waiter, Word};
+use lab_conditions::Condition;
 use lab_explore::{Exploration, ExploreFault, Limits, Observer, explore};
 use lab_sched::Fresh;
 use std::alloc::Global;
@@ -31,17 +33,19 @@ pub struct Answers {
 /// Explores the programs of a laboratory, as far as the limits allow, and judges each end by each
 /// word. Where a word isn't so, the schedules that are told with it lead to ends which show that.
 /// Where the exploration is complete and the word is so, every world at rest that any steps lead to
-/// is as the word requires.
+/// is as the word requires. The schedule of a condition that was reached leads to a world of which it
+/// holds; where the exploration is complete and the condition has none, it holds after no steps.
 pub fn ask<O: Observer>(
     alloc: Global,
     fresh: Fresh,
     limits: Limits,
     words: &[Word],
     waiters: &[Waiter],
+    conditions: &[Condition],
     observer: &mut O,
 ) -> Result<Answers, ExploreFault>
     ensures text { IfOk result (λ a.
-        string_bytes a.text ≡ answers_text a.exploration a.answers.items) }
+        string_bytes a.text ≡ answers_text conditions.now a.exploration a.answers.items) }
     ensures schedules { IfOk result (λ a. map string_bytes a.schedules.items
         ≡ map (λ e. schedule_text e.schedule) (told_ends a.exploration.ends.items)) }
     ensures words { IfOk result (λ a. map (λ x. x.word) a.answers.items ≡ words.now) }
@@ -60,14 +64,18 @@ pub fn ask<O: Observer>(
         (schedule_at a.exploration.ends.items i))) a.answers.items) }
     ensures met { IfOk result (λ a. IsTrue a.exploration.complete
         → All (λ x. x.fault ≡ None → AlwaysMeet x.word waiters.now fresh) a.answers.items) }
+    ensures reached { IfOk result (λ a.
+        AreReached fresh conditions.now a.exploration.reached.items) }
+    ensures unreached { IfOk result (λ a. IsTrue a.exploration.complete
+        → NeverHold fresh conditions.now a.exploration.reached.items) }
     ensures passes { IfOk result (λ a. a.failure ≡ None
         → Passes a.exploration a.answers.items) }
     ensures failure { IfOk result (λ a.
         IfSome a.failure (λ f. IsFailure a.exploration a.answers.items f)) }
 {
-    let exploration = explore(alloc, fresh, limits, observer)?;
+    let exploration = explore(alloc, fresh, limits, conditions, observer)?;
     let answers = answers_on(alloc, words, waiters, &exploration.ends)?;
-    let told = tell(alloc, &exploration, &answers)?;
+    let told = tell(alloc, &exploration, &answers, conditions)?;
     let failure = failure_of(&exploration, &answers);
     Ok(Answers {
         exploration,

@@ -1,15 +1,19 @@
 //! Why ends aren't as they are required to be.
-ghost use Rattle.std.specs.Prelude.{◌≡◌, ◌≢◌, ◌↔◌, None, All, Any, IfSome, IsTrue};
+ghost use Rattle.std.specs.Prelude.{◌≡◌, ◌≢◌, ◌↔◌, false, List, Some, None, All, Any, IfSome, IsTrue, slice_get};
+ghost use Rattle.lab_sched.specs.declared.schedule.block.Block.{Block};
 ghost use Rattle.lab_questions.specs.Programs.{AsksRest, Passes, IsFailure};
 
 use crate::{Answer, Word};
 use lab_explore::Exploration;
+use lab_sched::Schedule;
 
 /// Why an exploration doesn't show that all is as it is required.
 #[derive(Clone, Copy, Debug, PartialEq, Eq)]
 pub enum Failure {
     /// An end isn't as this word requires.
     Not(Word),
+    /// The condition with this number, from 0, was reached.
+    Reached(usize),
     /// Some interleaving never ends, and each has to.
     Endless,
     /// Not everything was visited.
@@ -25,6 +29,28 @@ fn unmet_word(answers: &[Answer]) -> Option<Word>
     for answer in answers {
         if answer.fault.is_some() {
             return Some(answer.word);
+        }
+    }
+    None
+}
+
+/// Whether there is a schedule.
+fn has_schedule(schedule: &Option<Schedule>) -> bool
+    ensures no { result ≡ false → schedule.now ≡ None }
+    ensures yes { IsTrue result → (s : List Block) × (schedule.now ≡ Some s) }
+{
+    matches!(schedule, Some(_))
+}
+
+/// The number of the first condition that has a schedule.
+fn first_reached(reached: &[Option<Schedule>]) -> Option<usize>
+    ensures none { result ≡ None → All (λ s. s ≡ None) reached.now }
+    ensures some { IfSome result (λ i. (s : List Block)
+        × (slice_get reached.now i ≡ Some (Some s))) }
+{
+    for (number, schedule) in reached.iter().enumerate() {
+        if has_schedule(schedule) {
+            return Some(number);
         }
     }
     None
@@ -56,6 +82,9 @@ pub(crate) fn failure_of(found: &Exploration, answers: &[Answer]) -> Option<Fail
 {
     if let Some(word) = unmet_word(answers) {
         return Some(Failure::Not(word));
+    }
+    if let Some(number) = first_reached(&found.reached) {
+        return Some(Failure::Reached(number));
     }
     if found.round.is_some() && ask_rest(answers) {
         return Some(Failure::Endless);

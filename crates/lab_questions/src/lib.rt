@@ -7,10 +7,14 @@ mod failure;
 mod judging;
 mod processes;
 mod queues;
+mod showing;
 mod texts;
+mod walking;
 mod word;
 
 pub use answers::Answer;
 pub use asking::{Answers, ask};
 pub use failure::Failure;
+pub use showing::bad_schedule;
+pub use walking::ask_walks;
 pub use word::{Waiter, Word};

@@ -1,12 +1,14 @@
 //! The lines of answers.
-ghost use Rattle.std.specs.Prelude.{◌≡◌, ◌<◌, ◌++◌, Some, length, OnOk, IfOk, IfSome, All, string_bytes, flat_map, map};
+ghost use Rattle.std.specs.Prelude.{◌≡◌, ◌<◌, ◌++◌, Some, length, slice_get, OnOk, IfOk, IfSome, All, string_bytes, flat_map, map};
 ghost use Rattle.lab_sched.specs.ScheduleTexts.{schedule_text};
 ghost use Rattle.lab_findings.specs.Texts.{told_ends, schedule_line};
-ghost use Rattle.lab_questions.specs.Texts.{word_text, schedule_at, first_lines, fault_lines, answer_lines, answers_text};
+ghost use Rattle.lab_questions.specs.Texts.{word_text, schedule_at, first_lines, fault_lines, answer_lines, condition_lines, reached_lines, answers_text, walks_line, walks_text};
 
 use crate::{Answer, Word};
+use lab_conditions::Condition;
 use lab_explore::{End, Exploration};
 use lab_findings::{Told, push_extent, push_round, push_schedule, told_of};
+use lab_sched::Schedule;
 use std::alloc::{AllocError, Global};
 use std::fmt::Write;
 
@@ -103,21 +105,103 @@ fn push_answers(
     Ok(())
 }
 
+/// Adds the lines of a condition that was reached.
+fn push_reached(
+    alloc: Global,
+    text: &mut String,
+    condition: &Condition,
+    schedule: &Schedule,
+) -> Result<(), AllocError>
+    ensures text { OnOk result (string_bytes text.new ≡ string_bytes text.old
+        ++ condition_lines (Some condition.now) (Some (Some schedule.now))) }
+{
+    write!(text, "reached {condition}\n")?;
+    push_schedule(alloc, text, schedule)
+}
+
+/// Adds the lines of a condition by its number, counted from 0, if it was reached.
+fn push_condition(
+    alloc: Global,
+    text: &mut String,
+    conditions: &[Condition],
+    reached: &[Option<Schedule>],
+    number: usize,
+) -> Result<(), AllocError>
+    requires there { number < length conditions.now }
+    requires reached { number < length reached.now }
+    ensures text { OnOk result (string_bytes text.new ≡ string_bytes text.old
+        ++ condition_lines (slice_get conditions.now number) (slice_get reached.now number)) }
+{
+    match &reached[number] {
+        Some(schedule) => push_reached(alloc, text, &conditions[number], schedule),
+        None => Ok(()),
+    }
+}
+
+/// Adds the lines of the conditions that were reached.
+#[tactic(auto, using(lab_texts::proofs::RowLemmas::texts_below_none), unfolding(crate::specs::Texts::reached_lines))]
+fn push_conditions(
+    alloc: Global,
+    text: &mut String,
+    conditions: &[Condition],
+    reached: &[Option<Schedule>],
+) -> Result<(), AllocError>
+    ensures text { OnOk result (string_bytes text.new
+        ≡ string_bytes text.old ++ reached_lines conditions.now reached.now) }
+{
+    for number in 0..conditions.len().min(reached.len()) {
+        push_condition(alloc, text, conditions, reached, number)?;
+    }
+    Ok(())
+}
+
+/// Adds the last line where so many walks were taken.
+#[tactic(auto, unfolding(crate::specs::Texts::walks_line))]
+fn push_walks(text: &mut String, walks: u32) -> Result<(), AllocError>
+    ensures text { OnOk result (string_bytes text.new
+        ≡ string_bytes text.old ++ walks_line walks) }
+{
+    match write!(text, "incomplete {walks} walks\n") {
+        Ok(()) => Ok(()),
+        Err(error) => Err(error),
+    }
+}
+
 /// Tells an exploration and answers.
 pub(crate) fn tell(
+    alloc: Global,
+    found: &Exploration,
+    answers: &[Answer],
+    conditions: &[Condition],
+) -> Result<Told, AllocError>
+    requires there { All (λ a. IfSome a.fault (λ i. i < length found.now.ends.items)) answers.now }
+    ensures text { IfOk result (λ told.
+        string_bytes told.text ≡ answers_text conditions.now found.now answers.now) }
+    ensures schedules { IfOk result (λ told. map string_bytes told.schedules.items
+        ≡ map (λ e. schedule_text e.schedule) (told_ends found.now.ends.items)) }
+{
+    let mut told = told_of(alloc, &found.ends)?;
+    push_answers(alloc, &mut told.text, &found.ends, answers)?;
+    push_conditions(alloc, &mut told.text, conditions, &found.reached)?;
+    push_round(alloc, &mut told.text, &found.round)?;
+    push_extent(&mut told.text, found.complete, found.worlds)?;
+    Ok(told)
+}
+
+/// Tells what walks found, and answers.
+pub(crate) fn tell_walks(
     alloc: Global,
     found: &Exploration,
     answers: &[Answer],
 ) -> Result<Told, AllocError>
     requires there { All (λ a. IfSome a.fault (λ i. i < length found.now.ends.items)) answers.now }
     ensures text { IfOk result (λ told.
-        string_bytes told.text ≡ answers_text found.now answers.now) }
+        string_bytes told.text ≡ walks_text found.now answers.now) }
     ensures schedules { IfOk result (λ told. map string_bytes told.schedules.items
         ≡ map (λ e. schedule_text e.schedule) (told_ends found.now.ends.items)) }
 {
     let mut told = told_of(alloc, &found.ends)?;
     push_answers(alloc, &mut told.text, &found.ends, answers)?;
-    push_round(alloc, &mut told.text, &found.round)?;
-    push_extent(&mut told.text, found.complete, found.worlds)?;
+    push_walks(&mut told.text, found.worlds)?;
     Ok(told)
 }

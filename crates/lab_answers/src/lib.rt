@@ -1,0 +1,10 @@
+//! The answers of an exploration as RFC 8259 (JSON) writes them, on one line.
+#![tactic(auto)]
+
+mod ends;
+mod object;
+mod reasons;
+mod values;
+
+pub use object::answers_json;
+pub use reasons::Extent;

@@ -1,0 +1,190 @@
+//! The answers as one object.
+
+use crate::ends::push_ends;
+use crate::reasons::{Extent, push_limits};
+use crate::values::{push_comma, push_schedule, push_text};
+use lab_conditions::Condition;
+use lab_explore::{End, Exploration, Round};
+use lab_questions::{Answer, Answers, Failure, Word};
+use lab_sched::Schedule;
+use std::alloc::{AllocError, Global};
+use std::fmt::Write;
+
+/// Whether everything was visited, in a word.
+fn extent_name(complete: bool) -> &'static str {
+    if complete { "complete" } else { "incomplete" }
+}
+
+/// What the number of the last line counts.
+fn unit_name(extent: Extent) -> &'static str {
+    match extent {
+        Extent::Worlds(_) => "worlds",
+        Extent::Walks(_) => "walks",
+    }
+}
+
+/// Adds how far the exploration went.
+fn push_extent(
+    alloc: Global,
+    text: &mut String,
+    found: &Exploration,
+    extent: Extent,
+) -> Result<(), AllocError> {
+    let search = extent_name(found.complete);
+    write!(text, "\"search\":\"{search}\",\"limits\":[")?;
+    push_limits(alloc, text, found, extent)?;
+    let unit = unit_name(extent);
+    let count = found.worlds;
+    write!(text, "],\"{unit}\":{count}")?;
+    Ok(())
+}
+
+/// Adds the schedule of end number `number`, counted from 0.
+fn push_schedule_at(
+    alloc: Global,
+    text: &mut String,
+    ends: &[End],
+    number: usize,
+) -> Result<(), AllocError> {
+    match ends.get(number) {
+        Some(end) => push_schedule(alloc, text, &end.schedule),
+        None => push_schedule(alloc, text, &Schedule::new(alloc)),
+    }
+}
+
+/// Adds the schedule of the first end, where a word compares others with it.
+fn push_first(
+    alloc: Global,
+    text: &mut String,
+    ends: &[End],
+    word: Word,
+) -> Result<(), AllocError> {
+    match word {
+        Word::Same => {
+            push_schedule_at(alloc, text, ends, 0)?;
+            text.push_str(",")
+        }
+        _ => Ok(()),
+    }
+}
+
+/// Adds the name of a word that isn't so.
+fn push_word(text: &mut String, word: Word) -> Result<(), AllocError> {
+    text.push_str("{\"require\":\"")?;
+    text.push_str(word.text())?;
+    text.push_str("\",\"schedules\":[")
+}
+
+/// Adds a word that isn't so at end number `number`, counted from 0.
+fn push_fault(
+    alloc: Global,
+    text: &mut String,
+    ends: &[End],
+    word: Word,
+    number: usize,
+) -> Result<(), AllocError> {
+    push_word(text, word)?;
+    push_first(alloc, text, ends, word)?;
+    push_schedule_at(alloc, text, ends, number)?;
+    text.push_str("]}")
+}
+
+/// Adds the words that aren't so, with commas between them.
+fn push_faults(
+    alloc: Global,
+    text: &mut String,
+    ends: &[End],
+    answers: &[Answer],
+) -> Result<(), AllocError> {
+    let mut told = 0;
+    for answer in answers {
+        if let Some(number) = answer.fault {
+            push_comma(text, told)?;
+            push_fault(alloc, text, ends, answer.word, number)?;
+            told = 1;
+        }
+    }
+    Ok(())
+}
+
+/// Adds a condition that was reached.
+fn push_condition(
+    alloc: Global,
+    text: &mut String,
+    condition: &Condition,
+    schedule: &Schedule,
+) -> Result<(), AllocError> {
+    text.push_str("{\"never\":")?;
+    push_text(text, condition.text.as_bytes())?;
+    text.push_str(",\"schedule\":")?;
+    push_schedule(alloc, text, schedule)?;
+    text.push_str("}")
+}
+
+/// Adds the conditions that were reached, with commas between them.
+fn push_conditions(
+    alloc: Global,
+    text: &mut String,
+    conditions: &[Condition],
+    reached: &[Option<Schedule>],
+) -> Result<(), AllocError> {
+    let mut told = 0;
+    for (condition, reached) in conditions.iter().zip(reached.iter()) {
+        if let Some(schedule) = reached {
+            push_comma(text, told)?;
+            push_condition(alloc, text, condition, schedule)?;
+            told = 1;
+        }
+    }
+    Ok(())
+}
+
+/// Adds a round, or that there is none.
+fn push_round(alloc: Global, text: &mut String, round: &Option<Round>) -> Result<(), AllocError> {
+    let Some(round) = round else {
+        return text.push_str("null");
+    };
+    text.push_str("{\"schedule\":")?;
+    push_schedule(alloc, text, &round.schedule)?;
+    text.push_str(",\"round\":")?;
+    push_schedule(alloc, text, &round.steps)?;
+    text.push_str("}")
+}
+
+/// Whether all is as it has to be, where something has to be so and that is known.
+fn holds_name(judged: bool, failure: Option<Failure>) -> &'static str {
+    if !judged {
+        return "null";
+    }
+    match failure {
+        None => "true",
+        Some(Failure::Not(_)) | Some(Failure::Reached(_)) | Some(Failure::Endless) => "false",
+        Some(Failure::Incomplete) => "null",
+    }
+}
+
+/// The answers as one line, with those on conditions, which are given in order, with how far the exploration was to go, and
+/// whether something had to be so.
+pub fn answers_json(
+    alloc: Global,
+    answers: &Answers,
+    conditions: &[Condition],
+    extent: Extent,
+    judged: bool,
+) -> Result<String, AllocError> {
+    let found = &answers.exploration;
+    let mut text = String::new(alloc);
+    text.push_str("{")?;
+    push_extent(alloc, &mut text, found, extent)?;
+    text.push_str(",\"ends\":[")?;
+    push_ends(alloc, &mut text, &found.ends)?;
+    text.push_str("],\"not\":[")?;
+    push_faults(alloc, &mut text, &found.ends, &answers.answers)?;
+    text.push_str("],\"reached\":[")?;
+    push_conditions(alloc, &mut text, conditions, &found.reached)?;
+    text.push_str("],\"fair\":false,\"endless\":")?;
+    push_round(alloc, &mut text, &found.round)?;
+    let holds = holds_name(judged, answers.failure);
+    write!(text, ",\"holds\":{holds}}}\n")?;
+    Ok(text)
+}

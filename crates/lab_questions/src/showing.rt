@@ -1,0 +1,97 @@
+//! Schedules that show why ends aren't as they are required to be.
+ghost use Rattle.std.specs.Prelude.{◌≡◌, ℕ, None, Some, All, Any, IfOk, IfSome, string_bytes};
+ghost use Rattle.lab_questions.specs.declared.failure.Failure.TheVariants.{Not, Reached, Endless};
+ghost use Rattle.lab_questions.specs.declared.word.Word.{Word};
+ghost use Rattle.lab_questions.specs.Texts.{ShowsFault, ShowsReached, ShowsRound};
+
+use crate::{Answer, Failure};
+use lab_explore::{Exploration, Round};
+use lab_sched::{SchedFault, Schedule};
+use std::alloc::{AllocError, Global};
+
+/// The number of the first end that isn't as the first word that isn't so requires.
+fn first_fault(answers: &[Answer]) -> Option<usize>
+    ensures none { result ≡ None → All (λ a. a.fault ≡ None) answers.now }
+    ensures some { IfSome result (λ i. Any (λ a. a.fault ≡ Some i) answers.now) }
+{
+    for answer in answers {
+        if answer.fault.is_some() {
+            return answer.fault;
+        }
+    }
+    None
+}
+
+/// The text of the schedule of the first end that isn't as it is required.
+fn fault_schedule(
+    alloc: Global,
+    found: &Exploration,
+    answers: &[Answer],
+) -> Result<Option<String>, AllocError>
+    ensures fault { IfOk result (λ shown. IfSome shown (λ text.
+        ShowsFault found.now.ends.items answers.now (string_bytes text))) }
+{
+    let Some(number) = first_fault(answers) else {
+        return Ok(None);
+    };
+    match found.ends.get(number) {
+        Some(end) => Ok(Some(end.schedule.text(alloc)?)),
+        None => Ok(None),
+    }
+}
+
+/// The text of the schedule that leads to a condition, by its number.
+fn reached_schedule(
+    alloc: Global,
+    reached: &[Option<Schedule>],
+    number: usize,
+) -> Result<Option<String>, AllocError>
+    ensures reached { IfOk result (λ shown. IfSome shown (λ text.
+        ShowsReached reached.now number (string_bytes text))) }
+{
+    match reached.get(number) {
+        Some(Some(schedule)) => Ok(Some(schedule.text(alloc)?)),
+        _ => Ok(None),
+    }
+}
+
+/// The text of the schedule of a round with its steps behind it, as one schedule, unless they are too many for one.
+fn round_schedule(alloc: Global, round: &Round) -> Result<Option<String>, AllocError>
+    ensures round { IfOk result (λ shown. IfSome shown (λ text.
+        ShowsRound round.now (string_bytes text))) }
+{
+    let before = round.schedule.text(alloc)?;
+    let steps = round.steps.text(alloc)?;
+    let both = format!(in alloc; "{before} {steps}")?;
+    match Schedule::read(alloc, &both) {
+        Ok(whole) => Ok(Some(whole.text(alloc)?)),
+        Err(SchedFault::NoMemory) => Err(AllocError),
+        Err(SchedFault::BadBlock { .. }) | Err(SchedFault::TooLong { .. }) => Ok(None),
+    }
+}
+
+/// The text of the schedule that shows a failure, if it has one: that of the first end that isn't as it is required,
+/// that of the first condition that was reached, or that of a round with its steps behind it.
+pub fn bad_schedule(
+    alloc: Global,
+    found: &Exploration,
+    answers: &[Answer],
+    failure: Option<Failure>,
+) -> Result<Option<String>, AllocError>
+    ensures fault { IfOk result (λ shown. (word : Word) → failure ≡ Some (Not word)
+        → IfSome shown (λ text. ShowsFault found.now.ends.items answers.now (string_bytes text))) }
+    ensures reached { IfOk result (λ shown. (i : ℕ) → failure ≡ Some (Reached i)
+        → IfSome shown (λ text. ShowsReached found.now.reached.items i (string_bytes text))) }
+    ensures round { IfOk result (λ shown. failure ≡ Some Endless
+        → IfSome shown (λ text. IfSome found.now.round (λ r. ShowsRound r (string_bytes text)))) }
+{
+    match failure {
+        Some(Failure::Not(_)) => fault_schedule(alloc, found, answers),
+        Some(Failure::Reached(number)) => reached_schedule(alloc, &found.reached, number),
+        Some(Failure::Endless) => match &found.round {
+            Some(round) => round_schedule(alloc, round),
+            None => Ok(None),
+        },
+        Some(Failure::Incomplete) | None => Ok(None),
+    }
+}
