@@ -7,7 +7,7 @@ import subprocess
 from pathlib import Path
 
 SHIFT = 8
-KEYS = {"ArrowLeft": 37, "ArrowUp": 38, "ArrowRight": 39, "ArrowDown": 40, "Home": 36, "End": 35, "Tab": 9, " ": 32}
+KEYS = {"ArrowLeft": 37, "ArrowUp": 38, "ArrowRight": 39, "ArrowDown": 40, "Home": 36, "End": 35, "Tab": 9, "Enter": 13, " ": 32}
 
 
 def chromium(install):
@@ -84,7 +84,10 @@ class Browser:
 
     def press(self, key, shift=False):
         named = {"key": key, "code": key, "windowsVirtualKeyCode": KEYS[key], "modifiers": SHIFT if shift else 0}
-        self.ask("Input.dispatchKeyEvent", type="rawKeyDown", **named)
+        if key == "Enter":  # it acts as the character that it writes
+            self.ask("Input.dispatchKeyEvent", type="keyDown", text="\r", **named)
+        else:
+            self.ask("Input.dispatchKeyEvent", type="rawKeyDown", **named)
         self.ask("Input.dispatchKeyEvent", type="keyUp", **named)
 
     def picture(self, file, scheme="light"):

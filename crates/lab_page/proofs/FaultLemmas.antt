@@ -7,7 +7,7 @@ use Rattle.lab_sched.specs.Worlds.{WorldState}
 use Rattle.lab_sched.specs.declared.schedule.block.Block.{Block}
 use Rattle.lab_sched.proofs.ScheduleRuns.{steps-split}
 use Rattle.lab_trace.specs.Scenes.{Scene, next, scene_after}
-use Rattle.lab_trace.specs.declared.lines.Widths.{Widths}
+use Rattle.lab_trace.specs.Forms.{Form}
 use Rattle.lab_page.specs.Limits.{most_bytes}
 use Rattle.lab_page.specs.Moments.{Moment, moment_size, size_of, moment, moments, moments_of}
 use Rattle.lab_page.specs.Runs.{is_whole}
@@ -24,19 +24,19 @@ fault-longer TooLarge xs ys h = omega (arith, h, sum_by-append moment_size xs ys
 fault-longer NoMemory xs ys h = tt
 
 -- the moments of a block from its step number k on
-moments-from : (v : Widths) (b : Bool) (s : Scene) (n k p : ℕ) → k ≤ n
+moments-from : (v : Form) (b : Bool) (s : Scene) (n k p : ℕ) → k ≤ n
     → moments v b s (replicate n p) ≡ moments v b s (replicate k p) ++ moments v b (scene_after s (replicate k p)) (replicate (n - k) p)
 moments-from v b s n k p h =
     let parts : k + (n - k) ≡ n = omega arith in
     ap (λ (m : ℕ). moments v b s (replicate m p)) (sym parts) ∙ ap (moments v b s) (sym (replicate-append-replicate k (n - k) p))
     ∙ moments-append v b s (replicate k p) (replicate (n - k) p)
 
-moments-first : (v : Widths) (b : Bool) (s : Scene) (n p : ℕ) → moments v b s (replicate (suc n) p) ≡ moment v b s p ++ moments v b (next s p) (replicate n p)
+moments-first : (v : Form) (b : Bool) (s : Scene) (n p : ℕ) → moments v b s (replicate (suc n) p) ≡ moment v b s p ++ moments v b (next s p) (replicate n p)
 unfolding moments
 moments-first v b s n p = refl
 
 -- the moment of step number k of a block, and those behind it
-moments-at : (v : Widths) (b : Bool) (s u : Scene) (n k p : ℕ) → k < n → u ≡ scene_after s (replicate k p)
+moments-at : (v : Form) (b : Bool) (s u : Scene) (n k p : ℕ) → k < n → u ≡ scene_after s (replicate k p)
     → moments v b s (replicate n p) ≡ moments v b s (replicate k p) ++ (moment v b u p ++ moments v b (next u p) (replicate (n - k - 1) p))
 moments-at v b s u n k p h is =
     let parts : n - k ≡ suc (n - k - 1) = omega arith in
@@ -52,7 +52,7 @@ regrouped old first was more rest all was-is all-is =
     ∙ ap (λ (l : List Moment). old ++ l) (sym all-is)
 
 -- a step of a block that has too many
-pub fault-step : (v : Widths) (b : Bool) (s u : Scene) (n k p : ℕ) (old was : List Moment) (e : PageFault) → k < n → u ≡ scene_after s (replicate k p)
+pub fault-step : (v : Form) (b : Bool) (s u : Scene) (n k p : ℕ) (old was : List Moment) (e : PageFault) → k < n → u ≡ scene_after s (replicate k p)
     → was ≡ old ++ moments v b s (replicate k p) → IsFault e (was ++ moment v b u p) → IsFault e (old ++ moments v b s (replicate n p))
 fault-step v b s u n k p old was e h is was-is fault =
     let rest : List Moment = moments v b (next u p) (replicate (n - k - 1) p) in
@@ -61,7 +61,7 @@ fault-step v b s u n k p old was e h is was-is fault =
     (fault-longer e (was ++ moment v b u p) rest fault)
 
 -- a block that has too many
-pub fault-block : (v : Widths) (b : Bool) (s u : Scene) (bs : List Block) (i : ℕ) (d : Block) (old was : List Moment) (e : PageFault) → i < length bs
+pub fault-block : (v : Form) (b : Bool) (s u : Scene) (bs : List Block) (i : ℕ) (d : Block) (old was : List Moment) (e : PageFault) → i < length bs
     → u ≡ scene_after s (steps_of (take i bs)) → was ≡ old ++ moments v b s (steps_of (take i bs))
     → IsFault e (was ++ moments v b u (replicate (get_or bs i d).count (get_or bs i d).pid)) → IsFault e (old ++ moments v b s (steps_of bs))
 fault-block v b s u bs i d old was e within is was-is fault =

@@ -8,9 +8,8 @@ use Rattle.lab_sched.specs.Held.{stepped_of}
 use Rattle.lab_sched.specs.declared.stepped.Stepped.{Stepped}
 use Rattle.lab_texts.specs.Texts.{regs_text, dis_text}
 use Rattle.lab_texts.specs.Objects.{fds_text, mqs_text, sems_text}
-use Rattle.lab_trace.specs.Lines.{widths_for}
 use Rattle.lab_trace.specs.Scenes.{Scene, first_scene, has_effect, line, next}
-use Rattle.lab_trace.specs.declared.lines.Widths.{Widths}
+use Rattle.lab_trace.specs.Forms.{Form, form_for}
 use Rattle.lab_page.specs.declared.data.Event.{Event as HeldEvent}
 use Rattle.lab_page.specs.declared.data.Moment.{Moment as HeldMoment}
 
@@ -83,17 +82,17 @@ abbrev pub step_moment : Bool → Stepped → List ℕ → ℕ → ℕ → World
 step_moment whole t l n p w = if has_effect t then moment_by whole l n p w else None
 
 -- the moment after the next step, of process p, or nothing
-unfoldable pub moment : Widths → Bool → Scene → ℕ → List Moment
+unfoldable pub moment : Form → Bool → Scene → ℕ → List Moment
 moment v whole s p = moment_list (step_moment whole (stepped_of (step_effect_in s.world p)) (line v s p) s.number p (step s.world p))
 
 -- the moments of steps
-unfoldable pub moments : Widths → Bool → Scene → List ℕ → List Moment
+unfoldable pub moments : Form → Bool → Scene → List ℕ → List Moment
 moments v whole s [] = []
 moments v whole s (p ∷ ps) = moment v whole s p ++ moments v whole (next s p) ps
 
--- the moments of all the steps of a run
+-- the moments of all the steps of a run; their lines are without labels
 unfoldable pub moments_of : Bool → WorldState → List ℕ → List Moment
-moments_of whole w ps = moments (widths_for (length ps) (length w.processes)) whole (first_scene w) ps
+moments_of whole w ps = moments (form_for (length ps) (length w.processes) []) whole (first_scene w) ps
 
 -- the event that is kept as texts
 abbrev pub event_shown : HeldEvent → Event

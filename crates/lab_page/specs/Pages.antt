@@ -1,8 +1,8 @@
--- The page of a trace: its data, and around them what is the same on every page, as the template has it.
+-- A page: its data, and around them what is the same on every page, as the template has it.
 use Rattle.std.specs.Prelude.{ℕ, ◌≡◌, ◌==◌, false, if◌then◌else◌, List, [], ◌∷◌, ◌++◌, codes}
 use Rattle.std.specs.List.{list_any, flat_map}
 use Rattle.std.specs.Fmt.{decimal}
-use Rattle.lab_page.specs.Limits.{most_whole}
+use Rattle.lab_page.specs.Limits.{most_whole, most_ends, most_end_bytes}
 use Rattle.lab_page.specs.declared.template.TheConstants.{HEAD, TOP, SCRIPT, END}
 use Rattle.lab_page.specs.declared.template.style.TheConstants.{STYLE}
 use Rattle.lab_page.specs.declared.template.body.TheConstants.{BODY}
@@ -14,6 +14,7 @@ use Rattle.lab_page.specs.declared.template.boxes.TheConstants.{BOXES}
 use Rattle.lab_page.specs.declared.template.picture.TheConstants.{PICTURE}
 use Rattle.lab_page.specs.declared.template.panel.TheConstants.{PANEL}
 use Rattle.lab_page.specs.declared.template.moving.TheConstants.{MOVING}
+use Rattle.lab_page.specs.declared.template.list.TheConstants.{LIST}
 use Rattle.lab_page.specs.declared.template.setup.TheConstants.{SETUP}
 
 -- what every page has before its data
@@ -28,17 +29,23 @@ data_block json = codes "<script type=\"application/json\" id=\"data\">\n" ++ js
 unfoldable pub reading_scripts : List ℕ
 reading_scripts = RECORDS.now ++ STATE.now ++ STUDY.now
 
--- the limit of steps that the scripts name
+-- a limit that the scripts name so
+unfoldable pub limit : List ℕ → ℕ → List ℕ
+limit name n = codes "const " ++ name ++ codes " = " ++ decimal n ++ codes ";"
+
+-- the limits that the scripts name
 unfoldable pub limit_script : List ℕ
-limit_script = codes "const MOST_WHOLE = " ++ decimal most_whole ++ codes ";"
+limit_script =
+    limit (codes "MOST_WHOLE") most_whole ++ limit (codes "MOST_ENDS") most_ends
+    ++ limit (codes "MOST_END_BYTES") most_end_bytes
 
 -- the scripts that draw
 unfoldable pub drawing_scripts : List ℕ
 drawing_scripts = LAYOUT.now ++ BOXES.now ++ PICTURE.now
 
--- the scripts that show a moment
+-- the scripts that show a moment, and the list of ends
 unfoldable pub showing_scripts : List ℕ
-showing_scripts = PANEL.now ++ MOVING.now ++ SETUP.now
+showing_scripts = PANEL.now ++ MOVING.now ++ LIST.now ++ SETUP.now
 
 -- what every page has behind its data
 unfoldable pub page_end : List ℕ

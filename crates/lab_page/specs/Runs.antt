@@ -1,5 +1,5 @@
 -- What a page holds of a run by a schedule.
-use Rattle.std.specs.Prelude.{ℕ, nat_le, Bool, Option, List, map, length, codes, string_bytes}
+use Rattle.std.specs.Prelude.{ℕ, nat_le, Bool, Option, List, [], map, length, codes, string_bytes}
 use Rattle.std.specs.List.{enumerate_from}
 use Rattle.std.specs.Option.{option_map}
 use Rattle.lc3_asm.specs.Texts.{Program}
@@ -9,10 +9,9 @@ use Rattle.lab_sched.specs.ScheduleTexts.{schedule_text}
 use Rattle.lab_sched.specs.Worlds.{WorldState}
 use Rattle.lab_sched.specs.declared.schedule.block.Block.{Block}
 use Rattle.lab_texts.specs.Texts.{regs_text}
-use Rattle.lab_trace.specs.Lines.{widths_for}
 use Rattle.lab_trace.specs.Scenes.{Scene, first_scene, scene_after}
 use Rattle.lab_trace.specs.Traces.{ending}
-use Rattle.lab_trace.specs.declared.lines.Widths.{Widths}
+use Rattle.lab_trace.specs.Forms.{Form, form_for}
 use Rattle.lab_page.specs.Limits.{most_whole}
 use Rattle.lab_page.specs.Moments.{Moment, code_text, size_of, moments_of, moment_shown}
 use Rattle.lab_page.specs.declared.data.Row.{Row}
@@ -45,12 +44,12 @@ abbrev pub source_of : List ℕ → Program → Source
 source_of text p = record { text = text; rows = p.rows; words = p.image.words }
 
 -- what stands behind the lines of a run's trace
-abbrev pub ending_at : Widths → Scene → List ℕ
+abbrev pub ending_at : Form → Scene → List ℕ
 ending_at v s = ending v s.world s.tally
 
--- what stands behind the lines of the trace of a world by these steps
+-- what stands behind the lines of the trace of a world by these steps, without labels
 unfoldable pub ending_of : WorldState → List ℕ → List ℕ
-ending_of w ps = ending_at (widths_for (length ps) (length w.processes)) (scene_after (first_scene w) ps)
+ending_of w ps = ending_at (form_for (length ps) (length w.processes) []) (scene_after (first_scene w) ps)
 
 -- whether a page of a schedule has its counted steps too
 abbrev pub is_whole : List Block → Bool

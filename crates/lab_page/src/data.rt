@@ -82,3 +82,63 @@ pub struct Run {
     /// The end of the trace: where the processes stand, and the report.
     pub ending: String,
 }
+
+/// The run to an end of an exploration.
+#[derive(Drop, Serialize)]
+pub struct EndRun {
+    /// How many calls it has.
+    pub calls: u32,
+    /// The printed form of its schedule.
+    pub schedule: String,
+    /// Whether the counted steps are among the moments.
+    pub whole: bool,
+    /// What the steps led to.
+    pub moments: Vec<Moment>,
+    /// The end of the trace: where the processes stand, and the report.
+    pub ending: String,
+}
+
+/// An interleaving that never ends, as printed schedules.
+#[derive(Drop, Serialize)]
+pub struct Endless {
+    /// What leads to a world.
+    pub schedule: String,
+    /// What leads from that world to itself, or to one alike.
+    pub round: String,
+}
+
+/// How far an exploration went.
+#[derive(Clone, Copy, Debug, PartialEq, Eq, Serialize)]
+pub struct Extent {
+    /// Whether there is no other end.
+    pub complete: bool,
+    /// How many worlds were visited.
+    pub worlds: u32,
+    /// How many ends are told.
+    pub ends: usize,
+    /// The most worlds to visit.
+    pub most_worlds: u32,
+    /// The most local steps of a process in a row.
+    pub most_steps: u32,
+    /// The most bytes of memory to take.
+    pub most_memory: usize,
+    /// Whether memory was refused on the way.
+    pub refused: bool,
+}
+
+/// The ends of an exploration.
+#[derive(Drop, Serialize)]
+pub struct Ends {
+    /// The form of these data.
+    pub format: &'static str,
+    /// The processes before the first step.
+    pub processes: Vec<Start>,
+    /// Their sources, each where there is one.
+    pub sources: Vec<Option<Source>>,
+    /// The runs to the first ends.
+    pub ends: Vec<EndRun>,
+    /// An interleaving that never ends, where there is one.
+    pub endless: Option<Endless>,
+    /// How far the exploration went.
+    pub extent: Extent,
+}

@@ -15,7 +15,7 @@ use crate::data::{Event, Moment};
 use crate::fault::PageFault;
 use crate::moment::step_moment;
 use lab_sched::{Block, Stepped, World};
-use lab_trace::{Tally, Traced, Widths, steps_done, trace_step};
+use lab_trace::{Form, Tally, Traced, steps_done, trace_step};
 use std::alloc::Global;
 use std::marker::Model;
 
@@ -105,6 +105,13 @@ impl Moments {
         }
     }
 
+    /// The bytes of their texts.
+    pub fn bytes(&self) -> usize
+        ensures bytes { result ≡ size_of self.now }
+    {
+        self.bytes
+    }
+
     /// The moments in a vector.
     pub fn into_vec(self) -> Vec<Moment>
         ensures moments { map moment_shown result.items ≡ self }
@@ -121,7 +128,7 @@ impl Moments {
         alloc: Global,
         world: &mut World,
         tally: &mut Tally,
-        widths: Widths,
+        form: &Form<'_>,
         whole: bool,
         number: u32,
         pid: usize,
@@ -129,15 +136,15 @@ impl Moments {
         requires process { pid < length world.old.processes }
         requires kept { IsKept (scene_at number world.old tally.old) }
         ensures moments { OnOk result (self.new ≡ self.old
-            ++ moment widths whole (scene_at number world.old tally.old) pid) }
+            ++ moment form.now whole (scene_at number world.old tally.old) pid) }
         ensures world { OnOk result (world.new ≡ step world.old pid) }
         ensures tally { OnOk result
             (tally.new ≡ next_tally (scene_at number world.old tally.old) pid) }
         ensures told { IfOk result (λ s. s ≡ stepped_of (step_effect_in world.old pid)) }
         ensures fault { IfErr result (λ e. IsFault e (self.old
-            ++ moment widths whole (scene_at number world.old tally.old) pid)) }
+            ++ moment form.now whole (scene_at number world.old tally.old) pid)) }
     {
-        let Traced { line, stepped } = trace_step(alloc, world, tally, widths, number, pid)?;
+        let Traced { line, stepped } = trace_step(alloc, world, tally, form, number, pid)?;
         let moment = step_moment(alloc, world, whole, stepped, number, pid, line)?;
         self.push_some(moment)?;
         Ok(stepped)
@@ -149,7 +156,7 @@ impl Moments {
         alloc: Global,
         world: &mut World,
         tally: &mut Tally,
-        widths: Widths,
+        form: &Form<'_>,
         whole: bool,
         first: u32,
         block: Block,
@@ -158,19 +165,19 @@ impl Moments {
         requires room { first + block.count ≤ most_steps + 1 }
         requires kept { IsKept (scene_at first world.old tally.old) }
         ensures moments { OnOk result (self.new ≡ self.old
-            ++ moments widths whole (scene_at first world.old tally.old)
+            ++ moments form.now whole (scene_at first world.old tally.old)
             (replicate block.count block.pid)) }
         ensures scene { OnOk result (scene_at (first + block.count) world.new tally.new
             ≡ scene_after (scene_at first world.old tally.old)
             (replicate block.count block.pid)) }
         ensures fault { IfErr result (λ e. IsFault e (self.old
-            ++ moments widths whole (scene_at first world.old tally.old)
+            ++ moments form.now whole (scene_at first world.old tally.old)
             (replicate block.count block.pid))) }
     {
         let mut done = 0;
         while done < block.count {
             let number = first + done;
-            let stepped = self.add_step(alloc, world, tally, widths, whole, number, block.pid)?;
+            let stepped = self.add_step(alloc, world, tally, form, whole, number, block.pid)?;
             done += steps_done(stepped, block.count - done);
         }
         Ok(())
@@ -182,7 +189,7 @@ impl Moments {
         alloc: Global,
         world: &mut World,
         tally: &mut Tally,
-        widths: Widths,
+        form: &Form<'_>,
         whole: bool,
         blocks: &[Block],
     ) -> Result<(), PageFault>
@@ -190,15 +197,15 @@ impl Moments {
         requires room { total_of blocks.now ≤ most_steps }
         requires there { AreThere world.old blocks.now }
         ensures moments { OnOk result (self.new ≡ self.old
-            ++ moments widths whole (scene_at 1 world.old tally.old) (steps_of blocks.now)) }
+            ++ moments form.now whole (scene_at 1 world.old tally.old) (steps_of blocks.now)) }
         ensures scene { OnOk result ((number : ℕ) × (scene_at number world.new tally.new
             ≡ scene_after (scene_at 1 world.old tally.old) (steps_of blocks.now))) }
         ensures fault { IfErr result (λ e. IsFault e (self.old
-            ++ moments widths whole (scene_at 1 world.old tally.old) (steps_of blocks.now))) }
+            ++ moments form.now whole (scene_at 1 world.old tally.old) (steps_of blocks.now))) }
     {
         let mut number = 1;
         for block in blocks {
-            self.add_block(alloc, world, tally, widths, whole, number, *block)?;
+            self.add_block(alloc, world, tally, form, whole, number, *block)?;
             number += block.count;
         }
         Ok(())

@@ -16,7 +16,7 @@ use crate::fault::PageFault;
 use crate::moments::Moments;
 use crate::start::starts;
 use lab_sched::{Schedule, World};
-use lab_trace::{Tally, Widths, ending, missing_after};
+use lab_trace::{Form, Tally, ending, missing_after};
 use std::alloc::Global;
 
 /// The form of the data.
@@ -24,13 +24,16 @@ const FORMAT: &str = "lc3lab-page-1";
 
 /// What the steps of a schedule led to.
 #[derive(Drop)]
-struct Outcome {
-    moments: Vec<Moment>,
-    ending: String,
+pub(crate) struct Outcome {
+    pub moments: Vec<Moment>,
+    /// The bytes of their texts.
+    pub bytes: usize,
+    pub ending: String,
 }
 
-/// Takes the steps of a schedule, whose processes are all there.
-fn take_steps(
+/// Takes the steps of a schedule, whose processes are all there. Their lines are without labels, for the page shows the
+/// sources themselves.
+pub(crate) fn take_steps(
     alloc: Global,
     world: &mut World,
     schedule: &Schedule,
@@ -39,6 +42,8 @@ fn take_steps(
     requires there { AreThere world.old schedule.now }
     ensures moments { IfOk result (λ o. map moment_shown o.moments.items
         ≡ moments_of whole world.old (steps_of schedule.now)) }
+    ensures bytes { IfOk result (λ o. o.bytes
+        ≡ size_of (moments_of whole world.old (steps_of schedule.now))) }
     ensures ending { IfOk result (λ o. string_bytes o.ending
         ≡ ending_of world.old (steps_of schedule.now)) }
     ensures world { OnOk result (world.new ≡ run world.old (steps_of schedule.now)) }
@@ -47,13 +52,15 @@ fn take_steps(
     ensures fault { IfErr result
         (λ e. IsFault e (moments_of whole world.old (steps_of schedule.now))) }
 {
-    let widths = Widths::new(alloc, schedule.total(), world.count())?;
+    let form = Form::new(alloc, schedule.total(), world.count(), &[])?;
     let mut tally = Tally::new(alloc, world.count())?;
     let mut moments = Moments::new(alloc);
-    moments.add_blocks(alloc, world, &mut tally, widths, whole, schedule.blocks())?;
+    moments.add_blocks(alloc, world, &mut tally, &form, whole, schedule.blocks())?;
+    let bytes = moments.bytes();
     Ok(Outcome {
         moments: moments.into_vec(),
-        ending: ending(alloc, world, &tally, widths)?,
+        bytes,
+        ending: ending(alloc, world, &tally, &form)?,
     })
 }
 
@@ -87,7 +94,11 @@ pub fn run_of(
     }
     let whole = schedule.total() <= MOST_WHOLE;
     let processes = starts(alloc, world, names)?;
-    let Outcome { moments, ending } = take_steps(alloc, world, schedule, whole)?;
+    let Outcome {
+        moments,
+        ending,
+        ..
+    } = take_steps(alloc, world, schedule, whole)?;
     Ok(Run {
         format: FORMAT,
         schedule: schedule.text(alloc)?,

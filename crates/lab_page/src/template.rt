@@ -1,11 +1,12 @@
 //! The page around its data: the same text for every trace.
 
 ghost use Rattle.std.specs.Prelude.{◌≡◌, ◌++◌, OnOk};
-ghost use Rattle.lab_page.specs.Pages.{page_start, data_block, safe, reading_scripts, limit_script, drawing_scripts, showing_scripts, page_end};
+ghost use Rattle.lab_page.specs.Pages.{page_start, data_block, safe, reading_scripts, limit, limit_script, drawing_scripts, showing_scripts, page_end};
 
 mod body;
 mod boxes;
 mod layout;
+mod list;
 mod moving;
 mod panel;
 mod picture;
@@ -15,11 +16,11 @@ mod state;
 mod study;
 mod style;
 
-use crate::MOST_WHOLE;
 use crate::safe::push_safe;
 use crate::template::body::BODY;
 use crate::template::boxes::BOXES;
 use crate::template::layout::LAYOUT;
+use crate::template::list::LIST;
 use crate::template::moving::MOVING;
 use crate::template::panel::PANEL;
 use crate::template::picture::PICTURE;
@@ -28,6 +29,7 @@ use crate::template::setup::SETUP;
 use crate::template::state::STATE;
 use crate::template::study::STUDY;
 use crate::template::style::STYLE;
+use crate::{MOST_END_BYTES, MOST_ENDS, MOST_WHOLE};
 use std::alloc::AllocError;
 
 const HEAD: &str = r##"<!DOCTYPE html>
@@ -100,14 +102,24 @@ fn push_reading_scripts(bytes: &mut Vec<u8>) -> Result<(), AllocError>
     Ok(())
 }
 
-/// Adds the limit of steps that the scripts name.
+/// Adds a limit that the scripts name so.
+#[tactic(auto, unfolding(crate::specs::Pages::limit))]
+fn push_limit(bytes: &mut Vec<u8>, name: &str, most: usize) -> Result<(), AllocError>
+    ensures bytes { OnOk result (bytes.new.items ≡ bytes.old.items ++ limit name.now most) }
+{
+    let text = format!(in *bytes.allocator(); "const {name} = {most};")?;
+    push_part(bytes, &text)
+}
+
+/// Adds the limits that the scripts name.
 #[tactic(auto, unfolding(crate::specs::Pages::limit_script))]
 fn push_limit_script(bytes: &mut Vec<u8>) -> Result<(), AllocError>
     ensures bytes { OnOk result (bytes.new.items ≡ bytes.old.items ++ limit_script) }
 {
-    let most = MOST_WHOLE;
-    let text = format!(in *bytes.allocator(); "const MOST_WHOLE = {most};")?;
-    push_part(bytes, &text)
+    push_limit(bytes, "MOST_WHOLE", MOST_WHOLE as usize)?;
+    push_limit(bytes, "MOST_ENDS", MOST_ENDS)?;
+    push_limit(bytes, "MOST_END_BYTES", MOST_END_BYTES)?;
+    Ok(())
 }
 
 /// Adds the scripts that draw.
@@ -128,6 +140,7 @@ fn push_showing_scripts(bytes: &mut Vec<u8>) -> Result<(), AllocError>
 {
     push_part(bytes, PANEL)?;
     push_part(bytes, MOVING)?;
+    push_part(bytes, LIST)?;
     push_part(bytes, SETUP)?;
     Ok(())
 }

@@ -1,12 +1,28 @@
 //! What stands on the page before the script fills it.
 
 pub const BODY: &str = r##"
-<noscript>This page needs JavaScript. <code>lc3lab trace</code> prints the same as text.</noscript>
+<noscript>This page needs JavaScript. <code>lc3lab trace</code> and
+  <code>lc3lab explore</code> print the same as text.</noscript>
+<section id="ends" hidden aria-labelledby="endstitle">
+  <h1 id="endstitle"></h1>
+  <p id="programs" class="mono"></p>
+  <p id="extent"></p>
+  <ol id="endlist" role="list" aria-label="ends"></ol>
+  <p id="rest" hidden></p>
+  <div id="endless" hidden>
+    <h2>An interleaving that never ends</h2>
+    <p>This schedule leads to a world, and the steps of the round from there to that world again, or to one alike, as often
+      as one likes.</p>
+    <p class="mono">schedule <span id="before"></span></p>
+    <p class="mono">round <span id="round"></span></p>
+  </div>
+</section>
 <header>
   <div class="top">
     <h1 id="title">lc3lab trace</h1> <span id="verdict"></span> <span id="schedule" class="mono" aria-hidden="true"></span>
   </div>
   <div class="controls">
+    <button id="back" hidden>All ends</button>
     <button id="first" title="to the start (Home)" aria-label="to the start">|&lt;</button>
     <button id="prevcall" title="to the call before (Up)" aria-label="to the call before">&lt;&lt;</button>
     <button id="prev" title="one step back (Left)" aria-label="one step back">&lt;</button>

@@ -40,13 +40,15 @@ function markLine() {                             // in the list of the trace, t
   if (old) old.removeAttribute('aria-current');
   if (linesUpTo[cur] > 0) $('lines').children[linesUpTo[cur] - 1].setAttribute('aria-current', 'step');
 }
+const addressOf = step => (NUMBER ? `#end=${NUMBER}&step=` : '#step=') + step;
 function go(k, isAddressed) {
   cur = limited(0, k, R.length);
   const e = cur ? R[cur - 1] : null, step = cur === R.length && D.whole ? D.total : e ? e.step : 0;
   say(e, step);
   panel(stateAt(cur), e);
   mark(); markLine();
-  if (!isAddressed) try { history.replaceState(null, '', '#step=' + step); } catch { /* no history there */ }
+  if (isAddressed || isList) return;
+  try { history.replaceState(null, '', addressOf(step)); } catch { /* no history there */ }
 }
 function goToEvent(direction, p) {                // to the next event, of process p where one is named
   const isWanted = e => isEvent(e) && (p === undefined || e.process === p);
@@ -66,8 +68,9 @@ function play(isOn) {
   };
   timer = setTimeout(tick, 300);
 }
-function goToAddress() {                          // #step=12
-  const found = /^#step=(\d+)$/.exec(location.hash), after = found ? R.findIndex(e => e.step > Number(found[1])) : -1;
+function goToAddress() {                          // #step=12, or #end=2&step=12 where there are ends
+  const found = /^#(?:end=\d+&)?step=(\d+)$/.exec(location.hash);
+  const after = found ? R.findIndex(e => e.step > Number(found[1])) : -1;
   go(after < 0 ? R.length : after, found !== null);
 }
 const chosen = () => Number($('who').value);
@@ -89,7 +92,8 @@ const BUTTONS = {
 };
 function onKey(event) {
   const { target, key } = event;
-  if (event.ctrlKey || event.altKey || event.metaKey || target.tagName === 'SELECT' || target.closest('.text')) return;
+  if (isList || event.ctrlKey || event.altKey || event.metaKey) return;
+  if (target.tagName === 'SELECT' || target.closest('.text')) return;
   const keys = event.shiftKey ? SHIFTED : KEYS;
   if (keys[key]) { play(false); keys[key](); event.preventDefault(); }
   else if (key === ' ' && !/^(BUTTON|SUMMARY)$/.test(target.tagName)) { play(timer === null); event.preventDefault(); }
@@ -109,7 +113,10 @@ on('left', 'scroll', () => { keepGutter(); paintNear(); });
 let resized = null;
 function redraw() { if ($('left').clientWidth === lay.seen) paintNear(); else draw(); }
 new ResizeObserver(() => { clearTimeout(resized); resized = setTimeout(redraw, 120); }).observe($('left'));
-window.addEventListener('hashchange', goToAddress);
+function followAddress() {                        // to another end the page is opened anew
+  if (numberIn(location.hash) === NUMBER) goToAddress(); else location.reload();
+}
+window.addEventListener('hashchange', followAddress);
 let closed = [];                                  // what is open on paper alone
 function beforePrint() {
   closed = [...document.querySelectorAll('.bottom > details:not([open])')];

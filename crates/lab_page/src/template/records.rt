@@ -3,7 +3,12 @@
 pub const RECORDS: &str = r##"
 'use strict';
 const $ = id => document.getElementById(id);
-const D = JSON.parse($('data').textContent), N = D.processes.length;
+const DATA = JSON.parse($('data').textContent);    // of a run, or of ends, of which the address may name one
+const numberIn = address => Number((/^#end=(\d+)/.exec(address) || [])[1] || 0);
+const NUMBER = DATA.ends && DATA.ends[numberIn(location.hash) - 1] ? numberIn(location.hash) : 0;
+const isList = DATA.ends !== undefined && NUMBER === 0;
+const NO_STEPS = { schedule: '', whole: true, moments: [], ending: 'verdict open\n' };
+const D = DATA.ends ? { ...DATA, ...(isList ? NO_STEPS : DATA.ends[NUMBER - 1]) } : DATA, N = D.processes.length;
 function visible(text) {                          // control characters, and those that turn a text, as their numbers
   const unseen = /[\u0000-\u0008\u000A-\u001F\u007F-\u009F\u061C\u200B-\u200F\u2028-\u202E\u2060-\u2069\uFEFF]/g;
   const digits = c => c.charCodeAt(0).toString(16).toUpperCase().padStart(2, '0');

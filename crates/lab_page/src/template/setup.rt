@@ -3,8 +3,9 @@
 pub const SETUP: &str = r##"
 // ---- title and controls
 
+const programs = () => N === 1 ? D.processes[0].name : N + ' processes';
 function fillTitle() {
-  const title = 'lc3lab trace: ' + (N === 1 ? D.processes[0].name : N + ' processes');
+  const title = (NUMBER ? `lc3lab explore, end ${NUMBER}: ` : 'lc3lab trace: ') + programs();
   document.title = title + ', ' + D.verdict;
   $('title').textContent = title;
   $('verdict').textContent = 'verdict ' + D.verdict; $('verdict').className = D.verdict;
@@ -73,4 +74,5 @@ function fillTexts() {
 D.ended = new Map(R.map((e, k) => [e, k]).filter(([e]) => e.how).map(([e, k]) => [e.process, k]));
 fillTitle(); fillCards(); fillLegend(); fillTexts();
 draw(); choose(0); goToAddress();
+if (DATA.ends) showEnds();
 "##;

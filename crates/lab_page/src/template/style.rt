@@ -92,6 +92,15 @@ kbd { border: 1px solid var(--line); border-radius: 4px; padding: 0 4px; font-si
 #lines li { padding-left: 2ch; }
 #lines [aria-current] { font-weight: 700; text-decoration: underline; border-left: 4px solid var(--now); }
 
+/* the list of ends */
+body.list { display: block; height: auto; }
+body.list > header, body.list > main, body.list > .bottom { display: none; }
+#ends { padding: 10px 16px; max-width: 60rem; overflow-wrap: anywhere; }
+#endlist { list-style: none; margin: 12px 0; padding: 0; }
+#endlist li { margin: 0 0 10px; padding: 0 0 0 8px; border-left: 3px solid var(--lane); break-inside: avoid; }
+#endlist .stuck { color: var(--bad); font-weight: 600; }
+#endlist .part { display: block; }
+
 /* the picture: texts, boxes */
 svg text { font-size: 11px; fill: var(--ink); }
 svg .soft { fill: var(--soft); }
@@ -143,7 +152,7 @@ svg .cur rect { stroke-width: 3; }
   #schedule { flex-basis: 100%; white-space: nowrap; }
 }
 @media (max-width: 30rem) {
-  header, .bottom { padding-left: 8px; padding-right: 8px; }
+  header, .bottom, #ends { padding-left: 8px; padding-right: 8px; }
   #objects, #procs { padding-left: 8px; padding-right: 8px; }
   .regs { grid-template-columns: repeat(3, auto); }
   button, select { min-height: 2.2em; }

@@ -16,7 +16,7 @@ loop-done-init c =
     record {
       within = omega arith;
       scene = ap (λ n. scene_at n c.args.world.now c.args.tally.now) e ∙ sym (scene-none s);
-      moments = sym (ap (λ (l : List Moment). c.args.self.now ++ l) (moments-none c.args.widths c.args.whole s) ∙ append-nil c.args.self.now);
+      moments = sym (ap (λ (l : List Moment). c.args.self.now ++ l) (moments-none c.args.form.now c.args.whole s) ∙ append-nil c.args.self.now);
       kept = rw e c.requires.kept;
       there = c.requires.process;
     }
@@ -26,15 +26,15 @@ loop-done-preserved c =
     let s = scene_at c.args.first c.args.world.now c.args.tally.now in
     let u = scene_at (c.args.first + c.loop-done.done) c.loop-done.world c.loop-done.tally in
     let k = c.steps_done-done.result in
-    let stand = stands c.args.widths u c.args.block.pid k c.in_ok-stepped.stepped c.in_ok-stepped.ensures.told c.steps_done-done.ensures.other in
-    let told = scene-told c.args.widths s c.args.first c.loop-done.done k c.args.block.pid c.loop-done.world c.add_step.new.world c.loop-done.tally c.add_step.new.tally
+    let stand = stands c.args.form.now u c.args.block.pid k c.in_ok-stepped.stepped c.in_ok-stepped.ensures.told c.steps_done-done.ensures.other in
+    let told = scene-told c.args.form.now s c.args.first c.loop-done.done k c.args.block.pid c.loop-done.world c.add_step.new.world c.loop-done.tally c.add_step.new.tally
     c.loop-done.invariant.scene stand c.in_ok-stepped.ensures.world c.in_ok-stepped.ensures.tally in
     let len = ap (λ (w : WorldState). length w.processes) c.in_ok-stepped.ensures.world ∙ length-step c.loop-done.world c.args.block.pid in
-    let added = moments-told c.args.widths c.args.whole u c.args.block.pid k c.in_ok-stepped.stepped c.in_ok-stepped.ensures.told c.steps_done-done.ensures.other in
+    let added = moments-told c.args.form.now c.args.whole u c.args.block.pid k c.in_ok-stepped.stepped c.in_ok-stepped.ensures.told c.steps_done-done.ensures.other in
     record {
       within = omega arith;
       scene = told;
-      moments = moments-more c.args.widths c.args.whole s u c.loop-done.done k c.args.block.pid _ _ _ c.loop-done.invariant.scene added
+      moments = moments-more c.args.form.now c.args.whole s u c.loop-done.done k c.args.block.pid _ _ _ c.loop-done.invariant.scene added
           c.loop-done.invariant.moments c.in_ok-stepped.ensures.moments;
       kept = subst IsKept (sym told) (kept-after s (replicate (c.loop-done.done + k) c.args.block.pid) c.requires.kept);
       there = omega (arith, len, c.loop-done.invariant.there);
@@ -45,5 +45,5 @@ returns-in_err-stepped-clause-fault c =
     let s = scene_at c.args.first c.args.world.now c.args.tally.now in
     let u = scene_at (c.args.first + c.loop-done.done) c.loop-done.world c.loop-done.tally in
     let p = err_from_is_err_and c.from_residual.result c.from_residual.ensures.1 in
-    rw (p.1, p.2) (fault-step c.args.widths c.args.whole s u c.args.block.count c.loop-done.done c.args.block.pid _ _ _ c.loop-done-test.true c.loop-done.invariant.scene
+    rw (p.1, p.2) (fault-step c.args.form.now c.args.whole s u c.args.block.count c.loop-done.done c.args.block.pid _ _ _ c.loop-done-test.true c.loop-done.invariant.scene
     c.loop-done.invariant.moments c.in_err-stepped.ensures.fault)

@@ -10,7 +10,7 @@ invariant-loop-done l = record {
   scene : record { number = l.first + l.done; world = l.world; tally = l.tally }
       ≡ scene_after (record { number = l.first; world = l.fn.world; tally = l.fn.tally }) (replicate l.done l.block.pid);
   moments : l.self ≡ l.fn.self
-      ++ moments l.widths l.whole (record { number = l.first; world = l.fn.world; tally = l.fn.tally }) (replicate l.done l.block.pid);
+      ++ moments l.form l.whole (record { number = l.first; world = l.fn.world; tally = l.fn.tally }) (replicate l.done l.block.pid);
   kept : IsKept (record { number = l.first + l.done; world = l.world; tally = l.tally });
   there : l.block.pid < length l.world.processes;
 }

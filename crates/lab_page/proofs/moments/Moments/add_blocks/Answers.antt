@@ -15,7 +15,7 @@ use Rattle.lab_page.proofs.moments.Moments.add_blocks.Goals as goal
 pub loop-block-init : goal.loop-block-init
 loop-block-init c =
     let s = scene_at 1 c.args.world.now c.args.tally.now in
-    let v = c.args.widths in
+    let v = c.args.form.now in
     record {
       number = omega (arith, ap length steps_of-none);
       scene = sym (ap (scene_after s) steps_of-none ∙ scene-none s);
@@ -48,7 +48,7 @@ loop-block-preserved c =
     record {
       number = omega (arith, more, length-replicate count (get_or bs i (block 0 0)).pid, c.loop-block.invariant.number);
       scene = told;
-      moments = moments-block c.args.widths c.args.whole s u bs i (block 0 0) _ _ _ within c.loop-block.invariant.scene
+      moments = moments-block c.args.form.now c.args.whole s u bs i (block 0 0) _ _ _ within c.loop-block.invariant.scene
           c.loop-block.invariant.moments c.in_ok-add_block.ensures.moments;
       kept = subst IsKept (sym told) (kept-after s (steps_of (take (i + 1) bs)) c.requires.kept);
       count = ap (λ (y : Scene). length y.world.processes) told ∙ length-scene s (steps_of (take (i + 1) bs));
@@ -59,5 +59,5 @@ returns-in_err-add_block-clause-fault c =
     let s = scene_at 1 c.args.world.now c.args.tally.now in
     let u = scene_at c.loop-block.number c.loop-block.world c.loop-block.tally in
     let p = err_from_is_err_and c.from_residual.result c.from_residual.ensures.1 in
-    rw (p.1, p.2) (fault-block c.args.widths c.args.whole s u c.args.blocks.now c.loop-block.block-index (block 0 0) _ _ _ c.loop-block-test.true c.loop-block.invariant.scene
+    rw (p.1, p.2) (fault-block c.args.form.now c.args.whole s u c.args.blocks.now c.loop-block.block-index (block 0 0) _ _ _ c.loop-block-test.true c.loop-block.invariant.scene
     c.loop-block.invariant.moments c.in_err-add_block.ensures.fault)

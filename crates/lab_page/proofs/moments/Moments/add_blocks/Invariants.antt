@@ -11,7 +11,7 @@ invariant-loop-block l = record {
   scene : record { number = l.number; world = l.world; tally = l.tally }
       ≡ scene_after (record { number = 1; world = l.fn.world; tally = l.fn.tally }) (steps_of (take l.block-index l.blocks));
   moments : l.self ≡ l.fn.self
-      ++ moments l.widths l.whole (record { number = 1; world = l.fn.world; tally = l.fn.tally }) (steps_of (take l.block-index l.blocks));
+      ++ moments l.form l.whole (record { number = 1; world = l.fn.world; tally = l.fn.tally }) (steps_of (take l.block-index l.blocks));
   kept : IsKept (record { number = l.number; world = l.world; tally = l.tally });
   count : length l.world.processes ≡ length l.fn.world.processes;
 }

@@ -1,0 +1,215 @@
+"""The pages of `explore --page` that tests/browser looks at: their lists, and the ways from the lists to the runs and back."""
+import re
+import subprocess
+import time
+from pathlib import Path
+
+from browsed import HOSTILE, HOSTILE_NAMES, visible
+
+ROOT = Path(__file__).resolve().parent.parent
+EXAMPLES = ROOT / "examples"
+SECONDS = 300
+SIZES = {"wide": (1400, 900), "phone": (360, 640)}
+MEDIA = {"light": ("", "light"), "dark": ("", "dark"), "printed": ("print", "light")}
+
+# One posts four times, the other looks at the value four times and writes what it sees: 70 ends.
+POSTS = '''        .ORIG x3000
+        LEA R0, NAME
+        LD R1, CREATE
+        AND R2, R2, #0
+        TRAP x50        ; sem_open("/s", O_CREAT, 0) = 0
+        TRAP x55        ; sem_post
+        AND R0, R0, #0
+        TRAP x55
+        AND R0, R0, #0
+        TRAP x55
+        AND R0, R0, #0
+        TRAP x55
+        HALT
+CREATE  .FILL x40
+NAME    .STRINGZ "/s"
+        .END
+'''
+LOOKS = '''        .ORIG x3000
+        LEA R0, NAME
+        LD R1, CREATE
+        AND R2, R2, #0
+        TRAP x50        ; sem_open("/s", O_CREAT, 0) = 0
+        ADD R4, R2, #4
+AGAIN   AND R0, R0, #0
+        LEA R1, VALUE
+        TRAP x56        ; sem_getvalue
+        LD R0, VALUE
+        LD R3, ZERO
+        ADD R0, R0, R3
+        OUT
+        ADD R4, R4, #-1
+        BRp AGAIN
+        HALT
+CREATE  .FILL x40
+ZERO    .FILL x30
+VALUE   .FILL 0
+NAME    .STRINGZ "/s"
+        .END
+'''
+
+# It asks for a semaphore for ever, unless somebody posts it.
+ASKS = '''        .ORIG x3000
+        LEA R0, NAME
+        LD R1, CREATE
+        AND R2, R2, #0
+        TRAP x50        ; sem_open("/s", O_CREAT, 0)
+        ADD R2, R0, #0
+AGAIN   ADD R0, R2, #0
+        TRAP x54        ; sem_trywait
+        BRn AGAIN
+        HALT
+NAME    .STRINGZ "/s"
+CREATE  .FILL x40
+        .END
+'''
+
+
+def explored():
+    """Of each page its name, the files made for it, and the words behind `explore`."""
+    two = [str(EXAMPLES / f"two-semaphores-{n}.asm") for n in (1, 2)]
+    yield "ends/two", {}, two
+    yield "ends/many", {"posts.asm": POSTS, "looks.asm": LOOKS}, ["posts.asm", "looks.asm"]
+    yield "ends/endless", {"asks.asm": ASKS}, ["asks.asm", "--worlds", "2"]
+    hostile = {f"{name}.asm": HOSTILE for name in HOSTILE_NAMES}
+    yield "ends/hostile", hostile, list(hostile)
+
+
+class Ends:
+    """What `explore` prints, with its page."""
+
+    def __init__(self, program, folder, files, words, page):
+        for name, text in files.items():
+            (folder / name).write_bytes(text.encode())
+        done = subprocess.run([program, "explore", *words, "--page", str(page)], cwd=folder, capture_output=True,
+                              timeout=SECONDS)
+        if done.returncode or done.stderr:
+            raise RuntimeError(f"lc3lab explore: {done.stderr.decode('latin-1').strip()}")
+        self.text = done.stdout.decode("latin-1")
+        self.names = [it.split("/")[-1] for it in words if it.endswith(".asm")]
+        parts = re.split(r"^end \d+\n", re.split(r"^(?:endless|complete|incomplete)\b", self.text, flags=re.M)[0],
+                         flags=re.M)[1:]
+        self.ends = [self.end(it) for it in parts]
+
+    @staticmethod
+    def end(part):
+        """The verdict of an end, what was written, and how often another process goes on."""
+        outs = re.findall(r"^out (\d+) (.*)$", part, re.M)
+        schedule = re.search(r"^schedule(.*)$", part, re.M)[1].split()
+        shown = ", ".join(f'P{p} "{visible(text)}"' for p, text in outs) or "no output"
+        return re.search(r"^verdict (\w+)$", part, re.M)[1], shown, len(schedule) - 1, " ".join(schedule)
+
+
+SEEN_ENDS = """({
+  isList: !document.getElementById('ends').hidden,
+  buttons: [...document.querySelectorAll('#endlist > li > button')].map(e => e.textContent),
+  items: [...document.querySelectorAll('#endlist > li')].map(e => e.innerText.replace(/\\s+/g, ' ').trim()),
+  title: document.getElementById('endstitle').textContent,
+  programs: document.getElementById('programs').textContent,
+  extent: document.getElementById('extent').textContent,
+  rest: document.getElementById('rest').hidden ? '' : document.getElementById('rest').textContent,
+  round: document.getElementById('endless').hidden ? '' : document.getElementById('endless').innerText,
+  shown: ['header', 'main', '.bottom'].filter(it => document.querySelector(it).checkVisibility()),
+  focus: document.activeElement.id,
+})"""
+
+
+def number(count, one, more):
+    return f"{count:,} {one if count == 1 else more}"
+
+
+def compare_list(ends, found):
+    """The list beside the text."""
+    shown = ends.ends[:len(found["buttons"])]
+    if found["buttons"] != [f"End {n}: {verdict}" for n, (verdict, *_) in enumerate(shown, 1)]:
+        yield f"the list has {found['buttons'][:5]}"
+    for (_, output, switches, _), item in zip(shown, found["items"]):
+        if f", {number(switches, 'switch', 'switches')} " not in item or not item.endswith(" ".join(output.split())):
+            yield f"an end of {switches} switches with {output!r} is told as {item!r}"
+    rest, last = len(ends.ends) - len(shown), ends.text.splitlines()[-1].split()
+    if (f"{rest:,} more end" in found["rest"]) != (rest > 0) or (rest and len(shown) != 64):
+        yield f"of {len(ends.ends)} ends it shows {len(shown)} and says {found['rest']!r}"
+    if not found["extent"].startswith(f"{last[0]}: {number(int(last[1]), 'world', 'worlds')} visited"):
+        yield f"it says {found['extent']!r}"
+    for line in re.findall(r"^endless\n(schedule .*)\n(round .*)$", ends.text, re.M) or [()]:
+        if bool(line) != bool(found["round"]) or not all(it in found["round"].splitlines() for it in line):
+            yield f"of the round it says {found['round']!r}"
+    if found["programs"] != ", ".join(f"P{p} " + visible(name) for p, name in enumerate(ends.names)):
+        yield f"the programs are {found['programs']!r}"
+
+
+def reloaded(browser):
+    """Waits until the page that the address names is there."""
+    time.sleep(.3)
+    browser.evaluate("new Promise(d => document.readyState === 'complete' ? d() : addEventListener('load', () => d()))")
+
+
+def try_ways(browser, ends, count):
+    """Tab goes through the list, and Enter opens the run of an end; the first button there leads back to that end."""
+    reached = []
+    for _ in range(count):
+        browser.press("Tab")
+        reached.append(browser.evaluate("document.activeElement.id"))
+        if not browser.evaluate("seen.isMarked()"):
+            yield f"the focus isn't seen on {reached[-1]}"
+    if reached != [f"end{n}" for n in range(1, count + 1)]:
+        yield f"Tab goes to {reached[:5]}"
+    for n in sorted({1, min(2, count), count}):
+        browser.evaluate(f"document.getElementById('end{n}').focus()")
+        browser.press("Enter")
+        reloaded(browser)
+        verdict, _, _, schedule = ends.ends[n - 1]
+        found = browser.evaluate(f"{{ const found = {SEEN_ENDS}; found.plan = plan.textContent; "
+                                 "found.verdict = verdict.textContent; found }")
+        if found["isList"] or len(found["shown"]) != 3 or found["plan"] != schedule.replace("  ", " "):
+            yield f"the run of end {n} has the schedule {found['plan'][:80]!r}, not {schedule[:80]!r}"
+        if found["verdict"] != f"verdict {verdict}":
+            yield f"the run of end {n} has {found['verdict']!r}"
+        if browser.evaluate("location.hash.split('&')[0]") != f"#end={n}":
+            yield f"the address of end {n} is {browser.evaluate('location.hash')}"
+        browser.press("Tab")
+        if browser.evaluate("document.activeElement.id") != "back":
+            yield "the way back isn't the first that Tab reaches"
+        browser.press(" ")
+        reloaded(browser)
+        found = browser.evaluate(SEEN_ENDS)
+        if not found["isList"] or found["focus"] != f"end{n}":
+            yield f"the way back from end {n} leads to {found['focus']!r}"
+
+
+def try_looks(browser, page):
+    """In two sizes of the window nothing is cut, texts have contrast, and paper has the whole list."""
+    for name, size in SIZES.items():
+        browser.resize(size)
+        yield from (f"{name}: {it}" for it in browser.evaluate("seen.spoilt()"))
+        browser.picture(page.with_suffix(f".{name}.png"))
+    browser.resize(SIZES["wide"])
+    for name, (kind, scheme) in MEDIA.items():
+        browser.media(kind, scheme)
+        yield from (f"{name}: {it}" for it in browser.evaluate("seen.faint()"))
+    if browser.evaluate("[...document.querySelectorAll('#endlist > li')].some(e => !e.offsetHeight)"):
+        yield "paper lacks ends"
+    browser.media()
+    browser.print(page.with_suffix(".pdf"))
+
+
+def try_ends(browser, seen, program, folder, given, page):
+    """What is wrong with the page of an exploration."""
+    name, files, words = given
+    ends = Ends(program, Path(folder), files, words, page)
+    browser.show(page, SIZES["wide"])
+    browser.evaluate(seen)
+    found = browser.evaluate(SEEN_ENDS)
+    if browser.faults or not found["isList"] or found["shown"]:
+        return [f"the page's script: {it}" for it in browser.faults] or [f"the list isn't shown, but {found['shown']}"]
+    wrong = [*compare_list(ends, found), *browser.evaluate("seen.foreign()"), *try_looks(browser, page)]
+    if name == "ends/hostile" and browser.evaluate("document.title.includes('ran')"):
+        wrong.append("a text of the run was run")
+    if found["buttons"]:
+        wrong += try_ways(browser, ends, len(found["buttons"]))
+    return wrong + [f"the page's script: {it}" for it in browser.faults]
