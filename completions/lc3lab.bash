@@ -1,7 +1,7 @@
 # Completions of lc3lab for bash. README.md beside this file says how to install them.
 
 _lc3lab() {
-    local commands='asm dis step trace run explore debug help'
+    local commands='check asm dis step trace run explore debug help'
     local word=${COMP_WORDS[COMP_CWORD]} command=${COMP_WORDS[1]} options=
     COMPREPLY=()
     if [ "$COMP_CWORD" -eq 1 ]; then
@@ -10,25 +10,38 @@ _lc3lab() {
     fi
     case ${COMP_WORDS[COMP_CWORD - 1]} in
     --require)
-        COMPREPLY=($(compgen -W 'ended stuck' -- "$word"))
+        COMPREPLY=($(compgen -W 'ended stuck halted empty same' -- "$word"))
+        return
+        ;;
+    --allow)
+        COMPREPLY=($(compgen -W 'wraps unknown-trap misspelt unused-label starts-in-data runs-into-data runs-past-end r7 after-end' -- "$word"))
         return
         ;;
     --profile)
         COMPREPLY=($(compgen -W 'a b' -- "$word"))
         return
         ;;
-    --limit | --mix | --worlds | --memory | --schedule)
+    --allow)
+        COMPREPLY=($(compgen -W 'wraps unknown-trap misspelt unused-label starts-in-data runs-into-data runs-past-end r7 after-end' -- "$word"))
+        return
+        ;;
+    --schedule)
+        COMPREPLY=($(compgen -W 'bad' -- "$word"))
+        return
+        ;;
+    --limit | --mix | --worlds | --memory | --random | --seed | --may-wait | --never)
         compopt +o bashdefault +o default 2>/dev/null
         return
         ;;
     esac
     case $command in
-    asm) options='--list --explain --help -h' ;;
+    check) options='--profile --werror --allow --help -h' ;;
+    asm) options='--list --explain --profile --help -h' ;;
     dis) options='--help -h' ;;
     step | debug) options='--profile --help -h' ;;
     trace) options='--profile --page --source --help -h' ;;
-    run) options='--profile --limit --mix --help -h' ;;
-    explore) options='--profile --limit --worlds --memory --require --schedule --help -h' ;;
+    run) options='--profile --limit --mix --page --help -h' ;;
+    explore) options='--profile --limit --worlds --memory --random --seed --require --may-wait --never --schedule --json --page --help -h' ;;
     help) options=$commands ;;
     esac
     case $command:$word in

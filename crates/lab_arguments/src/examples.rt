@@ -14,6 +14,12 @@ Example:
   printf '.ORIG x3000\\nHALT\\n' > halt.asm
   lc3lab asm halt.asm halt.obj --list";
 
+/// Of `check`.
+pub const CHECK: &str = "\
+Example:
+  printf '.ORIG x3000\\nHALT\\n' > halt.asm
+  lc3lab check halt.asm --werror";
+
 /// Of `dis`.
 pub const DISASSEMBLE: &str = "\
 Example:

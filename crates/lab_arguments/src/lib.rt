@@ -1,13 +1,22 @@
 //! What the words of the command line ask for.
 #![tactic(auto)]
 
+mod commands;
 mod examples;
+mod exploring;
+mod misuse;
+mod options;
 mod parser;
+mod question;
 mod request;
+mod requirements;
 mod shown;
+mod walks;
 
 pub use parser::read_words;
-pub use request::{Page, Question, Refusal, Request, Rest, Setup};
+pub use question::{Choice, Question, Walks};
+pub use request::{Page, Refusal, Request, Setup};
+pub use requirements::{Requirements, Rest};
 pub use shown::Shown;
 
 /// The most steps of each process that can be asked for.
@@ -21,3 +30,6 @@ pub const MOST_MEMORY: u32 = 1_000_000;
 
 /// The most local steps of a process in a row that can be asked for.
 pub const MOST_LOCAL_STEPS: u32 = 10_000_000;
+
+/// The most walks that can be asked for.
+pub const MOST_WALKS: u32 = 10_000_000;

@@ -1,4 +1,5 @@
 //! A request, or why the words make none.
+use crate::question::Question;
 use lc3_table::Profile;
 use std::alloc::{AllocError, AllocFailed};
 
@@ -10,6 +11,17 @@ pub enum Request<'a> {
         object: &'a str,
         list: bool,
         explain: bool,
+        /// The machine that the warnings are about.
+        profile: Profile,
+    },
+    Check {
+        sources: Vec<&'a str>,
+        /// The machine that the warnings are about.
+        profile: Profile,
+        /// Whether a warning fails.
+        strict: bool,
+        /// The names of the warnings that are left out.
+        allowed: Vec<&'a str>,
     },
     Disassemble {
         object: &'a str,
@@ -26,10 +38,14 @@ pub enum Request<'a> {
         limit: u32,
         /// The seed of the pauses before calls, where there are pauses.
         mix: Option<u32>,
+        /// The file of the page to write, where one is asked for.
+        page: Option<&'a str>,
     },
     Explore {
         setup: Setup<'a>,
-        question: Question,
+        question: Question<'a>,
+        /// The file of the page to write, where one is asked for.
+        page: Option<&'a str>,
     },
     Debug {
         setup: Setup<'a>,
@@ -52,28 +68,6 @@ pub struct Page<'a> {
     pub file: &'a str,
     /// The words that name sources, each `P=FILE`.
     pub sources: Vec<&'a str>,
-}
-
-/// What is asked of an exploration.
-#[derive(Clone, Copy)]
-pub struct Question {
-    /// The most worlds to visit.
-    pub worlds: u32,
-    /// The most memory to take, in megabytes.
-    pub memory: u32,
-    /// The most local steps of a process in a row.
-    pub steps: u32,
-    /// How each end must be.
-    pub required: Option<Rest>,
-    /// The number of the end whose schedule is printed alone.
-    pub schedule: Option<u32>,
-}
-
-/// How programs come to rest.
-#[derive(Clone, Copy)]
-pub enum Rest {
-    Ended,
-    Stuck,
 }
 
 /// Why words make no request.

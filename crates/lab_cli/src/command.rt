@@ -2,14 +2,17 @@
 ghost use Rattle.std.specs.Prelude.{◌≡◌, false};
 
 use crate::build::told_of_build;
+use crate::ends_page::explore_and_show;
+use crate::run_page::run_and_show;
 use crate::trace::trace_programs;
 use lab_arguments::{Refusal, Request, read_words};
 use lab_commands::{
-    Complaint, Progress, Reason, Sheet, assemble_file, debug_programs, disassemble_file,
-    explore_programs, run_programs, step_programs, write_text,
+    Complaint, Manner, Progress, Reason, Sheet, assemble_file, check_sources, debug_programs,
+    disassemble_file, step_programs, write_text,
 };
 use lab_hex::{CliFault, hex_run};
 use lab_io::{Input, Output};
+use lc3_messages::Wish;
 use std::alloc::{Alloc, Global};
 use std::io::{Read, Write};
 use std::rt::Files;
@@ -56,8 +59,22 @@ pub fn command<
         return status(alloc, outcome, errors);
     }
     match read_words(alloc, words) {
+        Ok(
+            Request::Check {
+                sources,
+                profile,
+                strict,
+                allowed,
+            },
+        ) => {
+            let wish = Wish {
+                profile,
+                allowed: &allowed,
+            };
+            check(rt, alloc, &sources, wish, strict, errors)
+        }
         Ok(request) => {
-            let outcome = perform(rt, alloc, &request, input, output, progress);
+            let outcome = perform(rt, alloc, &request, input, output, errors, progress);
             status(alloc, outcome, errors)
         }
         Err(refusal) => explain(rt, alloc, &refusal, output, errors),
@@ -72,13 +89,30 @@ fn complaint(fault: CliFault) -> Complaint<'static> {
     }
 }
 
+/// Writes the messages about sources, and answers the exit status.
+fn check<T: Files, E: Write>(
+    rt: &T,
+    alloc: Global,
+    sources: &[&str],
+    wish: Wish<'_>,
+    strict: bool,
+    errors: &mut Output<E>,
+) -> u8 {
+    if check_sources(rt, alloc, sources, wish, strict, errors) {
+        SUCCESS
+    } else {
+        FAULT
+    }
+}
+
 /// Does what a request asks for.
-fn perform<'a, T: Files + Threads + Wait + Clock + Sync, R: Read, W: Write, P: Progress>(
+fn perform<'a, T: Files + Threads + Wait + Clock + Sync, R: Read, W: Write, E: Write, P: Progress>(
     rt: &T,
     alloc: Global,
     request: &Request<'a>,
     input: &mut Input<R>,
     output: &mut Output<W>,
+    errors: &mut Output<E>,
     progress: &P,
 ) -> Result<(), Complaint<'a>>
     requires input_healthy { input.old.failed ≡ false }
@@ -90,25 +124,42 @@ fn perform<'a, T: Files + Threads + Wait + Clock + Sync, R: Read, W: Write, P: P
             object,
             list,
             explain,
+            profile,
         } => {
-            let sheet = Sheet { list, explain };
-            assemble_file(rt, alloc, source, object, sheet, output)
+            let sheet = Sheet {
+                list,
+                explain,
+                profile,
+            };
+            assemble_file(rt, alloc, source, object, sheet, output, errors, progress)
         }
+        // its status is no complaint's
+        Request::Check { .. } => Ok(()),
         Request::Disassemble { object } => disassemble_file(rt, alloc, object, output, progress),
         Request::Step { ref setup } => step_programs(rt, alloc, setup, input, output, progress),
         Request::Run {
             ref setup,
             limit,
             mix,
-        } => run_programs(rt, alloc, setup, limit, mix, output, progress),
+            page,
+        } => run_and_show(
+            rt,
+            alloc,
+            setup,
+            Manner { limit, mix },
+            page,
+            output,
+            progress,
+        ),
         Request::Trace {
             ref setup,
             ref page,
         } => trace_programs(rt, alloc, setup, page.as_ref(), input, output, progress),
         Request::Explore {
             ref setup,
-            question,
-        } => explore_programs(rt, alloc, setup, question, output, progress),
+            ref question,
+            page,
+        } => explore_and_show(rt, alloc, setup, question, page, output, progress),
         Request::Debug { ref setup } => debug_programs(rt, alloc, setup, input, output, progress),
     }
 }

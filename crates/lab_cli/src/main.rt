@@ -3,14 +3,16 @@
 
 mod build;
 mod command;
+mod ends_page;
 mod page;
 mod prompts;
+mod run_page;
 mod trace;
 
 use command::{FAULT, USAGE, command};
 use lab_commands::Progress;
 use lab_io::{Input, Output, Prompt, Prompted};
-use prompts::prompt_of;
+use prompts::{hint_of, prompt_of};
 use std::env;
 use std::io::{ErrorKind, IsTerminal, Stderr, Write};
 use std::process::ExitCode;
@@ -58,12 +60,13 @@ fn main(rt: HostRuntime) -> ExitCode {
         let _ = errors.write_all(b"lc3lab: run: out of memory\n");
         return ExitCode::from(FAULT);
     };
-    let prompt = if rt.stdin().is_terminal() {
-        prompt_of(words.as_slice())
+    let (hint, prompt) = if rt.stdin().is_terminal() {
+        (hint_of(words.as_slice()), prompt_of(words.as_slice()))
     } else {
-        Prompt::Never
+        (Prompt::Never, Prompt::Never)
     };
-    let mut input = Input::new(Prompted::new(rt.stdin(), rt.stderr(), prompt));
+    let prompted = Prompted::new(rt.stdin(), rt.stderr(), prompt);
+    let mut input = Input::new(Prompted::new(prompted, rt.stderr(), hint));
     let mut output = Output::new(rt.stdout());
     ExitCode::from(command(
         &rt,

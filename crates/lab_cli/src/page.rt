@@ -1,4 +1,4 @@
-//! The page of the command `trace`.
+//! The page of a run, and what other pages share with it.
 use lab_commands::{At, Complaint, Reason, files_of, is_same_file, read_source, write_whole};
 use lab_page::{PageFault, Source, page, run_of, source_of};
 use lab_sched::{Fresh, Program, Schedule, World};
@@ -139,7 +139,7 @@ pub fn write_page<'a, T: Files>(
 }
 
 /// The complaint about a page that can't be made.
-fn of_page(fault: PageFault, file: &str) -> Complaint<'_> {
+pub fn of_page(fault: PageFault, file: &str) -> Complaint<'_> {
     match fault {
         PageFault::TooLarge => Reason::TooLarge.at(file),
         PageFault::NoProcess { done } => Reason::NoProcess { done }.at("run"),
@@ -148,7 +148,7 @@ fn of_page(fault: PageFault, file: &str) -> Complaint<'_> {
 }
 
 /// How the processes of programs are called, by the words that name the programs.
-fn names_of(alloc: Global, words: &[&str]) -> Result<Vec<String>, AllocError> {
+pub fn names_of(alloc: Global, words: &[&str]) -> Result<Vec<String>, AllocError> {
     let mut names = Vec::new(alloc);
     for word in words {
         names.push(name_of(alloc, word)?)?;

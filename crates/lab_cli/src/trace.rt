@@ -7,7 +7,7 @@ use lab_commands::{
     At, Complaint, Programs, Progress, Reason, laboratory, read_programs, read_schedule,
 };
 use lab_io::{Input, Output};
-use lab_sched::{Program, Schedule, World};
+use lab_sched::{Schedule, World};
 use lab_trace::{TraceFault, trace};
 use std::alloc::Global;
 use std::io::{Read, Write};
@@ -46,9 +46,9 @@ fn trace_as_text<'a, T: Files, R: Read, W: Write, P: Progress>(
     requires input_healthy { input.old.failed ≡ false }
     requires output_healthy { output.old.failed ≡ false }
 {
-    let Programs { programs, .. } = read_programs(rt, alloc, setup.programs.as_slice(), progress)?;
+    let given = read_programs(rt, alloc, setup.programs.as_slice(), progress)?;
     let schedule = read_schedule(alloc, input).at("schedule")?;
-    write_trace(alloc, setup, programs.as_slice(), &schedule, output)
+    write_trace(alloc, setup, &given, &schedule, output)
 }
 
 /// Reads the sources too, behind the programs, and writes the page before the text. The page can't be a file that is read.
@@ -67,33 +67,39 @@ fn trace_on_page<'a, T: Files, R: Read, W: Write, P: Progress>(
     let words = setup.programs.as_slice();
     let files = source_files(alloc, page.sources.as_slice(), words.len())?;
     refuse_own_file(rt, page.file, words, files.as_slice())?;
-    let Programs { programs, sources } = read_programs(rt, alloc, words, progress)?;
+    let given = read_programs(rt, alloc, words, progress)?;
     let sources = page_sources(
         rt,
         alloc,
         files.as_slice(),
-        programs.as_slice(),
-        sources.as_slice(),
+        given.programs.as_slice(),
+        given.sources.as_slice(),
     )?;
     let schedule = read_schedule(alloc, input).at("schedule")?;
-    let fresh = laboratory(alloc, programs.as_slice(), setup.profile)?;
+    let fresh = laboratory(alloc, given.programs.as_slice(), setup.profile)?;
     write_page(rt, alloc, fresh, &schedule, words, sources, page.file)?;
-    write_trace(alloc, setup, programs.as_slice(), &schedule, output)
+    write_trace(alloc, setup, &given, &schedule, output)
 }
 
-/// Writes what happens as the laboratory of programs runs by a schedule.
+/// Writes what happens as the laboratory of programs runs by a schedule, with the labels of those that were given as sources.
 fn write_trace<'a, W: Write>(
     alloc: Global,
     setup: &Setup<'a>,
-    programs: &[Program],
+    given: &Programs,
     schedule: &Schedule,
     output: &mut Output<W>,
 ) -> Result<(), Complaint<'a>>
     requires output_healthy { output.old.failed ≡ false }
 {
-    let fresh = laboratory(alloc, programs, setup.profile)?;
+    let fresh = laboratory(alloc, given.programs.as_slice(), setup.profile)?;
     let mut world = World::from(fresh);
-    match trace(alloc, &mut world, schedule, output) {
+    match trace(
+        alloc,
+        &mut world,
+        given.sources.as_slice(),
+        schedule,
+        output,
+    ) {
         Ok(()) => Ok(()),
         Err(fault) => Err(reason_of(fault).at("run")),
     }

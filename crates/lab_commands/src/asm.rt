@@ -1,9 +1,12 @@
 //! The command `asm`.
+use crate::check::messages;
 use crate::complaint::{At, Complaint, Reason};
-use crate::explanation::explanation;
-use crate::files::{is_same_file, read_source, write_object, write_text};
+use crate::files::{is_same_file, read_file, write_object, write_text};
+use crate::progress::Progress;
 use lab_io::Output;
-use lc3_asm::{AsmFault, assemble, listing};
+use lc3_asm::{Assembled, assemble, listing};
+use lc3_messages::{Report, Wish};
+use lc3_table::Profile;
 use std::alloc::Global;
 use std::io::Write;
 use std::rt::Files;
@@ -13,50 +16,75 @@ use std::rt::Files;
 pub struct Sheet {
     /// The listing of an accepted source.
     pub list: bool,
-    /// An explanation of a source's fault.
+    /// All messages about the source. They are also printed where somebody looks at the progress.
     pub explain: bool,
+    /// The machine that the warnings are about.
+    pub profile: Profile,
 }
 
-/// Assembles a source, writes its object file, and then the listing where it is asked for. The object file is made
-/// only once the source was accepted; it can't be the source itself.
-pub fn assemble_file<'a, T: Files, W: Write>(
+/// The messages about a source, where they are wanted and memory allows them.
+fn wanted_messages<P: Progress>(
+    alloc: Global,
+    source: &str,
+    bytes: &[u8],
+    sheet: Sheet,
+    progress: &P,
+) -> Option<Report> {
+    if !sheet.explain && !progress.is_shown() {
+        return None;
+    }
+    let wish = Wish {
+        profile: sheet.profile,
+        allowed: &[],
+    };
+    messages(alloc, source, bytes, wish).ok()
+}
+
+/// What a source is assembled to, or why it isn't.
+pub fn assemble_bytes(alloc: Global, bytes: &[u8]) -> Result<Assembled, Reason> {
+    match std::str::from_utf8(bytes) {
+        Ok(text) => Ok(assemble(alloc, text)?),
+        Err(_) => Err(Reason::NotUtf8),
+    }
+}
+
+/// The complaint about a source that is refused, with the messages about it, if there are any.
+pub fn refusal<'a>(source: &'a str, reason: Reason, report: Option<Report>) -> Complaint<'a> {
+    let complaint = reason.at(source);
+    match (reason, report) {
+        (Reason::Line { .. } | Reason::NotUtf8, Some(report)) => complaint.explained(report.text),
+        _ => complaint,
+    }
+}
+
+/// Assembles a source, writes its object file, and then the listing where it is asked for. The messages about the source come
+/// first, where they are wanted. The object file is made only once the source was accepted; it can't be the source itself.
+pub fn assemble_file<'a, T: Files, W: Write, E: Write, P: Progress>(
     rt: &T,
     alloc: Global,
     source: &'a str,
     object: &'a str,
     sheet: Sheet,
     output: &mut Output<W>,
+    errors: &mut Output<E>,
+    progress: &P,
 ) -> Result<(), Complaint<'a>> {
     if is_same_file(rt, source, object) {
         return Err(Reason::SameFile.at(object));
     }
-    let text = read_source(rt, alloc, source).at(source)?;
-    let assembled = match assemble(alloc, &text) {
+    let bytes = read_file(rt, alloc, source).at(source)?;
+    let report = wanted_messages(alloc, source, &bytes, sheet, progress);
+    let assembled = match assemble_bytes(alloc, &bytes) {
         Ok(assembled) => assembled,
-        Err(fault) => return Err(refusal(alloc, source, &text, fault, sheet.explain)),
+        Err(reason) => return Err(refusal(source, reason, report)),
     };
+    if let Some(report) = report {
+        let _ = errors.write_all(report.text.as_bytes());
+    }
     write_object(rt, object, assembled.image()).at(object)?;
     if sheet.list {
         let lines = listing(alloc, &assembled).at("run")?;
         write_text(&lines, output)?;
     }
     Ok(())
-}
-
-/// The complaint about a source with a fault, explained where that is asked for and memory allows it.
-fn refusal<'a>(
-    alloc: Global,
-    source: &'a str,
-    text: &str,
-    fault: AsmFault,
-    explain: bool,
-) -> Complaint<'a> {
-    let complaint = Reason::from(fault).at(source);
-    match fault {
-        AsmFault::At { line, kind } if explain => match explanation(alloc, text, line, kind) {
-            Ok(lines) => complaint.explained(lines),
-            Err(_) => complaint,
-        },
-        _ => complaint,
-    }
 }

@@ -3,6 +3,7 @@ use lab_arguments::Shown;
 use lab_debug::SessionFault;
 use lab_explore::ExploreFault;
 use lab_hex::CliFault;
+use lab_questions::Word;
 use lab_sched::{RunStop, SchedFault, StepFault, Verdict};
 use lab_threads::RunFault;
 use lc3_asm::AsmFault;
@@ -22,6 +23,14 @@ pub enum Reason {
     UnknownProcess,
     /// A word names a second source of a process.
     TwoSources,
+    /// `--may-wait` names no process.
+    NoWaiter,
+    /// `--may-wait` names a process that isn't there.
+    NoSuchWaiter,
+    /// `--never` is no condition.
+    NoCondition,
+    /// `--never` names a process that isn't there.
+    NoSuchProcess,
     /// A source isn't assembled to the object of a process.
     NotItsSource { process: usize },
     Empty,
@@ -37,6 +46,9 @@ pub enum Reason {
     Incomplete,
     Endless,
     Stands { verdict: Verdict },
+    Not { word: Word },
+    /// What must never be so was reached.
+    Reached,
     NoEnd,
     Spawn,
     TooManyLines,
@@ -54,6 +66,7 @@ impl Reason {
         Complaint {
             place,
             reason: self,
+            subject: None,
             explanation: None,
         }
     }
@@ -190,6 +203,10 @@ impl fmt::Display for Reason {
             Reason::OwnFile => write!(f, "FILE is a file of the run"),
             Reason::UnknownProcess => write!(f, "--source names no process of the run"),
             Reason::TwoSources => write!(f, "--source names a process twice"),
+            Reason::NoWaiter => write!(f, "--may-wait is no process"),
+            Reason::NoSuchWaiter => write!(f, "--may-wait names no process of the run"),
+            Reason::NoCondition => write!(f, "--never is no condition"),
+            Reason::NoSuchProcess => write!(f, "--never names no process of the run"),
             Reason::NotItsSource { process } => write!(f, "not the source of process {process}"),
             Reason::Empty => write!(f, "Empty"),
             Reason::BadWord { at } => write!(f, "word {at}: BadWord"),
@@ -204,6 +221,11 @@ impl fmt::Display for Reason {
             Reason::Incomplete => write!(f, "incomplete"),
             Reason::Endless => write!(f, "endless"),
             Reason::Stands { verdict } => write!(f, "{}", name_of(verdict)),
+            Reason::Not { word } => {
+                let word = word.text();
+                write!(f, "not {word}")
+            }
+            Reason::Reached => write!(f, "reached"),
             Reason::NoEnd => write!(f, "NoEnd"),
             Reason::Spawn => write!(f, "Spawn"),
             Reason::TooManyLines => write!(f, "TooManyLines"),
@@ -222,7 +244,9 @@ impl fmt::Display for Reason {
 pub struct Complaint<'a> {
     place: &'a str,
     reason: Reason,
-    /// Further lines about it.
+    /// What it is about.
+    subject: Option<String>,
+    /// Further lines about it, the last one without its line feed.
     explanation: Option<String>,
 }
 
@@ -231,15 +255,35 @@ impl<'a> Complaint<'a> {
     pub fn is_of_words(&self) -> bool {
         matches!(
             self.reason,
-            Reason::SameFile | Reason::OwnFile | Reason::UnknownProcess | Reason::TwoSources
+            Reason::SameFile
+                | Reason::OwnFile
+                | Reason::UnknownProcess
+                | Reason::TwoSources
+                | Reason::NoWaiter
+                | Reason::NoSuchWaiter
+                | Reason::NoCondition
+                | Reason::NoSuchProcess
         )
     }
 
-    /// The complaint with further lines about the fault.
-    pub fn explained(self, explanation: String) -> Complaint<'a> {
+    /// The complaint with what the fault is about.
+    pub fn about(self, subject: String) -> Complaint<'a> {
         Complaint {
             place: self.place,
             reason: self.reason,
+            subject: Some(subject),
+            explanation: self.explanation,
+        }
+    }
+
+    /// The complaint with further lines about the fault, each with its line feed.
+    pub fn explained(self, lines: String) -> Complaint<'a> {
+        let mut explanation = lines;
+        let _ = explanation.pop();
+        Complaint {
+            place: self.place,
+            reason: self.reason,
+            subject: self.subject,
             explanation: Some(explanation),
         }
     }
@@ -253,6 +297,9 @@ impl fmt::Display for Complaint<'_> {
             return write!(f, "error: {reason}: {place}");
         }
         write!(f, "lc3lab: {place}: {reason}")?;
+        if let Some(subject) = &self.subject {
+            write!(f, " {subject}")?;
+        }
         match &self.explanation {
             Some(lines) => write!(f, "\n{lines}"),
             None => Ok(()),

@@ -3,46 +3,160 @@ ghost use Rattle.std.specs.Prelude.{◌≡◌, false};
 
 use crate::complaint::{At, Complaint, Reason};
 use crate::files::write_text;
+use crate::inquiry::{Asked, Inquiry, inquiry_of};
 use crate::programs::{Programs, laboratory, read_programs};
-use crate::progress::{Progress, WorldCount};
-use lab_arguments::{Question, Rest, Setup};
-use lab_explore::Limits;
+use crate::progress::{Progress, WalkCount, WorldCount};
+use crate::telling::tell_answers;
+use lab_arguments::{Choice, Question, Setup};
+use lab_explore::{Exploration, ExploreFault, Walks};
 use lab_findings::{Findings, Shortfall, find};
 use lab_io::Output;
-use lab_sched::Verdict;
+use lab_questions::{Answers, Waiter, Word, ask, ask_walks};
+use lab_sched::Fresh;
 use std::alloc::Global;
 use std::io::Write;
 use std::rt::Files;
 
-/// How many bytes a megabyte has.
-const MEGABYTE: usize = 1_048_576;
+/// What an exploration found.
+#[derive(Drop)]
+pub enum Found {
+    /// The ends, and whether each has a verdict.
+    Ends(Findings),
+    /// The ends, and whether they are as words require.
+    Answers(Answers),
+}
+
+impl Found {
+    /// The exploration itself.
+    pub fn exploration(&self) -> &Exploration {
+        match self {
+            Found::Ends(findings) => &findings.exploration,
+            Found::Answers(answers) => &answers.exploration,
+        }
+    }
+
+    /// The schedules of the ends that are told, as they are printed.
+    pub fn schedules(&self) -> &[String] {
+        match self {
+            Found::Ends(findings) => findings.schedules.as_slice(),
+            Found::Answers(answers) => answers.schedules.as_slice(),
+        }
+    }
+}
 
 /// Reads the files of the programs, visits every interleaving of them as far as the limits allow, and writes the ends
-/// that they can have, or the schedule of one of them. Where memory was refused on the way, what was found till then is
-/// written.
+/// that they can have, with what else is asked, or one schedule alone. Where memory was refused on the way, what was
+/// found till then is written.
 pub fn explore_programs<'a, T: Files, W: Write, P: Progress>(
     rt: &T,
     alloc: Global,
     setup: &Setup<'a>,
-    question: Question,
+    question: &Question<'a>,
     output: &mut Output<W>,
     progress: &P,
 ) -> Result<(), Complaint<'a>>
     requires output_healthy { output.old.failed ≡ false }
 {
-    let Programs { programs, .. } = read_programs(rt, alloc, setup.programs.as_slice(), progress)?;
+    let words = setup.programs.as_slice();
+    let inquiry = inquiry_of(alloc, question, words.len())?;
+    let Programs { programs, .. } = read_programs(rt, alloc, words, progress)?;
     let fresh = laboratory(alloc, programs.as_slice(), setup.profile)?;
-    let limits = Limits {
-        worlds: question.worlds,
-        steps: question.steps,
-        memory: (question.memory as usize).saturating_mul(MEGABYTE),
+    let found = find_ends(alloc, fresh, &inquiry, progress)?;
+    tell_ends(alloc, &found, &inquiry, output)
+}
+
+/// Visits every interleaving of the programs of a laboratory, as far as the limits allow, or takes walks, if these are
+/// asked for, and judges what is asked.
+pub fn find_ends<P: Progress>(
+    alloc: Global,
+    fresh: Fresh,
+    inquiry: &Inquiry,
+    progress: &P,
+) -> Result<Found, Complaint<'static>> {
+    let outcome = match inquiry.walks {
+        Some(walks) => take_walks(alloc, fresh, inquiry, walks, progress),
+        None => visit_all(alloc, fresh, inquiry, progress),
     };
-    let required = question.required.map(verdict_of);
-    let mut count = WorldCount::new(alloc, progress);
-    let outcome = find(alloc, fresh, limits, required, &mut count);
+    outcome.at("run")
+}
+
+/// Takes walks through the interleavings of the programs of a laboratory, and judges what is asked.
+fn take_walks<P: Progress>(
+    alloc: Global,
+    fresh: Fresh,
+    inquiry: &Inquiry,
+    walks: Walks,
+    progress: &P,
+) -> Result<Found, ExploreFault> {
+    let mut count = WalkCount::new(alloc, progress);
+    let (words, waiters): (&[Word], &[Waiter]) = match &inquiry.asked {
+        Asked::Verdict(_) => (&[], &[]),
+        Asked::More { words, waiters, .. } => (words, waiters),
+    };
+    let outcome = ask_walks(
+        alloc,
+        fresh,
+        inquiry.limits,
+        walks,
+        words,
+        waiters,
+        &mut count,
+    );
     count.clear();
-    let found = outcome.at("run")?;
-    write_findings(&found, question.schedule, output)?;
+    outcome.map(Found::Answers)
+}
+
+/// Visits every interleaving of the programs of a laboratory, as far as the limits allow, and judges what is asked.
+fn visit_all<P: Progress>(
+    alloc: Global,
+    fresh: Fresh,
+    inquiry: &Inquiry,
+    progress: &P,
+) -> Result<Found, ExploreFault> {
+    let mut count = WorldCount::new(alloc, progress);
+    let limits = inquiry.limits;
+    let outcome = match &inquiry.asked {
+        Asked::Verdict(required) => {
+            find(alloc, fresh, limits, *required, &mut count).map(Found::Ends)
+        }
+        Asked::More {
+            words,
+            waiters,
+            never,
+        } => { ask(alloc, fresh, limits, words, waiters, never, &mut count).map(Found::Answers) }
+    };
+    count.clear();
+    outcome
+}
+
+/// Writes what was found, and complains where memory was refused on the way, or not all is as it has to be.
+pub fn tell_ends<W: Write>(
+    alloc: Global,
+    found: &Found,
+    inquiry: &Inquiry,
+    output: &mut Output<W>,
+) -> Result<(), Complaint<'static>>
+    requires output_healthy { output.old.failed ≡ false }
+{
+    match found {
+        Found::Ends(findings) => tell_findings(findings, inquiry, output),
+        Found::Answers(answers) => tell_answers(alloc, answers, inquiry, output),
+    }
+}
+
+/// Writes the ends, or the schedule of one of them, and complains where not each has the verdict that is required.
+fn tell_findings<W: Write>(
+    found: &Findings,
+    inquiry: &Inquiry,
+    output: &mut Output<W>,
+) -> Result<(), Complaint<'static>> {
+    match inquiry.choice {
+        Some(Choice::End(number)) => {
+            let refused = found.exploration.refused;
+            write_schedule(found.schedules.as_slice(), number, refused, output)?;
+        }
+        _ => write_text(&found.text, output)?,
+    }
     if found.exploration.refused {
         return Err(Reason::NoMemory.at("run"));
     }
@@ -52,30 +166,20 @@ pub fn explore_programs<'a, T: Files, W: Write, P: Progress>(
     }
 }
 
-/// Writes what was found, or the schedule of the end with a number alone.
-fn write_findings<W: Write>(
-    found: &Findings,
-    schedule: Option<u32>,
+/// Writes the schedule of the end with a number, from 1, which must be there, unless memory was refused.
+pub(crate) fn write_schedule<W: Write>(
+    schedules: &[String],
+    number: u32,
+    refused: bool,
     output: &mut Output<W>,
 ) -> Result<(), Complaint<'static>> {
-    let Some(number) = schedule else {
-        return write_text(&found.text, output);
-    };
-    match found.schedules.get((number as usize).saturating_sub(1)) {
-        None if found.exploration.refused => Ok(()),
+    match schedules.get((number as usize).saturating_sub(1)) {
+        None if refused => Ok(()),
         None => Err(Reason::NoEnd.at("explore")),
         Some(schedule) => {
             write_text(schedule, output)?;
             write_text("\n", output)
         }
-    }
-}
-
-/// The verdict on programs that come to rest so.
-fn verdict_of(rest: Rest) -> Verdict {
-    match rest {
-        Rest::Ended => Verdict::Ended,
-        Rest::Stuck => Verdict::Stuck,
     }
 }
 

@@ -2,24 +2,28 @@
 #![tactic(auto)]
 
 mod asm;
+mod check;
 mod complaint;
 mod debug;
 mod dis;
-mod explanation;
 mod explore;
 mod files;
+mod inquiry;
 mod programs;
 mod progress;
 mod run;
 mod step;
+mod telling;
 
 pub use asm::{Sheet, assemble_file};
+pub use check::check_sources;
 pub use complaint::{At, Complaint, Reason};
 pub use debug::debug_programs;
 pub use dis::disassemble_file;
-pub use explore::explore_programs;
+pub use explore::{Found, explore_programs, find_ends, tell_ends};
 pub use files::{is_same_file, read_source, write_text, write_whole};
+pub use inquiry::{Asked, Inquiry, inquiry_of};
 pub use programs::{Programs, files_of, laboratory, read_programs};
 pub use progress::Progress;
-pub use run::run_programs;
+pub use run::{Manner, run_fresh, run_programs, tell_run};
 pub use step::{read_schedule, step_programs};

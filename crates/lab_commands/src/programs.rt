@@ -1,11 +1,13 @@
 //! The programs of a laboratory, as the command line names them.
+use crate::asm::{assemble_bytes, refusal};
+use crate::check::messages;
 use crate::complaint::{At, Complaint, Reason};
-use crate::files::{read_file, read_source};
+use crate::files::read_file;
 use crate::progress::Progress;
 use lab_arguments::Shown;
 use lab_sched::{Fresh, FreshFault, Program};
 use lab_sources::Source;
-use lc3_asm::assemble;
+use lc3_messages::{Report, Wish};
 use lc3_obj::read_image;
 use lc3_table::Profile;
 use lc3_word::Image;
@@ -60,7 +62,7 @@ pub fn read_image_file<'a, T: Files, P: Progress>(
     progress: &P,
 ) -> Result<(Image, Option<Source>), Complaint<'a>> {
     if is_source(file) {
-        let source = read_assembled(rt, alloc, file).at(file)?;
+        let source = read_assembled(rt, alloc, file, progress)?;
         let image = source.image(alloc).at(file)?;
         return Ok((image, Some(source)));
     }
@@ -80,11 +82,43 @@ fn is_source(file: &str) -> bool {
     )
 }
 
-/// The source in a file.
-fn read_assembled<T: Files>(rt: &T, alloc: Global, file: &str) -> Result<Source, Reason> {
-    let text = read_source(rt, alloc, file)?;
-    let assembled = assemble(alloc, &text)?;
-    Ok(Source { text, assembled })
+/// The source in a file. Where it is refused, and somebody looks, the messages about it follow.
+fn read_assembled<'a, T: Files, P: Progress>(
+    rt: &T,
+    alloc: Global,
+    file: &'a str,
+    progress: &P,
+) -> Result<Source, Complaint<'a>> {
+    let bytes = read_file(rt, alloc, file).at(file)?;
+    match assemble_bytes(alloc, &bytes) {
+        Ok(assembled) => {
+            let text = String::from_utf8(bytes).map_err(|_| Reason::NotUtf8);
+            let text = text.at(file)?;
+            Ok(Source { text, assembled })
+        }
+        Err(reason) => {
+            let report = refused_messages(alloc, file, &bytes, progress);
+            Err(refusal(file, reason, report))
+        }
+    }
+}
+
+/// The messages about a source that is refused, where somebody looks and memory allows them. They are those of every
+/// machine, since what differs is told of accepted sources alone.
+fn refused_messages<P: Progress>(
+    alloc: Global,
+    file: &str,
+    bytes: &[u8],
+    progress: &P,
+) -> Option<Report> {
+    if !progress.is_shown() {
+        return None;
+    }
+    let wish = Wish {
+        profile: Profile::A,
+        allowed: &[],
+    };
+    messages(alloc, file, bytes, wish).ok()
 }
 
 /// Whether these are the bytes of a text rather than of an object file.

@@ -14,6 +14,9 @@ const CALLS: u64 = 1_000_000;
 /// How many worlds lie between two times that `explore` shows how far it is.
 const WORLDS: usize = 50_000;
 
+/// How many walks lie between two times that `explore` shows how far it is.
+const WALKS: usize = 10_000;
+
 /// Where a command shows how far it is.
 pub trait Progress: Sync {
     /// Whether anybody looks at it.
@@ -104,6 +107,44 @@ impl<P: Progress> Observer for WorldCount<'_, P> {
         }
         let text = format!(in self.alloc; "lc3lab: {visited} worlds visited, {waiting} waiting");
         if let Ok(text) = text {
+            self.progress.show(&text);
+        }
+    }
+}
+
+/// Shows how many walks were taken.
+#[derive(Drop)]
+pub struct WalkCount<'a, P> {
+    alloc: Global,
+    progress: &'a P,
+    taken: usize,
+}
+
+impl<'a, P: Progress> WalkCount<'a, P> {
+    /// No walk was taken.
+    pub fn new(alloc: Global, progress: &'a P) -> WalkCount<'a, P> {
+        WalkCount {
+            alloc,
+            progress,
+            taken: 0,
+        }
+    }
+
+    /// Shows nothing any more.
+    pub fn clear(&self) {
+        if self.taken >= WALKS && self.progress.is_shown() {
+            self.progress.show("");
+        }
+    }
+}
+
+impl<P: Progress> Observer for WalkCount<'_, P> {
+    fn see(&mut self, taken: usize, left: usize) {
+        self.taken = taken;
+        if taken == 0 || taken % WALKS != 0 || !self.progress.is_shown() {
+            return;
+        }
+        if let Ok(text) = format!(in self.alloc; "lc3lab: {taken} walks taken, {left} left") {
             self.progress.show(&text);
         }
     }

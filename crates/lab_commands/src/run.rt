@@ -18,14 +18,22 @@ use std::sync::Wait;
 use std::thread::Threads;
 use std::time::Clock;
 
-/// Reads the files of the programs, runs them on threads for at most `limit` steps each, and writes the report and the
-/// schedule of an interleaving that leads to it. With a seed, workers pause before calls.
+/// How programs are run on threads.
+#[derive(Clone, Copy, Debug, PartialEq, Eq)]
+pub struct Manner {
+    /// The most steps of each process, which are 1 at least and [`MOST_STEPS_EACH`] at most.
+    pub limit: u32,
+    /// The seed of the pauses before calls, where there are pauses.
+    pub mix: Option<u32>,
+}
+
+/// Reads the files of the programs, runs them on threads, and writes the report and the schedule of an interleaving that
+/// leads to it.
 pub fn run_programs<'a, T: Files + Threads + Wait + Clock + Sync, W: Write, P: Progress>(
     rt: &T,
     alloc: Global,
     setup: &Setup<'a>,
-    limit: u32,
-    mix: Option<u32>,
+    manner: Manner,
     output: &mut Output<W>,
     progress: &P,
 ) -> Result<(), Complaint<'a>>
@@ -33,8 +41,20 @@ pub fn run_programs<'a, T: Files + Threads + Wait + Clock + Sync, W: Write, P: P
 {
     let Programs { programs, .. } = read_programs(rt, alloc, setup.programs.as_slice(), progress)?;
     let fresh = laboratory(alloc, programs.as_slice(), setup.profile)?;
-    let limit = limit.clamp(1, MOST_STEPS_EACH);
-    let outcome = match mix {
+    let report = run_fresh(rt, alloc, fresh, manner, progress)?;
+    tell_run(alloc, &report, output)
+}
+
+/// Runs the programs of a laboratory on threads. With a seed, workers pause before calls.
+pub fn run_fresh<T: Threads + Wait + Clock + Sync, P: Progress>(
+    rt: &T,
+    alloc: Global,
+    fresh: Fresh,
+    manner: Manner,
+    progress: &P,
+) -> Result<Report, Complaint<'static>> {
+    let limit = manner.limit.clamp(1, MOST_STEPS_EACH);
+    let outcome = match manner.mix {
         None => report_of(rt, alloc, fresh, limit, &NoGate, progress),
         Some(seed) => report_of(
             rt,
@@ -45,8 +65,18 @@ pub fn run_programs<'a, T: Files + Threads + Wait + Clock + Sync, W: Write, P: P
             progress,
         ),
     };
-    let report = outcome.at("run")?;
-    let text = text_of(alloc, &report).at("run")?;
+    outcome.at("run")
+}
+
+/// Writes the report on a run, and a line with its schedule.
+pub fn tell_run<W: Write>(
+    alloc: Global,
+    report: &Report,
+    output: &mut Output<W>,
+) -> Result<(), Complaint<'static>>
+    requires output_healthy { output.old.failed ≡ false }
+{
+    let text = text_of(alloc, report).at("run")?;
     write_text(&text, output)
 }
 

@@ -1,0 +1,38 @@
+-- What the words of `--require` say.
+use Rattle.std.specs.Prelude.{ℕ, ◌≡◌, ◌+◌, ◌==◌, Bool, true, false, if◌then◌else◌, Option, Some, None, List, codes, length, bytes_eq}
+use Rattle.std.specs.List.{count_by, slice_split}
+use Rattle.lab_arguments.specs.declared.requirements.Requirements.{Requirements}
+use Rattle.lab_arguments.specs.declared.requirements.Rest.{Rest}
+use Rattle.lab_arguments.specs.declared.requirements.Rest.TheVariants.{Ended, Stuck, Halted}
+
+-- how often a word stands among words
+abbrev pub how_often : List ℕ → List (List ℕ) → ℕ
+how_often word words = count_by (bytes_eq word) words
+
+-- how often `ended`, `stuck` and `halted` must stand there for a way to come to rest
+abbrev pub rest_counts : Option Rest → ℕ × ℕ × ℕ
+rest_counts None = (0, 0, 0)
+rest_counts (Some Ended) = (1, 0, 0)
+rest_counts (Some Stuck) = (0, 1, 0)
+rest_counts (Some Halted) = (0, 0, 1)
+
+-- once where that is required, else not at all
+abbrev pub once_if : Bool → ℕ
+once_if true = 1
+once_if false = 0
+
+-- these words, each once and with no others, require that
+pub record AreRequired (words : List (List ℕ)) (r : Requirements) : Type 0 where
+  pub rest : (how_often (codes "ended") words, how_often (codes "stuck") words, how_often (codes "halted") words) ≡ rest_counts r.rest
+  pub empty : how_often (codes "empty") words ≡ once_if r.empty
+  pub same : how_often (codes "same") words ≡ once_if r.same
+  pub known : how_often (codes "ended") words + how_often (codes "stuck") words + how_often (codes "halted") words
+      + how_often (codes "empty") words + how_often (codes "same") words ≡ length words
+
+-- nothing is required
+abbrev pub nothing : Requirements
+nothing = record { rest = None; empty = false; same = false }
+
+-- the words of a text, between commas
+abbrev pub words_of : List ℕ → List (List ℕ)
+words_of text = slice_split (λ c. c == 44) text

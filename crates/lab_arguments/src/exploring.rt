@@ -1,0 +1,160 @@
+//! The command `explore`, and what its words ask for.
+ghost use Rattle.std.specs.Prelude.{◌≡◌, ℕ, List, None, Some, IfOk, codes};
+ghost use Rattle.clap.specs.Words.{first_value, found_of, one_text};
+ghost use Rattle.lab_arguments.specs.Private.Options.{IsNumber};
+ghost use Rattle.lab_arguments.specs.Private.Requirements.{nothing, words_of, AreRequired};
+ghost use Rattle.lab_arguments.specs.declared.question.Choice.TheVariants.{End};
+
+use crate::misuse::Misuse;
+use crate::options::{
+    flag, limit, limit_of, number, number_of, on_programs, setup_of, value, values, values_of,
+};
+use crate::question::{Choice, Question};
+use crate::request::{Refusal, Request};
+use crate::requirements::{Requirements, requirements_of};
+use crate::walks::{walks_of, with_walks, worlds_of};
+use crate::{MOST_LOCAL_STEPS, MOST_MEMORY, MOST_WORLDS, examples};
+use clap::{ArgMatches, Command};
+use std::alloc::{AllocError, Global};
+
+pub(crate) fn explore<'a>(alloc: Global) -> Result<Command<'a>, AllocError> {
+    let about = "Visits every interleaving of programs and prints the ends that they can have";
+    let steps = "The most steps of a process without a call";
+    let memory = number(
+        alloc,
+        "memory",
+        "MB",
+        MOST_MEMORY,
+        "The most memory to take, in megabytes",
+    );
+    let command = on_programs(alloc, "explore", about, examples::EXPLORE)?
+        .arg(limit(alloc, "limit", "N", MOST_LOCAL_STEPS, steps))?
+        .arg(memory.default_value("2048"))?;
+    with_questions(alloc, with_walks(alloc, command)?)
+}
+
+/// The command with the options that say what is asked, and how the answers are printed.
+fn with_questions<'a>(alloc: Global, command: Command<'a>) -> Result<Command<'a>, AllocError> {
+    let require = "Fails unless the search is complete and each end is so: \
+        ended, stuck, halted, empty, same, with commas between them";
+    let may_wait = "With ended or halted: process P may wait for ever; \
+        'P at A' or 'P at A-B' where its program counter is there";
+    let never = "Fails unless the search is complete and this condition never holds";
+    let schedule =
+        "Prints the schedule of end K alone, or of the first thing that is not as it has to be";
+    let page = "Also writes FILE, a page that shows the ends and the run of each in a browser";
+    command
+        .arg(value(alloc, "require", "WORDS", require))?
+        .arg(values(alloc, "may-wait", "P", may_wait))?
+        .arg(values(alloc, "never", "CONDITION", never))?
+        .arg(value(alloc, "schedule", "K|bad", schedule))?
+        .arg(flag(alloc, "json", "Prints the answers as JSON"))?
+        .arg(value(alloc, "page", "FILE", page))
+}
+
+/// What each end must be like, as the words say.
+fn required_of<'a>(alloc: Global, words: &ArgMatches<'a>) -> Result<Requirements, Refusal>
+    ensures any { IfOk result (λ r.
+        first_value (found_of words.now) (codes "require") ≡ None → r ≡ nothing) }
+    ensures required { IfOk result (λ r. (text : List ℕ)
+        → first_value (found_of words.now) (codes "require") ≡ Some text
+        → AreRequired (words_of text) r) }
+{
+    let Some(text) = words.get_str("require") else {
+        return Ok(Requirements::NOTHING);
+    };
+    match requirements_of(alloc, text)? {
+        Some(requirements) => Ok(requirements),
+        None => Err(Misuse::NoRequirement(text).refusal(alloc)),
+    }
+}
+
+/// Which schedule is printed alone, as the words say.
+fn choice_of<'a>(words: &ArgMatches<'a>) -> Result<Option<Choice>, Misuse<'a>>
+    ensures end { IfOk result (λ choice. (text : List ℕ) (n : ℕ)
+        → one_text (found_of words.now) (codes "schedule") ≡ Some text
+        → IsNumber text n → choice ≡ Some (End n)) }
+{
+    match (number_of(words, "schedule"), words.get_str("schedule")) {
+        (Some(number @ 1..=MOST_WORLDS), _) => Ok(Some(Choice::End(number))),
+        (None, None) => Ok(None),
+        (None, Some("bad")) => Ok(Some(Choice::Bad)),
+        (_, text) => Err(Misuse::NoSchedule(text.unwrap_or_default())),
+    }
+}
+
+/// What the words ask of the exploration.
+fn question_of<'a>(alloc: Global, words: &ArgMatches<'a>) -> Result<Question<'a>, Refusal>
+    ensures worlds { IfOk result (λ q. (text : List ℕ) (n : ℕ)
+        → one_text (found_of words.now) (codes "worlds") ≡ Some text
+        → IsNumber text n → q.worlds ≡ n) }
+    ensures memory { IfOk result (λ q. (text : List ℕ) (n : ℕ)
+        → one_text (found_of words.now) (codes "memory") ≡ Some text
+        → IsNumber text n → q.memory ≡ n) }
+    ensures steps { IfOk result (λ q. (text : List ℕ) (n : ℕ)
+        → one_text (found_of words.now) (codes "limit") ≡ Some text
+        → IsNumber text n → q.steps ≡ n) }
+    ensures schedule { IfOk result (λ q. (text : List ℕ) (n : ℕ)
+        → one_text (found_of words.now) (codes "schedule") ≡ Some text
+        → IsNumber text n → q.schedule ≡ Some (End n)) }
+    ensures any { IfOk result (λ q.
+        first_value (found_of words.now) (codes "require") ≡ None → q.required ≡ nothing) }
+    ensures required { IfOk result (λ q. (text : List ℕ)
+        → first_value (found_of words.now) (codes "require") ≡ Some text
+        → AreRequired (words_of text) q.required) }
+{
+    let required = required_of(alloc, words)?;
+    let random = walks_of(words);
+    let schedule = choice_of(words).map_err(|misuse| misuse.refusal(alloc))?;
+    Ok(Question {
+        worlds: worlds_of(words, random),
+        memory: limit_of(words, "memory", MOST_MEMORY),
+        steps: limit_of(words, "limit", MOST_LOCAL_STEPS),
+        required,
+        waiters: values_of(alloc, words, "may-wait")?,
+        never: values_of(alloc, words, "never")?,
+        random,
+        schedule,
+        json: words.get_flag("json"),
+    })
+}
+
+/// What the words of `explore` ask for.
+pub(crate) fn explore_request<'a>(
+    alloc: Global,
+    words: &ArgMatches<'a>,
+) -> Result<Request<'a>, Refusal> {
+    let question = question_of(alloc, words)?;
+    if question.random.is_none() && words.get_str("seed").is_some() {
+        return Err(Misuse::NothingSeeded.refusal(alloc));
+    }
+    let page = words.get_str("page");
+    if question.random.is_some() && page.is_some() {
+        return Err(Misuse::PageAndRandom.refusal(alloc));
+    }
+    if let Some(misuse) = misuse_of(&question) {
+        return Err(misuse.refusal(alloc));
+    }
+    Ok(Request::Explore {
+        setup: setup_of(alloc, words)?,
+        question,
+        page,
+    })
+}
+
+/// Which options of a question don't go together, if some don't.
+fn misuse_of(question: &Question<'_>) -> Option<Misuse<'static>> {
+    if !question.waiters.is_empty() && !question.required.lets_wait() {
+        return Some(Misuse::NobodyWaits);
+    }
+    if matches!(question.schedule, Some(Choice::Bad)) && !question.judges() {
+        return Some(Misuse::NothingJudged);
+    }
+    if !question.never.is_empty() && question.random.is_some() {
+        return Some(Misuse::NeverAndRandom);
+    }
+    if question.json && question.schedule.is_some() {
+        return Some(Misuse::JsonAndSchedule);
+    }
+    None
+}

@@ -1,0 +1,59 @@
+//! What is wrong with words that the parser of commands takes one by one.
+use crate::request::Refusal;
+use crate::shown::Shown;
+use std::alloc::Global;
+use std::fmt;
+
+/// What is wrong with words that the parser of commands takes one by one.
+#[derive(Clone, Copy, Debug, PartialEq, Eq)]
+pub(crate) enum Misuse<'a> {
+    /// The value of `--require` isn't made of its words.
+    NoRequirement(&'a str),
+    /// The value of `--schedule` is neither the number of an end nor `bad`.
+    NoSchedule(&'a str),
+    /// Processes may wait, but no end is judged by that.
+    NobodyWaits,
+    /// What isn't as it has to be is asked for, but nothing has to be so.
+    NothingJudged,
+    /// A seed of random numbers by which nothing is taken.
+    NothingSeeded,
+    /// Conditions of the worlds on the way, and walks, of which ends alone are judged.
+    NeverAndRandom,
+    /// A page, which tells how many worlds were visited, and walks.
+    PageAndRandom,
+    /// All answers, as JSON, and a schedule alone.
+    JsonAndSchedule,
+}
+
+impl Misuse<'_> {
+    /// The text for the user.
+    pub(crate) fn refusal(self, alloc: Global) -> Refusal {
+        match format!(in alloc; "error: {self}\n\nFor more information, try '--help'.\n") {
+            Ok(text) => Refusal::Usage(text),
+            Err(_) => Refusal::NoMemory,
+        }
+    }
+}
+
+impl fmt::Display for Misuse<'_> {
+    fn fmt<W: fmt::Write>(&self, f: &mut fmt::Formatter<W>) -> fmt::Result {
+        match *self {
+            Misuse::NoRequirement(text) => {
+                let text = Shown(text);
+                write!(f, "invalid value '{text}' for '--require <WORDS>'")
+            }
+            Misuse::NoSchedule(text) => {
+                let text = Shown(text);
+                write!(f, "invalid value '{text}' for '--schedule <K|bad>'")
+            }
+            Misuse::NobodyWaits => {
+                write!(f, "--may-wait needs --require ended or --require halted")
+            }
+            Misuse::NothingJudged => write!(f, "--schedule bad needs --require or --never"),
+            Misuse::NothingSeeded => write!(f, "--seed needs --random"),
+            Misuse::NeverAndRandom => write!(f, "--never and --random exclude each other"),
+            Misuse::PageAndRandom => write!(f, "--page and --random exclude each other"),
+            Misuse::JsonAndSchedule => write!(f, "--json and --schedule exclude each other"),
+        }
+    }
+}

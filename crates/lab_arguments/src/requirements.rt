@@ -1,0 +1,143 @@
+//! The words of `--require`.
+ghost use Rattle.std.specs.Prelude.{◌≡◌, ◌<◌, Option, None, IfOk, IfSome, bytes_eq, map};
+ghost use Rattle.lab_arguments.specs.Private.Requirements.{how_often, once_if, rest_counts, words_of, AreRequired};
+
+use std::alloc::{AllocError, Global};
+
+/// What each end of an exploration must be like.
+#[derive(Clone, Copy, Debug, PartialEq, Eq)]
+pub struct Requirements {
+    /// How its processes must have come to rest.
+    pub rest: Option<Rest>,
+    /// Whether no queue may hold a message.
+    pub empty: bool,
+    /// Whether the processes must have written what they have at every other end.
+    pub same: bool,
+}
+
+/// How processes come to rest.
+#[derive(Clone, Copy, Debug, PartialEq, Eq)]
+pub enum Rest {
+    /// Each has ended, or may wait.
+    Ended,
+    /// Some process waits.
+    Stuck,
+    /// Each has ended by HALT, or may wait.
+    Halted,
+}
+
+impl Requirements {
+    /// Nothing is required.
+    pub const NOTHING: Requirements = Requirements {
+        rest: None,
+        empty: false,
+        same: false,
+    };
+
+    /// Whether something is required.
+    pub fn is_some(self) -> bool {
+        self.rest.is_some() || self.empty || self.same
+    }
+
+    /// Whether processes may wait that are named for it.
+    pub fn lets_wait(self) -> bool {
+        matches!(self.rest, Some(Rest::Ended | Rest::Halted))
+    }
+
+    /// Whether it isn't just that each end has the verdict `ended`, or `stuck`, or nothing.
+    pub fn are_more_than_a_verdict(self) -> bool {
+        self.empty || self.same || matches!(self.rest, Some(Rest::Halted))
+    }
+}
+
+/// The words of a text, between commas.
+fn words_of(alloc: Global, text: &str) -> Result<Vec<&str>, AllocError>
+    ensures words { IfOk result (λ found. map (λ word. word.now) found.items
+        ≡ words_of text.now) }
+{
+    text.split(',').collect(alloc)
+}
+
+/// Whether two words are the same.
+fn is_word(word: &str, other: &str) -> bool
+    ensures value { result ≡ bytes_eq word.now other.now }
+{
+    word == other
+}
+
+/// How often a word stands among words.
+fn how_often(word: &str, words: &[&str]) -> usize
+    ensures count { result ≡ how_often word.now (map (λ w. w.now) words.now) }
+{
+    let mut count = 0;
+    for other in words {
+        if is_word(word, other) {
+            count += 1;
+        }
+    }
+    count
+}
+
+/// Whether a word stands among words, if it isn't there more than once.
+fn stands(word: &str, words: &[&str]) -> Option<bool>
+    ensures some { IfSome result (λ there.
+        how_often word.now (map (λ w. w.now) words.now) ≡ once_if there) }
+    ensures none { result ≡ None
+        → 1 < how_often word.now (map (λ w. w.now) words.now) }
+{
+    match how_often(word, words) {
+        0 => Some(false),
+        1 => Some(true),
+        _ => None,
+    }
+}
+
+/// How processes come to rest by the words that are there, if these say no more than one way.
+fn rest_of(ended: bool, stuck: bool, halted: bool) -> Option<Option<Rest>>
+    ensures some { IfSome result (λ rest.
+        (once_if ended, once_if stuck, once_if halted) ≡ rest_counts rest) }
+    ensures none { result ≡ None → (rest : Option Rest)
+        → (once_if ended, once_if stuck, once_if halted) ≡ rest_counts rest → ⊥ }
+{
+    match (ended, stuck, halted) {
+        (false, false, false) => Some(None),
+        (true, false, false) => Some(Some(Rest::Ended)),
+        (false, true, false) => Some(Some(Rest::Stuck)),
+        (false, false, true) => Some(Some(Rest::Halted)),
+        _ => None,
+    }
+}
+
+/// What words require, each of them once, and one of `ended`, `stuck` and `halted` at most.
+fn required_by(words: &[&str]) -> Option<Requirements>
+    ensures some { IfSome result (λ r. AreRequired (map (λ w. w.now) words.now) r) }
+    ensures none { result ≡ None → (r : Requirements)
+        → AreRequired (map (λ w. w.now) words.now) r → ⊥ }
+{
+    let ended = stands("ended", words)?;
+    let stuck = stands("stuck", words)?;
+    let halted = stands("halted", words)?;
+    let empty = stands("empty", words)?;
+    let same = stands("same", words)?;
+    let rest = rest_of(ended, stuck, halted)?;
+    let known = usize::from(ended)
+        + usize::from(stuck)
+        + usize::from(halted)
+        + usize::from(empty)
+        + usize::from(same);
+    if known != words.len() {
+        return None;
+    }
+    Some(Requirements { rest, empty, same })
+}
+
+/// What a text requires: words with commas between them.
+pub(crate) fn requirements_of(alloc: Global, text: &str) -> Result<Option<Requirements>, AllocError>
+    ensures some { IfOk result (λ found. IfSome found (λ r.
+        AreRequired (words_of text.now) r)) }
+    ensures none { IfOk result (λ found. found ≡ None → (r : Requirements)
+        → AreRequired (words_of text.now) r → ⊥) }
+{
+    let words = words_of(alloc, text)?;
+    Ok(required_by(&words))
+}

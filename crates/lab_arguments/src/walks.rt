@@ -1,0 +1,75 @@
+//! The options of walks, and what the words give them.
+ghost use Rattle.std.specs.Prelude.{◌≡◌, ℕ, List, None, Some, IfSome, codes};
+ghost use Rattle.clap.specs.Words.{found_of, one_text};
+ghost use Rattle.lab_arguments.specs.Private.Options.{IsNumber, IsCount, usual_worlds};
+
+use crate::options::{number, number_of, value};
+use crate::question::Walks;
+use crate::{MOST_WALKS, MOST_WORLDS};
+use clap::{ArgMatches, Command};
+use std::alloc::{AllocError, Global};
+
+/// The seed of walks where the words give none.
+const USUAL_SEED: u32 = 1;
+
+/// The most worlds of a search where the words don't say.
+const USUAL_WORLDS: u32 = 100_000;
+
+/// The most worlds of a walk where the words don't say.
+const USUAL_WORLDS_OF_A_WALK: u32 = 10_000;
+
+/// The command with the options of walks, and of how many worlds are visited.
+pub(crate) fn with_walks<'a>(
+    alloc: Global,
+    command: Command<'a>,
+) -> Result<Command<'a>, AllocError> {
+    let worlds =
+        "The most worlds to visit, or those of a walk [default: 100000, and 10000 of a walk]";
+    let random =
+        "Takes N walks by random numbers instead, which never show that there is no other end";
+    let seed = "With --random: the seed of the random numbers [default: 1]";
+    command
+        .arg(number(alloc, "worlds", "M", MOST_WORLDS, worlds))?
+        .arg(number(alloc, "random", "N", MOST_WALKS, random))?
+        .arg(value(alloc, "seed", "S", seed).value_parser(clap::value_parser!(u32)))
+}
+
+/// The walks that the words ask for, if they ask for some.
+pub(crate) fn walks_of(words: &ArgMatches<'_>) -> Option<Walks>
+    ensures none { one_text (found_of words.now) (codes "random") ≡ None → result ≡ None }
+    ensures count { (text : List ℕ) (n : ℕ)
+        → one_text (found_of words.now) (codes "random") ≡ Some text
+        → IsNumber text n → IsCount n result }
+    ensures seed { (text : List ℕ) (n : ℕ)
+        → one_text (found_of words.now) (codes "seed") ≡ Some text
+        → IsNumber text n → IfSome result (λ walks. walks.seed ≡ n) }
+    ensures usual_seed { one_text (found_of words.now) (codes "seed") ≡ None
+        → IfSome result (λ walks. walks.seed ≡ 1) }
+{
+    let seed = number_of(words, "seed").unwrap_or(USUAL_SEED);
+    match number_of(words, "random") {
+        Some(count) => Some(Walks { count, seed }),
+        None => None,
+    }
+}
+
+/// The most worlds to visit where the words don't say.
+fn usual_worlds(random: Option<Walks>) -> u32
+    ensures worlds { result ≡ usual_worlds random }
+{
+    match random {
+        Some(_) => USUAL_WORLDS_OF_A_WALK,
+        None => USUAL_WORLDS,
+    }
+}
+
+/// The most worlds to visit, or those of a walk, as the words say.
+pub(crate) fn worlds_of(words: &ArgMatches<'_>, random: Option<Walks>) -> u32
+    ensures usual { one_text (found_of words.now) (codes "worlds") ≡ None
+        → result ≡ usual_worlds random }
+    ensures given { (text : List ℕ) (n : ℕ)
+        → one_text (found_of words.now) (codes "worlds") ≡ Some text
+        → IsNumber text n → result ≡ n }
+{
+    number_of(words, "worlds").unwrap_or(usual_worlds(random))
+}

@@ -1,0 +1,191 @@
+//! What is asked of an exploration, read from words.
+use crate::complaint::{At, Complaint, Reason};
+use lab_arguments::{Choice, Question, Requirements, Rest};
+use lab_conditions::{Condition, Part, ReadFault, State};
+use lab_explore::{Limits, Walks};
+use lab_questions::{Waiter, Word};
+use lab_sched::Verdict;
+use lc3_word::unsigned;
+use std::alloc::{AllocError, Global};
+
+/// How many bytes a megabyte has.
+const MEGABYTE: usize = 1_048_576;
+
+/// What is asked of an exploration.
+#[derive(Drop)]
+pub struct Inquiry {
+    pub limits: Limits,
+    /// The walks that are taken in place of every interleaving.
+    pub walks: Option<Walks>,
+    pub asked: Asked,
+    /// Which schedule is printed alone.
+    pub choice: Option<Choice>,
+    /// Whether the answers are printed as JSON.
+    pub json: bool,
+}
+
+/// What the answers are about.
+#[derive(Drop)]
+pub enum Asked {
+    /// The ends, and whether each has this verdict, where one is required.
+    Verdict(Option<Verdict>),
+    /// Whether each end is as the words require, and nothing happens on the way that must never be so.
+    More {
+        words: Vec<Word>,
+        waiters: Vec<Waiter>,
+        /// What must never be so.
+        never: Vec<Condition>,
+    },
+}
+
+/// What a question asks of the exploration of so many processes.
+pub fn inquiry_of<'a>(
+    alloc: Global,
+    question: &Question<'a>,
+    count: usize,
+) -> Result<Inquiry, Complaint<'a>> {
+    Ok(Inquiry {
+        limits: Limits {
+            worlds: question.worlds,
+            steps: question.steps,
+            memory: (question.memory as usize).saturating_mul(MEGABYTE),
+        },
+        walks: question.random.map(|walks| Walks {
+            count: walks.count,
+            seed: walks.seed,
+        }),
+        asked: asked_of(alloc, question, count)?,
+        choice: question.schedule,
+        json: question.json,
+    })
+}
+
+/// What the answers to a question are about.
+fn asked_of<'a>(
+    alloc: Global,
+    question: &Question<'a>,
+    count: usize,
+) -> Result<Asked, Complaint<'a>> {
+    if !question.asks_more() {
+        return Ok(Asked::Verdict(verdict_of(question.required.rest)));
+    }
+    Ok(Asked::More {
+        words: words_of(alloc, question.required).at("run")?,
+        waiters: waiters_of(alloc, question.waiters.as_slice(), count)?,
+        never: conditions_of(alloc, question.never.as_slice(), count)?,
+    })
+}
+
+/// The verdict that is required of programs.
+fn verdict_of(rest: Option<Rest>) -> Option<Verdict> {
+    match rest? {
+        Rest::Ended => Some(Verdict::Ended),
+        Rest::Stuck => Some(Verdict::Stuck),
+        Rest::Halted => None,
+    }
+}
+
+/// The words that requirements are, in the order in which they are answered.
+fn words_of(alloc: Global, required: Requirements) -> Result<Vec<Word>, AllocError> {
+    let mut words = Vec::new(alloc);
+    match required.rest {
+        Some(Rest::Ended) => words.push(Word::Ended)?,
+        Some(Rest::Stuck) => words.push(Word::Stuck)?,
+        Some(Rest::Halted) => words.push(Word::Halted)?,
+        None => (),
+    }
+    if required.empty {
+        words.push(Word::Empty)?;
+    }
+    if required.same {
+        words.push(Word::Same)?;
+    }
+    Ok(words)
+}
+
+/// The processes that may wait, of so many.
+fn waiters_of<'a>(
+    alloc: Global,
+    words: &[&'a str],
+    count: usize,
+) -> Result<Vec<Waiter>, Complaint<'a>> {
+    let mut waiters = Vec::new(alloc);
+    for word in words {
+        waiters.push(waiter_of(alloc, word, count)?).at("run")?;
+    }
+    Ok(waiters)
+}
+
+/// The process that may wait, of so many.
+fn waiter_of<'a>(alloc: Global, word: &'a str, count: usize) -> Result<Waiter, Complaint<'a>> {
+    let Some(waiter) = read_waiter(alloc, word).at("run")? else {
+        return Err(Reason::NoWaiter.at(word));
+    };
+    if waiter.process < count {
+        Ok(waiter)
+    } else {
+        Err(Reason::NoSuchWaiter.at(word))
+    }
+}
+
+/// The conditions that words write, on so many processes.
+fn conditions_of<'a>(
+    alloc: Global,
+    words: &[&'a str],
+    count: usize,
+) -> Result<Vec<Condition>, Complaint<'a>> {
+    let mut conditions = Vec::new(alloc);
+    for word in words {
+        conditions
+            .push(condition_of(alloc, word, count)?)
+            .at("run")?;
+    }
+    Ok(conditions)
+}
+
+/// The condition that a word writes, on so many processes.
+fn condition_of<'a>(
+    alloc: Global,
+    word: &'a str,
+    count: usize,
+) -> Result<Condition, Complaint<'a>> {
+    match Condition::read(alloc, word) {
+        Ok(condition) if condition.names_only(count) => Ok(condition),
+        Ok(_) => Err(Reason::NoSuchProcess.at(word)),
+        Err(ReadFault::NoCondition) => Err(Reason::NoCondition.at(word)),
+        Err(ReadFault::NoMemory) => Err(Reason::NoMemory.at("run")),
+    }
+}
+
+/// `P`, which may wait anywhere, or `P at A` or `P at A-B`, if a text is that.
+fn read_waiter(alloc: Global, text: &str) -> Result<Option<Waiter>, AllocError> {
+    if let Some(process) = unsigned(10, text.trim_matches(' ').as_bytes()) {
+        return Ok(Some(Waiter {
+            process: process as usize,
+            first: 0,
+            last: 0xFFFF,
+        }));
+    }
+    match Condition::read(alloc, text) {
+        Ok(condition) => Ok(waiter_at(condition.parts.as_slice())),
+        Err(ReadFault::NoCondition) => Ok(None),
+        Err(ReadFault::NoMemory) => Err(AllocError),
+    }
+}
+
+/// The process that stands at some addresses by a condition with these parts, if it says no more.
+fn waiter_at(parts: &[Part]) -> Option<Waiter> {
+    match parts {
+        [
+            Part::Of {
+                process,
+                state: State::At { first, last },
+            },
+        ] => Some(Waiter {
+            process: *process,
+            first: *first,
+            last: *last,
+        }),
+        _ => None,
+    }
+}

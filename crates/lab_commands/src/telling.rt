@@ -1,0 +1,108 @@
+//! What `explore` writes of answers, and what it complains of.
+use crate::complaint::{At, Complaint, Reason};
+use crate::explore::write_schedule;
+use crate::files::write_text;
+use crate::inquiry::{Asked, Inquiry};
+use lab_answers::{Extent, answers_json};
+use lab_arguments::Choice;
+use lab_conditions::Condition;
+use lab_io::Output;
+use lab_questions::{Answers, Failure, bad_schedule};
+use std::alloc::Global;
+use std::io::Write;
+
+/// Writes answers, and complains where not all is as it has to be.
+pub(crate) fn tell_answers<W: Write>(
+    alloc: Global,
+    found: &Answers,
+    inquiry: &Inquiry,
+    output: &mut Output<W>,
+) -> Result<(), Complaint<'static>> {
+    match inquiry.choice {
+        Some(Choice::End(number)) => {
+            let refused = found.exploration.refused;
+            write_schedule(found.schedules.as_slice(), number, refused, output)?;
+        }
+        Some(Choice::Bad) => write_bad(alloc, found, output)?,
+        None => write_answers(alloc, found, inquiry, output)?,
+    }
+    complain(alloc, found, inquiry)
+}
+
+/// Writes the schedule of the first thing that isn't as it has to be, if there is one.
+fn write_bad<W: Write>(
+    alloc: Global,
+    found: &Answers,
+    output: &mut Output<W>,
+) -> Result<(), Complaint<'static>> {
+    let schedule = bad_schedule(alloc, &found.exploration, &found.answers, found.failure);
+    let Some(schedule) = schedule.at("run")? else {
+        return Ok(());
+    };
+    write_text(&schedule, output)?;
+    write_text("\n", output)
+}
+
+/// Writes all answers, as lines or as JSON.
+fn write_answers<W: Write>(
+    alloc: Global,
+    found: &Answers,
+    inquiry: &Inquiry,
+    output: &mut Output<W>,
+) -> Result<(), Complaint<'static>> {
+    if !inquiry.json {
+        return write_text(&found.text, output);
+    }
+    let never = never_in(inquiry);
+    let json = answers_json(alloc, found, never, extent_of(inquiry), judges(inquiry)).at("run")?;
+    write_text(&json, output)
+}
+
+/// How far an exploration was to go.
+fn extent_of(inquiry: &Inquiry) -> Extent {
+    match inquiry.walks {
+        Some(walks) => Extent::Walks(walks.count),
+        None => Extent::Worlds(inquiry.limits),
+    }
+}
+
+/// Whether something has to be so.
+fn judges(inquiry: &Inquiry) -> bool {
+    match &inquiry.asked {
+        Asked::Verdict(required) => required.is_some(),
+        Asked::More { words, never, .. } => !words.is_empty() || !never.is_empty(),
+    }
+}
+
+/// What must never be so.
+fn never_in(inquiry: &Inquiry) -> &[Condition] {
+    match &inquiry.asked {
+        Asked::Verdict(_) => &[],
+        Asked::More { never, .. } => never.as_slice(),
+    }
+}
+
+/// The complaint that a condition was reached, by its number.
+fn reached(alloc: Global, inquiry: &Inquiry, number: usize) -> Complaint<'static> {
+    let complaint = Reason::Reached.at("explore");
+    let Some(condition) = never_in(inquiry).get(number) else {
+        return complaint;
+    };
+    match format!(in alloc; "{condition}") {
+        Ok(text) => complaint.about(text),
+        Err(_) => Reason::NoMemory.at("run"),
+    }
+}
+
+/// Complains where something has to be so and isn't, or where memory was refused on the way.
+fn complain(alloc: Global, found: &Answers, inquiry: &Inquiry) -> Result<(), Complaint<'static>> {
+    let refused = found.exploration.refused;
+    match found.failure {
+        Some(Failure::Not(word)) => Err(Reason::Not { word }.at("explore")),
+        Some(Failure::Reached(number)) => Err(reached(alloc, inquiry, number)),
+        Some(Failure::Endless) => Err(Reason::Endless.at("explore")),
+        Some(Failure::Incomplete) if refused => Err(Reason::NoMemory.at("run")),
+        Some(Failure::Incomplete) if judges(inquiry) => Err(Reason::Incomplete.at("explore")),
+        Some(Failure::Incomplete) | None => Ok(()),
+    }
+}
