@@ -1,0 +1,86 @@
+"""What `explore --json` answers, checked before anything in it counts."""
+import json
+import re
+from dataclasses import dataclass
+
+from .faults import NoMark
+
+SCHEDULE = re.compile(r"(\d+(\*\d+)?( \d+(\*\d+)?)*)?", re.ASCII)
+WORDS = ["ended", "stuck", "halted", "empty", "same"]
+
+
+@dataclass
+class End:
+    """An end: what each process printed, and a schedule that leads to it."""
+
+    outputs: list
+    schedule: str
+
+
+@dataclass
+class Answer:
+    """The ends, and what isn't as it should be: a verdict, and a schedule that shows it where there is one."""
+
+    ends: list
+    fault: tuple | None
+    limits: list
+
+
+def member(where, key, kind):
+    """A member of an object, which must be of this kind."""
+    found = where.get(key) if isinstance(where, dict) else None
+    if not isinstance(found, kind):
+        raise NoMark(f"explore --json: {key} isn't as the schema says")
+    return found
+
+
+def schedule_of(text):
+    if not isinstance(text, str) or not SCHEDULE.fullmatch(text):
+        raise NoMark("explore --json: a schedule isn't as the schema says")
+    return text
+
+
+def end_of(found, count):
+    processes = member(found, "processes", list)
+    if len(processes) != count:
+        raise NoMark("explore --json: an end has not as many processes as the run")
+    return End([member(it, "out", str) for it in processes], schedule_of(member(found, "schedule", str)))
+
+
+def faults_of(found):
+    """What isn't as it should be, in the order in which explore tells it; each with the schedule that shows it."""
+    for it in member(found, "not", list):
+        word, schedules = member(it, "require", str), member(it, "schedules", list)
+        if word not in WORDS or not schedules:
+            raise NoMark("explore --json: not isn't as the schema says")
+        yield f"not {word}", schedule_of(schedules[-1])
+    for it in member(found, "reached", list):
+        yield f"reached {member(it, 'never', str)}", schedule_of(member(it, "schedule", str))
+
+
+def fault_of(found, asks_to_end):
+    """The first thing that isn't as it should be. `asks_to_end` says that an endless run is a fault, too."""
+    endless = member(found, "endless", (dict, type(None)))
+    for it in faults_of(found):
+        return it
+    if endless is not None and asks_to_end:
+        return "endless", f"{schedule_of(member(endless, 'schedule', str))} {schedule_of(member(endless, 'round', str))}".strip()
+    return None
+
+
+def read(raw, count, asked, asks_to_end):
+    """The answer for a run of so many programs. `asked` says that there was --require or --never."""
+    try:
+        found = json.loads(raw)
+    except (ValueError, RecursionError):
+        raise NoMark("explore --json: this is no JSON") from None
+    limits = member(found, "limits", list)
+    complete = member(found, "search", str) == "complete"
+    if complete == bool(limits) or not all(isinstance(it, str) for it in limits):
+        raise NoMark("explore --json: search and limits contradict each other")
+    fault = fault_of(found, asks_to_end)
+    # what explore itself makes of it must be the same
+    holds = None if not asked or not fault and not complete else not fault
+    if found.get("holds", "none") is not holds:
+        raise NoMark("explore --json: holds contradicts what was found")
+    return Answer([end_of(it, count) for it in member(found, "ends", list)], fault, limits)

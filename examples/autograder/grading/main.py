@@ -1,0 +1,145 @@
+"""The command line of `grade`."""
+import argparse
+import os
+import signal
+import sys
+import tempfile
+from collections import Counter
+from pathlib import Path
+
+from . import reports
+from .crew import Crew
+from .faults import TaskFault
+from .laboratory import Laboratory, found_beside
+from .marking import assemble_given
+from .records import Records, file_name, write_whole
+from .task import read_task
+
+WRITERS = {"junit": reports.junit, "gradescope": reports.gradescope, "csv": reports.table}
+
+
+class Stopped(Exception):
+    """A signal asks for the end."""
+
+
+def parser():
+    words = argparse.ArgumentParser(
+        prog="grade", allow_abbrev=False,
+        description="Marks what students hand in, by every end that their programs can have (docs/autograding.md).",
+        epilog="The status is 0 where all were marked, 1 where a mark couldn't be worked out or --must-pass isn't met, and 2 "
+               "where the task or these words can't be taken. LC3LAB names the lc3lab to use, where it isn't the one two "
+               "folders up, or else the one on the path.")
+    words.add_argument("task", metavar="TASK", help="the task's file")
+    words.add_argument("folders", metavar="FOLDER", nargs="+", help="a folder that a student handed in")
+    words.add_argument("-j", "--jobs", type=int, metavar="N", help="mark N folders side by side (as many as there are "
+                       "processors, and memory for the task's limit in each)")
+    words.add_argument("--results", metavar="PLACE", help="keep marks, and a page of each failure, in this folder; what is kept "
+                       "there is taken up")
+    words.add_argument("--part", metavar="K/N", help="take each N-th folder alone, from the K-th on")
+    words.add_argument("--junit", metavar="FILE", help="write the marks as JUnit's XML")
+    words.add_argument("--gradescope", metavar="FILE", help="write the marks of one folder as Gradescope's results.json")
+    words.add_argument("--csv", metavar="FILE", help="write the marks as a table")
+    words.add_argument("--must-pass", action="store_true", help="have the status 1 unless each folder passes")
+    words.add_argument("--brief", action="store_true", help="print the marks alone, not what is wrong")
+    return words
+
+
+def part_of(folders, word):
+    """The folders of one part."""
+    place, _, count = word.partition("/")
+    if not (place + count).isdecimal() or not 1 <= int(place or 0) <= int(count or 0):
+        raise TaskFault(f"--part: not K/N with K from 1 to N: {word}")
+    return folders[int(place) - 1::int(count)]
+
+
+def keep_out(said):
+    """What is written has a place, and none in a folder that was handed in."""
+    inside = {os.path.realpath(it) for it in said.folders}
+    for target in [it for it in (said.results, said.junit, said.gradescope, said.csv) if it]:
+        place = Path(os.path.realpath(target))
+        if not inside.isdisjoint(map(str, [place, *place.parents])):
+            raise TaskFault(f"{target} lies in a folder that was handed in")
+        if not place.parent.is_dir():
+            raise TaskFault(f"{target}: there is no folder for it")
+
+
+def hands_for(task, asked):
+    """How many folders are marked side by side."""
+    if asked is not None and asked < 1:
+        raise TaskFault(f"--jobs: this can't be {asked}")
+    processors = len(os.sched_getaffinity(0))
+    free = [int(it.split()[1]) // 1024 for it in Path("/proc/meminfo").read_text().splitlines() if it.startswith("MemAvailable")]
+    room = free[0] // max(it.bounds.memory for it in task.runs) if free else processors
+    return asked or max(1, min(processors, room))
+
+
+class Ear:
+    """Hears a signal that asks for the end. It is an exception, at once or, while folders are marked, between two of them."""
+
+    def __init__(self):
+        self.heard, self.waits = None, False
+        for it in signal.SIGINT, signal.SIGTERM, signal.SIGHUP:
+            signal.signal(it, self.hear)
+
+    def hear(self, number, _):
+        self.heard = number
+        if not self.waits:
+            raise Stopped(number)
+
+    def look(self):
+        if self.heard:
+            raise Stopped(self.heard)
+
+
+def marks_of(crew, folders, said, ear):
+    """The marks in the order of the folders; each is printed as soon as all before it are."""
+    found, printed, names = {}, 0, Counter(map(file_name, said.folders))
+    ear.waits = True
+    for number, mark in crew.marks(folders, ear.look):
+        found[number] = mark | {"folder": folders[number]}
+        if sys.stderr.isatty():
+            print(f"\r{len(found)} of {len(folders)}", end="\r" if len(found) == len(folders) else "", file=sys.stderr, flush=True)
+        while printed in found:
+            if crew.records:
+                crew.records.publish(found[printed], names)
+            print("\n".join(reports.lines(found[printed], said.brief)), flush=True)
+            printed += 1
+    ear.waits = False
+    return [found[it] for it in range(len(folders))]
+
+
+def grade(said, place, ear):
+    laboratory = Laboratory(found_beside(Path(sys.argv[0])))
+    task = read_task(said.task, laboratory)
+    folders = [os.path.join(".", it) if it.startswith("-") else it.rstrip("/") or "/" for it in said.folders]
+    folders = part_of(folders, said.part) if said.part else folders
+    if said.gradescope and len(folders) != 1:
+        raise TaskFault("--gradescope is for one folder")
+    keep_out(said)
+    records = Records(said.results) if said.results else None
+    given = assemble_given(laboratory, task, place)
+    crew = Crew(laboratory, task, given, records, hands_for(task, said.jobs), place)
+    marks = marks_of(crew, folders, said, ear)
+    for option, written in WRITERS.items():
+        if getattr(said, option):
+            write_whole(Path(getattr(said, option)), written(task, marks))
+    wanted = {"pass"} if said.must_pass else {"pass", "fail"}
+    return 0 if {it["mark"] for it in marks} <= wanted else 1
+
+
+def main():
+    sys.stdout.reconfigure(encoding="utf-8", errors="backslashreplace")
+    said = parser().parse_intermixed_args()
+    ear = Ear()
+    try:
+        with tempfile.TemporaryDirectory(prefix="grade-") as place:
+            return grade(said, place, ear)
+    except (TaskFault, OSError) as it:
+        print(f"grade: {it}", file=sys.stderr)
+        return 2
+    except Stopped as it:
+        number = it.args[0]
+        ear.waits = True
+    signal.signal(number, signal.SIG_DFL)
+    os.kill(os.getpid(), number)
+    return 128 + number

@@ -1,0 +1,209 @@
+"""The mark of one folder: its sources are taken, assembled, and each run of the task is explored."""
+import hashlib
+import resource
+import shutil
+import time
+from pathlib import Path
+
+from . import answer, calls, outputs, shown, sources
+from .faults import NoMark, TaskFault
+from .records import PAGES
+
+LINES_OF_TRACE = 40
+LONGEST_LINE = 300
+# a trace is read line by line, and a longer one than this isn't read
+MOST_OF_TRACE = 64 << 20
+
+
+class Marking:
+    """What is under way for one folder, in a place that goes again."""
+
+    def __init__(self, laboratory, task, given, place):
+        self.laboratory, self.task, self.given, self.place = laboratory, task, given, Path(place)
+
+    def mark(self, folder, records):
+        """The mark of a folder, as JSON will have it; one that is kept is taken as it is."""
+        taken = {name: sources.take(folder, name) for name in self.task.asked()}
+        found = repr([(name, it.content, it.fault) for name, it in taken.items()])
+        key = hashlib.sha256(f"{self.task.key} {found}".encode()).hexdigest()
+        kept = records.kept(key) if records else None
+        if kept:
+            return kept
+        objects = self.assemble(taken)
+        runs = [self.mark_run(place, run, objects) for place, run in enumerate(self.task.runs, 1)]
+        record = {"key": key, "mark": mark_of(runs), "points": sum(it["points"] for it in runs),
+                  "of": sum(it.points for it in self.task.runs), "runs": runs,
+                  "megabytes": resource.getrusage(resource.RUSAGE_CHILDREN).ru_maxrss // 1024}
+        if records and not {"no mark", "too long"} & {it["verdict"] for it in runs}:
+            records.keep(record)
+        else:
+            for it in runs:
+                it.update(dict.fromkeys(PAGES))
+        return record
+
+    def assemble(self, taken):
+        """The object file of each source that was handed in, or the lines that say why there is none."""
+        objects = {}
+        for name, source in taken.items():
+            if source.fault:
+                objects[name] = [source.fault]
+                continue
+            path = self.place / "asked" / name
+            path.parent.mkdir(parents=True, exist_ok=True)
+            path.write_bytes(source.content)
+            objects[name] = self.assembled(name, self.place / f"asked-{len(objects)}.obj")
+        return objects
+
+    def assembled(self, name, target):
+        words = ["asm", "--explain", "--", str(self.place / "asked" / name), str(target)]
+        ran = self.laboratory.run(words, self.place, self.task.runs[0].bounds)
+        if ran.status == 0 and not ran.bound:
+            return target
+        told = [it.replace(f"{self.place}/asked/", "") for it in shown.lines(ran.errors, LONGEST_LINE + 200, 20)]
+        return told or [f"{name} isn't accepted"]
+
+    def mark_run(self, place, run, objects):
+        """A run's part of the mark."""
+        began, spent = time.monotonic(), spent_so_far()
+        part = {"name": run.name, "verdict": "pass", "detail": [], "points": 0, "of": run.points,
+                "visibility": run.visibility, "schedule": None, **dict.fromkeys(PAGES)}
+        try:
+            part.update(self.judge(place, run, objects))
+        except NoMark as it:
+            part.update(verdict="no mark", detail=[str(it)])
+        if part["verdict"] == "pass":
+            part["points"] = run.points
+        part["seconds"] = round(spent_so_far() - spent, 3)
+        part["clock"] = round(time.monotonic() - began, 3)
+        return part
+
+    def judge(self, place, run, objects):
+        """What is found of a run: its verdict, and the schedule that shows it."""
+        missing = {it.name: objects[it.name] for it in run.programs
+                   if it.given is None and not isinstance(objects[it.name], Path)}
+        if missing:
+            return {"verdict": "no program", "detail": [line for lines in missing.values() for line in lines]}
+        words = self.furnish(place, run, objects)
+        found = self.explore(run, words)
+        if isinstance(found, dict):
+            return found
+        verdict, detail, schedule = self.fault_of(run, found, words)
+        part = {"verdict": verdict, "detail": detail, "schedule": schedule, "ends": len(found.ends)}
+        if schedule is not None:
+            part["detail"] = detail + self.show(place, run, words, schedule)
+            part["page"] = self.page(f"{place}.html")
+            part["ends_page"] = self.page_of_ends(place, run, words)
+        return part
+
+    def furnish(self, place, run, objects):
+        """Puts the programs of a run and their inputs into the place, and gives the words that name them."""
+        words = []
+        for number, program in enumerate(run.programs):
+            word = f"{place}-{number}.obj"
+            source = objects[program.name] if program.given is None else self.given[place, number]
+            shutil.copyfile(source, self.place / word)
+            if program.input is not None:
+                (self.place / f"{place}-{number}.in").write_bytes(program.input)
+                word += f"={place}-{number}.in"
+            words.append(word)
+        return words
+
+    def explore(self, run, words):
+        """The answer to all that is asked of the search, or the part of a mark where there is none."""
+        ran = self.laboratory.run(["explore", "--json", *run.words(), *words], self.place, run.bounds)
+        errors = shown.lines(ran.errors, LONGEST_LINE, 5)
+        if ran.bound == "time":
+            return {"verdict": "too long", "detail": [f"the search takes more than {run.bounds.seconds} seconds"]}
+        if ran.bound == "size":
+            return {"verdict": "incomplete", "detail": ["the ends have more output than a search may tell"]}
+        if ran.bound == "memory" or not ran.output and ran.status == 1 and b"out of memory" in ran.errors:
+            return {"verdict": "incomplete", "detail": [f"the search takes more than {run.bounds.memory} megabytes"]}
+        if ran.status not in (0, 1):
+            raise NoMark("; ".join([f"explore ended with status {ran.status}"] + errors))
+        return answer.read(ran.output, len(words), run.asks(), run.asks_to_end())
+
+    def fault_of(self, run, found, words):
+        """The first thing that isn't as it should be: the verdict, what is said of it, and its schedule."""
+        if found.fault:
+            return found.fault[0], [], found.fault[1]
+        for end in found.ends:
+            wrong = outputs.difference(run.alternatives, end.outputs)
+            if wrong:
+                return "wrong output", wrong, end.schedule
+        watched = any(it.is_watched() for it in run.programs)
+        for end in found.ends if watched else []:
+            made = self.calls_made(run, words, end.schedule)
+            for number, program in enumerate(run.programs):
+                fault = calls.fault_of(program, number, made)
+                if fault:
+                    return fault[0], [fault[1]], end.schedule
+        if found.limits:
+            return "incomplete", ["the search met the limit of " + ", ".join(found.limits)], None
+        return "pass", [], None
+
+    def traced(self, run, words, schedule, *options):
+        """The trace of a run by a schedule."""
+        given = f"{schedule}\n".encode()
+        words = ["trace", "--profile", run.options["profile"], *options, *words]
+        return self.laboratory.run(words, self.place, run.bounds, given, MOST_OF_TRACE)
+
+    def calls_made(self, run, words, schedule):
+        ran = self.traced(run, words, schedule)
+        if ran.bound:
+            raise NoMark("the trace of an end is too long to be read")
+        if ran.status != 0:
+            raise NoMark("; ".join(["trace failed"] + shown.lines(ran.errors, LONGEST_LINE, 5)))
+        return [it for it in map(calls.call_of, ran.output.split(b"\n")) if it]
+
+    def show(self, place, run, words, schedule):
+        """The end of the trace by a schedule. Beside it a page is made, where that has room."""
+        options = ["--page", f"{place}.html"]
+        for number, program in enumerate(run.programs):
+            if program.given is None:
+                options += ["--source", f"{number}={self.place / 'asked' / program.name}"]
+        ran = self.traced(run, words, schedule, *options)
+        if ran.status != 0 or ran.bound:
+            (self.place / f"{place}.html").unlink(missing_ok=True)
+            ran = self.traced(run, words, schedule)
+        return shown.lines(ran.output, LONGEST_LINE, LINES_OF_TRACE)
+
+    def page_of_ends(self, place, run, words):
+        """The file of a page of all ends, by another search, where that has room."""
+        name = f"{place}.ends.html"
+        ran = self.laboratory.run(["explore", "--json", "--page", name, *run.words(), *words], self.place, run.bounds)
+        if ran.status not in (0, 1) or ran.bound:
+            (self.place / name).unlink(missing_ok=True)
+        return self.page(name)
+
+    def page(self, name):
+        """The file of a page, where there is one."""
+        path = self.place / name
+        return str(path) if path.exists() else None
+
+
+def spent_so_far():
+    """The processor time of the calls so far."""
+    spent = resource.getrusage(resource.RUSAGE_CHILDREN)
+    return spent.ru_utime + spent.ru_stime
+
+
+def mark_of(runs):
+    verdicts = {it["verdict"] for it in runs}
+    return "no mark" if "no mark" in verdicts else "pass" if verdicts == {"pass"} else "fail"
+
+
+def assemble_given(laboratory, task, place):
+    """The object files of the teacher's own programs, by the numbers of run and program."""
+    given = {}
+    for number, run in enumerate(task.runs, 1):
+        for process, program in enumerate(run.programs):
+            if program.given is None:
+                continue
+            source, target = Path(place) / f"{number}-{process}.asm", Path(place) / f"{number}-{process}.obj"
+            source.write_bytes(program.given)
+            ran = laboratory.run(["asm", str(source), str(target)], place, run.bounds)
+            if ran.status != 0:
+                told = "; ".join(shown.lines(ran.errors, LONGEST_LINE, 3)).replace(f"{place}/", "")
+                raise TaskFault(f"{program.name}: {told}")
+            given[number, process] = target
+    return given

@@ -1,0 +1,107 @@
+"""What each process of a run should print."""
+import re
+from dataclasses import dataclass
+
+from . import shown
+from .faults import TaskFault
+
+
+@dataclass
+class Text:
+    """One of these texts, exactly."""
+
+    texts: list
+
+    def fits(self, found):
+        return found in self.texts
+
+    def told(self):
+        return " or ".join(shown.output(it) for it in self.texts)
+
+
+@dataclass
+class Lines:
+    """A regular expression for each line, in turn. A line feed at the very end begins no line."""
+
+    patterns: list
+
+    def fits(self, found):
+        lines = lines_of(found)
+        return len(lines) == len(self.patterns) and all(it.fullmatch(line) for it, line in zip(self.patterns, lines))
+
+    def told(self):
+        return "lines like " + ", ".join(f"/{it.pattern}/" for it in self.patterns)
+
+
+@dataclass
+class EachLine:
+    """One regular expression for all lines, however many there are."""
+
+    pattern: re.Pattern
+
+    def fits(self, found):
+        return all(self.pattern.fullmatch(it) for it in lines_of(found))
+
+    def told(self):
+        return f"only lines like /{self.pattern.pattern}/"
+
+
+class Anything:
+    """Whatever is printed."""
+
+    def fits(self, found):
+        return True
+
+    def told(self):
+        return "anything"
+
+
+def lines_of(text):
+    lines = text.split("\n")
+    return lines[:-1] if lines[-1] == "" else lines
+
+
+def pattern_of(text):
+    try:
+        return re.compile(text)
+    except (re.error, TypeError) as it:
+        raise TaskFault(f"outputs: no regular expression: {text}: {it}") from None
+
+
+def is_output(text):
+    return isinstance(text, str) and all(ord(it) < 256 for it in text)
+
+
+def wanted(word):
+    """What stands for one process in `outputs`."""
+    if is_output(word):
+        return Text([word])
+    if isinstance(word, dict) and len(word) == 1:
+        (key, value), = word.items()
+        if key == "any" and isinstance(value, list) and value and all(map(is_output, value)):
+            return Text(value)
+        if key == "lines" and isinstance(value, list):
+            return Lines([pattern_of(it) for it in value])
+        if key == "each-line":
+            return EachLine(pattern_of(value))
+        if key == "free" and value is True:
+            return Anything()
+    raise TaskFault(f"outputs: neither a text nor one of any, lines, each-line, free: {word}")
+
+
+def wanted_of_all(words, count):
+    """What stands for all processes of a run."""
+    if not isinstance(words, list) or len(words) != count:
+        raise TaskFault(f"outputs: there must be one for each of the {count} programs")
+    return [wanted(it) for it in words]
+
+
+def difference(alternatives, found):
+    """What is wrong with the outputs of an end, in lines, or nothing where they are those of an alternative."""
+    wrong = [[place for place, it in enumerate(each) if not it.fits(found[place])] for each in alternatives]
+    if not wrong or [] in wrong:
+        return []
+    nearest = min(range(len(wrong)), key=lambda it: len(wrong[it]))
+    told = alternatives[nearest]
+    also = ["(other outputs would do, too)"] * (len(alternatives) > 1)
+    return [f"process {it} printed {shown.output(found[it])}, not {told[it].told()}" for it in wrong[nearest]] + also

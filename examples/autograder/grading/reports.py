@@ -1,0 +1,108 @@
+"""The marks as other programs take them: JUnit's XML, the results of Gradescope, and a table of comma-separated values."""
+import csv
+import io
+import json
+import re
+from xml.etree import ElementTree
+
+from . import shown
+from .records import PAGES
+
+# characters that XML 1.0 can't have
+NOT_XML = re.compile("[^\t\n\r -\uD7FF\uE000-\uFFFD\U00010000-\U0010FFFF]")
+# a spreadsheet would take a cell that begins so for a formula
+FORMULA = ("=", "+", "-", "@", "\t", "\r")
+COLUMNS = ["folder", "mark", "points", "of", "run", "verdict", "detail", "schedule", "page", "ends_page", "seconds"]
+
+
+def number(points):
+    return int(points) if points == int(points) else points
+
+
+def told(run):
+    """A verdict with what is said of it, and the schedule that shows it, in lines."""
+    schedule = [f"schedule {run['schedule']}".rstrip()] if run["schedule"] is not None else []
+    return run["detail"] + schedule
+
+
+def xml(text):
+    return NOT_XML.sub(lambda it: shown.escaped(it[0]), text)
+
+
+def case_of(suite, mark, run):
+    """A test case of JUnit: failed, or with an error where there is no mark."""
+    case = ElementTree.SubElement(suite, "testcase", classname=xml(shown.name(mark["folder"], "")), name=xml(run["name"]),
+                                  time=f"{run['clock']:.3f}")
+    if run["verdict"] != "pass":
+        kind = "error" if run["verdict"] == "no mark" else "failure"
+        fault = ElementTree.SubElement(case, kind, message=xml(run["verdict"]), type=xml(run["verdict"]))
+        fault.text = xml("\n".join(told(run)))
+    attached = [f"[[ATTACHMENT|{run[it]}]]" for it in PAGES if run[it]]
+    if attached:
+        # GitLab shows, and Jenkins keeps, files that are named so
+        ElementTree.SubElement(case, "system-out").text = xml("\n".join(attached))
+    return case
+
+
+def counts_of(runs):
+    return {"tests": str(len(runs)), "failures": str(sum(it["verdict"] not in ("pass", "no mark") for it in runs)),
+            "errors": str(sum(it["verdict"] == "no mark" for it in runs)), "time": f"{sum(it['clock'] for it in runs):.3f}"}
+
+
+def junit(task, marks):
+    """A test suite for each folder, with a test case for each run."""
+    root = ElementTree.Element("testsuites", name=xml(task.title or "grade"),
+                               **counts_of([it for mark in marks for it in mark["runs"]]))
+    for mark in marks:
+        suite = ElementTree.SubElement(root, "testsuite", name=xml(shown.name(mark["folder"], "")),
+                                       skipped="0", **counts_of(mark["runs"]))
+        for run in mark["runs"]:
+            case_of(suite, mark, run)
+    ElementTree.indent(root)
+    return ElementTree.tostring(root, encoding="utf-8", xml_declaration=True) + b"\n"
+
+
+def gradescope(task, marks):
+    """The results of one submission."""
+    mark, = marks
+    tests = [{"name": run["name"], "number": str(place), "score": number(run["points"]), "max_score": number(run["of"]),
+              "status": "passed" if run["verdict"] == "pass" else "failed",
+              "output": "\n".join([run["verdict"]] + told(run)), "output_format": "text", "visibility": run["visibility"]}
+             for place, run in enumerate(mark["runs"], 1)]
+    found = {"output": task.title, "output_format": "text", "visibility": "visible", "stdout_visibility": "hidden",
+             "execution_time": round(sum(it["clock"] for it in mark["runs"]), 3), "tests": tests}
+    return json.dumps(found, indent=2).encode() + b"\n"
+
+
+def cell(value):
+    text = str(value)
+    return "'" + text if text.startswith(FORMULA) else text
+
+
+def table(task, marks):
+    """A line for each folder and run, under a line with the names of the columns (RFC 4180)."""
+    rows = io.StringIO()
+    writer = csv.writer(rows)
+    writer.writerow(COLUMNS)
+    for mark in marks:
+        for run in mark["runs"]:
+            detail = "\n".join(run["detail"])
+            row = [shown.name(mark["folder"], ""), mark["mark"], number(mark["points"]), number(mark["of"]), run["name"],
+                   run["verdict"], detail, run["schedule"] or "", run["page"] or "", run["ends_page"] or "",
+                   run["seconds"]]
+            writer.writerow([it if isinstance(it, (int, float)) else cell(it) for it in row])
+    return rows.getvalue().encode("utf-8", "replace")
+
+
+def lines(mark, brief):
+    """What is printed of a mark: a line with it, and below it what is wrong, each line behind two blanks or four."""
+    scored = "" if mark["mark"] == "no mark" else f": {number(mark['points'])} of {number(mark['of'])} points"
+    yield f"{shown.name(mark['folder'])}: {mark['mark']}{scored}"
+    for run in mark["runs"] if not brief else []:
+        if run["verdict"] != "pass":
+            yield f"  {run['name']}: {run['verdict']}"
+            yield from (f"    {it}" for it in told(run))
+            if run["page"]:
+                yield f"    page {shown.name(run['page'], '')}"
+            if run["ends_page"]:
+                yield f"    ends {shown.name(run['ends_page'], '')}"

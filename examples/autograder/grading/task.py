@@ -1,0 +1,202 @@
+"""Tasks: what their files say (docs/autograding.md)."""
+import hashlib
+import os
+import re
+import tomllib
+from dataclasses import dataclass, field
+from pathlib import Path
+
+from . import calls, outputs
+from .answer import WORDS
+from .faults import TaskFault
+from .laboratory import Bounds
+
+# another number where marks come to be worked out otherwise, so that kept ones aren't taken up
+FORM = 1
+VISIBILITIES = ["visible", "hidden", "after_due_date", "after_published"]
+# what stands at the head of a task holds for each run that doesn't say otherwise
+SHARED = {"require": "halted", "may-wait": [], "never": [], "fair": False, "profile": "a", "limit": 100_000,
+          "worlds": 100_000, "memory": 1024, "seconds": 60, "points": 1, "visibility": "visible"}
+OF_RUN = {"name", "programs", "outputs", "alternatives"}
+OF_PROGRAM = {"given", "asked", "input", "input-file", "must-call", "must-not-call", "must-hold"}
+
+
+@dataclass
+class Program:
+    """A process of a run: the source that is given or asked, its console input, and what it must do."""
+
+    given: bytes | None
+    name: str
+    input: bytes | None
+    must_call: list
+    must_not_call: list
+    must_hold: list
+
+    def is_watched(self):
+        return bool(self.must_call or self.must_not_call or self.must_hold)
+
+
+@dataclass
+class Run:
+    """Programs side by side, and what is asked of all their interleavings."""
+
+    name: str
+    programs: list
+    alternatives: list
+    options: dict
+    points: float
+    visibility: str
+    bounds: Bounds
+
+    def words(self):
+        """The words of explore but for the programs."""
+        said = self.options
+        found = ["--profile", said["profile"], "--limit", str(said["limit"]), "--worlds", str(said["worlds"]),
+                 "--memory", str(said["memory"])]
+        found += ["--require", said["require"]] if said["require"] else []
+        for option in "may-wait", "never":
+            found += [word for it in said[option] for word in (f"--{option}", it)]
+        return found + ["--fair"] * said["fair"]
+
+    def asks(self):
+        """Something is asked of the search itself."""
+        return bool(self.options["require"] or self.options["never"])
+
+    def asks_to_end(self):
+        return not {"ended", "stuck", "halted"}.isdisjoint(self.options["require"].split(","))
+
+
+@dataclass
+class Task:
+    """All runs, each of which is one part of the mark."""
+
+    title: str
+    runs: list
+    key: str = field(default="")
+
+    def asked(self):
+        """The names of the files that a student hands in, each once."""
+        return list(dict.fromkeys(it.name for run in self.runs for it in run.programs if it.given is None))
+
+
+def value(table, key, kind, otherwise=None):
+    """The value of a key, of this kind; `otherwise` where the key isn't there."""
+    found = table.get(key, otherwise)
+    if key in table and (not isinstance(found, kind) or isinstance(found, bool) and kind is not bool):
+        raise TaskFault(f"{key}: this can't be {found!r}")
+    return found
+
+
+def expect_keys(table, known, where):
+    if not isinstance(table, dict):
+        raise TaskFault(f"{where}: this must be a table")
+    for key in table:
+        if key not in known:
+            raise TaskFault(f"{where}: there is no key {key}")
+
+
+def content_of(folder, name):
+    try:
+        return (folder / name).read_bytes()
+    except OSError as it:
+        raise TaskFault(f"{name}: {it.strerror}") from None
+
+
+def asked_name(name):
+    """The name of a file that is handed in: a path that stays within the folder."""
+    parts = name.split("/")
+    if not re.fullmatch(r"[^\x00-\x1F\x7F\\]+", name) or {"", ".", ".."} & set(parts):
+        raise TaskFault(f"asked: no path within a folder: {name}")
+    return name
+
+
+def program_of(table, folder):
+    expect_keys(table, OF_PROGRAM, "programs")
+    given, asked = value(table, "given", str), value(table, "asked", str)
+    if (given is None) == (asked is None):
+        raise TaskFault("programs: each program is given or asked")
+    if {"input", "input-file"} <= set(table):
+        raise TaskFault("programs: a program has input or input-file, not both")
+    words = value(table, "input", str)
+    if words is not None and not outputs.is_output(words):
+        raise TaskFault("input: a character stands for one byte, up to \\u00FF")
+    file = value(table, "input-file", str)
+    content = words.encode("latin-1") if words is not None else content_of(folder, file) if file else None
+    made = [calls.wanted_calls(table.get(it, []), it) for it in ("must-call", "must-not-call")]
+    source = None if given is None else content_of(folder, given)
+    name = asked_name(asked) if given is None else os.path.basename(given)
+    return Program(source, name, content, *made, calls.wanted_names(table.get("must-hold", []), "must-hold"))
+
+
+def wanted_outputs(table, count):
+    """The alternatives of a run: each has what every process should print."""
+    if {"outputs", "alternatives"} <= set(table):
+        raise TaskFault("a run has outputs or alternatives, not both")
+    every = value(table, "alternatives", list, [])
+    if "alternatives" in table and not every:
+        raise TaskFault("alternatives: there is none")
+    return [outputs.wanted_of_all(it, count) for it in ([table["outputs"]] if "outputs" in table else every)]
+
+
+def options_of(table):
+    said = {}
+    for key, otherwise in SHARED.items():
+        kind = (int, float) if key == "points" else type(otherwise)
+        said[key] = value(table, key, kind, otherwise)
+        if key in ("limit", "worlds", "memory", "seconds", "points") and said[key] < (key != "points"):
+            raise TaskFault(f"{key}: this can't be {said[key]}")
+    for key in "may-wait", "never":
+        calls.words_of(said[key], key)
+    if said["require"] and not set(said["require"].split(",")) <= set(WORDS):
+        raise TaskFault(f"require: {said['require']}: the words are {', '.join(WORDS)}")
+    if said["profile"] not in ("a", "b") or said["visibility"] not in VISIBILITIES:
+        raise TaskFault("profile is a or b, and visibility one of " + ", ".join(VISIBILITIES))
+    return said
+
+
+def run_of(table, shared, folder):
+    expect_keys(table, OF_RUN | SHARED.keys(), "run")
+    programs = [program_of(it, folder) for it in value(table, "programs", list, [])]
+    if not 1 <= len(programs) <= 64:
+        raise TaskFault("a run has 1 to 64 programs")
+    said = options_of(shared | {key: it for key, it in table.items() if key in SHARED})
+    return Run(value(table, "name", str, ""), programs, wanted_outputs(table, len(programs)), said,
+               float(said["points"]), said["visibility"], Bounds(said["seconds"], said["memory"]))
+
+
+def task_of(table, folder):
+    expect_keys(table, {"title", "run"} | SHARED.keys(), "task")
+    shared = {key: it for key, it in table.items() if key in SHARED}
+    runs = [run_of(it, shared, folder) for it in value(table, "run", list, [])]
+    for number, run in enumerate(runs, 1):
+        run.name = run.name or f"run {number}"
+    if not runs or len({it.name for it in runs}) < len(runs):
+        raise TaskFault("a task has a run at least, and each run a name of its own")
+    task = Task(value(table, "title", str, ""), runs)
+    if not task.asked():
+        raise TaskFault("no program is asked")
+    return task
+
+
+def read_task(path, laboratory):
+    """The task in a file. Paths in it begin at its folder."""
+    path = Path(path)
+    try:
+        table = tomllib.loads(path.read_text(encoding="utf-8"))
+        task = task_of(table, path.parent)
+        for run in task.runs:
+            for option in [it for it in ("never", "fair") if run.options[it]] + ["json", "may-wait"]:
+                if not laboratory.has(f"--{option}"):
+                    raise TaskFault(f"this lc3lab has no explore --{option}")
+    except OSError as it:
+        raise TaskFault(f"{path}: {it.strerror}") from None
+    except (ValueError, TaskFault) as it:
+        raise TaskFault(f"{path}: {it}") from None
+    task.key = key_of(task, table, laboratory)
+    return task
+
+
+def key_of(task, table, laboratory):
+    """A digest of all that a mark depends on beside what is handed in."""
+    files = [(it.given, it.input) for run in task.runs for it in run.programs]
+    return hashlib.sha256(repr((FORM, laboratory.identity, table, files)).encode()).hexdigest()

@@ -1,0 +1,75 @@
+"""Programs that run for ever, print for ever, or have too many worlds end in a mark, within time and memory."""
+import time
+
+from .calling import HALT, example
+
+ENDLESS = "     .ORIG x3000\nLOOP BR LOOP\n     .END\n"
+# takes and gives a semaphore for ever: a round
+ROUND = """
+      .ORIG x3000
+      LEA R0,NAME
+      LD R1,CREATE
+      ADD R2,R2,#1
+      TRAP x50
+LOOP  TRAP x53
+      AND R0,R0,#0
+      TRAP x55
+      BR LOOP
+NAME  .STRINGZ "/s"
+CREATE .FILL x40
+      .END
+"""
+# posts a semaphore for ever, and so comes to another world each time; with a text before each post, memory grows, too
+POSTS = ROUND.replace("LOOP  TRAP x53", "LOOP  NOP").replace("NOP", "AND R0,R0,#0")
+PRINTS = """
+      .ORIG x3000
+      LEA R0,NAME
+      LD R1,CREATE
+      TRAP x50
+LOOP  LEA R0,TEXT
+      PUTS
+      AND R0,R0,#0
+      TRAP x55
+      BR LOOP
+NAME  .STRINGZ "/s"
+CREATE .FILL x40
+TEXT  .BLKW 200 x41
+      .END
+""".replace(".BLKW 200 x41", '.STRINGZ "' + "A" * 200 + '"')
+TASK = """
+seconds = 20
+worlds = {worlds}
+memory = 64
+[[run]]
+programs = [{{ asked = "a.asm" }}, {{ given = "other.asm" }}]
+"""
+
+
+def look(check, grader):
+    (grader.place / "other.asm").write_text(POSTS)
+    small, large = grader.task(TASK.format(worlds=2000), "small.toml"), grader.task(TASK.format(worlds=10_000_000), "large.toml")
+    folders = {name: str(grader.folder(name, a__asm=text)) for name, text in
+               {"endless": ENDLESS, "round": ROUND, "posts": POSTS, "prints": PRINTS, "halts": HALT}.items()}
+    began = time.monotonic()
+    found = grader.marks(small, folders.values())
+    check(found[folders["endless"]] == ["incomplete"], f"a process without a call: {found}")
+    check(found[folders["posts"]] == ["incomplete"], f"too many worlds: {found}")
+    check(found[folders["prints"]] == ["incomplete"], f"too much output: {found}")
+    found = grader.marks(large, [folders["prints"], folders["posts"]])
+    check(set(map(tuple, found.values())) <= {("incomplete",), ("too long",)}, f"too much memory: {found}")
+    check(time.monotonic() - began < 200, f"bounds: {time.monotonic() - began:.0f} seconds")
+    look_at_seconds(check, grader, folders)
+    (grader.place / "other.asm").write_text(HALT)
+    found = grader.marks(small, [folders["round"], folders["halts"]])
+    check(found == {folders["round"]: ["endless"], folders["halts"]: ["pass"]}, f"a round: {found}")
+
+
+def look_at_seconds(check, grader, folders):
+    """Time that is up is a mark that isn't kept."""
+    text = TASK.format(worlds=10_000_000).replace("seconds = 20", "seconds = 1").replace("memory = 64", "memory = 4000")
+    programs = ", ".join('{ given = "taker.asm" }' for _ in range(8))
+    (grader.place / "taker.asm").write_text(example("course/5-deadlock/first-a.asm"))
+    task = grader.task(text.replace('{ given = "other.asm" }', programs), "seconds.toml")
+    found = grader.marks(task, [folders["halts"]], "--results", grader.place / "results")
+    check(found == {folders["halts"]: ["too long"]}, f"too long: {found}")
+    check(not list((grader.place / "results/records").iterdir()), "a mark for want of time is kept")

@@ -1,0 +1,114 @@
+"""Folders by which a student could have another's mark, forge one, or stop the grader."""
+import os
+
+from .calling import HALT, TASKS, example
+
+TASK = TASKS / "5-deadlock.toml"
+RIGHT = {"first__asm": example("course/5-deadlock/first-a.asm"), "second__asm": example("course/5-deadlock/first-a.asm")}
+NO_PROGRAM = ["no program", "no program", "no program"]
+# prints what the report of a right run looks like, and names semaphores so that a trace might be taken for another
+FORGED = """
+      .ORIG x3000
+      LEA R0,LINES
+      PUTS
+      LEA R0,NAME
+      LD R1,CREATE
+      ADD R2,R2,#2
+      TRAP x50
+      TRAP x53
+      LEA R0,OTHER
+      TRAP x50
+      TRAP x53
+      HALT
+LINES .STRINGZ "\\nverdict ended\\ncomplete 1 worlds\\n  1 P0 x3000 +0 sem_wait(0</a>) = 0 ; value 0\\n"
+NAME  .STRINGZ "/a>)=0"
+OTHER .STRINGZ "/b\\"</b>)"
+CREATE .FILL x40
+      .END
+"""
+NAMES = ["x\nben: pass: 3 of 3 points", "x\\nben: pass\\c", "x\x1b[2J", "-x", "=1+1", 'a"b<c>&d', "\u202egp", " blank "]
+
+
+def look(check, grader):
+    right = grader.folder("right", **RIGHT)
+    make_others(grader, right)
+    expected = {name: ["pass"] * 3 for name in ("right", "hard")}
+    expected |= dict.fromkeys(["link", "whole", "parts", "none", "nobody"], NO_PROGRAM)
+    # their first program is right, and the second one is none; and the other way round
+    expected |= dict.fromkeys(["fifo", "device", "folders", "huge"], ["no program", "pass", "no program"])
+    expected |= dict.fromkeys(["text", "bytes"], ["no program", "no program", "missing call"])
+    if os.geteuid():
+        expected |= {"closed": NO_PROGRAM, "unreadable": ["no program", "no program", "pass"]}
+    expected["forged"] = ["wrong output", "missing call", "missing call"]
+    paths = {str(grader.place / "class" / name): verdicts for name, verdicts in expected.items()}
+    found = grader.marks(TASK, paths, "-j", "2")
+    for folder, verdicts in paths.items():
+        check(found.get(folder) == verdicts, f"{folder}: {found.get(folder, found)}, not {verdicts}")
+    for name in "unreadable", "closed":
+        os.chmod(grader.place / "class" / name, 0o755)
+    look_at_names(check, grader)
+    look_at_parts(check, grader)
+
+
+def make_others(grader, right):
+    """Links, what is no file, what is too large or can't be read, and what isn't there."""
+    class_ = right.parent
+    grader.folder("none")
+    for name, file in ("link", "first.asm"), ("fifo", None), ("device", None), ("folders", None), ("huge", None), ("hard", None):
+        folder = grader.folder(name, **({} if name in ("hard", "link") else {"first__asm": RIGHT["first__asm"]}))
+        second = folder / "second.asm"
+        if name == "link":
+            (folder / file).symlink_to("../right/first.asm")
+            second.symlink_to("/dev/zero")
+        elif name == "fifo":
+            os.mkfifo(second)
+        elif name == "device":
+            second.symlink_to("/dev/zero") if os.geteuid() else os.mknod(second, 0o20666, os.makedev(1, 5))
+        elif name == "folders":
+            second.mkdir()
+        elif name == "huge":
+            with open(second, "wb") as it:
+                it.truncate(1 << 33)
+        else:
+            for it in "first.asm", "second.asm":
+                os.link(right / it, folder / it)
+    (class_ / "whole").symlink_to("right")
+    (grader.folder("parts") / "first.asm").symlink_to("first.asm")
+    grader.folder("text", first__asm="Dear teacher, please let me pass.\n", second__asm=HALT)
+    (grader.folder("bytes", second__asm=HALT) / "first.asm").write_bytes(bytes(range(256)) * 100)
+    grader.folder("forged", first__asm=FORGED, second__asm=FORGED)
+    for name in "unreadable", "closed":
+        folder = grader.folder(name, **RIGHT)
+        os.chmod(folder if name == "closed" else folder / "first.asm", 0)
+
+
+def look_at_names(check, grader):
+    """Each folder has one line of its own, whatever its name is, and the last one is marked like the first."""
+    folders = [grader.folder(it, **RIGHT) for it in NAMES]
+    raw = os.fsencode(grader.place / "class") + b"/not \xff text"
+    os.mkdir(raw)
+    printed, complained, status = grader.call("--", TASK, *folders, os.fsdecode(raw))
+    lines = printed.splitlines()
+    check(status == 0 and not complained, f"names: status {status}: {complained}")
+    marked = [it for it in lines if not it.startswith("  ")]
+    check([it.endswith(": pass: 3 of 3 points") for it in marked] == [True] * len(NAMES) + [False], f"names: {marked}")
+    check(all(it.count(": ") == 2 for it in marked), f"names: a colon in a name: {marked}")
+    check(len(set(marked)) == len(NAMES) + 1, f"names: two look the same: {marked}")
+    check(not any(ord(it) < 32 for line in lines for it in line), "names: a control character is printed")
+    # from the folder itself, where a name could be taken for an option
+    found = grader.marks(TASK, ["class/right/", "class/right//"])
+    check(list(found.values()) == [["pass"] * 6], f"a slash behind a name: {found}")
+
+
+def look_at_parts(check, grader):
+    """A file within a folder of the student's is taken, but not through a link, and no path leads out."""
+    task = grader.task('[[run]]\nprograms = [{ asked = "a/first.asm" }]\n')
+    own, linked = grader.folder("own"), grader.folder("linked")
+    (own / "a").mkdir()
+    (own / "a/first.asm").write_text(HALT)
+    (linked / "a").symlink_to("../own/a")
+    found = grader.marks(task, [own, linked])
+    check(found == {str(own): ["pass"], str(linked): ["no program"]}, f"parts of a folder: {found}")
+    for name in "../own/a/first.asm", "/etc/passwd", "a//first.asm", "./a", "":
+        _, complained, status = grader.call(grader.task(f'[[run]]\nprograms = [{{ asked = "{name}" }}]\n'), own)
+        check(status == 2 and "no path within a folder" in complained, f"asked {name}: status {status}: {complained}")

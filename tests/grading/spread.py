@@ -1,0 +1,53 @@
+"""Parts of a class that are marked apart make the marks of the whole."""
+import os
+import shutil
+import subprocess
+
+from .calling import EXAMPLES, GRADE, HALT, TASKS
+
+TASK = TASKS / "1-hello.toml"
+SPREAD = EXAMPLES / "autograder/spread"
+
+
+def look(check, grader):
+    folders = [grader.folder(f"student-{it}", hello__asm=f"; {it}\n{HALT}") for it in range(7)]
+    results = grader.place / "results"
+    lines = []
+    for part in range(1, 4):
+        printed, complained, status = grader.call("--brief", "--part", f"{part}/3", "--results", results, TASK, *folders)
+        check(status == 0, f"part {part}: status {status}: {complained}")
+        lines += printed.splitlines()
+    whole = grader.call("--brief", TASK, *folders)[0].splitlines()
+    check(sorted(lines) == whole and len(whole) == 7, f"parts: {lines}, {whole}")
+    check(len(list((results / "records").glob("*.json"))) == 7, "the parts keep not all marks")
+    look_at_array(check, grader, folders, whole)
+    look_at_ssh(check, grader, whole)
+
+
+def look_at_array(check, grader, folders, whole):
+    """The jobs of an array, run here one behind the other as Slurm would run them."""
+    results = grader.place / "array"
+    for job in "1", "2":
+        given = grader.environment | {"SLURM_ARRAY_TASK_ID": job, "SLURM_ARRAY_TASK_COUNT": "2", "SLURM_CPUS_PER_TASK": "2"}
+        ran = subprocess.run(["sh", SPREAD / "array.sbatch", GRADE, results, TASK, folders[0].parent], env=given,
+                             stdout=subprocess.PIPE, stderr=subprocess.PIPE, cwd=grader.place, check=False)
+        check(ran.returncode == 0 and not ran.stderr, f"array, job {job}: status {ran.returncode}: {ran.stderr.decode()}")
+    found = grader.call("--brief", "--results", results, TASK, *folders)[0].splitlines()
+    check(found == whole and len(list((results / "records").glob("*.json"))) == 7, f"array: {found}")
+
+
+def look_at_ssh(check, grader, whole):
+    """Without a machine that answers, all is marked here. With LC3LAB_MACHINES, names for ssh, some is marked there."""
+    if not shutil.which("parallel"):
+        print("over-ssh: not tried, since there is no GNU parallel")
+        return
+    given = grader.environment | {it: value for it, value in os.environ.items() if it in ("HOME", "PARALLEL_SSH")}
+    machines = os.environ.get("LC3LAB_MACHINES", "nobody.invalid")
+    ran = subprocess.run([SPREAD / "over-ssh", machines, "spread", TASK, "class"], env=given, stdin=subprocess.DEVNULL,
+                         stdout=subprocess.PIPE, stderr=subprocess.PIPE, cwd=grader.place, check=False)
+    there = "over-ssh: 7 different marks" if "LC3LAB_MACHINES" in os.environ else "over-ssh: 0 different marks"
+    check(ran.returncode == 0 and there in ran.stderr.decode(), f"over-ssh: status {ran.returncode}: {ran.stderr.decode()}")
+    found = [it for it in ran.stdout.decode().splitlines() if not it.startswith(" ")]
+    check([it.split(":")[1:] for it in found] == [it.split(":")[1:] for it in whole], f"over-ssh: {found}")
+    check(not (grader.place / "spread/records/said").exists() and sorted(it.name for it in (grader.place / "class").iterdir())
+          == [f"student-{it}" for it in range(7)], "over-ssh: something is left in the class")

@@ -1,0 +1,62 @@
+"""Tasks that can't be taken are refused, and what outputs may be."""
+from .calling import HALT
+
+ONE = '[[run]]\nprograms = [{ asked = "a.asm" }]\n'
+REFUSED = {
+    "": "a task has a run at least",
+    "x": "Expected '='",
+    "[run]\n": "run: this can't be",
+    ONE + ONE.replace("[[run]]", '[[run]]\nname = "run 1"'): "each run a name of its own",
+    "title = 1\n" + ONE: "title: this can't be 1",
+    "colour = 1\n" + ONE: "there is no key colour",
+    "[[run]]\nprograms = []\n": "1 to 64 programs",
+    '[[run]]\nprograms = [{ given = "missing.asm" }]\n': "missing.asm: No such file",
+    '[[run]]\nprograms = [{ given = "a.asm", asked = "a.asm" }]\n': "given or asked",
+    '[[run]]\nprograms = [{ given = "given.asm" }]\n': "no program is asked",
+    '[[run]]\nprograms = [{ asked = "a.asm", input = "1", input-file = "given.asm" }]\n': "not both",
+    '[[run]]\nprograms = [{ asked = "a.asm", input = "\\u20AC" }]\n': "one byte",
+    '[[run]]\nprograms = [{ asked = "a.asm", must-call = ["sem_wat"] }]\n': "must-call: no call: sem_wat",
+    '[[run]]\nprograms = [{ asked = "a.asm", must-call = ["sem_wait a"] }]\n': "no call: sem_wait a",
+    '[[run]]\nprograms = [{ asked = "a.asm", must-hold = "/a" }]\n': "must-hold: this must be a list",
+    ONE + "outputs = []\n": "one for each of the 1 programs",
+    ONE + 'outputs = [{ lines = ["("] }]\n': "no regular expression",
+    ONE + "outputs = [{ colour = 1 }]\n": "neither a text",
+    ONE + "alternatives = []\n": "there is none",
+    ONE + 'require = "halt"\n': "require: halt",
+    ONE + 'require = "halted,"\n': "require: halted,",
+    ONE + "worlds = 0\n": "worlds: this can't be 0",
+    ONE + "seconds = true\n": "seconds: this can't be True",
+    ONE + "points = -1\n": "points: this can't be -1",
+    ONE + 'visibility = "never"\n': "visibility one of",
+    ONE + 'profile = "c"\n': "profile is a or b",
+}
+PRINTS = '     .ORIG x3000\n     LEA R0,TEXT\n     PUTS\n     HALT\nTEXT .STRINGZ "12\\nabc\\n"\n     .END\n'
+OUTPUTS = {
+    '"12\\nabc\\n"': "pass", '"12\\nabc"': "wrong output", '{ any = ["", "12\\nabc\\n"] }': "pass", '{ any = ["", "12"] }': "wrong output",
+    '{ lines = ["[0-9]+", "a.c"] }': "pass", '{ lines = ["[0-9]+"] }': "wrong output", '{ lines = ["1", "a"] }': "wrong output",
+    '{ lines = ["12", "abc", ""] }': "wrong output", '{ each-line = "[a-c0-2]*" }': "pass", '{ each-line = "[a-c]*" }': "wrong output",
+    "{ free = true }": "pass",
+}
+
+
+def look(check, grader):
+    folder = grader.folder("one", a__asm=PRINTS)
+    (grader.place / "given.asm").write_text(HALT)
+    for text, complaint in REFUSED.items():
+        printed, complained, status = grader.call(grader.task(text), folder)
+        good = status == 2 and not printed and complained.startswith("grade: ") and complaint in complained
+        check(good, f"task: {text!r}: status {status}: {complained}")
+    (grader.place / "given.asm").write_text("ADD R0,R0\n")
+    both = '[[run]]\nprograms = [{ asked = "a.asm" }, { given = "given.asm" }]\n'
+    _, complained, status = grader.call(grader.task(both), folder)
+    check(status == 2 and "given.asm: " in complained, f"a given program that isn't accepted: {complained}")
+    for words in (["missing.toml", folder], [grader.task(ONE), folder, "--part", "3/2"], [grader.task(ONE), folder, "-j", "0"],
+                  [grader.task(ONE)], ["--colour", grader.task(ONE), folder]):
+        check(grader.call(*words)[2] == 2, f"words: {words}")
+    for wanted, verdict in OUTPUTS.items():
+        found = grader.marks(grader.task(f"{ONE}outputs = [{wanted}]\n"), [folder])
+        check(found == {str(folder): [verdict]}, f"outputs {wanted}: {found}")
+    for text, verdict in ("", "pass"), ('must-not-call = ["mq_open"]', "pass"), ('must-call = ["mq_open"]', "missing call"), \
+            ('must-hold = ["/a"]', "missing call"):
+        found = grader.marks(grader.task(ONE.replace("a.asm\"", f'a.asm", {text}' if text else 'a.asm"')), [folder])
+        check(found == {str(folder): [verdict]}, f"{text}: {found}")
