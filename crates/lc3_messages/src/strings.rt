@@ -24,6 +24,16 @@ enum Bad {
     Character(char),
 }
 
+impl Bad {
+    /// How many bytes it has in the string.
+    fn length(self) -> usize {
+        match self {
+            Bad::Escape(character) => character.len_utf8().saturating_add(1),
+            Bad::Character(character) => character.len_utf8(),
+        }
+    }
+}
+
 /// The first bad thing in a text, and its place.
 fn first_bad(text: &str) -> Option<(usize, Bad)> {
     let mut backslash = None;
@@ -73,6 +83,24 @@ fn unclosed(alloc: Global, text: &str) -> Result<String, AllocError> {
     }
 }
 
+/// What is said of what can't stand in a string.
+fn unfit(alloc: Global, bad: Bad) -> Result<String, AllocError> {
+    match bad {
+        Bad::Escape(character) => {
+            let shown = picture(character);
+            format!(in alloc;
+                "\\{shown} is no escape; the escapes are \\n \\t \\r \\a \\b \\f \\v \\e \\0 \\\" \\\\"
+            )
+        }
+        Bad::Character(character) => {
+            let number = Number(character);
+            format!(in alloc;
+                "the character {number} can't stand in a string; strings have characters from x20 to x7E, tabs and escapes"
+            )
+        }
+    }
+}
+
 /// What is said of a bad string.
 pub(crate) fn bad_string(alloc: Global, line: &str, string: Span) -> Result<Remark, AllocError> {
     let text = line.get(string.start..string.end).unwrap_or("");
@@ -89,31 +117,11 @@ pub(crate) fn bad_string(alloc: Global, line: &str, string: Span) -> Result<Rema
     let content = line.get(inside..string.end.saturating_sub(1)).unwrap_or("");
     let (place, bad) = first_bad(content).unwrap_or((0, Bad::Character('"')));
     let start = inside.saturating_add(place);
-    match bad {
-        Bad::Escape(character) => {
-            let length = character.len_utf8().saturating_add(1);
-            let shown = picture(character);
-            Ok(Remark {
-                mark: Some(Span {
-                    start,
-                    end: start.saturating_add(length),
-                }),
-                text: format!(in alloc;
-                    "\\{shown} is no escape; the escapes are \\n \\t \\r \\a \\b \\f \\v \\e \\0 \\\" \\\\"
-                )?,
-            })
-        }
-        Bad::Character(character) => {
-            let number = Number(character);
-            Ok(Remark {
-                mark: Some(Span {
-                    start,
-                    end: start.saturating_add(character.len_utf8()),
-                }),
-                text: format!(in alloc;
-                    "the character {number} can't stand in a string; strings have characters from x20 to x7E, tabs and escapes"
-                )?,
-            })
-        }
-    }
+    Ok(Remark {
+        mark: Some(Span {
+            start,
+            end: start.saturating_add(bad.length()),
+        }),
+        text: unfit(alloc, bad)?,
+    })
 }
