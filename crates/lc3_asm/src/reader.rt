@@ -69,7 +69,7 @@ fn printable_or_blank(byte: u8) -> u8
 }
 
 /// The bytes with a blank in the place of each that can't stand in a word.
-fn printable(alloc: Global, bytes: &[u8]) -> Result<Vec<u8>, AllocError>
+pub fn printable(alloc: Global, bytes: &[u8]) -> Result<Vec<u8>, AllocError>
     ensures value { IfOk result (λ v. v.items ≡ map printable_or_blank bytes.now) }
 {
     let mut found = Vec::new(alloc);

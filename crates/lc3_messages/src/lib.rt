@@ -6,7 +6,6 @@ mod forms;
 mod labels;
 mod lines;
 mod message;
-mod misspelt;
 mod operands;
 mod operations;
 mod parts;

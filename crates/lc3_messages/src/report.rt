@@ -3,11 +3,10 @@ use crate::characters::{Excerpt, picture};
 use crate::labels::labels_of;
 use crate::lines::{end_of, lines_of};
 use crate::message::{Kind, Message, Remark, Span, message_on};
-use crate::misspelt::misspelt_remark;
 use crate::operations::name_of;
 use crate::texts::{Source, line_at, remark};
-use crate::told::{Finding, MISSPELT, What, findings};
-use crate::words::operation_word;
+use crate::told::{Finding, What, findings};
+use crate::words::{bare_operation_meant, did_you_mean, operation_word};
 use lc3_asm::{faults_of, reading};
 use lc3_table::Profile;
 use lc3_warnings::{Kind as WarningKind, Warning, push_text};
@@ -145,6 +144,10 @@ fn warning_remark<'a>(
     let shown = format!(in alloc; "{shown}")?;
     let mut text = String::new(alloc);
     push_text(&mut text, warning.kind, &shown)?;
+    if warning.kind == WarningKind::Misspelt {
+        let meant = bare_operation_meant(alloc, word.as_bytes())?;
+        text.push_str(did_you_mean(alloc, meant)?.as_str())?;
+    }
     Ok(Remark {
         mark: Some(Span {
             start: warning.start,
@@ -165,10 +168,6 @@ fn message_of<'a>(
         What::Fault(fault) => {
             let remark = remark(alloc, source, finding.line, fault)?;
             Ok(message_on(line, finding.line, Kind::Fault(fault), remark))
-        }
-        What::Misspelt(meant) => {
-            let remark = misspelt_remark(alloc, line, meant)?;
-            Ok(message_on(line, finding.line, Kind::Warning(MISSPELT), remark))
         }
         What::Warning(warning) => {
             let remark = warning_remark(alloc, source, line, warning)?;

@@ -3,7 +3,6 @@ ghost use Rattle.std.specs.Prelude.{◌≡◌, true, false, not, IfOk, OnOk, fil
 ghost use Rattle.std.specs.List.Sorted.{IsNonDecreasingBy};
 ghost use Rattle.lc3_messages.specs.Private.Told.{names_a_label};
 
-use crate::misspelt::push_misspelt;
 use crate::report::Wish;
 use crate::texts::{Source, word_at_fault};
 use crate::words::upper;
@@ -12,16 +11,11 @@ use lc3_table::Fault;
 use lc3_warnings::{Warning, warnings};
 use std::alloc::{AllocError, Global};
 
-/// The name of the warning about a line that is read as a label and was meant as an operation.
-pub(crate) const MISSPELT: &str = "misspelt";
-
 /// What is found in a line.
 #[derive(Clone, Copy)]
 pub(crate) enum What {
     Fault(Fault),
     Warning(Warning),
-    /// The line is read as a label, and this operation was meant.
-    Misspelt(&'static str),
 }
 
 impl What {
@@ -132,9 +126,6 @@ pub(crate) fn findings(
         })?;
     }
     push_warnings(alloc, content, wish, &mut found)?;
-    if !is_allowed(MISSPELT, wish.allowed) {
-        push_misspelt(alloc, source, &mut found)?;
-    }
     sort_by_line(&mut found)?;
     Ok(found)
 }

@@ -1,7 +1,7 @@
 //! Words of a line.
 use crate::parts::{part_at, text_of};
 use lc3_asm::{Token, register, token_operation};
-use lc3_spelling::{OPERATIONS, shown, suggestion};
+use lc3_spelling::{BARE_OPERATIONS, OPERATIONS, shown, suggestion};
 use lc3_word::number_of;
 use std::alloc::{AllocError, Global};
 
@@ -61,6 +61,19 @@ pub(crate) fn operation_meant(
         return Ok(None);
     };
     Ok(OPERATIONS.get(place).map(|name| shown(name)))
+}
+
+/// The operation or directive without operands that a word was meant to name, if it is spelled nearly
+/// like one.
+pub(crate) fn bare_operation_meant(
+    alloc: Global,
+    word: &[u8],
+) -> Result<Option<&'static str>, AllocError> {
+    let word = upper(alloc, word)?;
+    match suggestion(alloc, &word, &BARE_OPERATIONS)? {
+        Some(place) => Ok(BARE_OPERATIONS.get(place).copied()),
+        None => Ok(None),
+    }
 }
 
 /// What a text ends with where a name was meant, and nothing else.

@@ -83,15 +83,15 @@ module _ (read : List Read) (i : ℕ) (d x : Read) (h : i < length read) (is : x
 
 -- all the warnings of a text: those of its lines, and then that of the lines behind `.END`
 pub all_told : (p : Profile) (text : List ℕ) (accepted : Bool) (s : Setting) (read : List Read) (r : Reading) (rest : List (List ℕ)) (fs gs : List Told)
-    → accepted ≡ is_accepted text → map seen_line read ≡ r.read → r ≡ reading text → s ≡ setting_of p accepted (map seen_line read)
+    → accepted ≡ is_accepted text → map seen_line read ≡ r.read → r ≡ reading text → s ≡ setting_of p accepted (lines text) r
     → fs ≡ lines_told s [] (lines text) (map seen_line read) → rest ≡ drop (length read) (lines text)
     → gs ≡ fs ++ after_end (length read) rest → gs ≡ warnings p text
 all_told p text accepted s read r rest fs gs a m e t f d g =
-    let all = map seen_line read in
-    let count : length read ≡ length all = sym (length-map read seen_line) in
+    let count : length read ≡ length r.read = sym (length-map read seen_line) ∙ ap length m in
     g
     ∙ ap (λ u. fs ++ after_end (length read) u) d
     ∙ ap (λ n. fs ++ after_end n (drop n (lines text))) count
-    ∙ ap (λ u. u ++ after_end (length all) (drop (length all) (lines text))) (f ∙ ap (λ u. lines_told u [] (lines text) all) t)
-    ∙ ap (λ b. warnings_of p b (lines text) all) a
-    ∙ ap (λ ls. warnings_of p (is_accepted text) (lines text) ls) (m ∙ ap (λ u. u.read) e)
+    ∙ ap (λ u. u ++ after_end (length r.read) (drop (length r.read) (lines text)))
+    (f ∙ ap (λ u. lines_told u [] (lines text) (map seen_line read)) t ∙ ap (λ ls. lines_told (setting_of p accepted (lines text) r) [] (lines text) ls) m)
+    ∙ ap (λ b. warnings_of p b (lines text) r) a
+    ∙ ap (λ u. warnings_of p (is_accepted text) (lines text) u) e

@@ -1,10 +1,13 @@
 -- The labels that lines name, and the label that no line names.
-use Rattle.std.specs.Prelude.{ℕ, Bool, true, false, not, ◌&&◌, ◌||◌, bytes_eq, codes, Option, Some, None, is_some, List, [], ◌∷◌, ◌==◌, ◌-◌, length, slice_index, if◌then◌else◌}
+use Rattle.std.specs.Prelude.{ℕ, Bool, true, false, not, ◌&&◌, ◌||◌, bytes_eq, codes, Option, Some, None, is_some, Result, Ok, Err, List, [], ◌∷◌, ◌==◌, ◌-◌, length, map, get_or, slice_index, if◌then◌else◌}
 use Rattle.std.specs.List.{list_any}
 use Rattle.lc3_table.specs.declared.operation.Operation.TheVariants as op
 use Rattle.lc3_table.specs.Tokens.{Token, Word, tokens}
-use Rattle.lc3_table.specs.Statements.{Line, LabelAlone, Operates, Operand, Label, option_or}
+use Rattle.lc3_table.specs.Statements.{Line, LabelAlone, Operates, Operand, Label, option_or, label_defined}
+use Rattle.lc3_table.specs.declared.operation.Fault.{Fault}
 use Rattle.lc3_asm.specs.Texts.{label_of}
+use Rattle.lc3_asm.specs.Faults.{printable_or_blank}
+use Rattle.lc3_asm.specs.declared.fault.LineFault.{LineFault}
 use Rattle.lc3_spelling.specs.Edits.{near_edits}
 use Rattle.lc3_warnings.specs.declared.flow.Flow.{Flow}
 use Rattle.lc3_warnings.specs.declared.flow.Flow.TheVariants.{GoesOn, Stops}
@@ -55,15 +58,36 @@ bare_operations =
 unfoldable pub is_near : List ℕ → Bool
 is_near name = list_any (λ o. is_some (near_edits name o)) bare_operations
 
--- whether the first of these tokens ends with `:`
-abbrev pub has_colon : List Token → Bool
-has_colon (Word w ∷ ts) = slice_index w (length w - 1) == 58
-has_colon ts = false
+-- whether these tokens are a single word, without `:`
+abbrev pub is_word_alone : List Token → Bool
+is_word_alone (Word w ∷ []) = not (slice_index w (length w - 1) == 58)
+is_word_alone ts = false
 
 -- whether a line that nothing names was rather meant as an operation: a label alone, without `:`, spelled nearly like one
 abbrev pub was_meant : List ℕ → Line Operand → Bool
-was_meant bytes (LabelAlone name) = not (has_colon (tokens bytes)) && is_near name
+was_meant bytes (LabelAlone name) = is_word_alone (tokens bytes) && is_near name
 was_meant bytes _ = false
+
+-- whether a label that was read is this one
+abbrev pub is_read_as : List ℕ → Result (List ℕ) Fault → Bool
+is_read_as name (Ok n) = bytes_eq name n
+is_read_as name (Err k) = false
+
+-- whether a token is this label, in either case, with `:` or without
+abbrev pub is_mention : List ℕ → Token → Bool
+is_mention name t = is_read_as name (label_defined t)
+
+-- whether a word of a faulty line is this label
+abbrev pub mentions : List ℕ → List ℕ → Bool
+mentions name bytes = list_any (is_mention name) (tokens (map printable_or_blank bytes))
+
+-- the bytes of the line of a fault
+abbrev pub faulty_line : List (List ℕ) → LineFault → List ℕ
+faulty_line texts f = get_or texts (f.line - 1) []
+
+-- the labels that are words of the lines with these faults
+abbrev pub mentioned : List (List ℕ) → List LineFault → List ℕ → Bool
+mentioned texts fs name = list_any (mentions name) (map (faulty_line texts) fs)
 
 -- whether a label between such lines may be there for the reader: nothing with words stands before it, or
 -- execution goes on there from an instruction to an instruction
@@ -91,3 +115,14 @@ unused labels bytes l a (Some name) =
 -- No line names the label of the line.
 abbrev pub unused_label : (List ℕ → Bool) → List ℕ → Line Operand → Around → Option Kind
 unused_label labels bytes l a = unused labels bytes l a (label_of l)
+
+-- the warning of a label that was meant as an operation, where it isn't one of those that are named or mentioned
+abbrev pub misread : (List ℕ → Bool) → (List ℕ → Bool) → List ℕ → Line Operand → Option (List ℕ) → Option Kind
+misread labels mentions bytes l None = None
+misread labels mentions bytes l (Some name) =
+    if labels name || mentions name || not (was_meant bytes l) then None else Some kind.Misspelt
+
+-- A label alone, without `:`, that no line names, that is no word of a faulty line, and that is spelled nearly like an
+-- operation without operands. (The label of a faulty line is a word of that line itself.)
+abbrev pub misspelt : (List ℕ → Bool) → (List ℕ → Bool) → List ℕ → Line Operand → Option Kind
+misspelt labels mentions bytes l = misread labels mentions bytes l (label_of l)

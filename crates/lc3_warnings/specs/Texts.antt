@@ -11,6 +11,7 @@ use Rattle.lc3_warnings.specs.declared.warning.Kind.TheVariants as kind
 abbrev pub warning_name : Kind → List ℕ
 warning_name (kind.Wraps f value) = codes "wraps"
 warning_name kind.UnknownTrap = codes "unknown-trap"
+warning_name kind.Misspelt = codes "misspelt"
 warning_name kind.UnusedLabel = codes "unused-label"
 warning_name kind.StartsInData = codes "starts-in-data"
 warning_name (kind.RunsIntoData n) = codes "runs-into-data"
@@ -46,6 +47,10 @@ into_data_text n = codes "execution goes on into the data of line " ++ decimal n
 abbrev pub after_end_text : ℕ → List ℕ
 after_end_text n = codes "nothing behind the .END of line " ++ decimal n ++ codes " is read"
 
+-- a word that is read as a label and was meant as an operation
+unfoldable pub misspelt_text : List ℕ → List ℕ
+misspelt_text word = word ++ codes " is read as a label"
+
 -- a label that no line names
 unfoldable pub unused_text : List ℕ → List ℕ
 unused_text word = codes "no line names the label " ++ word
@@ -58,6 +63,7 @@ lost_text word n = word ++ codes " in line " ++ decimal n ++ codes " has written
 abbrev pub warning_text : Kind → List ℕ → List ℕ
 warning_text (kind.Wraps f value) word = wraps_text word value (field_text f)
 warning_text kind.UnknownTrap word = codes "this trap ends the process as badtrap; the traps are x20 to x25, x40 to x46 and x50 to x56"
+warning_text kind.Misspelt word = misspelt_text word
 warning_text kind.UnusedLabel word = unused_text word
 warning_text kind.StartsInData word = codes "execution begins here, and this is data"
 warning_text (kind.RunsIntoData n) word = into_data_text n

@@ -5,10 +5,10 @@ use Rattle.lc3_table.specs.Tokens.{Token, tokens}
 use Rattle.lc3_table.specs.declared.profile.Profile.{Profile}
 use Rattle.lc3_table.specs.Statements.{Line, Operand}
 use Rattle.lc3_asm.specs.Texts.{lines}
-use Rattle.lc3_asm.specs.Faults.{reading, faults, has_faults}
+use Rattle.lc3_asm.specs.Faults.{Reading, reading, faults, has_faults}
 use Rattle.lc3_warnings.specs.Numbers.{wraps, unknown_trap}
 use Rattle.lc3_warnings.specs.Around.{around, starts_in_data, runs_into_data, runs_past_end}
-use Rattle.lc3_warnings.specs.Labels.{named, called, unused_label}
+use Rattle.lc3_warnings.specs.Labels.{named, called, mentioned, misspelt, unused_label}
 use Rattle.lc3_warnings.specs.Returns.{lost_return}
 use Rattle.lc3_warnings.specs.declared.around.Around.{Around}
 use Rattle.lc3_warnings.specs.declared.warning.Kind.{Kind}
@@ -35,18 +35,20 @@ if_accepted true k = k
 if_accepted false k = None
 
 -- what the warnings of a line rest on beside the lines around it: the machine, whether the text is accepted, the labels
--- that its lines name, and those that its JSRs name
+-- that its lines name, those that its JSRs name, and those that are words of its faulty lines
 pub record Setting : Type 0 where
   pub profile : Profile
   pub accepted : Bool
   pub named : List ℕ → Bool
   pub called : List ℕ → Bool
+  pub mentioned : List ℕ → Bool
 
 -- the warnings of a line with these bytes which stands so below these lines, the nearest first: one of each kind or none
 abbrev pub line_kinds : Setting → List ℕ → Line Operand → Around → List (Line Operand) → List (Option Kind)
 line_kinds s bytes l a above =
     wraps bytes l
     ∷ unknown_trap l
+    ∷ misspelt s.named s.mentioned bytes l
     ∷ if_accepted s.accepted (unused_label s.named bytes l a)
     ∷ if_accepted s.accepted (starts_in_data a)
     ∷ if_accepted s.accepted (runs_into_data a)
@@ -84,15 +86,16 @@ after_end n rest = behind_end n (first_with_token n rest)
 abbrev pub is_accepted : List ℕ → Bool
 is_accepted text = not (has_faults (faults text))
 
--- the setting of lines on this machine
-abbrev pub setting_of : Profile → Bool → List (Line Operand) → Setting
-setting_of p accepted ls = record { profile = p; accepted = accepted; named = named ls; called = called ls }
+-- the setting of a text with these lines that is read so, on this machine
+abbrev pub setting_of : Profile → Bool → List (List ℕ) → Reading → Setting
+setting_of p accepted texts r =
+    record { profile = p; accepted = accepted; named = named r.read; called = called r.read; mentioned = mentioned texts r.found }
 
 -- the warnings of a text that is read so: those of the lines up to `.END`, and then that of the lines behind it
-abbrev pub warnings_of : Profile → Bool → List (List ℕ) → List (Line Operand) → List Told
-warnings_of p accepted texts ls =
-    lines_told (setting_of p accepted ls) [] texts ls ++ after_end (length ls) (drop (length ls) texts)
+abbrev pub warnings_of : Profile → Bool → List (List ℕ) → Reading → List Told
+warnings_of p accepted texts r =
+    lines_told (setting_of p accepted texts r) [] texts r.read ++ after_end (length r.read) (drop (length r.read) texts)
 
 -- The warnings of a text, for this machine, by line.
 abbrev pub warnings : Profile → List ℕ → List Told
-warnings p text = warnings_of p (is_accepted text) (lines text) (reading text).read
+warnings p text = warnings_of p (is_accepted text) (lines text) (reading text)

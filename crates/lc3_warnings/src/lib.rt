@@ -7,6 +7,8 @@ mod around;
 mod flow;
 mod line_kinds;
 mod marks;
+mod mentions;
+mod misspelt;
 mod names;
 mod numbers;
 mod returns;

@@ -8,6 +8,7 @@ ghost use Rattle.lc3_warnings.specs.Warnings.{if_accepted, told, told_of, line_k
 
 use crate::around::{Around, runs_into_data, runs_past_end, starts_in_data};
 use crate::marks::span_of;
+use crate::misspelt::misspelt;
 use crate::numbers::{unknown_trap, wraps};
 use crate::returns::lost_return;
 use crate::setting::Settings;
@@ -63,10 +64,12 @@ pub fn push_line(
         (seen_line line.now) around (reverse (map seen_line before.now)))) }
 {
     let accepted = setting.accepted;
+    let misspelt = misspelt(alloc, &setting.named, &setting.mentioned, bytes, line)?;
     let unused = unused_label(alloc, &setting.named, bytes, line, around)?;
     let kinds = [
         wraps(bytes, line),
         unknown_trap(line),
+        misspelt,
         if_accepted(accepted, unused),
         if_accepted(accepted, starts_in_data(around)),
         if_accepted(accepted, runs_into_data(around)),

@@ -29,7 +29,7 @@ fn count_behind_first(bytes: &[u8]) -> usize {
 /// The number of the token that a warning is about, from 0: the first, the operation, or the number at the end.
 fn token_number(bytes: &[u8], line: &Line, kind: Kind) -> usize {
     match kind {
-        Kind::UnusedLabel | Kind::AfterEnd { .. } => 0,
+        Kind::Misspelt | Kind::UnusedLabel | Kind::AfterEnd { .. } => 0,
         Kind::Wraps { .. } | Kind::UnknownTrap => count_behind_first(bytes),
         Kind::StartsInData
         | Kind::RunsIntoData { .. }

@@ -26,7 +26,7 @@ impl Model for Names {
 
 impl Names {
     /// No labels.
-    fn new(alloc: Global) -> Self
+    pub fn new(alloc: Global) -> Self
         ensures empty { result ≡ [] }
     {
         Names {
@@ -42,7 +42,7 @@ impl Names {
     }
 
     /// Adds a label.
-    fn insert(&mut self, alloc: Global, name: &str) -> Result<(), AllocError>
+    pub fn insert(&mut self, alloc: Global, name: &str) -> Result<(), AllocError>
         ensures added { OnOk result ((word : List ℕ) →
             is_among self.new word ≡ (is_among self.old word || bytes_eq word name.now)) }
     {

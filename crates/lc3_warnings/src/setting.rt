@@ -1,12 +1,13 @@
 //! What the warnings of a line rest on beside the lines around it.
 
-ghost use Rattle.std.specs.Prelude.{◌≡◌, map, IfOk};
-ghost use Rattle.lc3_asm.specs.Views.{seen_line};
+ghost use Rattle.std.specs.Prelude.{◌≡◌, IfOk};
+ghost use Rattle.lc3_asm.specs.Texts.{lines};
 ghost use Rattle.lc3_warnings.specs.Private.Settings.{seen_setting};
 ghost use Rattle.lc3_warnings.specs.Warnings.{setting_of};
 
+use crate::mentions::mentioned;
 use crate::names::{Names, called, named};
-use lc3_asm::Line;
+use lc3_asm::Reader;
 use lc3_table::Profile;
 use std::alloc::{AllocError, Global};
 
@@ -21,22 +22,27 @@ pub struct Settings {
     pub named: Names,
     /// The labels that JSRs name.
     pub called: Names,
+    /// The labels that are words of faulty lines.
+    pub mentioned: Names,
 }
 
-/// The setting of these lines, of a text that is accepted or not.
+/// The setting of a text that was read so, and is accepted or not.
 pub fn setting_of(
     alloc: Global,
     profile: Profile,
     accepted: bool,
-    lines: &[Line],
+    text: &[u8],
+    reader: &Reader,
 ) -> Result<Settings, AllocError>
-    ensures value { IfOk result
-        (λ setting. seen_setting setting ≡ setting_of profile accepted (map seen_line lines.now)) }
+    ensures value { IfOk result (λ setting.
+        seen_setting setting ≡ setting_of profile accepted (lines text.now) reader.now) }
 {
+    let lines = reader.lines();
     Ok(Settings {
         profile,
         accepted,
         named: named(alloc, lines)?,
         called: called(alloc, lines)?,
+        mentioned: mentioned(alloc, text, reader.faults())?,
     })
 }

@@ -2,7 +2,7 @@
 
 ghost use Rattle.std.specs.Prelude.{◌≡◌, ◌++◌, Some, OnOk, string_bytes};
 ghost use Rattle.lc3_word.specs.Words.{number_text};
-ghost use Rattle.lc3_warnings.specs.Texts.{warning_name, field_text, taken_text, here_text, wraps_text, unused_text, lost_text, into_data_text, after_end_text, warning_text};
+ghost use Rattle.lc3_warnings.specs.Texts.{warning_name, field_text, taken_text, here_text, wraps_text, misspelt_text, unused_text, lost_text, into_data_text, after_end_text, warning_text};
 
 use crate::warning::Kind;
 use lc3_table::Form;
@@ -18,6 +18,7 @@ impl Kind {
         match self {
             Kind::Wraps { .. } => "wraps",
             Kind::UnknownTrap => "unknown-trap",
+            Kind::Misspelt => "misspelt",
             Kind::UnusedLabel => "unused-label",
             Kind::StartsInData => "starts-in-data",
             Kind::RunsIntoData { .. } => "runs-into-data",
@@ -52,6 +53,7 @@ pub fn push_text(text: &mut String, kind: Kind, word: &str) -> Result<(), AllocE
         Kind::UnknownTrap => text.push_str(
             "this trap ends the process as badtrap; the traps are x20 to x25, x40 to x46 and x50 to x56",
         ),
+        Kind::Misspelt => push_misspelt(text, word),
         Kind::UnusedLabel => push_unused(text, word),
         Kind::StartsInData => text.push_str("execution begins here, and this is data"),
         Kind::RunsIntoData { next } => push_into_data(text, next),
@@ -111,6 +113,18 @@ fn push_wraps(text: &mut String, word: &str, value: i16, field: &str) -> Result<
 {
     push_taken(text, word, value)?;
     push_here(text, field)
+}
+
+/// Adds that a word is read as a label.
+#[tactic(auto, unfolding(crate::specs::Texts::misspelt_text))]
+fn push_misspelt(text: &mut String, word: &str) -> Result<(), AllocError>
+    ensures text { OnOk result (string_bytes text.new
+        ≡ string_bytes text.old ++ misspelt_text word.now) }
+{
+    match write!(text, "{word} is read as a label") {
+        Ok(()) => Ok(()),
+        Err(error) => Err(error),
+    }
 }
 
 /// Adds that no line names a label.

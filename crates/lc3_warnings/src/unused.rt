@@ -1,58 +1,17 @@
 //! Labels that no line names.
 
-ghost use Rattle.std.specs.Prelude.{◌≡◌, IfOk, is_some};
-ghost use Rattle.std.specs.List.{list_any};
-ghost use Rattle.lc3_spelling.specs.Edits.{near_edits};
-ghost use Rattle.lc3_table.specs.Tokens.{tokens};
+ghost use Rattle.std.specs.Prelude.{◌≡◌, IfOk};
 ghost use Rattle.lc3_warnings.specs.Private.Names.{is_among};
 ghost use Rattle.lc3_asm.specs.Views.{seen_line};
-ghost use Rattle.lc3_warnings.specs.Labels.{is_near, has_colon, was_meant, is_for_reader, flow_behind, may_be_for_reader, unused_label};
+ghost use Rattle.lc3_warnings.specs.Labels.{is_for_reader, flow_behind, may_be_for_reader, unused_label};
 
 use crate::around::Around;
 use crate::flow::{Flow, Next};
+use crate::misspelt::was_meant;
 use crate::names::Names;
 use crate::warning::Kind;
-use lc3_asm::{Line, Token, first_token};
-use lc3_spelling::{BARE_OPERATIONS, suggestion};
+use lc3_asm::Line;
 use std::alloc::{AllocError, Global};
-
-/// Whether a name is spelled nearly like one of these.
-fn is_near_any(alloc: Global, name: &str, others: &[&str]) -> Result<bool, AllocError>
-    ensures value { IfOk result (λ near.
-        near ≡ list_any (λ other. is_some (near_edits name.now other.now)) others.now) }
-{
-    let found = suggestion(alloc, name, others)?;
-    Ok(found.is_some())
-}
-
-/// Whether a name is spelled nearly like an operation without operands.
-#[tactic(auto, unfolding(crate::specs::Labels::is_near))]
-fn is_near(alloc: Global, name: &str) -> Result<bool, AllocError>
-    ensures value { IfOk result (λ near. near ≡ is_near name.now) }
-{
-    let near = is_near_any(alloc, name, &BARE_OPERATIONS)?;
-    Ok(near)
-}
-
-/// Whether the first word of a line ends with `:`.
-fn has_colon(bytes: &[u8]) -> bool
-    ensures value { result ≡ has_colon (tokens bytes.now) }
-{
-    match first_token(bytes) {
-        Some((Token::Word(word), _)) => matches!(word, [.., b':']),
-        _ => false,
-    }
-}
-
-/// Whether a line that nothing names was rather meant as an operation.
-fn was_meant(alloc: Global, bytes: &[u8], line: &Line) -> Result<bool, AllocError>
-    ensures value { IfOk result (λ meant. meant ≡ was_meant bytes.now (seen_line line.now)) }
-{
-    match line {
-        Line::LabelAlone(name) if !has_colon(bytes) => is_near(alloc, name.as_str()),
-        _ => Ok(false),
-    }
-}
 
 /// Whether a label between such lines may be there for the reader.
 fn is_for_reader(before: Option<Flow>, behind: Option<Flow>) -> bool

@@ -142,7 +142,7 @@ pub fn warnings(alloc: Global, text: &str, profile: Profile) -> Result<Vec<Warni
     let reader = reading(alloc, text)?;
     let accepted = is_accepted(alloc, text, &reader)?;
     let lines = reader.lines();
-    let setting = setting_of(alloc, profile, accepted, lines)?;
+    let setting = setting_of(alloc, profile, accepted, text.as_bytes(), &reader)?;
     let mut found = Vec::new(alloc);
     let rest = push_lines(alloc, &mut found, &setting, text.as_bytes(), lines)?;
     push_after_end(&mut found, lines.len(), rest)?;

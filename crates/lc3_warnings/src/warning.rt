@@ -9,6 +9,8 @@ pub enum Kind {
     Wraps { form: Form, value: i16 },
     /// The vector of a TRAP is none of those that are known.
     UnknownTrap,
+    /// The label that stands alone in the line was meant as an operation.
+    Misspelt,
     /// No line names the label that the line defines.
     UnusedLabel,
     /// Execution begins at data.

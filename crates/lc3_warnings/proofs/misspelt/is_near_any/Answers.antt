@@ -1,6 +1,6 @@
 use Rattle.std.proofs.Common.{◌∙◌}
 use Rattle.lc3_warnings.proofs.NameLemmas.{near_any}
-use Rattle.lc3_warnings.proofs.unused.is_near_any.Goals as goal
+use Rattle.lc3_warnings.proofs.misspelt.is_near_any.Goals as goal
 
 pub returns : goal.returns
 returns c = record {

@@ -1,6 +1,6 @@
 use Rattle.std.proofs.Common.{◌∙◌}
 use Rattle.lc3_warnings.proofs.NameLemmas.{near_bare}
-use Rattle.lc3_warnings.proofs.unused.is_near.Goals as goal
+use Rattle.lc3_warnings.proofs.misspelt.is_near.Goals as goal
 
 pub returns : goal.returns
 returns c = record {

@@ -1,0 +1,81 @@
+//! Labels alone on their lines that were meant as operations.
+
+ghost use Rattle.std.specs.Prelude.{◌≡◌, IfOk, is_some};
+ghost use Rattle.std.specs.List.{list_any};
+ghost use Rattle.lc3_spelling.specs.Edits.{near_edits};
+ghost use Rattle.lc3_table.specs.Tokens.{tokens};
+ghost use Rattle.lc3_warnings.specs.Private.Names.{is_among};
+ghost use Rattle.lc3_asm.specs.Views.{seen_line};
+ghost use Rattle.lc3_warnings.specs.Labels.{is_near, is_word_alone, was_meant, misspelt};
+
+use crate::names::Names;
+use crate::warning::Kind;
+use lc3_asm::{Line, Token, first_token};
+use lc3_spelling::{BARE_OPERATIONS, suggestion};
+use std::alloc::{AllocError, Global};
+
+/// Whether a name is spelled nearly like one of these.
+fn is_near_any(alloc: Global, name: &str, others: &[&str]) -> Result<bool, AllocError>
+    ensures value { IfOk result (λ near.
+        near ≡ list_any (λ other. is_some (near_edits name.now other.now)) others.now) }
+{
+    let found = suggestion(alloc, name, others)?;
+    Ok(found.is_some())
+}
+
+/// Whether a name is spelled nearly like an operation without operands.
+#[tactic(auto, unfolding(crate::specs::Labels::is_near))]
+fn is_near(alloc: Global, name: &str) -> Result<bool, AllocError>
+    ensures value { IfOk result (λ near. near ≡ is_near name.now) }
+{
+    let near = is_near_any(alloc, name, &BARE_OPERATIONS)?;
+    Ok(near)
+}
+
+/// Whether a line is a single word, without `:`.
+fn is_word_alone(bytes: &[u8]) -> bool
+    ensures value { result ≡ is_word_alone (tokens bytes.now) }
+{
+    match first_token(bytes) {
+        Some((Token::Word(word), after)) => {
+            first_token(after).is_none() && !matches!(word, [.., b':'])
+        }
+        _ => false,
+    }
+}
+
+/// Whether a line that nothing names was rather meant as an operation.
+pub fn was_meant(alloc: Global, bytes: &[u8], line: &Line) -> Result<bool, AllocError>
+    ensures value { IfOk result (λ meant. meant ≡ was_meant bytes.now (seen_line line.now)) }
+{
+    match line {
+        Line::LabelAlone(name) if is_word_alone(bytes) => is_near(alloc, name.as_str()),
+        _ => Ok(false),
+    }
+}
+
+/// Whether the label of this line was meant as an operation: it is neither among the labels that
+/// lines name nor among those that are words of faulty lines.
+pub fn misspelt(
+    alloc: Global,
+    named: &Names,
+    mentioned: &Names,
+    bytes: &[u8],
+    line: &Line,
+) -> Result<Option<Kind>, AllocError>
+    ensures value { IfOk result (λ kind. kind ≡ misspelt (is_among named.now)
+        (is_among mentioned.now) bytes.now (seen_line line.now)) }
+{
+    let Some(name) = line.label() else {
+        return Ok(None);
+    };
+    if named.contains(name) || mentioned.contains(name) {
+        return Ok(None);
+    }
+    let was_meant = was_meant(alloc, bytes, line)?;
+    if was_meant {
+        Ok(Some(Kind::Misspelt))
+    } else {
+        Ok(None)
+    }
+}
