@@ -4,6 +4,8 @@ pub mod ScriptLemmas
 pub mod NumberLemmas
 pub mod StepLemmas
 pub mod BlockLemmas
-pub mod BreakLemmas
+pub mod MarkLemmas
+pub mod WatchLemmas
+pub mod StopLemmas
 pub mod TakenLemmas
 pub mod PlayLemmas

@@ -10,9 +10,9 @@ use Rattle.lab_sched.specs.declared.schedule.fault.SchedFault.{SchedFault}
 use Rattle.lab_sched.specs.Schedules.{most_steps}
 use Rattle.lab_sched.specs.ScheduleTexts.{reading_of_words}
 use Rattle.lab_debug.specs.declared.command.Command.{Command}
-use Rattle.lab_debug.specs.declared.command.Command.TheVariants.{Step, Run, Play, Until, Back, Regs, Mem, Dis, Procs, Mqs, Sems, Fds, Out, Where, Code, Labels, Go, Break, Clear, Breaks, Steps, Taken, Profile, Help, Quit}
+use Rattle.lab_debug.specs.declared.command.Command.TheVariants.{Step, Run, Play, Until, Back, Regs, Mem, Dis, Procs, Mqs, Sems, Fds, Out, Where, Code, Labels, Go, Break, Clear, Breaks, Watch, Unwatch, Watches, Steps, Taken, Profile, Help, Quit}
 use Rattle.lab_debug.specs.declared.command.Range.{Range}
-use Rattle.lab_debug.specs.declared.breaks.Place.{Place}
+use Rattle.lab_debug.specs.declared.marks.Place.{Place}
 use Rattle.lab_debug.specs.declared.command.Refusal.{Refusal}
 use Rattle.lab_debug.specs.declared.command.Refusal.TheVariants.{UnknownCommand, BadOperands}
 
@@ -132,6 +132,14 @@ or_bad None = Err BadOperands
 unfoldable pub is_named : List ℕ → List ℕ → Bool
 is_named name word = bytes_eq name word
 
+-- a command on watches, by its name and its operands
+unfoldable pub watching_command : List ℕ → List (List ℕ) → Result Command Refusal
+watching_command name ws =
+    if is_named (codes "watch") name then or_bad (of_place Watch ws) else
+    if is_named (codes "unwatch") name then or_bad (of_place Unwatch ws) else
+    if is_named (codes "watches") name then or_bad (bare_of Watches ws) else
+    Err UnknownCommand
+
 -- a command on breaks or on the steps of the session, by its name and its operands
 unfoldable pub breaking_command : List ℕ → List (List ℕ) → Result Command Refusal
 breaking_command name ws =
@@ -141,7 +149,7 @@ breaking_command name ws =
     if is_named (codes "go") name then or_bad (go_of ws) else
     if is_named (codes "steps") name then or_bad (bare_of Steps ws) else
     if is_named (codes "schedule") name then or_bad (bare_of Taken ws) else
-    Err UnknownCommand
+    watching_command name ws
 
 -- a command that shows where a process stands in its source, by its name and its operands
 unfoldable pub placing_command : List ℕ → List (List ℕ) → Result Command Refusal

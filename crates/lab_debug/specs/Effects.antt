@@ -1,21 +1,24 @@
 -- What a line of a script does.
 use Rattle.std.specs.Prelude.{ℕ, Bool, true, false, if◌then◌else◌, nat_lt, Option, Some, None, Result, Ok, Err, List, [], ◌∷◌, ◌++◌, codes, length, replicate}
 use Rattle.std.specs.List.{list_all}
-use Rattle.lab_sched.specs.Worlds.{WorldState}
+use Rattle.lab_sched.specs.Worlds.{WorldState, run}
 use Rattle.lab_sched.specs.Schedules.{steps_of}
 use Rattle.lab_debug.specs.declared.command.Command.{Command}
-use Rattle.lab_debug.specs.declared.command.Command.TheVariants.{Step, Run, Play, Until, Back, Regs, Mem, Dis, Procs, Mqs, Sems, Fds, Out, Where, Code, Labels, Go, Break, Clear, Breaks, Steps, Taken, Profile, Help, Quit}
+use Rattle.lab_debug.specs.declared.command.Command.TheVariants.{Step, Run, Play, Until, Back, Regs, Mem, Dis, Procs, Mqs, Sems, Fds, Out, Where, Code, Labels, Go, Break, Clear, Breaks, Watch, Unwatch, Watches, Steps, Taken, Profile, Help, Quit}
 use Rattle.lab_debug.specs.declared.command.Refusal.{Refusal}
-use Rattle.lab_debug.specs.declared.command.Refusal.TheVariants.{UnknownCommand, BadOperands, NoProcess, NoLabel, NoBreak}
+use Rattle.lab_debug.specs.declared.command.Refusal.TheVariants.{UnknownCommand, BadOperands, NoProcess, NoLabel, NoBreak, NoWatch}
 use Rattle.lab_debug.specs.Commands.{words_of, command_of}
 use Rattle.lab_debug.specs.Labels.{LabelSeen, listing_of, label_address, addressed, command_at, second_label, with_zero, has_labels}
 use Rattle.lab_debug.specs.Places.{where_text, code_text, labels_text}
-use Rattle.lab_debug.specs.declared.breaks.Place.{Place}
-use Rattle.lab_debug.specs.Breaks.{has_break, with_break, without_break, break_text, clear_text, breaks_text, steps_to_break, steps_played, stopped_process}
+use Rattle.lab_debug.specs.declared.marks.Place.{Place}
+use Rattle.lab_debug.specs.Marks.{has_place, with_place, without_place, with_breaks, with_watches}
+use Rattle.lab_debug.specs.Breaks.{break_text, clear_text, breaks_text}
+use Rattle.lab_debug.specs.Watches.{watched_at, watched_words, watch_text, unwatch_text, watches_text, changes_text}
+use Rattle.lab_debug.specs.Stops.{steps_to_stop, steps_played, stopped_process}
 use Rattle.lab_debug.specs.Taken.{taken_text}
 use Rattle.lab_debug.specs.Help.{help_text}
 use Rattle.std.specs.Fmt.{decimal}
-use Rattle.lab_debug.specs.Sessions.{SessionState, with_breaks, after_steps, steps_until, effective, back}
+use Rattle.lab_debug.specs.Sessions.{SessionState, with_marks, after_steps, steps_until, effective, back}
 use Rattle.lab_debug.specs.Script.{Effect, Script, script}
 use Rattle.lab_texts.specs.Texts.{status_text, procs_text, profile_text, regs_text, mem_text, dis_text, out_text}
 use Rattle.lab_texts.specs.Objects.{mqs_text, sems_text, fds_text}
@@ -28,6 +31,7 @@ refusal_text BadOperands = codes "? bad operands\n"
 refusal_text NoProcess = codes "? no such process\n"
 refusal_text NoLabel = codes "? no such label\n"
 refusal_text NoBreak = codes "? no such break\n"
+refusal_text NoWatch = codes "? no such watch\n"
 
 -- a text of a world, and nothing else
 abbrev pub text_effect : (WorldState → List ℕ) → SessionState → Effect SessionState
@@ -51,13 +55,39 @@ shown_effect text s = record { text = text; world = s; ends = false }
 
 -- a break is set, which may be there already
 abbrev pub break_effect : SessionState → Place → Effect SessionState
-break_effect s place = shown_effect (break_text s.listings place) (with_breaks s (with_break s.breaks place))
+break_effect s place = shown_effect (break_text s.listings place) (with_marks s (with_breaks s.marks (with_place s.marks.breaks place)))
 
 -- a break is taken off
 abbrev pub clear_effect : SessionState → Place → Effect SessionState
 clear_effect s place =
-    if has_break s.breaks place then shown_effect (clear_text s.listings place) (with_breaks s (without_break s.breaks place))
+    if has_place s.marks.breaks place
+    then shown_effect (clear_text s.listings place) (with_marks s (with_breaks s.marks (without_place s.marks.breaks place)))
     else refusal_effect NoBreak s
+
+-- a watch is set, which may be there already
+abbrev pub watch_effect : SessionState → Place → Effect SessionState
+watch_effect s place =
+    shown_effect (watch_text s.listings (watched_at s.world place)) (with_marks s (with_watches s.marks (with_place s.marks.watches place)))
+
+-- a watch is taken off
+abbrev pub unwatch_effect : SessionState → Place → Effect SessionState
+unwatch_effect s place =
+    if has_place s.marks.watches place
+    then shown_effect (unwatch_text s.listings place) (with_marks s (with_watches s.marks (without_place s.marks.watches place)))
+    else refusal_effect NoWatch s
+
+-- the watches, each with the word there now
+abbrev pub watches_effect : SessionState → Effect SessionState
+watches_effect s = shown_effect (watches_text s.listings (watched_words s.marks.watches s.world)) s
+
+-- a text of the world after further steps, and each watched word that they changed
+abbrev pub stepped_effect : (WorldState → List ℕ) → SessionState → List ℕ → Effect SessionState
+stepped_effect text s ps =
+    shown_effect (text (run s.world ps) ++ changes_text s.listings (run s.world ps) (watched_words s.marks.watches s.world)) (after_steps s ps)
+
+-- at most n steps of a process, up to a stop
+abbrev pub go_effect : SessionState → ℕ → ℕ → Effect SessionState
+go_effect s pid n = stepped_effect (status_text pid) s (steps_to_stop s.marks pid s.world n)
 
 -- after how many of all its steps a schedule stopped
 unfoldable pub stop_text : ℕ → ℕ → List ℕ
@@ -68,11 +98,11 @@ abbrev pub play_text : ℕ → ℕ → Option ℕ → WorldState → List ℕ
 play_text n all None w = verdict_text w
 play_text n all (Some pid) w = stop_text n all ++ status_text pid w
 
--- the steps of a schedule up to a break
+-- the steps of a schedule up to a stop
 abbrev pub play_effect : SessionState → List ℕ → Effect SessionState
 play_effect s ps =
-    text_effect (play_text (length (steps_played s.breaks s.world ps)) (length ps) (stopped_process s.breaks s.world ps))
-    (after_steps s (steps_played s.breaks s.world ps))
+    stepped_effect (play_text (length (steps_played s.marks s.world ps)) (length ps) (stopped_process s.marks s.world ps))
+    s (steps_played s.marks s.world ps)
 
 -- what a command does, where its processes are there
 abbrev pub accepted_effect : SessionState → Command → Effect SessionState
@@ -81,10 +111,13 @@ accepted_effect s (Run schedule) = text_effect verdict_text (after_steps s (step
 accepted_effect s (Until pid address n) = text_effect (status_text pid) (after_steps s (steps_until pid address s.world n))
 accepted_effect s (Back n) = back_effect (back n s)
 accepted_effect s (Play schedule) = play_effect s (steps_of schedule)
-accepted_effect s (Go pid n) = text_effect (status_text pid) (after_steps s (steps_to_break s.breaks pid s.world n))
+accepted_effect s (Go pid n) = go_effect s pid n
 accepted_effect s (Break place) = break_effect s place
 accepted_effect s (Clear place) = clear_effect s place
-accepted_effect s Breaks = shown_effect (breaks_text s.listings s.breaks) s
+accepted_effect s Breaks = shown_effect (breaks_text s.listings s.marks.breaks) s
+accepted_effect s (Watch place) = watch_effect s place
+accepted_effect s (Unwatch place) = unwatch_effect s place
+accepted_effect s Watches = watches_effect s
 accepted_effect s Steps = shown_effect (steps_text (length (effective s.start s.steps))) s
 accepted_effect s Taken = shown_effect (taken_text (effective s.start s.steps)) s
 accepted_effect s (Regs pid) = text_effect (regs_text pid) s
@@ -117,6 +150,9 @@ are_there w (Go pid n) = is_there w pid
 are_there w (Break place) = is_there w place.pid
 are_there w (Clear place) = is_there w place.pid
 are_there w Breaks = true
+are_there w (Watch place) = is_there w place.pid
+are_there w (Unwatch place) = is_there w place.pid
+are_there w Watches = true
 are_there w Steps = true
 are_there w Taken = true
 are_there w (Regs pid) = is_there w pid

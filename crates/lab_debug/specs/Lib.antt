@@ -3,7 +3,10 @@ pub mod Script
 pub mod Commands
 pub mod Labels
 pub mod Places
+pub mod Marks
 pub mod Breaks
+pub mod Watches
+pub mod Stops
 pub mod Taken
 pub mod Help
 pub mod Sessions

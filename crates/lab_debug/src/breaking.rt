@@ -4,12 +4,13 @@ ghost use Rattle.lab_debug.specs.Private.Ranges.{IsCommand};
 ghost use Rattle.lab_debug.specs.Commands.{place_of, of_place, go_of, bare_of, breaking_command};
 ghost use Rattle.lab_debug.specs.declared.command.Command.TheVariants.{Break, Clear};
 
-use crate::breaks::Place;
 use crate::command::{Command, Refusal, is_name, read_bare};
+use crate::marks::Place;
 use crate::operands::{STEP_COUNT_MAX, address_in, count_in, process_in, two};
+use crate::watching::read_watching;
 
 /// `P ADDR`, a place
-fn read_place(operands: &[&[u8]]) -> Option<Place>
+pub fn read_place(operands: &[&[u8]]) -> Option<Place>
     ensures value { result ≡ place_of (map (λ word. word.now) operands.now) }
 {
     let (pid, address) = two(operands)?;
@@ -36,7 +37,7 @@ fn read_clear(operands: &[&[u8]]) -> Option<Command>
     Some(Command::Clear(place))
 }
 
-/// `P`, or `P N`, up to a break
+/// `P`, or `P N`, up to a stop
 fn read_go(operands: &[&[u8]]) -> Option<Command>
     ensures value { result ≡ go_of (map (λ word. word.now) operands.now) }
     ensures ranges { IfSome result (λ command. IsCommand command) }
@@ -82,5 +83,5 @@ pub fn read_breaking(name: &[u8], operands: &[&[u8]]) -> Result<Command, Refusal
     if is_name("schedule", name) {
         return read_bare(Command::Taken, operands).ok_or(Refusal::BadOperands);
     }
-    Err(Refusal::UnknownCommand)
+    read_watching(name, operands)
 }

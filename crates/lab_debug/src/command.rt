@@ -4,7 +4,7 @@ ghost use Rattle.lab_sched.specs.ScheduleTexts.{reading_of_words};
 ghost use Rattle.lab_debug.specs.Private.Ranges.{IsCommand};
 ghost use Rattle.lab_debug.specs.Commands.{step_of, until_of, back_of, bare_of, of_process, range_of, of_range, of_blocks, read_schedule, is_named, showing_command, plain_command, command_of};
 
-use crate::breaks::Place;
+use crate::marks::Place;
 use crate::operands::{address_in, count_in, number_in, one, process_in, three, two};
 use crate::placing::read_placing;
 use lab_sched::{MOST_STEPS, SchedFault, Schedule};
@@ -28,7 +28,7 @@ pub enum Command {
     },
     /// The steps of a schedule.
     Run(Schedule),
-    /// The steps of a schedule, up to a break.
+    /// The steps of a schedule, up to a break or a change of a watched word.
     Play(Schedule),
     /// At most so many steps of a process, up to an address.
     Until {
@@ -36,7 +36,7 @@ pub enum Command {
         address: u16,
         count: u32,
     },
-    /// At most so many steps of a process, up to a break.
+    /// At most so many steps of a process, up to a break or a change of a watched word.
     Go {
         pid: usize,
         count: u32,
@@ -47,6 +47,12 @@ pub enum Command {
     Clear(Place),
     /// The breaks.
     Breaks,
+    /// A watch to set.
+    Watch(Place),
+    /// A watch to take off.
+    Unwatch(Place),
+    /// The watches.
+    Watches,
     /// How many steps had an effect.
     Steps,
     /// The schedule of the steps that had an effect.
@@ -110,6 +116,8 @@ pub enum Refusal {
     NoLabel,
     /// There is no break at the place.
     NoBreak,
+    /// There is no watch at the place.
+    NoWatch,
 }
 
 /// `P N`
@@ -321,7 +329,7 @@ fn read_run(alloc: Global, operands: &[&[u8]]) -> Result<Option<Command>, AllocE
     Ok(Some(Command::Run(schedule)))
 }
 
-/// `BLOCKS`, a schedule to run up to a break
+/// `BLOCKS`, a schedule to run up to a stop
 fn read_play(alloc: Global, operands: &[&[u8]]) -> Result<Option<Command>, AllocError>
     ensures value { IfOk result (λ read.
         read ≡ of_blocks Play (map (λ word. word.now) operands.now)) }

@@ -1,5 +1,5 @@
 //! What a line of a script does.
-ghost use Rattle.std.specs.Prelude.{◌≡◌, false, ◌≤◌, ◌<◌, IfOk, OnOk, string_bytes, length, replicate, map, option_map, ◌∷◌};
+ghost use Rattle.std.specs.Prelude.{◌≡◌, ◌≤◌, ◌<◌, IfOk, OnOk, string_bytes, length, replicate, map, option_map, ◌∷◌};
 ghost use Rattle.ipc_kernel.specs.Limits.{process_max};
 ghost use Rattle.std.specs.List.{list_all};
 ghost use Rattle.lab_sched.specs.Schedules.{steps_of};
@@ -9,20 +9,22 @@ ghost use Rattle.lab_texts.specs.Texts.{status_text};
 ghost use Rattle.lab_debug.specs.Help.{help_text};
 ghost use Rattle.lab_texts.specs.Verdicts.{verdict_text};
 ghost use Rattle.lab_debug.specs.Private.Replies.{effect_of};
-ghost use Rattle.lab_debug.specs.Effects.{steps_text, is_there, are_there, clear_effect, play_effect, accepted_effect, command_effect, located_effect, labelled_effect, label_among, words_effect, line_effect, refusal_text};
+ghost use Rattle.lab_debug.specs.Effects.{steps_text, is_there, are_there, accepted_effect, command_effect, located_effect, labelled_effect, label_among, words_effect, line_effect};
 ghost use Rattle.lab_debug.specs.Labels.{addressed};
 ghost use Rattle.lab_debug.specs.Private.LabelViews.{label_seen};
 ghost use Rattle.lab_debug.specs.Private.Ranges.{IsCommand};
 
-use crate::breaks::{Place, break_text, breaks_text, clear_text, has_break};
+use crate::breaks::{break_text, breaks_text};
 use crate::command::{Command, Refusal, read_command};
 use crate::help::HELP;
 use crate::label::{Label, second_label, with_zero};
+use crate::marking::{clear, go, play, unwatch, watch};
 use crate::operands::split_words;
 use crate::places::{code_text, labels_text, where_text};
-use crate::playing::play_text;
+use crate::reply::{Reply, refuse};
 use crate::state::Session;
 use crate::taken::taken_text;
+use crate::watches::watches_text;
 use lab_sched::{Block, Schedule, World};
 use lab_texts::{
     dis_text, fds_text, mem_text, mqs_text, out_text, procs_text, profile_text, regs_text,
@@ -30,28 +32,6 @@ use lab_texts::{
 };
 use std::alloc::{AllocError, Global};
 use std::fmt::Write;
-
-/// What a line answers: its text, and whether it ends the session.
-#[derive(Drop)]
-pub struct Reply {
-    pub text: String,
-    pub ends: bool,
-}
-
-/// The text of a refusal.
-fn refuse(alloc: Global, refusal: Refusal) -> Result<Reply, AllocError>
-    ensures text { IfOk result (λ r. string_bytes r.text ≡ refusal_text refusal) }
-    ensures ends { IfOk result (λ r. r.ends ≡ false) }
-{
-    let text = match refusal {
-        Refusal::UnknownCommand => String::from_str(alloc, "? unknown command\n")?,
-        Refusal::BadOperands => String::from_str(alloc, "? bad operands\n")?,
-        Refusal::NoProcess => String::from_str(alloc, "? no such process\n")?,
-        Refusal::NoBreak => String::from_str(alloc, "? no such break\n")?,
-        Refusal::NoLabel => String::from_str(alloc, "? no such label\n")?,
-    };
-    Ok(Reply { text, ends: false })
-}
 
 /// The text of `help`.
 #[tactic(auto, unfolding(crate::specs::Help::help_text))]
@@ -119,12 +99,16 @@ fn are_there(world: &World, command: &Command) -> bool
         Command::Mem(range) | Command::Dis(range) | Command::Code(range) => is_there(
             world, range.pid,
         ),
-        Command::Break(place) | Command::Clear(place) => is_there(world, place.pid),
+        Command::Break(place)
+        | Command::Clear(place)
+        | Command::Watch(place)
+        | Command::Unwatch(place) => is_there(world, place.pid),
         Command::Run(schedule) | Command::Play(schedule) => {
             blocks_are_there(world, schedule.blocks())
         }
         Command::Back { .. }
         | Command::Breaks
+        | Command::Watches
         | Command::Steps
         | Command::Taken
         | Command::Procs
@@ -134,30 +118,6 @@ fn are_there(world: &World, command: &Command) -> bool
         | Command::Help
         | Command::Quit => true,
     }
-}
-
-/// Takes a break off, or refuses it where there is none.
-fn clear(alloc: Global, session: &mut Session, place: Place) -> Result<Reply, AllocError>
-    ensures effect { IfOk result (λ r. effect_of r (state_of session.new)
-        ≡ clear_effect (state_of session.old) place) }
-{
-    if has_break(session.breaks(), place) {
-        session.clear_break(alloc, place)?;
-        let text = clear_text(alloc, session.listings(), place)?;
-        Ok(Reply { text, ends: false })
-    } else {
-        refuse(alloc, Refusal::NoBreak)
-    }
-}
-
-/// Takes the steps of a schedule up to a break.
-fn play(alloc: Global, session: &mut Session, schedule: &Schedule) -> Result<Reply, AllocError>
-    ensures effect { IfOk result (λ r. effect_of r (state_of session.new)
-        ≡ play_effect (state_of session.old) (steps_of schedule.now)) }
-{
-    let (taken, stopped) = session.play(alloc, schedule)?;
-    let text = play_text(alloc, session.world(), taken, schedule.total(), stopped)?;
-    Ok(Reply { text, ends: false })
 }
 
 /// Carries out a command whose processes are there.
@@ -188,16 +148,19 @@ fn carry_out(alloc: Global, session: &mut Session, command: Command) -> Result<R
             let left = session.back(alloc, count)?;
             steps_text(alloc, left)?
         }
-        Command::Go { pid, count } => {
-            session.go(pid, count)?;
-            status_text(alloc, session.world(), pid)?
-        }
+        Command::Go { pid, count } => return go(alloc, session, pid, count),
         Command::Break(place) => {
             session.set_break(alloc, place)?;
             break_text(alloc, session.listings(), place)?
         }
         Command::Clear(place) => return clear(alloc, session, place),
         Command::Breaks => breaks_text(alloc, session.listings(), session.breaks())?,
+        Command::Watch(place) => return watch(alloc, session, place),
+        Command::Unwatch(place) => return unwatch(alloc, session, place),
+        Command::Watches => {
+            let watched = session.watched_words(alloc)?;
+            watches_text(alloc, session.listings(), &watched)?
+        }
         Command::Steps => {
             let (_, total) = session.effective(alloc)?;
             steps_text(alloc, total)?

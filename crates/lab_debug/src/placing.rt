@@ -6,8 +6,8 @@ ghost use Rattle.lab_debug.specs.Labels.{addressed, range_at, command_at};
 ghost use Rattle.lab_debug.specs.declared.command.Command.TheVariants.{Where, Code, Labels};
 
 use crate::breaking::read_breaking;
-use crate::breaks::Place;
 use crate::command::{Command, Range, Refusal, is_name, read_range};
+use crate::marks::Place;
 use crate::operands::{one, process_in};
 
 /// `P`, of where it stands
@@ -81,7 +81,10 @@ impl Command {
         match self {
             Command::Until { pid, .. } => Some(*pid),
             Command::Mem(range) | Command::Dis(range) | Command::Code(range) => Some(range.pid),
-            Command::Break(place) | Command::Clear(place) => Some(place.pid),
+            Command::Break(place)
+            | Command::Clear(place)
+            | Command::Watch(place)
+            | Command::Unwatch(place) => Some(place.pid),
             _ => None,
         }
     }
@@ -100,6 +103,8 @@ impl Command {
             }),
             Command::Break(Place { pid, .. }) => Some(Command::Break(Place { pid, address })),
             Command::Clear(Place { pid, .. }) => Some(Command::Clear(Place { pid, address })),
+            Command::Watch(Place { pid, .. }) => Some(Command::Watch(Place { pid, address })),
+            Command::Unwatch(Place { pid, .. }) => Some(Command::Unwatch(Place { pid, address })),
             Command::Mem(range) => Some(Command::Mem(range_at(range, address)?)),
             Command::Dis(range) => Some(Command::Dis(range_at(range, address)?)),
             Command::Code(range) => Some(Command::Code(range_at(range, address)?)),

@@ -1,12 +1,13 @@
-//! Schedules that stop at breaks.
+//! Schedules that stop at breaks, and where watched words change.
 ghost use Rattle.std.specs.Prelude.{◌≡◌, ◌+◌, ◌++◌, IfOk, OnOk, length, string_bytes};
 ghost use Rattle.lab_sched.specs.Worlds.{run};
 ghost use Rattle.lab_sched.specs.Schedules.{steps_of};
-ghost use Rattle.lab_debug.specs.Breaks.{steps_played, stopped_process};
+ghost use Rattle.lab_debug.specs.Marks.{marks_seen};
+ghost use Rattle.lab_debug.specs.Stops.{steps_played, stopped_process};
 ghost use Rattle.lab_debug.specs.Effects.{stop_text, play_text};
 
-use crate::breaks::Place;
-use crate::stepping::{push_steps, step_to_break};
+use crate::marks::Marks;
+use crate::stepping::{push_steps, step_to_stop};
 use lab_sched::{Block, World};
 use lab_texts::{status_text, verdict_text};
 use std::alloc::{AllocError, Global};
@@ -19,7 +20,7 @@ pub struct Played {
     pub steps: Vec<Block>,
     /// How many steps.
     pub total: u64,
-    /// The process that came to a break, if one did.
+    /// The process whose step was a stop, if one was.
     pub stopped: Option<usize>,
 }
 
@@ -33,18 +34,20 @@ fn more(total: u64, count: u32) -> Result<u64, AllocError>
     Ok(sum)
 }
 
-/// Takes the steps of blocks, up to one with an effect that leads its process to a break.
+/// Takes the steps of blocks, up to one with an effect that leads its process to a break or changes
+/// a watched word.
 pub fn play_blocks(
     alloc: Global,
     world: &mut World,
-    breaks: &[Place],
+    marks: &Marks,
     blocks: &[Block],
 ) -> Result<Played, AllocError>
     ensures steps { IfOk result (λ played.
-        steps_of played.steps.items ≡ steps_played breaks.now world.old (steps_of blocks.now)) }
+        steps_of played.steps.items
+        ≡ steps_played (marks_seen marks.now) world.old (steps_of blocks.now)) }
     ensures total { IfOk result (λ played. played.total ≡ length (steps_of played.steps.items)) }
     ensures stopped { IfOk result (λ played.
-        played.stopped ≡ stopped_process breaks.now world.old (steps_of blocks.now)) }
+        played.stopped ≡ stopped_process (marks_seen marks.now) world.old (steps_of blocks.now)) }
     ensures world { IfOk result
         (λ played. world.new ≡ run world.old (steps_of played.steps.items)) }
 {
@@ -52,7 +55,7 @@ pub fn play_blocks(
     let mut total: u64 = 0;
     for block in blocks {
         let Block { pid, count } = *block;
-        let (effective, stops) = step_to_break(world, breaks, pid, count)?;
+        let (effective, stops) = step_to_stop(alloc, world, marks, pid, count)?;
         if stops {
             push_steps(&mut steps, pid, effective)?;
             return Ok(Played {

@@ -3,16 +3,19 @@ ghost use Rattle.std.specs.Prelude.{◌≡◌, ◌↔◌, Err, IfOk, OnOk, OnErr
 ghost use Rattle.lab_sched.specs.Schedules.{steps_of};
 ghost use Rattle.lab_sched.specs.Starts.{IsCount, fresh};
 ghost use Rattle.lab_sched.specs.declared.fresh.FreshFault.TheVariants.{Count};
-ghost use Rattle.lab_debug.specs.Breaks.{with_break, without_break, steps_to_break, steps_played, stopped_process};
+ghost use Rattle.lab_debug.specs.Marks.{with_place, without_place, with_breaks, with_watches};
+ghost use Rattle.lab_debug.specs.Watches.{watched_words};
+ghost use Rattle.lab_debug.specs.Stops.{steps_to_stop, steps_played, stopped_process};
 ghost use Rattle.lab_debug.specs.Labels.{listing_of, label_address, has_labels};
 ghost use Rattle.lab_debug.specs.Private.LabelViews.{label_seen};
-ghost use Rattle.lab_debug.specs.Sessions.{session_from, with_breaks, effective, after_steps, steps_until, back, state_of};
+ghost use Rattle.lab_debug.specs.Sessions.{session_from, with_marks, effective, after_steps, steps_until, back, state_of};
 
-use crate::breaks::{Place, with_break, without_break};
 use crate::command::Refusal;
 use crate::label::{Label, moved};
+use crate::marks::{Marks, Place};
 use crate::playing::{Played, play_blocks};
-use crate::stepping::{effective_blocks, push_steps, run_first, step_to_break, step_until};
+use crate::stepping::{effective_blocks, push_steps, run_first, step_to_stop, step_until};
+use crate::watches::{Watched, watched_words};
 use lab_sched::{Block, Fresh, FreshFault, Program, Schedule, World};
 use lab_sources::Listing;
 use lc3_table::Profile;
@@ -25,7 +28,7 @@ pub struct Session {
     programs: Vec<Program>,
     listings: Vec<Option<Listing>>,
     profile: Profile,
-    breaks: Vec<Place>,
+    marks: Marks,
     taken: Vec<Block>,
     world: World,
 }
@@ -70,7 +73,7 @@ impl Session {
             programs,
             listings,
             profile,
-            breaks: Vec::new(alloc),
+            marks: Marks::new(alloc),
             taken: Vec::new(alloc),
             world: World::from(fresh),
         })
@@ -122,41 +125,71 @@ impl Session {
 
     /// The breaks, in the order of process and address.
     pub(crate) fn breaks(&self) -> &[Place]
-        ensures breaks { result.now ≡ (state_of self.now).breaks }
+        ensures breaks { result.now ≡ (state_of self.now).marks.breaks }
     {
-        self.breaks.as_slice()
+        self.marks.breaks.as_slice()
+    }
+
+    /// The watches, in the order of process and address.
+    pub(crate) fn watches(&self) -> &[Place]
+        ensures watches { result.now ≡ (state_of self.now).marks.watches }
+    {
+        self.marks.watches.as_slice()
+    }
+
+    /// The watches with the words that are there.
+    pub(crate) fn watched_words(&self, alloc: Global) -> Result<Vec<Watched>, AllocError>
+        ensures words { IfOk result (λ found. found.items
+            ≡ watched_words (state_of self.now).marks.watches (state_of self.now).world) }
+    {
+        watched_words(alloc, &self.world, &self.marks.watches)
     }
 
     /// Sets a break, which may be there already.
     pub(crate) fn set_break(&mut self, alloc: Global, place: Place) -> Result<(), AllocError>
-        ensures state { OnOk result
-            (state_of self.new ≡ with_breaks (state_of self.old) (with_break (state_of self.old).breaks place)) }
+        ensures state { OnOk result (state_of self.new ≡ with_marks (state_of self.old)
+            (with_breaks (state_of self.old).marks (with_place (state_of self.old).marks.breaks place))) }
     {
-        self.breaks = with_break(alloc, &self.breaks, place)?;
-        Ok(())
+        self.marks.set_break(alloc, place)
     }
 
     /// Takes a break off.
     pub(crate) fn clear_break(&mut self, alloc: Global, place: Place) -> Result<(), AllocError>
-        ensures state { OnOk result (state_of self.new
-            ≡ with_breaks (state_of self.old) (without_break (state_of self.old).breaks place)) }
+        ensures state { OnOk result (state_of self.new ≡ with_marks (state_of self.old)
+            (with_breaks (state_of self.old).marks (without_place (state_of self.old).marks.breaks place))) }
     {
-        self.breaks = without_break(alloc, &self.breaks, place)?;
-        Ok(())
+        self.marks.clear_break(alloc, place)
     }
 
-    /// Takes at most so many steps of a process: up to one that leads to a break, and only steps
-    /// that have an effect.
-    pub(crate) fn go(&mut self, pid: usize, count: u32) -> Result<(), AllocError>
-        ensures state { OnOk result (state_of self.new ≡ after_steps (state_of self.old)
-            (steps_to_break (state_of self.old).breaks pid (state_of self.old).world count)) }
+    /// Sets a watch, which may be there already.
+    pub(crate) fn set_watch(&mut self, alloc: Global, place: Place) -> Result<(), AllocError>
+        ensures state { OnOk result (state_of self.new ≡ with_marks (state_of self.old)
+            (with_watches (state_of self.old).marks (with_place (state_of self.old).marks.watches place))) }
     {
-        let (taken, _) = step_to_break(&mut self.world, &self.breaks, pid, count)?;
+        self.marks.set_watch(alloc, place)
+    }
+
+    /// Takes a watch off.
+    pub(crate) fn clear_watch(&mut self, alloc: Global, place: Place) -> Result<(), AllocError>
+        ensures state { OnOk result (state_of self.new ≡ with_marks (state_of self.old)
+            (with_watches (state_of self.old).marks (without_place (state_of self.old).marks.watches place))) }
+    {
+        self.marks.clear_watch(alloc, place)
+    }
+
+    /// Takes at most so many steps of a process: up to one that leads to a break or changes a
+    /// watched word, and only steps that have an effect.
+    pub(crate) fn go(&mut self, alloc: Global, pid: usize, count: u32) -> Result<(), AllocError>
+        ensures state { OnOk result (state_of self.new ≡ after_steps (state_of self.old)
+            (steps_to_stop (state_of self.old).marks pid (state_of self.old).world count)) }
+    {
+        let (taken, _) = step_to_stop(alloc, &mut self.world, &self.marks, pid, count)?;
         push_steps(&mut self.taken, pid, taken)
     }
 
-    /// Takes the steps of a schedule, up to one with an effect that leads its process to a break;
-    /// with how many steps were taken, and the process that came to a break, if one did.
+    /// Takes the steps of a schedule, up to one with an effect that leads its process to a break or
+    /// changes a watched word; with how many steps were taken, and the process that stopped, if one
+    /// did.
     #[tactic(auto, using(crate::proofs::BlockLemmas::steps_both))]
     pub(crate) fn play(
         &mut self,
@@ -164,17 +197,17 @@ impl Session {
         schedule: &Schedule,
     ) -> Result<(u64, Option<usize>), AllocError>
         ensures state { OnOk result (state_of self.new ≡ after_steps (state_of self.old)
-            (steps_played (state_of self.old).breaks (state_of self.old).world (steps_of schedule.now))) }
+            (steps_played (state_of self.old).marks (state_of self.old).world (steps_of schedule.now))) }
         ensures total { IfOk result (λ played. played.0 ≡ length
-            (steps_played (state_of self.old).breaks (state_of self.old).world (steps_of schedule.now))) }
+            (steps_played (state_of self.old).marks (state_of self.old).world (steps_of schedule.now))) }
         ensures stopped { IfOk result (λ played. played.1 ≡ stopped_process
-            (state_of self.old).breaks (state_of self.old).world (steps_of schedule.now)) }
+            (state_of self.old).marks (state_of self.old).world (steps_of schedule.now)) }
     {
         let Played {
             steps,
             total,
             stopped,
-        } = play_blocks(alloc, &mut self.world, &self.breaks, schedule.blocks())?;
+        } = play_blocks(alloc, &mut self.world, &self.marks, schedule.blocks())?;
         self.taken.extend_from_slice(steps.as_slice())?;
         Ok((total, stopped))
     }

@@ -1,13 +1,19 @@
 //! Steps of a world, and which of them have an effect.
-ghost use Rattle.std.specs.Prelude.{◌≡◌, ◌++◌, true, false, IfOk, OnOk, length, replicate, slice_get, take};
+ghost use Rattle.std.specs.Prelude.{◌≡◌, ◌||◌, ◌++◌, true, false, IfOk, OnOk, length, replicate, slice_get, take};
+ghost use Rattle.std.specs.List.{list_any};
 ghost use Rattle.lab_sched.specs.Worlds.{run};
 ghost use Rattle.lab_sched.specs.Schedules.{steps_of};
 ghost use Rattle.lab_sched.specs.declared.stepped.Stepped.TheVariants.{Same};
-ghost use Rattle.lab_debug.specs.Breaks.{steps_to_break, stopped_process};
+ghost use Rattle.lab_debug.specs.Breaks.{is_at_break};
+ghost use Rattle.lab_debug.specs.Marks.{marks_seen};
+ghost use Rattle.lab_debug.specs.Watches.{has_changed};
+ghost use Rattle.lab_debug.specs.Stops.{steps_to_stop, stopped_process};
 ghost use Rattle.lab_debug.specs.Private.Stops.{only_if};
 ghost use Rattle.lab_debug.specs.Sessions.{effective, is_at, steps_until};
 
-use crate::breaks::{Place, is_at_break};
+use crate::breaks::is_at_break;
+use crate::marks::Marks;
+use crate::watches::{Watched, is_any_changed, watched_words};
 use lab_sched::{Block, Stepped, World};
 use std::alloc::{AllocError, Global};
 
@@ -55,20 +61,31 @@ pub fn step_until(
     Ok(count)
 }
 
-/// Takes at most so many steps of a process: up to one that leads to a break, and only steps that
-/// have an effect. It tells how many, and whether the last one led to a break.
-pub fn step_to_break(
+/// Whether process `pid` is at a break, or another word is at a watched place now.
+fn is_stopped(world: &World, marks: &Marks, watched: &[Watched], pid: usize) -> bool
+    ensures value { result ≡ (is_at_break (marks_seen marks.now).breaks pid world.now
+        || list_any (has_changed world.now) watched.now) }
+{
+    is_at_break(world, &marks.breaks, pid) || is_any_changed(world, watched)
+}
+
+/// Takes at most so many steps of a process: up to one that leads to a break or changes a watched
+/// word, and only steps that have an effect. It tells how many, and whether the last one was such a
+/// stop.
+pub fn step_to_stop(
+    alloc: Global,
     world: &mut World,
-    breaks: &[Place],
+    marks: &Marks,
     pid: usize,
     count: u32,
 ) -> Result<(u32, bool), AllocError>
-    ensures steps { IfOk result
-        (λ taken. replicate taken.0 pid ≡ steps_to_break breaks.now pid world.old count) }
-    ensures stop { IfOk result (λ taken.
-        only_if taken.1 pid ≡ stopped_process breaks.now world.old (replicate count pid)) }
+    ensures steps { IfOk result (λ taken.
+        replicate taken.0 pid ≡ steps_to_stop (marks_seen marks.now) pid world.old count) }
+    ensures stop { IfOk result (λ taken. only_if taken.1 pid
+        ≡ stopped_process (marks_seen marks.now) world.old (replicate count pid)) }
     ensures world { IfOk result (λ taken. world.new ≡ run world.old (replicate taken.0 pid)) }
 {
+    let watched = watched_words(alloc, world, &marks.watches)?;
     for i in 0..count {
         let Ok(stepped) = world.step(pid) else {
             return Err(AllocError);
@@ -76,7 +93,7 @@ pub fn step_to_break(
         if is_same(stepped) {
             return Ok((i, false));
         }
-        if is_at_break(world, breaks, pid) {
+        if is_stopped(world, marks, &watched, pid) {
             return Ok((i + 1, true));
         }
     }

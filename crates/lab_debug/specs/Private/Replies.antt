@@ -1,7 +1,7 @@
 -- What a line did, as its reply and the world after it tell.
 use Rattle.std.specs.Prelude.{string_bytes}
 use Rattle.lab_debug.specs.Sessions.{SessionState}
-use Rattle.lab_debug.specs.declared.effect.Reply.{Reply}
+use Rattle.lab_debug.specs.declared.reply.Reply.{Reply}
 use Rattle.lab_debug.specs.Script.{Effect}
 
 -- the effect of a line with this reply, where this is the world after it
