@@ -1,12 +1,12 @@
 -- What stands at an address of a process: its nearest label, and the line of its source or the text of its word.
-use Rattle.std.specs.Prelude.{ℕ, ◌-◌, ◌==◌, nat_lt, if◌then◌else◌, Option, Some, None, List, [], ◌++◌, codes, slice_get, string_bytes}
+use Rattle.std.specs.Prelude.{ℕ, ◌-◌, nat_lt, if◌then◌else◌, Option, Some, None, List, [], ◌++◌, codes, slice_get, string_bytes}
 use Rattle.std.specs.Fmt.{decimal}
 use Rattle.std.specs.declared.string.String.{String}
-use Rattle.lc3_word.specs.Segment.{Segment, first_device}
+use Rattle.lc3_word.specs.Segment.{first_device}
 use Rattle.lc3_table.specs.Text.{word_text}
 use Rattle.lc3_asm.specs.declared.assembled.Row.{Row}
-use Rattle.lab_sources.specs.Labels.{word_at, nearest, label_text}
-use Rattle.lab_sources.specs.Rows.{row_at}
+use Rattle.lab_sources.specs.Labels.{nearest, label_text}
+use Rattle.lab_sources.specs.Rows.{held_row}
 use Rattle.lab_sources.specs.declared.listing.Listing.{Listing}
 
 -- a label of an address, or a dash
@@ -23,15 +23,6 @@ label_at a (Some l) = near_text a (nearest l.source.assembled a)
 abbrev pub word_shown : ℕ → ℕ → List ℕ
 word_shown a word = if nat_lt a first_device then word_text word else codes "-"
 
--- a row where memory holds the word of the image
-abbrev pub where_held : ℕ → Option ℕ → Option Row → Option Row
-where_held word None row = None
-where_held word (Some w) row = if w == word then row else None
-
--- the line whose first word is at an address, where memory holds this word there
-abbrev pub held_row : Listing → ℕ → ℕ → Option Row
-held_row l a word = where_held word (word_at l.source.assembled.image a) (row_at l.source.assembled.rows a)
-
 -- a line as it is shown, where it is there
 abbrev pub line_or_nothing : {Z : Type 0} → Option (String Z) → List ℕ
 line_or_nothing None = []
@@ -45,4 +36,4 @@ row_text l a word (Some row) = codes "line " ++ decimal row.line ++ codes ": " +
 -- the line of the source at an address with this word, or the text of the word
 abbrev pub content_text : ℕ → ℕ → Option Listing → List ℕ
 content_text a word None = word_shown a word
-content_text a word (Some l) = row_text l a word (held_row l a word)
+content_text a word (Some l) = row_text l a word (held_row l.source.assembled a word)

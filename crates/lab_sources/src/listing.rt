@@ -1,10 +1,9 @@
 //! The source of a process with its lines as they are shown, and what stands there at an address.
 ghost use Rattle.std.specs.Prelude.{◌≡◌, ◌-◌, Some, IfOk, option_map, slice_get};
-ghost use Rattle.lab_sources.specs.Places.{label_at, word_shown, held_row, line_or_nothing, content_text};
+ghost use Rattle.lab_sources.specs.Places.{label_at, word_shown, line_or_nothing, content_text};
 
 use crate::lines::shown_lines;
 use crate::source::Source;
-use lc3_asm::Row;
 use lc3_table::WordText;
 use lc3_word::FIRST_DEVICE;
 use std::alloc::{AllocError, Global};
@@ -25,17 +24,6 @@ impl Listing {
     {
         let lines = shown_lines(alloc, &source.text)?;
         Ok(Listing { source, lines })
-    }
-
-    /// The line whose first word is at an address, where memory holds this word there.
-    fn held_row(&self, address: u16, word: u16) -> Option<Row>
-        ensures row { result ≡ held_row self.now address word }
-    {
-        if self.source.word(address)? == word {
-            self.source.row_at(address)
-        } else {
-            None
-        }
     }
 
     /// A line as it is shown, by its number, from 1.
@@ -113,7 +101,7 @@ impl fmt::Display for Content<'_> {
         let Some(listing) = self.listing else {
             return write!(f, "{word}");
         };
-        match listing.held_row(self.address, self.word) {
+        match listing.source.held_row(self.address, self.word) {
             Some(row) => {
                 let number = row.line;
                 let line = listing.line(number);

@@ -1,7 +1,7 @@
 //! The source of a process.
 ghost use Rattle.std.specs.Prelude.{◌≡◌, IfOk, IfSome, option_map};
 ghost use Rattle.lab_sources.specs.Labels.{address_of, word_at, nearest};
-ghost use Rattle.lab_sources.specs.Rows.{row_at};
+ghost use Rattle.lab_sources.specs.Rows.{row_at, held_row};
 
 use crate::labels::{Near, address_of, highest_up_to};
 use lc3_asm::{Assembled, Row};
@@ -72,5 +72,17 @@ impl Source {
             .iter()
             .copied()
             .find(|row| row.address == address)
+    }
+
+    /// The line whose first word is at an address, where memory holds this word there and it is the
+    /// one of the image.
+    pub fn held_row(&self, address: u16, word: u16) -> Option<Row>
+        ensures row { result ≡ held_row self.now.assembled address word }
+    {
+        if self.word(address)? == word {
+            self.row_at(address)
+        } else {
+            None
+        }
     }
 }

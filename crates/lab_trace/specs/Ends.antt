@@ -1,5 +1,5 @@
 -- Where the processes stand that haven't ended.
-use Rattle.std.specs.Prelude.{ℕ, zero, suc, ◌==◌, nat_lt, ◌&&◌, ◌||◌, not, Bool, false, if◌then◌else◌, Option, Some, None, List, [], ◌++◌, codes, length, slice_get}
+use Rattle.std.specs.Prelude.{ℕ, zero, suc, ◌==◌, nat_lt, ◌&&◌, ◌||◌, not, Bool, false, if◌then◌else◌, Option, Some, None, List, [], ◌++◌, codes, length, slice_get, slice_index}
 use Rattle.std.specs.Fmt.{decimal}
 use Rattle.lc3_machine.specs.Process.{Process as Machine, reg}
 use Rattle.ipc_kernel.specs.Kernel.{KernelState}
@@ -107,10 +107,14 @@ wait_text w t p m (Some s) =
     codes "waits" ++ since_part (account_of t p).since ++ codes " in " ++ call_text w.kernel p m s ++ codes ": "
     ++ object_part w t.units p s (held_place w.kernel p s (reg m 0))
 
+-- the end of the line of process p at its program counter
+abbrev pub stand_end : Form → ℕ → Machine → List ℕ
+stand_end v p m = line_end v false p m.pc (slice_index m.memory m.pc)
+
 -- the line of process p, if it hasn't ended
 abbrev pub stand : Form → WorldState → TallyState → ℕ → Process → List ℕ
-stand v w t p (Running m) = head v (codes "end") p m.pc (account_of t p).local ++ codes "runs" ++ line_end v false p m.pc
-stand v w t p (Waiting m c) = head v (codes "end") p m.pc (account_of t p).local ++ wait_text w t p m (service_at m) ++ line_end v false p m.pc
+stand v w t p (Running m) = head v (codes "end") p m.pc (account_of t p).local ++ codes "runs" ++ stand_end v p m
+stand v w t p (Waiting m c) = head v (codes "end") p m.pc (account_of t p).local ++ wait_text w t p m (service_at m) ++ stand_end v p m
 stand v w t p (Ended e) = []
 
 -- where process p stands, if it hasn't ended

@@ -1,10 +1,12 @@
--- How the lines of a trace are written, and the labels at their ends.
-use Rattle.std.specs.Prelude.{ℕ, ◌+◌, ◌-◌, max, Bool, true, false, Option, Some, None, List, [], ◌++◌, codes, length, slice_get}
+-- How the lines of a trace are written, and the labels and lines of sources at their ends.
+use Rattle.std.specs.Prelude.{ℕ, ◌+◌, ◌-◌, max, ◌||◌, is_some, Bool, true, false, Option, Some, None, List, [], ◌++◌, codes, length, slice_get}
 use Rattle.std.specs.Option.{option_and_then}
 use Rattle.std.specs.Fmt.{decimal}
 use Rattle.lc3_word.specs.Words.{hexadecimal_text}
 use Rattle.lab_sources.specs.Labels.{nearest, label_text}
+use Rattle.lab_sources.specs.Rows.{held_row}
 use Rattle.lab_sources.specs.declared.source.Source.{Source}
+use Rattle.lc3_asm.specs.declared.assembled.Row.{Row}
 use Rattle.lab_trace.specs.Words.{at_left, at_right}
 
 -- the widths of the columns whose width a trace chooses, the number of a step and the process, and of each process its
@@ -41,6 +43,10 @@ abbrev pub separator : Bool → List ℕ
 separator true = codes ", "
 separator false = codes " ; "
 
+-- the source of process p, where it was given as one
+abbrev pub source_of : List (Option Source) → ℕ → Option Source
+source_of sources p = option_and_then (λ s. s) (slice_get sources p)
+
 -- the nearest label of an address in a source
 abbrev pub label_in : ℕ → Option Source → Option (List ℕ × ℕ)
 label_in address None = None
@@ -48,7 +54,7 @@ label_in address (Some s) = nearest s.assembled address
 
 -- the nearest label of an address in the source of process p
 abbrev pub label_of : List (Option Source) → ℕ → ℕ → Option (List ℕ × ℕ)
-label_of sources p address = label_in address (option_and_then (λ s. s) (slice_get sources p))
+label_of sources p address = label_in address (source_of sources p)
 
 -- at which label an address is
 unfoldable pub at_text : List ℕ × ℕ → ℕ → List ℕ
@@ -59,7 +65,27 @@ abbrev pub label_note : Bool → ℕ → Option (List ℕ × ℕ) → List ℕ
 label_note begun address None = []
 label_note begun address (Some l) = separator begun ++ at_text l address
 
--- the end of a line of process p at an address: its nearest label, where there is one; `begun` says whether a note stands
--- before it
-unfoldable pub line_end : Form → Bool → ℕ → ℕ → List ℕ
-line_end v begun p address = label_note begun address (label_of v.sources p address) ++ codes "\n"
+-- the line of a source at an address, where its first word is there and memory holds this word
+abbrev pub row_in : ℕ → ℕ → Option Source → Option Row
+row_in address word None = None
+row_in address word (Some s) = held_row s.assembled address word
+
+-- the same in the source of process p
+abbrev pub row_of : List (Option Source) → ℕ → ℕ → ℕ → Option Row
+row_of sources p address word = row_in address word (source_of sources p)
+
+-- a line of a source by its number
+unfoldable pub row_text : Row → List ℕ
+row_text row = codes "line " ++ decimal row.line
+
+-- the line of a source, where there is one; `begun` says whether a note stands before it
+abbrev pub row_note : Bool → Option Row → List ℕ
+row_note begun None = []
+row_note begun (Some row) = separator begun ++ row_text row
+
+-- the end of a line of process p at an address with this word: the nearest label and the line of its source there, where
+-- there are such; `begun` says whether a note stands before them
+unfoldable pub line_end : Form → Bool → ℕ → ℕ → ℕ → List ℕ
+line_end v begun p address word =
+    label_note begun address (label_of v.sources p address)
+    ++ row_note (begun || is_some (label_of v.sources p address)) (row_of v.sources p address word) ++ codes "\n"

@@ -88,5 +88,5 @@ is_noted k a os p after other = false
 abbrev pub event_line : Form → ℕ → KernelState → Account → List Origin → ℕ → Before → Process → Event → List ℕ
 event_line v n k a os p b after e =
     if has_line e
-    then head v (decimal n) p b.pc a.local ++ event_text k a os p b after e ++ line_end v (is_noted k a os p after e) p b.pc
+    then head v (decimal n) p b.pc a.local ++ event_text k a os p b after e ++ line_end v (is_noted k a os p after e) p b.pc b.word
     else []

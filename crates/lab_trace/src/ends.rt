@@ -93,17 +93,18 @@ fn push_stand(
         ++ stand form.now world.now tally.now pid (process_view process.now)) }
 {
     let pc = process.machine().pc();
+    let word = process.machine().word(pc);
     let local = tally.account(pid).local;
     match process {
         Process::Running(_) => {
             form.push_head(alloc, text, "end", pid, pc, local)?;
             text.push_str("runs")?;
-            form.push_line_end(text, false, pid, pc)
+            form.push_line_end(text, false, pid, pc, word)
         }
         Process::Waiting(_, _) => {
             form.push_head(alloc, text, "end", pid, pc, local)?;
             push_wait(alloc, text, world, tally, pid, process)?;
-            form.push_line_end(text, false, pid, pc)
+            form.push_line_end(text, false, pid, pc, word)
         }
         Process::Ended(_) => Ok(()),
     }

@@ -1,10 +1,12 @@
-//! How the lines of a trace are written: the columns at their beginning, and the label at their end.
-ghost use Rattle.std.specs.Prelude.{◌≡◌, ◌≤◌, ◌<◌, ◌^◌, ◌++◌, OnOk, IfOk, IfSome, option_map, length, string_bytes};
+//! How the lines of a trace are written: the columns at their beginning, and the label and the line of the
+//! source at their end.
+ghost use Rattle.std.specs.Prelude.{◌≡◌, ◌≤◌, ◌<◌, ◌^◌, ◌||◌, ◌++◌, OnOk, IfOk, IfSome, is_some, option_map, length, string_bytes};
 ghost use Rattle.std.specs.Fmt.{decimal};
-ghost use Rattle.lab_trace.specs.Forms.{form_for, process_column, local_column, head, separator, label_of, at_text, label_note, line_end};
+ghost use Rattle.lab_trace.specs.Forms.{form_for, process_column, local_column, head, separator, source_of, label_of, at_text, label_note, row_of, row_text, row_note, line_end};
 
 use crate::words::{push_address, push_at_left, push_at_right};
 use lab_sources::{Near, Source};
+use lc3_asm::Row;
 use std::alloc::{AllocError, Global};
 use std::marker::Model;
 
@@ -41,7 +43,8 @@ fn digits(alloc: Global, number: usize) -> Result<usize, AllocError>
 
 impl<'a> Form<'a> {
     /// The form for a schedule of so many steps of so many processes. Lines of a process with a
-    /// source end with the nearest label of their address; a process without one has no labels.
+    /// source end with the nearest label of their address and the line there; a process without one
+    /// has neither.
     pub fn new(
         alloc: Global,
         total: u32,
@@ -60,16 +63,23 @@ impl<'a> Form<'a> {
         })
     }
 
+    /// The source of process `pid`, where it was given as one.
+    fn source(&self, pid: usize) -> Option<&'a Source>
+        ensures source { option_map (λ s. s.now) result ≡ source_of self.now.sources pid }
+    {
+        match self.sources.get(pid) {
+            Some(Some(source)) => Some(source),
+            _ => None,
+        }
+    }
+
     /// The nearest label of an address of process `pid`, where it has a source and there is one.
     fn near(&self, pid: usize, address: u16) -> Option<Near<'a>>
         ensures label { option_map (λ n. (n.name.now, n.place)) result
             ≡ label_of self.now.sources pid address }
         ensures address { IfSome result (λ n. n.address ≡ address) }
     {
-        match self.sources.get(pid) {
-            Some(Some(source)) => source.nearest(address),
-            _ => None,
-        }
+        self.source(pid)?.nearest(address)
     }
 
     /// Adds the columns before what happened.
@@ -94,26 +104,39 @@ impl<'a> Form<'a> {
         push_local(alloc, text, local)
     }
 
-    /// Adds the nearest label of an address of process `pid`, where there is one.
+    /// The line at an address of process `pid`, where it has a source, the first word of the line is
+    /// there and memory holds this word.
+    fn row(&self, pid: usize, address: u16, word: u16) -> Option<Row>
+        ensures row { result ≡ row_of self.now.sources pid address word }
+    {
+        self.source(pid)?.held_row(address, word)
+    }
+
+    /// Adds the nearest label of an address of process `pid`, where there is one. `begun` says
+    /// whether a note stands before it; the answer, whether one stands behind it.
     fn push_label_note(
         &self,
         text: &mut String,
         begun: bool,
         pid: usize,
         address: u16,
-    ) -> Result<(), AllocError>
+    ) -> Result<bool, AllocError>
         ensures text { OnOk result (string_bytes text.new ≡ string_bytes text.old
             ++ label_note begun address (label_of self.now.sources pid address)) }
+        ensures noted { IfOk result (λ noted.
+            noted ≡ (begun || is_some (label_of self.now.sources pid address))) }
     {
         let Some(near) = self.near(pid, address) else {
-            return Ok(());
+            return Ok(begun);
         };
         text.push_str(separator(begun))?;
-        push_at(text, near)
+        push_at(text, near)?;
+        Ok(true)
     }
 
-    /// Adds the end of a line of process `pid` at an address: its nearest label, where there is one.
-    /// `begun` says whether a note stands before it.
+    /// Adds the end of a line of process `pid` at an address with this word: the nearest label, and
+    /// the line of the source there, where there are such. `begun` says whether a note stands
+    /// before them.
     #[tactic(auto, unfolding(crate::specs::Forms::line_end))]
     pub fn push_line_end(
         &self,
@@ -121,11 +144,14 @@ impl<'a> Form<'a> {
         begun: bool,
         pid: usize,
         address: u16,
+        word: u16,
     ) -> Result<(), AllocError>
         ensures text { OnOk result (string_bytes text.new ≡ string_bytes text.old
-            ++ line_end self.now begun pid address) }
+            ++ line_end self.now begun pid address word) }
     {
-        self.push_label_note(text, begun, pid, address)?;
+        let noted = self.push_label_note(text, begun, pid, address)?;
+        let row = self.row(pid, address, word);
+        push_row_note(text, noted, row)?;
         text.push_str("\n")
     }
 }
@@ -174,4 +200,28 @@ fn push_at(text: &mut String, near: Near<'_>) -> Result<(), AllocError>
         Ok(()) => Ok(()),
         Err(error) => Err(error),
     }
+}
+
+/// Adds a line of a source by its number.
+#[tactic(auto, unfolding(crate::specs::Forms::row_text))]
+fn push_row(text: &mut String, row: Row) -> Result<(), AllocError>
+    ensures text { OnOk result (string_bytes text.new ≡ string_bytes text.old ++ row_text row) }
+{
+    let number = row.line;
+    match write!(text, "line {number}") {
+        Ok(()) => Ok(()),
+        Err(error) => Err(error),
+    }
+}
+
+/// Adds the line of a source, where there is one. `begun` says whether a note stands before it.
+fn push_row_note(text: &mut String, begun: bool, row: Option<Row>) -> Result<(), AllocError>
+    ensures text { OnOk result (string_bytes text.new ≡ string_bytes text.old
+        ++ row_note begun row) }
+{
+    let Some(row) = row else {
+        return Ok(());
+    };
+    text.push_str(separator(begun))?;
+    push_row(text, row)
 }

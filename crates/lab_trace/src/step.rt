@@ -106,7 +106,7 @@ fn line_of(
     let local = tally.account(pid).local;
     form.push_head(alloc, &mut line, &number, pid, before.pc, local)?;
     let begun = push_event(&mut line, kernel, tally, pid, before, after)?;
-    form.push_line_end(&mut line, begun, pid, before.pc)?;
+    form.push_line_end(&mut line, begun, pid, before.pc, before.word)?;
     Ok(line)
 }
 
