@@ -36,7 +36,7 @@ def semaphore_program(dice):
 
 
 def queue_program(dice):
-    """Opens a queue, sends to it or receives from it some times, and may take its name away."""
+    """Opens a queue, sends to it or receives from it some times, and may take its name away and close it."""
     lines = ["LEA R0,NAME", "LD R1,FLAGS", "TRAP x40", "LEA R1,WORDS", "LD R2,LENGTH"]
     body = []
     for _ in range(dice.randint(1, 2)):
@@ -47,6 +47,8 @@ def queue_program(dice):
     body[0] = "LOOP " + body[0]
     if dice.random() < 0.2:
         body += ["LEA R0,NAME", "TRAP x42"]
+        # R0 is 0 then, the number of the descriptor
+        body += ["TRAP x41"] * dice.choice([0, 0, 1])
     flags = dice.choice(["x42", "x42", "x842"])
     word = dice.randint(1, 3)
     data = ['NAME .STRINGZ "/q"', f"FLAGS .FILL {flags}", "LENGTH .FILL 16", f"WORDS .FILL {word}", ".BLKW 15"]

@@ -3,7 +3,7 @@
 use crate::ends::push_ends;
 use crate::reasons::{Extent, push_limits};
 use crate::values::{push_comma, push_schedule, push_text};
-use lab_conditions::Condition;
+use lab_conditions::Never;
 use lab_explore::{End, Exploration, Round};
 use lab_questions::{Answer, Answers, Failure, Word};
 use lab_sched::Schedule;
@@ -107,25 +107,25 @@ fn push_faults(
     Ok(())
 }
 
-/// Adds a condition that was reached.
+/// Adds what must never be so and was reached.
 fn push_condition(
     alloc: Global,
     text: &mut String,
-    condition: &Condition,
+    condition: &Never,
     schedule: &Schedule,
 ) -> Result<(), AllocError> {
     text.push_str("{\"never\":")?;
-    push_text(text, condition.text.as_bytes())?;
+    push_text(text, condition.text().as_bytes())?;
     text.push_str(",\"schedule\":")?;
     push_schedule(alloc, text, schedule)?;
     text.push_str("}")
 }
 
-/// Adds the conditions that were reached, with commas between them.
+/// Adds all that must never be so and was reached, with commas between.
 fn push_conditions(
     alloc: Global,
     text: &mut String,
-    conditions: &[Condition],
+    conditions: &[Never],
     reached: &[Option<Schedule>],
 ) -> Result<(), AllocError> {
     let mut told = 0;
@@ -163,12 +163,12 @@ fn holds_name(judged: bool, failure: Option<Failure>) -> &'static str {
     }
 }
 
-/// The answers as one line, with those on conditions, which are given in order, with how far the exploration was to go, and
+/// The answers as one line, with those on what must never be so, which is given in order, with how far the exploration was to go, and
 /// whether something had to be so.
 pub fn answers_json(
     alloc: Global,
     answers: &Answers,
-    conditions: &[Condition],
+    conditions: &[Never],
     extent: Extent,
     judged: bool,
 ) -> Result<String, AllocError> {

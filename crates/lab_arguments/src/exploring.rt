@@ -39,7 +39,8 @@ fn with_questions<'a>(alloc: Global, command: Command<'a>) -> Result<Command<'a>
         ended, stuck, halted, empty, same, with commas between them";
     let may_wait = "With ended or halted: process P may wait for ever; \
         'P at A' or 'P at A-B' where its program counter is there";
-    let never = "Fails unless the search is complete and this condition never holds";
+    let never = "Fails unless the search is complete and this condition never holds, \
+        or, with lost, no message is lost with its queue";
     let schedule =
         "Prints the schedule of end K alone, or of the first thing that is not as it has to be";
     let page = "Also writes FILE, a page that shows the ends and the run of each in a browser";

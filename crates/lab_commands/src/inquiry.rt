@@ -1,7 +1,7 @@
 //! What is asked of an exploration, read from words.
 use crate::complaint::{At, Complaint, Reason};
 use lab_arguments::{Choice, Question, Requirements, Rest};
-use lab_conditions::{Condition, Part, ReadFault, State};
+use lab_conditions::{Condition, Never, Part, ReadFault, State};
 use lab_explore::{Limits, Walks};
 use lab_questions::{Waiter, Word};
 use lab_sched::Verdict;
@@ -34,7 +34,7 @@ pub enum Asked {
         words: Vec<Word>,
         waiters: Vec<Waiter>,
         /// What must never be so.
-        never: Vec<Condition>,
+        never: Vec<Never>,
     },
 }
 
@@ -72,7 +72,7 @@ fn asked_of<'a>(
     Ok(Asked::More {
         words: words_of(alloc, question.required).at("run")?,
         waiters: waiters_of(alloc, question.waiters.as_slice(), count)?,
-        never: conditions_of(alloc, question.never.as_slice(), count)?,
+        never: nevers_of(alloc, question.never.as_slice(), count)?,
     })
 }
 
@@ -128,32 +128,34 @@ fn waiter_of<'a>(alloc: Global, word: &'a str, count: usize) -> Result<Waiter, C
     }
 }
 
-/// The conditions that words write, on so many processes.
-fn conditions_of<'a>(
+/// What must never be so, as words write it, of so many processes.
+fn nevers_of<'a>(
     alloc: Global,
     words: &[&'a str],
     count: usize,
-) -> Result<Vec<Condition>, Complaint<'a>> {
-    let mut conditions = Vec::new(alloc);
+) -> Result<Vec<Never>, Complaint<'a>> {
+    let mut nevers = Vec::new(alloc);
     for word in words {
-        conditions
-            .push(condition_of(alloc, word, count)?)
-            .at("run")?;
+        nevers.push(never_of(alloc, word, count)?).at("run")?;
     }
-    Ok(conditions)
+    Ok(nevers)
 }
 
-/// The condition that a word writes, on so many processes.
-fn condition_of<'a>(
-    alloc: Global,
-    word: &'a str,
-    count: usize,
-) -> Result<Condition, Complaint<'a>> {
-    match Condition::read(alloc, word) {
-        Ok(condition) if condition.names_only(count) => Ok(condition),
+/// What must never be so, as a word writes it, of so many processes.
+fn never_of<'a>(alloc: Global, word: &'a str, count: usize) -> Result<Never, Complaint<'a>> {
+    match Never::read(alloc, word) {
+        Ok(never) if names_only(&never, count) => Ok(never),
         Ok(_) => Err(Reason::NoSuchProcess.at(word)),
         Err(ReadFault::NoCondition) => Err(Reason::NoCondition.at(word)),
         Err(ReadFault::NoMemory) => Err(Reason::NoMemory.at("run")),
+    }
+}
+
+/// Whether what must never be so names no process but those of a run of so many.
+fn names_only(never: &Never, count: usize) -> bool {
+    match never {
+        Never::Holds(condition) => condition.names_only(count),
+        Never::Lost => true,
     }
 }
 

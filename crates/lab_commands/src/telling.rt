@@ -5,7 +5,7 @@ use crate::files::write_text;
 use crate::inquiry::{Asked, Inquiry};
 use lab_answers::{Extent, answers_json};
 use lab_arguments::Choice;
-use lab_conditions::Condition;
+use lab_conditions::Never;
 use lab_io::Output;
 use lab_questions::{Answers, Failure, bad_schedule};
 use std::alloc::Global;
@@ -75,14 +75,14 @@ fn judges(inquiry: &Inquiry) -> bool {
 }
 
 /// What must never be so.
-fn never_in(inquiry: &Inquiry) -> &[Condition] {
+fn never_in(inquiry: &Inquiry) -> &[Never] {
     match &inquiry.asked {
         Asked::Verdict(_) => &[],
         Asked::More { never, .. } => never.as_slice(),
     }
 }
 
-/// The complaint that a condition was reached, by its number.
+/// The complaint that what must never be so was reached, by its number.
 fn reached(alloc: Global, inquiry: &Inquiry, number: usize) -> Complaint<'static> {
     let complaint = Reason::Reached.at("explore");
     let Some(condition) = never_in(inquiry).get(number) else {

@@ -5,3 +5,4 @@ pub mod WordLemmas
 pub mod PartLemmas
 pub mod AddressLemmas
 pub mod CarriedConditions
+pub mod MessageCounts

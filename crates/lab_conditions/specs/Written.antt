@@ -1,5 +1,5 @@
 -- Conditions as they are written.
-use Rattle.std.specs.Prelude.{ℕ, ◌+◌, ◌≡◌, ◌++◌, ◌==◌, ◌&&◌, not, filter, flat_map, nat_le, min, if◌then◌else◌, Bool, Option, Some, None, Result, Ok, Err, List, [], ◌∷◌, codes, length, take, drop, position}
+use Rattle.std.specs.Prelude.{ℕ, ◌+◌, ◌≡◌, ◌++◌, ◌==◌, ◌&&◌, not, filter, flat_map, nat_le, min, if◌then◌else◌, Bool, Option, Some, None, Result, Ok, Err, List, [], ◌∷◌, codes, length, take, drop, position, string_bytes, IsTrue, false}
 use Rattle.std.specs.Option.{option_map, option_and_then}
 use Rattle.std.specs.List.{slice_split}
 use Rattle.std.specs.Str.{bytes_eq}
@@ -12,6 +12,8 @@ use Rattle.lab_conditions.specs.declared.condition.State.{State}
 use Rattle.lab_conditions.specs.declared.condition.State.TheVariants.{Blocked, Ended, Crashed, At}
 use Rattle.lab_conditions.specs.declared.condition.Part.{Part}
 use Rattle.lab_conditions.specs.declared.condition.Part.TheVariants.{Semaphore, Queue, Of, MoreThan}
+use Rattle.lab_conditions.specs.declared.never.Never.{Never}
+use Rattle.lab_conditions.specs.declared.never.Never.TheVariants.{Holds, Lost}
 
 -- whether a word is this one
 unfoldable pub is_word : List ℕ → List ℕ → Bool
@@ -146,3 +148,18 @@ condition_in text = parts_in (slice_split (is_word (codes "and")) (words text))
 abbrev pub spaced : List (List ℕ) → List ℕ
 spaced [] = []
 spaced (word ∷ rest) = word ++ flat_map (λ w. 32 ∷ w) rest
+
+-- whether the words are `lost` alone
+abbrev pub are_lost : List (List ℕ) → Bool
+are_lost (word ∷ []) = is_word (codes "lost") word
+are_lost words = false
+
+-- a text writes what must never be so: `lost`, or a condition
+abbrev pub Writes : List ℕ → Never → Type 0
+Writes text (Holds c) = (condition_in text ≡ Some c.parts.items) × (string_bytes c.text ≡ spaced (words text))
+Writes text Lost = IsTrue (are_lost (words text))
+
+-- what must never be so, as it is written
+abbrev pub never_text : Never → List ℕ
+never_text (Holds c) = string_bytes c.text
+never_text Lost = codes "lost"

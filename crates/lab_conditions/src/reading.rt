@@ -6,7 +6,7 @@ ghost use Rattle.lab_conditions.specs.Written.{words, parts_in, condition_in, sp
 
 mod numbers;
 mod part;
-mod words;
+pub(crate) mod words;
 
 use crate::{Condition, Part};
 use part::read_part;

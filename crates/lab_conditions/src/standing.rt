@@ -13,7 +13,7 @@ use lc3_machine::{How, Running};
 use std::alloc::{AllocError, Global};
 
 /// The call that a running process is about to make, if its next step is one.
-fn call_next(alloc: Global, running: &Running) -> Result<Option<Call>, AllocError>
+pub(crate) fn call_next(alloc: Global, running: &Running) -> Result<Option<Call>, AllocError>
     ensures call { IfOk result (λ call. call ≡ call_next (next_action running.now)) }
 {
     let mut process = Process::Running(running.copy(alloc)?);

@@ -1,4 +1,4 @@
--- Rows whose worlds are judged, and the conditions that they reach.
+-- Rows whose worlds are judged, and what is found among them.
 use Rattle.std.proofs.Common.{ℕ, zero, suc, ◌≡◌, ◌+◌, ◌++◌, ◌<◌, ◌≤◌, ◌↔◌, Bool, IsTrue, arith, List, [], ◌∷◌, Option, Some, None, refl, sym, ap, subst, ◌∙◌, slice_get, length, take, get_or, IfSome}
 use Rattle.std.specs.Option.{option_map}
 use Rattle.std.proofs.lemmas.List.{take_all, take_more}
@@ -13,21 +13,25 @@ use Rattle.lab_sched.specs.Starts.{initial_world}
 use Rattle.lab_sched.specs.Execution.{AreEffective}
 use Rattle.lab_sched.specs.Schedules.{steps_of}
 use Rattle.lab_conditions.specs.declared.condition.Condition.{Condition}
+use Rattle.lab_conditions.specs.declared.never.Never.{Never}
+use Rattle.lab_conditions.specs.declared.never.Never.TheVariants as never
+use Rattle.lab_conditions.specs.Losses.{Loses}
 use Rattle.lab_conditions.specs.Conditions.{Holds, world_of}
 use Rattle.ipc_kernel.specs.Alike.{IsConsistent}
 use Rattle.lab_explore.specs.declared.store.Row.{Row}
 use Rattle.lab_explore.specs.declared.store.Store.{Store}
 use Rattle.lab_explore.specs.Calls.{Both, Alongside}
 use Rattle.lab_explore.specs.Untried.{untried, AskAgain}
-use Rattle.lab_explore.specs.Reached.{LeadsTo, LeadsIfSome, NeverIfNone, NeverHold, AreReached}
+use Rattle.lab_explore.specs.Reached.{LeadsTo, LeadsToLoss, Violates, IsKept, ViolatesIfSome, KeptIfNone, AreKept, AreReached}
 use Rattle.lab_explore.specs.Private.Stored.{IsState, IsRow, IsAt, IsLike, IsSearched}
 use Rattle.lab_explore.specs.declared.walking.Walk.{Walk}
 use Rattle.lab_explore.specs.Private.Walked.{IsWalk}
-use Rattle.lab_explore.specs.Private.Judged.{NoRowHolds, NoRowIfNone}
+use Rattle.lab_explore.specs.Private.Judged.{IsUnseen, UnseenIfNone}
 use Rattle.lab_explore.proofs.AlikeWorlds.{consistent_run}
 use Rattle.lab_explore.proofs.AfterLocalSteps.{same_some}
 use Rattle.lab_explore.proofs.Pushes.{both_weaker, alongside_push}
 use Rattle.lab_explore.proofs.KeptConditions.{holds_alike, never_holds}
+use Rattle.lab_explore.proofs.KeptLosses.{never_loses}
 
 -- the process at a place of a row's world
 row_process : (t : Store) (state : ℕ) (k : Kept) (a : Option ℕ) (b : Option Process) → a ≡ Some state → slice_get t.states.items state ≡ Some k → Both (IsState t) a b → b ≡ Some (process_view k)
@@ -85,14 +89,14 @@ next_along R xs ys zs n x y h within read here pushed =
     let more = take_more xs n x within ∙ ap (λ z. take n xs ++ z ∷ []) (sym read) in
     subst (λ vs. Alongside R (take (n + 1) xs) vs) (sym pushed) (subst (λ us. Alongside R us (ys ++ y ∷ [])) (sym more) (alongside_push R (take n xs) ys x y h here))
 
--- what is told of one condition
-pub leads_if : (c : Condition) (start : WorldState) (o : Option (List Block)) → IfSome o (λ s. LeadsTo start c s) → LeadsIfSome start c o
-leads_if c start None h = tt
-leads_if c start (Some s) h = h
+-- what is told of one thing that must never be so
+pub violates_if : (n : Never) (start : WorldState) (o : Option (List Block)) → IfSome o (λ s. Violates start n s) → ViolatesIfSome start n o
+violates_if n start None h = tt
+violates_if n start (Some s) h = h
 
-pub no_row_if : (c : Condition) (t : Store) (o : Option (List Block)) → (o ≡ None → NoRowHolds t c) → NoRowIfNone t c o
-no_row_if c t None h = h refl
-no_row_if c t (Some s) h = tt
+pub unseen_if : (n : Never) (t : Store) (o : Option (List Block)) → (o ≡ None → IsUnseen t n) → UnseenIfNone t n o
+unseen_if n t None h = h refl
+unseen_if n t (Some s) h = tt
 
 -- the schedule of a walk
 pub walk_schedule : (start : WorldState) (t : Store) (at : ℕ) (w : Walk) (s : List Block) → s ≡ w.schedule → IsWalk start w → IsLike t at w.world
@@ -110,15 +114,30 @@ leads_to c ps t at s effective like holds =
       holds = holds_alike c like.0 (run start (steps_of s)) (consistent_run (steps_of s) start (consistent_empty (length ps))) like.2 (holds like.0 like.1);
     }
 
-never_if : (fresh start : WorldState) (t : Store) → fresh ≡ start → IsConsistent start.kernel → AskAgain start → untried start ≡ start → IsSearched start t → (c : Condition) (o : Option (List Block)) → NoRowIfNone t c o → NeverIfNone fresh c o
-never_if fresh start t same consistent asks first searched c None none = never_holds c fresh start t same consistent asks first searched none
-never_if fresh start t same consistent asks first searched c (Some s) none = tt
+-- a walk that loses a message by its last step
+pub leads_to_loss : (start : WorldState) (old new : Walk) (p : ℕ) → IsWalk start old → IsWalk start new → Loses old.world p → steps_of new.schedule ≡ steps_of old.schedule ++ p ∷ [] → LeadsToLoss start new.schedule
+leads_to_loss start old new p h i loss more = record {
+  before = steps_of old.schedule;
+  last = p;
+  steps = more;
+  effective = i.effective;
+  loses = subst (λ w. Loses w p) (sym h.leads) loss;
+}
 
--- where the search is whole, what no row has never holds
-pub never_hold : (fresh start : WorldState) (t : Store) (cs : List Condition) (found : List (Option (List Block))) → fresh ≡ start → IsConsistent start.kernel → AskAgain start → untried start ≡ start → IsSearched start t
-    → Alongside (NoRowIfNone t) cs found → NeverHold fresh cs found
-never_hold fresh start t cs found same consistent asks first searched none p =
-    both_weaker (NoRowIfNone t) (NeverIfNone fresh) (λ c o. never_if fresh start t same consistent asks first searched c o) (slice_get cs p) (slice_get found p) (none p)
+-- what a whole search doesn't show never is so
+is_kept : (fresh start : WorldState) (t : Store) → fresh ≡ start → IsConsistent start.kernel → AskAgain start → untried start ≡ start → IsSearched start t → (n : Never) → IsUnseen t n → IsKept fresh n
+is_kept fresh start t same consistent asks first searched (never.Holds c) none = never_holds c fresh start t same consistent asks first searched none
+is_kept fresh start t same consistent asks first searched never.Lost none = never_loses fresh start t same consistent asks first searched none
 
-pub same_reached : (fresh start : WorldState) (cs : List Condition) (found : List (Option (List Block))) → fresh ≡ start → AreReached start cs found → AreReached fresh cs found
-same_reached fresh start cs found same each = subst (λ s. AreReached s cs found) (sym same) each
+kept_if : (fresh start : WorldState) (t : Store) → fresh ≡ start → IsConsistent start.kernel → AskAgain start → untried start ≡ start → IsSearched start t → (n : Never) (o : Option (List Block)) → UnseenIfNone t n o → KeptIfNone fresh n o
+kept_if fresh start t same consistent asks first searched n None none = is_kept fresh start t same consistent asks first searched n none
+kept_if fresh start t same consistent asks first searched n (Some s) none = tt
+
+-- where the search is whole, what is seen nowhere never is so
+pub are_kept : (fresh start : WorldState) (t : Store) (ns : List Never) (found : List (Option (List Block))) → fresh ≡ start → IsConsistent start.kernel → AskAgain start → untried start ≡ start → IsSearched start t
+    → Alongside (UnseenIfNone t) ns found → AreKept fresh ns found
+are_kept fresh start t ns found same consistent asks first searched none p =
+    both_weaker (UnseenIfNone t) (KeptIfNone fresh) (λ n o. kept_if fresh start t same consistent asks first searched n o) (slice_get ns p) (slice_get found p) (none p)
+
+pub same_reached : (fresh start : WorldState) (ns : List Never) (found : List (Option (List Block))) → fresh ≡ start → AreReached start ns found → AreReached fresh ns found
+same_reached fresh start ns found same each = subst (λ s. AreReached s ns found) (sym same) each

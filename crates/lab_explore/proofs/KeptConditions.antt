@@ -98,10 +98,10 @@ pub holds_alike : (c : Condition) (v w : WorldState) → IsConsistent w.kernel �
 holds_alike c v w consistent a = carried c v w (carries_alike v w consistent a)
 
 -- the rows, as levels of worlds
-abbrev IsSomeRow : Store → ℕ → WorldState → Type 0
+abbrev pub IsSomeRow : Store → ℕ → WorldState → Type 0
 IsSomeRow t n v = (i : ℕ) × IsAt t i v
 
-row_levels : (t : Store) (start : WorldState) → untried start ≡ start → IsSearched start t → AreLevels start (IsSomeRow t)
+pub row_levels : (t : Store) (start : WorldState) → untried start ≡ start → IsSearched start t → AreLevels start (IsSomeRow t)
 row_levels t start same searched = record {
   begins = let first = searched.begins in subst (HasAdvance (IsSomeRow t 0)) (sym same) (first.0, (0, first.1), first.2);
   goes_on = λ n v p held effective.

@@ -14,4 +14,6 @@ mod Explorations
 mod Bounds
 mod Cycles
 mod KeptConditions
+mod KeptLosses
+mod LossesOfRows
 mod JudgedRows

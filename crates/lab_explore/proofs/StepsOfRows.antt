@@ -146,6 +146,6 @@ all_tried t u at count pid is g row all tried =
     )
 
 -- an edge to the world after a step
-pub edge_made : (t u : Store) (w v : WorldState) (at p : ℕ) (e : Edge) → Grows t u → u.edges.items ≡ t.edges.items ++ e ∷ [] → e.from ≡ at → IsAt t e.to v → AreReached (step w p) v → HasEdge u at w p
-edge_made t u w v at p e g edges from there reached =
-    (length t.edges.items, e, v, ap (λ xs. slice_get xs (length t.edges.items)) edges ∙ get_pushed t.edges.items e, from, at_grows t u e.to v g there, reached)
+pub edge_made : (t u : Store) (w v : WorldState) (at p : ℕ) (e : Edge) → Grows t u → u.edges.items ≡ t.edges.items ++ e ∷ [] → e.from ≡ at → e.pid ≡ p → IsAt t e.to v → AreReached (step w p) v → HasEdge u at w p
+edge_made t u w v at p e g edges from by there reached =
+    (length t.edges.items, e, v, ap (λ xs. slice_get xs (length t.edges.items)) edges ∙ get_pushed t.edges.items e, from, at_grows t u e.to v g there, reached, by)

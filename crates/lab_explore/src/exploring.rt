@@ -5,8 +5,8 @@ ghost use Rattle.lab_sched.specs.Starts.{AreStarts, initial_world};
 ghost use Rattle.lab_explore.specs.Private.Known.{AreKnown};
 ghost use Rattle.lab_explore.specs.Private.Walked.{HaveRowEnds};
 ghost use Rattle.lab_explore.specs.Ends.{AreEnds, HaveAllEnds, HaveFewestCalls, NoneStuck, NeverStuck};
-ghost use Rattle.lab_explore.specs.Reached.{AreReached, NeverHold};
-ghost use Rattle.lab_explore.specs.Private.Judged.{NoRowIfNone};
+ghost use Rattle.lab_explore.specs.Reached.{AreReached, AreKept};
+ghost use Rattle.lab_explore.specs.Private.Judged.{UnseenIfNone};
 ghost use Rattle.lab_explore.specs.Calls.{Alongside};
 ghost use Rattle.lab_explore.specs.Rounds.{IsRound, CanBeRepeated, AreEndless, AreBounded};
 ghost use Rattle.lab_explore.specs.Private.Rising.{AreRising};
@@ -17,12 +17,12 @@ use crate::search::{Search, search_all};
 use crate::trying::discard;
 use crate::{End, ExploreFault, Limits, Observer, Round};
 use ipc_kernel::Kernel;
-use lab_conditions::Condition;
+use lab_conditions::Never;
 use lab_sched::{Fresh, Process, Schedule};
 use std::alloc::Global;
 
-/// What the programs of a laboratory can come to: their ends, for each condition steps to a world of
-/// which it holds, if there is one, a round, if they can go on for ever, how many worlds were visited,
+/// What the programs of a laboratory can come to: their ends, for each thing that must never be so
+/// steps to it, if there are any, a round, if they can go on for ever, how many worlds were visited,
 /// and whether these are all. Where they aren't, the search may have come to its end because memory
 /// was refused.
 #[derive(Drop)]
@@ -46,17 +46,17 @@ fn room_for_ends(limits: Limits, taken: usize) -> usize {
 /// ends with fewer calls come first. Where the exploration is complete, there is no other end,
 /// whatever steps are taken, in any order, but for the numbers of places in the kernel, and none is
 /// reached by fewer calls; and if then no end is stuck, no such steps lead to a world that is. For each
-/// condition, in order, there is a schedule of effective steps that leads to a world of which it
-/// holds, or none; where the exploration is complete and there is none, it holds after no steps,
-/// whatever steps are taken, in any order. A round
-/// can be repeated as often as one likes, so some effective steps never end; where the exploration is
-/// complete and has no round, each list of effective steps ends, after no more than some number of
-/// them. The observer is told of the worlds as they are visited.
+/// thing that must never be so, in order, there is a schedule of effective steps that leads to it (to
+/// a world of which the condition holds; the last step loses a message), or none; where the
+/// exploration is complete and there is none, it never is so, whatever steps are taken, in any order.
+/// A round can be repeated as often as one likes, so some effective steps never end; where the
+/// exploration is complete and has no round, each list of effective steps ends, after no more than
+/// some number of them. The observer is told of the worlds as they are visited.
 pub fn explore<O: Observer>(
     alloc: Global,
     fresh: Fresh,
     limits: Limits,
-    conditions: &[Condition],
+    nevers: &[Never],
     observer: &mut O,
 ) -> Result<Exploration, ExploreFault>
     ensures sound { IfOk result (λ found. AreEnds fresh found.ends.items) }
@@ -67,9 +67,9 @@ pub fn explore<O: Observer>(
         IsTrue found.complete → HaveFewestCalls fresh found.ends.items) }
     ensures free { IfOk result (λ found.
         IsTrue found.complete → NoneStuck found.ends.items → NeverStuck fresh) }
-    ensures reached { IfOk result (λ found. AreReached fresh conditions.now found.reached.items) }
+    ensures reached { IfOk result (λ found. AreReached fresh nevers.now found.reached.items) }
     ensures unreached { IfOk result (λ found. IsTrue found.complete
-        → NeverHold fresh conditions.now found.reached.items) }
+        → AreKept fresh nevers.now found.reached.items) }
     ensures round { IfOk result (λ found. IfSome found.round (λ r. IsRound fresh r)) }
     ensures repeats { IfOk result (λ found. IfSome found.round (λ r. CanBeRepeated fresh r)) }
     ensures endless { IfOk result (λ found. IfSome found.round (λ r. AreEndless fresh)) }
@@ -80,7 +80,7 @@ pub fn explore<O: Observer>(
     let kernel = Kernel::new(alloc, processes.len())?;
     let search = search_all(alloc, &processes, kernel, limits, observer)?;
     let room = room_for_ends(limits, search.size());
-    match search.report(alloc, &processes, room, conditions) {
+    match search.report(alloc, &processes, room, nevers) {
         Ok(found) => {
             discard(search);
             Ok(found)
@@ -93,14 +93,14 @@ pub fn explore<O: Observer>(
 }
 
 impl Search {
-    /// What was found, with the ends, as long as they take about so many bytes, steps to what the
-    /// conditions say, and a round, if there is one.
+    /// What was found, with the ends, as long as they take about so many bytes, steps to what must
+    /// never be so, and a round, if there is one.
     pub(crate) fn report(
         &self,
         alloc: Global,
         processes: &[Process],
         room: usize,
-        conditions: &[Condition],
+        nevers: &[Never],
     ) -> Result<Exploration, ExploreFault>
         requires starts { AreStarts processes.now }
         requires known { IsTrue self.now.complete → AreKnown self.now.store self.now.moves }
@@ -111,9 +111,9 @@ impl Search {
         ensures ordered { IfOk result (λ found.
             IsNonDecreasingBy (λ e. e.calls) found.ends.items) }
         ensures reached { IfOk result (λ found.
-            AreReached (initial_world processes.now) conditions.now found.reached.items) }
+            AreReached (initial_world processes.now) nevers.now found.reached.items) }
         ensures unreached { IfOk result (λ found.
-            Alongside (NoRowIfNone self.now.store) conditions.now found.reached.items) }
+            Alongside (UnseenIfNone self.now.store) nevers.now found.reached.items) }
         ensures round { IfOk result (λ found.
             IfSome found.round (λ r. IsRound (initial_world processes.now) r)) }
         ensures none { IfOk result (λ found.
@@ -121,7 +121,7 @@ impl Search {
         ensures complete { IfOk result (λ found. IsTrue found.complete → IsTrue self.now.complete) }
     {
         let Collected { ends, whole } = self.ends(alloc, processes, room)?;
-        let reached = self.reached(alloc, processes, conditions)?;
+        let reached = self.reached(alloc, processes, nevers)?;
         let round = self.round(alloc, processes)?;
         Ok(Exploration {
             ends,

@@ -15,6 +15,7 @@ mod judging;
 mod known;
 pub mod laws;
 mod limits;
+mod losses;
 mod moves;
 mod observer;
 mod random;

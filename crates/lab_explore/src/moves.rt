@@ -24,6 +24,7 @@ pub(crate) fn both(first: bool, second: bool) -> bool
 fn edge_of(from: usize, to: usize, pid: u32, taken: u32) -> Option<Edge>
     ensures from { IfSome result (λ e. e.from ≡ from) }
     ensures to { IfSome result (λ e. e.to ≡ to) }
+    ensures pid { IfSome result (λ e. e.pid ≡ pid) }
 {
     let from = u32::try_from(from).ok()?;
     let to = u32::try_from(to).ok()?;

@@ -1,19 +1,21 @@
-//! Conditions that worlds of a search reach, each with steps from the start.
-ghost use Rattle.std.specs.Prelude.{◌≡◌, ℕ, IsTrue, None, IfOk, IfSome};
+//! What must never be so and is found by a search, each with steps from the start.
+ghost use Rattle.std.specs.Prelude.{◌≡◌, ℕ, IsTrue, None, IfOk, IfSome, OnOk};
 ghost use Rattle.lab_sched.specs.Worlds.{WorldState, run};
 ghost use Rattle.lab_sched.specs.Execution.{AreEffective};
 ghost use Rattle.lab_sched.specs.Schedules.{steps_of};
 ghost use Rattle.lab_sched.specs.Starts.{AreStarts, initial_world};
 ghost use Rattle.lab_explore.specs.Private.Stored.{IsLike};
-ghost use Rattle.lab_explore.specs.Private.Judged.{NoRowHolds, NoRowIfNone};
+ghost use Rattle.lab_explore.specs.Private.Judged.{NoRowHolds, NoEdgeLoses, IsUnseen, UnseenIfNone};
+ghost use Rattle.lab_explore.specs.Private.Walked.{IsWalk};
 ghost use Rattle.lab_explore.specs.Calls.{Alongside};
-ghost use Rattle.lab_explore.specs.Reached.{LeadsTo, AreReached};
+ghost use Rattle.lab_explore.specs.Reached.{LeadsTo, LeadsToLoss, Violates, AreReached};
 
 use crate::ExploreFault;
 use crate::search::Search;
+use crate::store::Edge;
 use crate::trying::discard;
 use crate::walking::Walk;
-use lab_conditions::Condition;
+use lab_conditions::{Condition, Never};
 use lab_sched::{Process, Schedule};
 use std::alloc::Global;
 
@@ -56,7 +58,7 @@ impl Search {
 
     /// The steps that lead from the start to the first world that was found of which a condition
     /// holds, if there is one.
-    fn reach(
+    fn reach_condition(
         &self,
         alloc: Global,
         processes: &[Process],
@@ -75,23 +77,91 @@ impl Search {
         Ok(Some(schedule))
     }
 
-    /// For each condition, in order, the steps that lead from the start to the first world that was
-    /// found of which it holds, if there is one.
+    /// Goes the way to the row from which an edge leads, and then its step, which must lose a message.
+    fn go_to_loss(&self, alloc: Global, edge: Edge, walk: &mut Walk) -> Result<(), ExploreFault>
+        ensures loss { OnOk result ((start : WorldState) → IsWalk start walk.old
+            → LeadsToLoss start walk.new.schedule) }
+    {
+        self.go_to(alloc, edge.from as usize, walk)?;
+        walk.lose(alloc, edge.pid as usize)?;
+        Ok(())
+    }
+
+    /// The steps that lead from the start to an edge, and its step, which must lose a message.
+    fn schedule_to_loss(
+        &self,
+        alloc: Global,
+        processes: &[Process],
+        edge: Edge,
+    ) -> Result<Schedule, ExploreFault>
+        requires starts { AreStarts processes.now }
+        ensures loss { IfOk result (λ s. LeadsToLoss (initial_world processes.now) s) }
+    {
+        let mut walk = Walk::start(alloc, processes)?;
+        match self.go_to_loss(alloc, edge, &mut walk) {
+            Ok(()) => Ok(schedule_of(walk)),
+            Err(fault) => {
+                discard(walk);
+                Err(fault)
+            }
+        }
+    }
+
+    /// The steps that lead from the start to the first step that was found by which a message is
+    /// lost, if there is one, that step among them.
+    fn reach_loss(
+        &self,
+        alloc: Global,
+        processes: &[Process],
+    ) -> Result<Option<Schedule>, ExploreFault>
+        requires starts { AreStarts processes.now }
+        ensures reached { IfOk result (λ found. IfSome found (λ s.
+            LeadsToLoss (initial_world processes.now) s)) }
+        ensures none { IfOk result (λ found. found ≡ None → NoEdgeLoses self.now.store) }
+    {
+        let Some(edge) = self.store.first_loss(alloc)? else {
+            return Ok(None);
+        };
+        let schedule = self.schedule_to_loss(alloc, processes, edge)?;
+        Ok(Some(schedule))
+    }
+
+    /// The steps that lead from the start to what must never be so, where it was found first, if it
+    /// was.
+    fn reach(
+        &self,
+        alloc: Global,
+        processes: &[Process],
+        never: &Never,
+    ) -> Result<Option<Schedule>, ExploreFault>
+        requires starts { AreStarts processes.now }
+        ensures reached { IfOk result (λ found. IfSome found (λ s.
+            Violates (initial_world processes.now) never.now s)) }
+        ensures none { IfOk result (λ found. found ≡ None → IsUnseen self.now.store never.now) }
+    {
+        match never {
+            Never::Holds(condition) => self.reach_condition(alloc, processes, condition),
+            Never::Lost => self.reach_loss(alloc, processes),
+        }
+    }
+
+    /// For each thing that must never be so, in order, the steps that lead to it from the start, where
+    /// it was found first, if it was.
     pub(crate) fn reached(
         &self,
         alloc: Global,
         processes: &[Process],
-        conditions: &[Condition],
+        nevers: &[Never],
     ) -> Result<Vec<Option<Schedule>>, ExploreFault>
         requires starts { AreStarts processes.now }
         ensures reached { IfOk result (λ found.
-            AreReached (initial_world processes.now) conditions.now found.items) }
+            AreReached (initial_world processes.now) nevers.now found.items) }
         ensures none { IfOk result (λ found.
-            Alongside (NoRowIfNone self.now.store) conditions.now found.items) }
+            Alongside (UnseenIfNone self.now.store) nevers.now found.items) }
     {
-        let mut found = Vec::with_capacity(alloc, conditions.len())?;
-        for condition in conditions {
-            let schedule = self.reach(alloc, processes, condition)?;
+        let mut found = Vec::with_capacity(alloc, nevers.len())?;
+        for never in nevers {
+            let schedule = self.reach(alloc, processes, never)?;
             found.push(schedule)?;
         }
         Ok(found)

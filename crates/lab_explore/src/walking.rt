@@ -1,6 +1,8 @@
 //! Walks: effective steps from a world, one by one.
-ghost use Rattle.std.specs.Prelude.{◌≡◌, ◌≤◌, ◌+◌, ℕ, IsTrue, IfOk, OnOk, length};
-ghost use Rattle.lab_sched.specs.Worlds.{StepEffect, entry_of};
+ghost use Rattle.std.specs.Prelude.{◌≡◌, ◌≤◌, ◌+◌, ◌++◌, ◌∷◌, [], ℕ, IsTrue, false, IfOk, OnOk, length};
+ghost use Rattle.lab_sched.specs.Worlds.{StepEffect, entry_of, step_effect_in, step};
+ghost use Rattle.lab_sched.specs.Schedules.{steps_of};
+ghost use Rattle.lab_conditions.specs.Losses.{receives, Loses};
 ghost use Rattle.lab_sched.specs.Held.{stepped_of};
 ghost use Rattle.lab_sched.specs.Starts.{AreStarts, initial_world};
 ghost use Rattle.lab_sched.specs.declared.stepped.Stepped.TheVariants.{Same};
@@ -15,6 +17,7 @@ use crate::search::Search;
 use crate::store::Store;
 use crate::trying::discard;
 use ipc_kernel::{Kernel, PROCESS_MAX};
+use lab_conditions::{is_receiving, messages_in};
 use lab_sched::{MOST_STEPS, Process, Schedule, Stepped, World};
 use std::alloc::{AllocError, Global};
 
@@ -95,6 +98,9 @@ impl Walk {
     /// Takes a step, which must be effective.
     pub(crate) fn go(&mut self, pid: usize) -> Result<(), ExploreFault>
         ensures walk { OnOk result (KeepsStart self.old self.new) }
+        ensures world { OnOk result (self.new.world ≡ step self.old.world pid) }
+        ensures steps { OnOk result (steps_of self.new.schedule
+            ≡ steps_of self.old.schedule ++ pid ∷ []) }
     {
         if pid >= PROCESS_MAX || self.schedule.total() >= MOST_STEPS {
             return Err(ExploreFault::Unvouched);
@@ -110,6 +116,36 @@ impl Walk {
         }
         self.calls = calls;
         self.schedule.push(pid, 1)?;
+        Ok(())
+    }
+
+    /// Whether process `pid` is about to receive a message, or waits for one. Where it isn't there, it
+    /// isn't.
+    fn is_receiving(&self, alloc: Global, pid: usize) -> Result<bool, AllocError>
+        ensures no { IfOk result (λ receiving. receiving ≡ false
+            → receives (step_effect_in self.now.world pid) ≡ false) }
+    {
+        match self.world.process(pid) {
+            Some(process) => is_receiving(alloc, process),
+            None => Ok(false),
+        }
+    }
+
+    /// Takes a step, which must be effective and lose a message.
+    pub(crate) fn lose(&mut self, alloc: Global, pid: usize) -> Result<(), ExploreFault>
+        ensures walk { OnOk result (KeepsStart self.old self.new) }
+        ensures loses { OnOk result (Loses self.old.world pid) }
+        ensures steps { OnOk result (steps_of self.new.schedule
+            ≡ steps_of self.old.schedule ++ pid ∷ []) }
+    {
+        let before = messages_in(self.world.kernel());
+        if self.is_receiving(alloc, pid)? {
+            return Err(ExploreFault::Unvouched);
+        }
+        self.go(pid)?;
+        if messages_in(self.world.kernel()) >= before {
+            return Err(ExploreFault::Unvouched);
+        }
         Ok(())
     }
 

@@ -14,7 +14,8 @@ use Rattle.lab_questions.specs.declared.word.Waiter.{Waiter}
 use Rattle.lab_questions.specs.declared.word.Word.{Word}
 use Rattle.lab_questions.specs.declared.word.Word.TheVariants.{Ended, Stuck, Halted, Empty, Same}
 use Rattle.lab_questions.specs.declared.answers.Answer.{Answer}
-use Rattle.lab_questions.specs.Requirements.{HoldsNoMessage, AreEmptied, outputs}
+use Rattle.lab_questions.specs.Requirements.{AreEmptied, outputs}
+use Rattle.lab_conditions.proofs.MessageCounts.{messages_alike}
 use Rattle.lab_questions.specs.Judgments.{Meets, IsMet, IsFault, IsFaultIn, IsAnswer}
 use Rattle.lab_questions.specs.Programs.{AlwaysMeet, IsRefuted}
 use Rattle.lab_questions.specs.Texts.{schedule_of, schedule_at}
@@ -23,9 +24,7 @@ all_at : (P : End → Type 0) (es : List End) (i : ℕ) (e : End) → All P es �
 all_at P es i e all has = subst P (get_or_from_slice_get es i e e has) (all i e (slice_get_within es i e has))
 
 emptied : (w v : WorldState) → AreAlike w v → AreEmptied v → AreEmptied w
-emptied w v alike empty i within =
-    let renaming = alike.kernel.2 in
-    subst HoldsNoMessage (renaming.places i) (empty (alike.kernel.0 i) ((renaming.permutation.within i).1 within))
+emptied w v alike empty = sym (messages_alike w.kernel v.kernel alike.kernel) ∙ empty
 
 stuck : (w : WorldState) (e : End) → IsVerdict w e.verdict → IsVerdict e.world e.verdict → AreStuck e.world → AreStuck w
 stuck w e here there is =

@@ -1,11 +1,8 @@
 -- What can be required of worlds at rest.
-use Rattle.std.specs.Prelude.{ℕ, ◌≡◌, ◌<◌, ◌≤◌, List, [], Some, Any, map, slice_get}
+use Rattle.std.specs.Prelude.{ℕ, ◌≡◌, ◌≤◌, List, Some, Any, map, slice_get}
 use Rattle.lc3_machine.specs.declared.want.How.TheVariants.{Halt}
-use Rattle.ipc_kernel.specs.Limits.{object_places}
-use Rattle.ipc_kernel.specs.declared.place.Place.{Place}
-use Rattle.ipc_kernel.specs.declared.place.Place.TheVariants.{Empty, Mq, Sem}
-use Rattle.ipc_kernel.specs.Places.{place_at}
 use Rattle.lab_sched.specs.Worlds.{Process, Running, Waiting, Ended, WorldState, machine_of}
+use Rattle.lab_conditions.specs.Losses.{messages}
 use Rattle.lab_questions.specs.declared.word.Waiter.{Waiter}
 
 -- one of these names process p, and lies around the address
@@ -32,15 +29,9 @@ HaveSettled waiters w = (p : ℕ) (s : Process) → slice_get w.processes p ≡ 
 abbrev pub HaveHalted : List Waiter → WorldState → Type 0
 HaveHalted waiters w = (p : ℕ) (s : Process) → slice_get w.processes p ≡ Some s → HasHalted waiters p s
 
--- a queue there, with a name or without, holds no message
-abbrev pub HoldsNoMessage : Place → Type 0
-HoldsNoMessage Empty = Unit {0}
-HoldsNoMessage (Mq name queue) = queue.messages ≡ []
-HoldsNoMessage (Sem name value) = Unit {0}
-
 -- no queue holds a message
 abbrev pub AreEmptied : WorldState → Type 0
-AreEmptied w = (i : ℕ) → i < object_places → HoldsNoMessage (place_at w.kernel.places i)
+AreEmptied w = messages w.kernel ≡ 0
 
 -- what each process has written
 abbrev pub outputs : WorldState → List (List ℕ)

@@ -3,7 +3,8 @@ use Rattle.std.specs.Prelude.{ℕ, ◌≡◌, Option, Some, None, Ok, List, [], 
 use Rattle.std.specs.Fmt.{decimal}
 use Rattle.lab_sched.specs.ScheduleTexts.{schedule_text, reading}
 use Rattle.lab_texts.specs.Rows.{texts_below}
-use Rattle.lab_conditions.specs.declared.condition.Condition.{Condition}
+use Rattle.lab_conditions.specs.declared.never.Never.{Never}
+use Rattle.lab_conditions.specs.Written.{never_text}
 use Rattle.lab_explore.specs.declared.rounds.Round.{Round}
 use Rattle.lab_sched.specs.declared.schedule.block.Block.{Block}
 use Rattle.lab_explore.specs.declared.ends.End.{End}
@@ -48,18 +49,18 @@ fault_lines ends word (Some i) =
 abbrev pub answer_lines : List End → Answer → List ℕ
 answer_lines ends a = fault_lines ends a.word a.fault
 
--- the lines of a condition, if it is there and was reached, with a schedule that leads there
-abbrev pub condition_lines : Option Condition → Option (Option (List Block)) → List ℕ
-condition_lines (Some c) (Some (Some s)) = codes "reached " ++ string_bytes c.text ++ codes "\n" ++ schedule_line s
+-- the lines of what must never be so, if it is there and was reached, with a schedule that leads there
+abbrev pub condition_lines : Option Never → Option (Option (List Block)) → List ℕ
+condition_lines (Some c) (Some (Some s)) = codes "reached " ++ never_text c ++ codes "\n" ++ schedule_line s
 condition_lines c s = []
 
--- the lines of conditions, in order
-unfoldable pub reached_lines : List Condition → List (Option (List Block)) → List ℕ
+-- the lines of all that must never be so, in order
+unfoldable pub reached_lines : List Never → List (Option (List Block)) → List ℕ
 reached_lines conditions reached =
     texts_below (min (length conditions) (length reached)) (λ i. condition_lines (slice_get conditions i) (slice_get reached i))
 
 -- the ends that are told, the answers, what was reached, a round, if there is one, and whether these are all ends
-abbrev pub answers_text : List Condition → Exploration → List Answer → List ℕ
+abbrev pub answers_text : List Never → Exploration → List Answer → List ℕ
 answers_text conditions found answers =
     ends_text 1 (told_ends found.ends.items) ++ flat_map (answer_lines found.ends.items) answers
     ++ reached_lines conditions found.reached.items ++ round_text found.round ++ extent_line found.complete found.worlds
@@ -79,7 +80,7 @@ abbrev pub ShowsFault : List End → List Answer → List ℕ → Type 0
 ShowsFault ends answers text =
     Any (λ a. (i : ℕ) × (a.fault ≡ Some i) × (text ≡ schedule_text (schedule_at ends i))) answers
 
--- the text of the schedule that leads to condition number i
+-- the text of the schedule that leads to number i of what must never be so
 abbrev pub ShowsReached : List (Option (List Block)) → ℕ → List ℕ → Type 0
 ShowsReached reached i text = (s : List Block) × (slice_get reached i ≡ Some (Some s)) × (text ≡ schedule_text s)
 

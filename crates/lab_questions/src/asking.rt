@@ -2,7 +2,7 @@
 ghost use Rattle.std.specs.Prelude.{◌≡◌, None, map, string_bytes, All, Any, IfOk, IfSome, IsTrue};
 ghost use Rattle.lab_sched.specs.ScheduleTexts.{schedule_text};
 ghost use Rattle.lab_explore.specs.Ends.{AreEnds, HaveAllEnds};
-ghost use Rattle.lab_explore.specs.Reached.{AreReached, NeverHold};
+ghost use Rattle.lab_explore.specs.Reached.{AreReached, AreKept};
 ghost use Rattle.lab_explore.specs.Rounds.{IsRound, CanBeRepeated, AreBounded};
 ghost use Rattle.lab_findings.specs.Texts.{told_ends};
 ghost use Rattle.lab_questions.specs.Judgments.{IsAnswer};
@@ -13,7 +13,7 @@ use crate::answers::answers_on;
 use crate::failure::failure_of;
 use crate::texts::tell;
 use crate::{Answer, Failure, Waiter, Word};
-use lab_conditions::Condition;
+use lab_conditions::Never;
 use lab_explore::{Exploration, ExploreFault, Limits, Observer, explore};
 use lab_sched::Fresh;
 use std::alloc::Global;
@@ -33,15 +33,15 @@ pub struct Answers {
 /// Explores the programs of a laboratory, as far as the limits allow, and judges each end by each
 /// word. Where a word isn't so, the schedules that are told with it lead to ends which show that.
 /// Where the exploration is complete and the word is so, every world at rest that any steps lead to
-/// is as the word requires. The schedule of a condition that was reached leads to a world of which it
-/// holds; where the exploration is complete and the condition has none, it holds after no steps.
+/// is as the word requires. The schedule of what must never be so leads to it; where the exploration is
+/// complete and there is none, no steps do.
 pub fn ask<O: Observer>(
     alloc: Global,
     fresh: Fresh,
     limits: Limits,
     words: &[Word],
     waiters: &[Waiter],
-    conditions: &[Condition],
+    conditions: &[Never],
     observer: &mut O,
 ) -> Result<Answers, ExploreFault>
     ensures text { IfOk result (λ a.
@@ -67,7 +67,7 @@ pub fn ask<O: Observer>(
     ensures reached { IfOk result (λ a.
         AreReached fresh conditions.now a.exploration.reached.items) }
     ensures unreached { IfOk result (λ a. IsTrue a.exploration.complete
-        → NeverHold fresh conditions.now a.exploration.reached.items) }
+        → AreKept fresh conditions.now a.exploration.reached.items) }
     ensures passes { IfOk result (λ a. a.failure ≡ None
         → Passes a.exploration a.answers.items) }
     ensures failure { IfOk result (λ a.

@@ -4,8 +4,8 @@ ghost use Rattle.lab_sched.specs.Verdicts.{AreStuck};
 ghost use Rattle.lab_questions.specs.Judgments.{Meets, IsFaultIn};
 
 use crate::processes::{have_halted, have_same_outputs, have_settled};
-use crate::queues::are_emptied;
 use crate::{Waiter, Word};
+use lab_conditions::messages_in;
 use lab_explore::End;
 use lab_sched::{Verdict, World};
 
@@ -24,7 +24,7 @@ fn is_met(word: Word, waiters: &[Waiter], other: &World, world: &World) -> bool
         Word::Ended => have_settled(waiters, world),
         Word::Stuck => is_stuck(world),
         Word::Halted => have_halted(waiters, world),
-        Word::Empty => are_emptied(world),
+        Word::Empty => messages_in(world.kernel()) == 0,
         Word::Same => have_same_outputs(world, other),
     }
 }

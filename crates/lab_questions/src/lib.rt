@@ -6,7 +6,6 @@ mod asking;
 mod failure;
 mod judging;
 mod processes;
-mod queues;
 mod showing;
 mod texts;
 mod walking;

@@ -5,7 +5,7 @@ ghost use Rattle.lab_findings.specs.Texts.{told_ends, schedule_line};
 ghost use Rattle.lab_questions.specs.Texts.{word_text, schedule_at, first_lines, fault_lines, answer_lines, condition_lines, reached_lines, answers_text, walks_line, walks_text};
 
 use crate::{Answer, Word};
-use lab_conditions::Condition;
+use lab_conditions::Never;
 use lab_explore::{End, Exploration};
 use lab_findings::{Told, push_extent, push_round, push_schedule, told_of};
 use lab_sched::Schedule;
@@ -105,11 +105,11 @@ fn push_answers(
     Ok(())
 }
 
-/// Adds the lines of a condition that was reached.
+/// Adds the lines of what must never be so and was reached.
 fn push_reached(
     alloc: Global,
     text: &mut String,
-    condition: &Condition,
+    condition: &Never,
     schedule: &Schedule,
 ) -> Result<(), AllocError>
     ensures text { OnOk result (string_bytes text.new ≡ string_bytes text.old
@@ -119,11 +119,11 @@ fn push_reached(
     push_schedule(alloc, text, schedule)
 }
 
-/// Adds the lines of a condition by its number, counted from 0, if it was reached.
+/// Adds the lines of what must never be so, by its number, counted from 0, if it was reached.
 fn push_condition(
     alloc: Global,
     text: &mut String,
-    conditions: &[Condition],
+    conditions: &[Never],
     reached: &[Option<Schedule>],
     number: usize,
 ) -> Result<(), AllocError>
@@ -138,12 +138,12 @@ fn push_condition(
     }
 }
 
-/// Adds the lines of the conditions that were reached.
+/// Adds the lines of what must never be so and was reached.
 #[tactic(auto, using(lab_texts::proofs::RowLemmas::texts_below_none), unfolding(crate::specs::Texts::reached_lines))]
 fn push_conditions(
     alloc: Global,
     text: &mut String,
-    conditions: &[Condition],
+    conditions: &[Never],
     reached: &[Option<Schedule>],
 ) -> Result<(), AllocError>
     ensures text { OnOk result (string_bytes text.new
@@ -172,7 +172,7 @@ pub(crate) fn tell(
     alloc: Global,
     found: &Exploration,
     answers: &[Answer],
-    conditions: &[Condition],
+    conditions: &[Never],
 ) -> Result<Told, AllocError>
     requires there { All (λ a. IfSome a.fault (λ i. i < length found.now.ends.items)) answers.now }
     ensures text { IfOk result (λ told.

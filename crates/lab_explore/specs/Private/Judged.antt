@@ -1,9 +1,13 @@
--- Conditions that are judged of the rows of a search.
-use Rattle.std.specs.Prelude.{ℕ, List, Option, Some, None}
-use Rattle.lab_sched.specs.Worlds.{WorldState}
+-- What is judged of the rows and edges of a search.
+use Rattle.std.specs.Prelude.{ℕ, ◌≡◌, ◌<◌, false, List, Option, Some, None, All, slice_get}
+use Rattle.lab_sched.specs.Worlds.{Process, WorldState}
 use Rattle.lab_sched.specs.declared.schedule.block.Block.{Block}
 use Rattle.lab_conditions.specs.declared.condition.Condition.{Condition}
+use Rattle.lab_conditions.specs.declared.never.Never.{Never}
+use Rattle.lab_conditions.specs.declared.never.Never.TheVariants as never
 use Rattle.lab_conditions.specs.Conditions.{Holds}
+use Rattle.lab_conditions.specs.Losses.{messages, is_receiving}
+use Rattle.lab_explore.specs.declared.store.Edge.{Edge}
 use Rattle.lab_explore.specs.declared.store.Store.{Store}
 use Rattle.lab_explore.specs.Private.Stored.{IsAt}
 
@@ -11,7 +15,27 @@ use Rattle.lab_explore.specs.Private.Stored.{IsAt}
 abbrev pub NoRowHolds : Store → Condition → Type 0
 NoRowHolds t c = (i : ℕ) (w : WorldState) → IsAt t i w → Holds c w → ⊥
 
--- where there is no schedule, it holds of no row's
-abbrev pub NoRowIfNone : Store → Condition → Option (List Block) → Type 0
-NoRowIfNone t c None = NoRowHolds t c
-NoRowIfNone t c (Some s) = Unit {0}
+-- the edge is a step to fewer messages, of a process that receives none
+pub record IsLoss (t : Store) (e : Edge) : Type 0 where
+  pub before : WorldState
+  pub after : WorldState
+  pub process : Process
+  pub from : IsAt t e.from before
+  pub to : IsAt t e.to after
+  pub there : slice_get before.processes e.pid ≡ Some process
+  pub receives_none : is_receiving process ≡ false
+  pub fewer : messages after.kernel < messages before.kernel
+
+-- no edge is
+abbrev pub NoEdgeLoses : Store → Type 0
+NoEdgeLoses t = All (λ e. IsLoss t e → ⊥) t.edges.items
+
+-- no row, and no edge, shows what must never be so
+abbrev pub IsUnseen : Store → Never → Type 0
+IsUnseen t (never.Holds c) = NoRowHolds t c
+IsUnseen t never.Lost = NoEdgeLoses t
+
+-- where there is no schedule, none does
+abbrev pub UnseenIfNone : Store → Never → Option (List Block) → Type 0
+UnseenIfNone t n None = IsUnseen t n
+UnseenIfNone t n (Some s) = Unit {0}

@@ -84,12 +84,12 @@ IsMove t kernel p state next =
     (k : KernelState) × (s : Process) × (slice_get t.kernels.items kernel ≡ Some k)
     × IsState t state s × IsNext t k p s next
 
--- an edge from row number i leads to the world after a step of process p and then all its local
--- steps
+-- an edge from row number i, of process p, leads to the world after a step of p and then all its
+-- local steps
 abbrev pub HasEdge : Store → ℕ → WorldState → ℕ → Type 0
 HasEdge t i w p =
     (k : ℕ) × (e : Edge) × (v : WorldState) × (slice_get t.edges.items k ≡ Some e) × (e.from ≡ i)
-    × IsAt t e.to v × AreReached (step w p) v
+    × IsAt t e.to v × AreReached (step w p) v × (e.pid ≡ p)
 
 -- the step of process p from the world of row number i, if the process goes on, has an edge
 abbrev pub IsTried : Store → ℕ → WorldState → ℕ → Type 0

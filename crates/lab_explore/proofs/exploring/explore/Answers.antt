@@ -7,7 +7,7 @@ use Rattle.lab_explore.specs.Rounds.{IsRound, AreBounded}
 use Rattle.lab_explore.proofs.Bounds.{searched_bounded}
 use Rattle.lab_explore.proofs.Cycles.{some_repeats, some_endless}
 use Rattle.lab_explore.proofs.Explorations.{started, IsReachedIn, starts_untried, starts_ask, same_ends, all_ends, never_stuck, fresh_consistent}
-use Rattle.lab_explore.proofs.JudgedRows.{same_reached, never_hold}
+use Rattle.lab_explore.proofs.JudgedRows.{same_reached, are_kept}
 use Rattle.lab_explore.proofs.exploring.explore.Goals as goal
 
 pub report-requires : goal.report-requires
@@ -40,9 +40,9 @@ returns-in-Ok g c =
       complete = λ is ps rest. let end = all is ps rest in (end.0, end.1, end.2, end.3, end.4);
       fewest = λ is ps rest. let end = all is ps rest in (end.0, end.1, end.2, end.3, end.5);
       free = λ is none. never_stuck c.args.fresh ends (λ ps rest. let end = all is ps rest in (end.0, end.1, end.2, end.3, end.4)) none;
-      reached = same_reached c.args.fresh (initial_world c.deref-2.result.now) c.args.conditions.now c.in-Ok.found.reached.items first c.in-Ok.ensures.reached;
+      reached = same_reached c.args.fresh (initial_world c.deref-2.result.now) c.args.nevers.now c.in-Ok.found.reached.items first c.in-Ok.ensures.reached;
       unreached = λ is.
-          never_hold c.args.fresh start c.in_ok-search.search.store c.args.conditions.now c.in-Ok.found.reached.items same consistent asks untried (c.in_ok-search.ensures.complete (c.in-Ok.ensures.complete is)) c.in-Ok.ensures.unreached;
+          are_kept c.args.fresh start c.in_ok-search.search.store c.args.nevers.now c.in-Ok.found.reached.items same consistent asks untried (c.in_ok-search.ensures.complete (c.in-Ok.ensures.complete is)) c.in-Ok.ensures.unreached;
       round = round;
       repeats = some_repeats c.args.fresh c.in-Ok.found.round (fresh_consistent c.args.fresh (length qs) empty) round;
       endless = some_endless c.args.fresh c.in-Ok.found.round (fresh_consistent c.args.fresh (length qs) empty) round;

@@ -9,7 +9,7 @@ returns-clause-edge c is w v row reached =
     let t = c.keep_row.new.self in
     let e = c.in-Some-edge_of.edge in
     let g = (edges_pushed t _ e c.in_ok-to.ensures.store c.in_ok-push.ensures.items refl refl refl).0 in
-    edge_made t _ w v c.args.at c.args.pid e g c.in_ok-push.ensures.items c.in-Some-edge_of.ensures.from
+    edge_made t _ w v c.args.at c.args.pid e g c.in_ok-push.ensures.items c.in-Some-edge_of.ensures.from c.in-Some-edge_of.ensures.pid
     (subst (λ n. IsAt t n v) (sym c.in-Some-edge_of.ensures.to) ((rw c.in-Some.is at c.in_ok-to.ensures.kept) v row)) reached
 
 pub returns-clause-store : goal.returns-clause-store

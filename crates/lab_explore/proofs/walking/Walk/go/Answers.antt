@@ -11,4 +11,6 @@ returns c = record {
       let sum = c.in-Some.ensures in
       walk_more start c.args.self.now _ c.args.pid c.in-Ok.stepped h c.in-Ok.ensures.world told (c.changes.ensures.effective c.if-not-changes.false) c.in_ok-push.ensures.steps
       (omega (arith, sum, one));
+  world = c.in-Ok.ensures.world;
+  steps = c.in_ok-push.ensures.steps;
 }
