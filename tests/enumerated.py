@@ -187,6 +187,53 @@ class Enumeration:
         return gone < len(self.after)
 
 
+    @cached_property
+    def has_fair_cycle(self):
+        """Whether in some strongly connected worlds a step leads from one to another, and each process takes such a step, or
+        has none that changes anything in one of them."""
+        return any(self.serves(worlds) for worlds in strongly_connected(self.after))
+
+    def serves(self, worlds):
+        inside = set(worlds)
+        taken = {pid for world in worlds for pid, there in enumerate(self.after[world]) if there in inside}
+        still = {pid for world in worlds for pid, there in enumerate(self.after[world]) if there is None}
+        return bool(taken) and taken | still == set(range(len(self.laboratory.names)))
+
+
+def strongly_connected(after):
+    """The sets of worlds in which each leads to each other, by Kosaraju's two passes."""
+    seen, left = set(), []
+    for start in after:
+        todo = [] if start in seen else [(start, iter(after[start]))]
+        seen.add(start)
+        while todo:
+            world, rest = todo[-1]
+            there = next((it for it in rest if it is not None and it not in seen), None)
+            if there is None:
+                left.append(todo.pop()[0])
+            else:
+                seen.add(there)
+                todo.append((there, iter(after[there])))
+    before = {world: [] for world in after}
+    for world, following in after.items():
+        for it in filter(None, following):
+            before[it].append(world)
+    sets, placed = [], set()
+    for start in reversed(left):
+        todo = [] if start in placed else [start]
+        placed.add(start)
+        found = []
+        while todo:
+            found.append(todo.pop())
+            for it in before[found[-1]]:
+                if it not in placed:
+                    placed.add(it)
+                    todo.append(it)
+        if found:
+            sets.append(found)
+    return sets
+
+
 def for_sets(look, count, seed):
     """What `look` finds at each of so many seeds, some side by side."""
     with ThreadPoolExecutor(WORKERS) as pool:

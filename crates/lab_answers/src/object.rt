@@ -182,7 +182,8 @@ pub fn answers_json(
     push_faults(alloc, &mut text, &found.ends, &answers.answers)?;
     text.push_str("],\"reached\":[")?;
     push_conditions(alloc, &mut text, conditions, &found.reached)?;
-    text.push_str("],\"fair\":false,\"endless\":")?;
+    let fair = found.fair;
+    write!(text, "],\"fair\":{fair},\"endless\":")?;
     push_round(alloc, &mut text, &found.round)?;
     let holds = holds_name(judged, answers.failure);
     write!(text, ",\"holds\":{holds}}}\n")?;

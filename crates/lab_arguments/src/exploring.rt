@@ -41,6 +41,7 @@ fn with_questions<'a>(alloc: Global, command: Command<'a>) -> Result<Command<'a>
         'P at A' or 'P at A-B' where its program counter is there";
     let never = "Fails unless the search is complete and this condition never holds, \
         or, with lost, no message is lost with its queue";
+    let fair = "Tells only rounds in which each process that can go on takes a step";
     let schedule =
         "Prints the schedule of end K alone, or of the first thing that is not as it has to be";
     let page = "Also writes FILE, a page that shows the ends and the run of each in a browser";
@@ -48,6 +49,7 @@ fn with_questions<'a>(alloc: Global, command: Command<'a>) -> Result<Command<'a>
         .arg(value(alloc, "require", "WORDS", require))?
         .arg(values(alloc, "may-wait", "P", may_wait))?
         .arg(values(alloc, "never", "CONDITION", never))?
+        .arg(flag(alloc, "fair", fair))?
         .arg(value(alloc, "schedule", "K|bad", schedule))?
         .arg(flag(alloc, "json", "Prints the answers as JSON"))?
         .arg(value(alloc, "page", "FILE", page))
@@ -114,6 +116,7 @@ fn question_of<'a>(alloc: Global, words: &ArgMatches<'a>) -> Result<Question<'a>
         required,
         waiters: values_of(alloc, words, "may-wait")?,
         never: values_of(alloc, words, "never")?,
+        fair: words.get_flag("fair"),
         random,
         schedule,
         json: words.get_flag("json"),
@@ -153,6 +156,9 @@ fn misuse_of(question: &Question<'_>) -> Option<Misuse<'static>> {
     }
     if !question.never.is_empty() && question.random.is_some() {
         return Some(Misuse::NeverAndRandom);
+    }
+    if question.fair && question.random.is_some() {
+        return Some(Misuse::FairAndRandom);
     }
     if question.json && question.schedule.is_some() {
         return Some(Misuse::JsonAndSchedule);

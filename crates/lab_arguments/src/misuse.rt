@@ -19,6 +19,8 @@ pub(crate) enum Misuse<'a> {
     NothingSeeded,
     /// Conditions of the worlds on the way, and walks, of which ends alone are judged.
     NeverAndRandom,
+    /// Rounds that are fair, and walks, of which no round is told.
+    FairAndRandom,
     /// A page, which tells how many worlds were visited, and walks.
     PageAndRandom,
     /// All answers, as JSON, and a schedule alone.
@@ -52,6 +54,7 @@ impl fmt::Display for Misuse<'_> {
             Misuse::NothingJudged => write!(f, "--schedule bad needs --require or --never"),
             Misuse::NothingSeeded => write!(f, "--seed needs --random"),
             Misuse::NeverAndRandom => write!(f, "--never and --random exclude each other"),
+            Misuse::FairAndRandom => write!(f, "--fair and --random exclude each other"),
             Misuse::PageAndRandom => write!(f, "--page and --random exclude each other"),
             Misuse::JsonAndSchedule => write!(f, "--json and --schedule exclude each other"),
         }

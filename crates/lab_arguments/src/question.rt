@@ -16,6 +16,8 @@ pub struct Question<'a> {
     pub waiters: Vec<&'a str>,
     /// The conditions that must never be so.
     pub never: Vec<&'a str>,
+    /// Whether only rounds that are fair are told.
+    pub fair: bool,
     /// The walks that are taken in place of every interleaving.
     pub random: Option<Walks>,
     /// Which schedule is printed alone.
@@ -53,6 +55,7 @@ impl Question<'_> {
         self.required.are_more_than_a_verdict()
             || !self.waiters.is_empty()
             || !self.never.is_empty()
+            || self.fair
             || self.random.is_some()
             || self.json
             || matches!(self.schedule, Some(Choice::Bad))

@@ -123,7 +123,11 @@ fn visit_all<P: Progress>(
             words,
             waiters,
             never,
-        } => { ask(alloc, fresh, limits, words, waiters, never, &mut count).map(Found::Answers) }
+            fair,
+        } => ask(
+            alloc, fresh, limits, words, waiters, never, *fair, &mut count,
+        )
+        .map(Found::Answers),
     };
     count.clear();
     outcome

@@ -35,6 +35,8 @@ pub enum Asked {
         waiters: Vec<Waiter>,
         /// What must never be so.
         never: Vec<Never>,
+        /// Whether only rounds that are fair are told.
+        fair: bool,
     },
 }
 
@@ -73,6 +75,7 @@ fn asked_of<'a>(
         words: words_of(alloc, question.required).at("run")?,
         waiters: waiters_of(alloc, question.waiters.as_slice(), count)?,
         never: nevers_of(alloc, question.never.as_slice(), count)?,
+        fair: question.fair,
     })
 }
 

@@ -11,7 +11,10 @@ mod FirstWorlds
 mod WalkLemmas
 mod KeptEnds
 mod Explorations
+mod StandingWorlds
 mod Bounds
+mod Passes
+mod FairRounds
 mod Cycles
 mod KeptConditions
 mod KeptLosses

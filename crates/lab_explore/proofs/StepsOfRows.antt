@@ -149,3 +149,16 @@ all_tried t u at count pid is g row all tried =
 pub edge_made : (t u : Store) (w v : WorldState) (at p : ℕ) (e : Edge) → Grows t u → u.edges.items ≡ t.edges.items ++ e ∷ [] → e.from ≡ at → e.pid ≡ p → IsAt t e.to v → AreReached (step w p) v → HasEdge u at w p
 edge_made t u w v at p e g edges from by there reached =
     (length t.edges.items, e, v, ap (λ xs. slice_get xs (length t.edges.items)) edges ∙ get_pushed t.edges.items e, from, at_grows t u e.to v g there, reached, by)
+
+-- a process that makes a step of the kernel goes on
+pub goes_at : (t : Store) (w : WorldState) (at p i old kernel state taken : ℕ) (next : Next) → IsAt t at w → IsPlaced t at p old i → IsMove t old p i next → next ≡ To kernel state taken
+    → GoesOn (step_effect w.kernel p (slice_get w.processes p))
+goes_at t w at p i old kernel state taken next here placed m next-is =
+    let r = here.0 in
+    let row-is : placed.0 ≡ r = same_some placed.0 r (slice_get t.rows.items at) placed.1 here.1 in
+    let old-is : old ≡ r.kernel = sym placed.2 ∙ ap (λ (x : Row). x.kernel) row-is in
+    let state-is : slice_get r.states.items p ≡ Some i = subst (λ (x : Row). slice_get x.states.items p ≡ Some i) row-is placed.3 in
+    let move : IsMove t r.kernel p i (To kernel state taken) = subst (λ k. IsMove t k p i (To kernel state taken)) old-is (subst (λ n. IsMove t old p i n) next-is m) in
+    let s = process_at t r w p i here.2 state-is in
+    let goes = (next_of t r w p i (To kernel state taken) s.0 here.2 s.2 move).4 in
+    subst (λ o. GoesOn (step_effect w.kernel p o)) (sym s.1) goes

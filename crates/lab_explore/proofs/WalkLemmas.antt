@@ -15,6 +15,7 @@ use Rattle.lab_sched.proofs.Executions.{effective-append, entries-append}
 use Rattle.lab_explore.specs.declared.walking.Walk.{Walk}
 use Rattle.lab_explore.specs.Calls.{Both, Alongside}
 use Rattle.lab_explore.specs.Private.Walked.{IsWalk}
+use Rattle.lab_explore.proofs.AfterLocalSteps.{same_by_gets}
 
 told_effective : (t : StepEffect) → (stepped_of t ≡ stepped.Same → ⊥) → IsEffective t
 told_effective nothing h = absurd (h refl)
@@ -52,6 +53,13 @@ by_places R xs ys n long same below p = elim (cases_lt p n) [
       let second : slice_get ys p ≡ None = slice_get_past ys p (omega arith) in
       subst (λ o. Both R o (slice_get ys p)) (sym first) (subst (λ o. Both R None o) (sym second) tt)
 ]
+
+-- lists that are as long and the same at each place
+pub same_below : {A : Type 0} (xs ys : List A) (n : ℕ) → n ≡ length xs → n ≡ length ys → ((p : ℕ) → p < n → slice_get ys p ≡ slice_get xs p) → ys ≡ xs
+same_below xs ys n first second below = same_by_gets ys xs (λ p. elim (cases_lt p n) [
+  | inl within ↦ below p within
+  | inr past ↦ slice_get_past ys p (omega arith) ∙ sym (slice_get_past xs p (omega arith))
+])
 
 -- no step yet
 pub walk_none : (start w : WorldState) (bs : List Block) → bs ≡ [] → w ≡ start → IsWalk start (record { world = w; schedule = bs; calls = 0 })

@@ -4,5 +4,6 @@ pub mod Untried
 pub mod Closed
 pub mod Ends
 pub mod Rounds
+pub mod Fairness
 pub mod Reached
 pub mod Private

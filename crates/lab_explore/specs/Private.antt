@@ -4,4 +4,6 @@ pub mod Known
 pub mod Depths
 pub mod Walked
 pub mod Rising
+pub mod Ranked
+pub mod Passing
 pub mod Judged

@@ -1,8 +1,9 @@
 //! Rows that are compared with worlds.
-ghost use Rattle.std.specs.Prelude.{◌≡◌, IsTrue, IfOk};
+ghost use Rattle.std.specs.Prelude.{◌≡◌, IsTrue, IfOk, slice_get};
 ghost use Rattle.lab_sched.specs.Held.{process_view};
 ghost use Rattle.lab_sched.specs.Stepping.{before_wait};
 ghost use Rattle.lab_sched.specs.Verdicts.{is_waiting};
+ghost use Rattle.lab_explore.specs.Calls.{AreAlike};
 ghost use Rattle.lab_explore.specs.Untried.{untried};
 ghost use Rattle.lab_explore.specs.Private.Stored.{IsState, IsLike};
 
@@ -38,6 +39,35 @@ fn none_waits(world: &World) -> bool
             return false;
         };
         if waits(process) {
+            return false;
+        }
+    }
+    true
+}
+
+/// Whether a process is the same in two worlds.
+fn is_same_in(world: &World, other: &World, pid: usize) -> bool
+    ensures same { IsTrue result
+        → slice_get other.now.processes pid ≡ slice_get world.now.processes pid }
+{
+    let Some(process) = world.process(pid) else {
+        return false;
+    };
+    let Some(other) = other.process(pid) else {
+        return false;
+    };
+    process.is_same(other)
+}
+
+/// Whether worlds have the same processes, over kernels that are alike.
+pub(crate) fn are_alike(world: &World, other: &World) -> bool
+    ensures alike { IsTrue result → AreAlike world.now other.now }
+{
+    if world.count() != other.count() || !world.kernel().is_alike(other.kernel()) {
+        return false;
+    }
+    for pid in 0..world.count() {
+        if !is_same_in(world, other, pid) {
             return false;
         }
     }

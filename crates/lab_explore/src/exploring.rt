@@ -1,5 +1,5 @@
 //! Explorations.
-ghost use Rattle.std.specs.Prelude.{◌≡◌, IsTrue, None, IfOk, IfSome};
+ghost use Rattle.std.specs.Prelude.{◌≡◌, IsTrue, false, None, IfOk, IfSome};
 ghost use Rattle.std.specs.List.Sorted.{IsNonDecreasingBy};
 ghost use Rattle.lab_sched.specs.Starts.{AreStarts, initial_world};
 ghost use Rattle.lab_explore.specs.Private.Known.{AreKnown};
@@ -10,8 +10,11 @@ ghost use Rattle.lab_explore.specs.Private.Judged.{UnseenIfNone};
 ghost use Rattle.lab_explore.specs.Calls.{Alongside};
 ghost use Rattle.lab_explore.specs.Rounds.{IsRound, CanBeRepeated, AreEndless, AreBounded};
 ghost use Rattle.lab_explore.specs.Private.Rising.{AreRising};
+ghost use Rattle.lab_explore.specs.Fairness.{IsFairRound, AreFairlyEndless, AreFairlyBounded};
+ghost use Rattle.lab_explore.specs.Private.Ranked.{HaveRanks};
 
 use crate::ends::Collected;
+use crate::fair::Rounds;
 use crate::moves::both;
 use crate::search::{Search, search_all};
 use crate::trying::discard;
@@ -30,6 +33,8 @@ pub struct Exploration {
     pub ends: Vec<End>,
     pub reached: Vec<Option<Schedule>>,
     pub round: Option<Round>,
+    /// Whether only rounds that are fair are told.
+    pub fair: bool,
     pub worlds: u32,
     pub complete: bool,
     pub refused: bool,
@@ -51,12 +56,16 @@ fn room_for_ends(limits: Limits, taken: usize) -> usize {
 /// exploration is complete and there is none, it never is so, whatever steps are taken, in any order.
 /// A round can be repeated as often as one likes, so some effective steps never end; where the
 /// exploration is complete and has no round, each list of effective steps ends, after no more than
-/// some number of them. The observer is told of the worlds as they are visited.
+/// some number of them. If only fair rounds are asked for, each process takes a step in a round or has
+/// no effective one at some world along it; where the exploration is complete and has none, no more
+/// than some number of such passes can follow each other. The observer is told of the worlds as they
+/// are visited.
 pub fn explore<O: Observer>(
     alloc: Global,
     fresh: Fresh,
     limits: Limits,
     nevers: &[Never],
+    fair: bool,
     observer: &mut O,
 ) -> Result<Exploration, ExploreFault>
     ensures sound { IfOk result (λ found. AreEnds fresh found.ends.items) }
@@ -73,14 +82,21 @@ pub fn explore<O: Observer>(
     ensures round { IfOk result (λ found. IfSome found.round (λ r. IsRound fresh r)) }
     ensures repeats { IfOk result (λ found. IfSome found.round (λ r. CanBeRepeated fresh r)) }
     ensures endless { IfOk result (λ found. IfSome found.round (λ r. AreEndless fresh)) }
-    ensures bounded { IfOk result (λ found. IsTrue found.complete → found.round ≡ None
-        → AreBounded fresh) }
+    ensures bounded { IfOk result (λ found. fair ≡ false → IsTrue found.complete
+        → found.round ≡ None → AreBounded fresh) }
+    ensures fair { IfOk result (λ found. found.fair ≡ fair) }
+    ensures fair_round { IfOk result (λ found. IsTrue fair
+        → IfSome found.round (λ r. IsFairRound fresh r)) }
+    ensures fairly_endless { IfOk result (λ found. IsTrue fair
+        → IfSome found.round (λ r. AreFairlyEndless fresh)) }
+    ensures fairly_bounded { IfOk result (λ found. IsTrue fair → IsTrue found.complete
+        → found.round ≡ None → AreFairlyBounded fresh) }
 {
     let processes = fresh.processes();
     let kernel = Kernel::new(alloc, processes.len())?;
     let search = search_all(alloc, &processes, kernel, limits, observer)?;
     let room = room_for_ends(limits, search.size());
-    match search.report(alloc, &processes, room, nevers) {
+    match search.report(alloc, &processes, room, nevers, fair) {
         Ok(found) => {
             discard(search);
             Ok(found)
@@ -93,6 +109,32 @@ pub fn explore<O: Observer>(
 }
 
 impl Search {
+    /// A round among the worlds that were visited, if there is one; one that is fair, if that is asked.
+    fn rounds(
+        &self,
+        alloc: Global,
+        processes: &[Process],
+        fair: bool,
+    ) -> Result<Rounds, ExploreFault>
+        requires starts { AreStarts processes.now }
+        requires known { IsTrue self.now.complete → AreKnown self.now.store self.now.moves }
+        ensures round { IfOk result (λ found.
+            IfSome found.round (λ r. IsRound (initial_world processes.now) r)) }
+        ensures none { IfOk result (λ found.
+            fair ≡ false → found.round ≡ None → AreRising self.now.store.edges.items) }
+        ensures fair_round { IfOk result (λ found. IsTrue fair
+            → IfSome found.round (λ r. IsFairRound (initial_world processes.now) r)) }
+        ensures no_fair_round { IfOk result (λ found. IsTrue fair → IsTrue found.shown
+            → found.round ≡ None → HaveRanks self.now.store) }
+    {
+        if fair {
+            let found = self.fair_rounds(alloc, processes)?;
+            return Ok(found);
+        }
+        let round = self.round(alloc, processes)?;
+        Ok(Rounds { round, shown: true })
+    }
+
     /// What was found, with the ends, as long as they take about so many bytes, steps to what must
     /// never be so, and a round, if there is one.
     pub(crate) fn report(
@@ -101,6 +143,7 @@ impl Search {
         processes: &[Process],
         room: usize,
         nevers: &[Never],
+        fair: bool,
     ) -> Result<Exploration, ExploreFault>
         requires starts { AreStarts processes.now }
         requires known { IsTrue self.now.complete → AreKnown self.now.store self.now.moves }
@@ -117,18 +160,24 @@ impl Search {
         ensures round { IfOk result (λ found.
             IfSome found.round (λ r. IsRound (initial_world processes.now) r)) }
         ensures none { IfOk result (λ found.
-            found.round ≡ None → AreRising self.now.store.edges.items) }
+            fair ≡ false → found.round ≡ None → AreRising self.now.store.edges.items) }
+        ensures fair { IfOk result (λ found. found.fair ≡ fair) }
+        ensures fair_round { IfOk result (λ found. IsTrue fair
+            → IfSome found.round (λ r. IsFairRound (initial_world processes.now) r)) }
+        ensures no_fair_round { IfOk result (λ found. IsTrue fair → IsTrue found.complete
+            → found.round ≡ None → HaveRanks self.now.store) }
         ensures complete { IfOk result (λ found. IsTrue found.complete → IsTrue self.now.complete) }
     {
         let Collected { ends, whole } = self.ends(alloc, processes, room)?;
         let reached = self.reached(alloc, processes, nevers)?;
-        let round = self.round(alloc, processes)?;
+        let Rounds { round, shown } = self.rounds(alloc, processes, fair)?;
         Ok(Exploration {
             ends,
             reached,
             round,
+            fair,
             worlds: u32::try_from(self.store.rows.len()).unwrap_or(u32::MAX),
-            complete: both(self.complete, whole),
+            complete: both(self.complete, both(whole, shown)),
             refused: self.refused,
         })
     }

@@ -15,7 +15,7 @@ pub(crate) struct Cycle {
 }
 
 /// The number at a place, or 0.
-fn number_at(numbers: &[usize], at: usize) -> usize {
+pub(crate) fn number_at(numbers: &[usize], at: usize) -> usize {
     match numbers.get(at) {
         Some(number) => *number,
         None => 0,
@@ -23,7 +23,7 @@ fn number_at(numbers: &[usize], at: usize) -> usize {
 }
 
 /// Puts a number in its place, if there is such a place.
-fn put(numbers: &mut Vec<usize>, at: usize, number: usize) {
+pub(crate) fn put(numbers: &mut Vec<usize>, at: usize, number: usize) {
     if at < numbers.len() {
         numbers[at] = number;
     }
@@ -40,7 +40,11 @@ fn carry(numbers: &mut [usize]) {
 
 /// The place of the first edge from each row, by the edges in the order of the rows that they
 /// lead from, and behind these the number of edges.
-fn first_edges(alloc: Global, edges: &[Edge], count: usize) -> Result<Vec<usize>, AllocError> {
+pub(crate) fn first_edges(
+    alloc: Global,
+    edges: &[Edge],
+    count: usize,
+) -> Result<Vec<usize>, AllocError> {
     let mut firsts = vec![in alloc; 0; count.saturating_add(1)]?;
     for (at, edge) in edges.iter().enumerate() {
         let next = (edge.from as usize).saturating_add(1);
@@ -201,7 +205,7 @@ fn follow(
 }
 
 /// The edges from a row up to this edge, the last of which comes first.
-fn path_of(
+pub(crate) fn path_of(
     alloc: Global,
     edges: &[Edge],
     reached: &[usize],

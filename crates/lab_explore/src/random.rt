@@ -98,6 +98,7 @@ impl Gathering {
             ends: self.ends,
             reached: Vec::new(alloc),
             round: None,
+            fair: false,
             worlds: self.begun,
             complete: false,
             refused,

@@ -1,6 +1,6 @@
 //! Walks: effective steps from a world, one by one.
 ghost use Rattle.std.specs.Prelude.{◌≡◌, ◌≤◌, ◌+◌, ◌++◌, ◌∷◌, [], ℕ, IsTrue, false, IfOk, OnOk, length};
-ghost use Rattle.lab_sched.specs.Worlds.{StepEffect, entry_of, step_effect_in, step};
+ghost use Rattle.lab_sched.specs.Worlds.{StepEffect, IsEffective, entry_of, step_effect_in, step};
 ghost use Rattle.lab_sched.specs.Schedules.{steps_of};
 ghost use Rattle.lab_conditions.specs.Losses.{receives, Loses};
 ghost use Rattle.lab_sched.specs.Held.{stepped_of};
@@ -59,6 +59,7 @@ fn world_of(alloc: Global, processes: &[Process]) -> Result<World, ExploreFault>
 /// Whether a step that was told so is effective.
 fn changes(stepped: Stepped) -> bool
     ensures effective { IsTrue result → stepped ≡ Same → ⊥ }
+    ensures same { result ≡ false → stepped ≡ Same }
 {
     !matches!(stepped, Stepped::Same)
 }
@@ -144,6 +145,22 @@ impl Walk {
         }
         self.go(pid)?;
         if messages_in(self.world.kernel()) >= before {
+            return Err(ExploreFault::Unvouched);
+        }
+        Ok(())
+    }
+
+    /// Stays where a process must have no effective step.
+    pub(crate) fn pause(&mut self, pid: usize) -> Result<(), ExploreFault>
+        ensures world { OnOk result (self.new.world ≡ self.old.world) }
+        ensures schedule { OnOk result (self.new.schedule ≡ self.old.schedule) }
+        ensures calls { OnOk result (self.new.calls ≡ self.old.calls) }
+        ensures none { OnOk result (IsEffective (step_effect_in self.old.world pid) → ⊥) }
+    {
+        let Ok(stepped) = self.world.step(pid) else {
+            return Err(ExploreFault::NoMemory);
+        };
+        if changes(stepped) {
             return Err(ExploreFault::Unvouched);
         }
         Ok(())

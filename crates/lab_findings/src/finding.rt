@@ -70,7 +70,7 @@ pub fn find<O: Observer>(
     ensures passes { IfOk result (λ f.
         IfSome required (λ verdict. f.shortfall ≡ None → ComeTo verdict fresh)) }
 {
-    let exploration = explore(alloc, fresh, limits, &[], observer)?;
+    let exploration = explore(alloc, fresh, limits, &[], false, observer)?;
     let told = tell(alloc, &exploration)?;
     let shortfall = shortfall_of(&exploration, required);
     Ok(Findings {

@@ -1,9 +1,10 @@
 //! Explorations with what is required of their ends.
-ghost use Rattle.std.specs.Prelude.{◌≡◌, None, map, string_bytes, All, Any, IfOk, IfSome, IsTrue};
+ghost use Rattle.std.specs.Prelude.{◌≡◌, None, false, map, string_bytes, All, Any, IfOk, IfSome, IsTrue};
 ghost use Rattle.lab_sched.specs.ScheduleTexts.{schedule_text};
 ghost use Rattle.lab_explore.specs.Ends.{AreEnds, HaveAllEnds};
 ghost use Rattle.lab_explore.specs.Reached.{AreReached, AreKept};
 ghost use Rattle.lab_explore.specs.Rounds.{IsRound, CanBeRepeated, AreBounded};
+ghost use Rattle.lab_explore.specs.Fairness.{IsFairRound, AreFairlyEndless, AreFairlyBounded};
 ghost use Rattle.lab_findings.specs.Texts.{told_ends};
 ghost use Rattle.lab_questions.specs.Judgments.{IsAnswer};
 ghost use Rattle.lab_questions.specs.Programs.{AlwaysMeet, IsRefuted, AsksRest, Passes, IsFailure};
@@ -34,7 +35,9 @@ pub struct Answers {
 /// word. Where a word isn't so, the schedules that are told with it lead to ends which show that.
 /// Where the exploration is complete and the word is so, every world at rest that any steps lead to
 /// is as the word requires. The schedule of what must never be so leads to it; where the exploration is
-/// complete and there is none, no steps do.
+/// complete and there is none, no steps do. If only fair rounds are asked for, a round that is told is
+/// fair; where the exploration is complete and has none, no more than some number of passes that serve
+/// each process can follow each other.
 pub fn ask<O: Observer>(
     alloc: Global,
     fresh: Fresh,
@@ -42,6 +45,7 @@ pub fn ask<O: Observer>(
     words: &[Word],
     waiters: &[Waiter],
     conditions: &[Never],
+    fair: bool,
     observer: &mut O,
 ) -> Result<Answers, ExploreFault>
     ensures text { IfOk result (λ a.
@@ -57,8 +61,15 @@ pub fn ask<O: Observer>(
         IfSome a.exploration.round (λ r. CanBeRepeated fresh r)) }
     ensures complete { IfOk result (λ a. IsTrue a.exploration.complete
         → HaveAllEnds fresh a.exploration.ends.items) }
-    ensures bounded { IfOk result (λ a. IsTrue a.exploration.complete
+    ensures bounded { IfOk result (λ a. fair ≡ false → IsTrue a.exploration.complete
         → a.exploration.round ≡ None → AreBounded fresh) }
+    ensures fair { IfOk result (λ a. a.exploration.fair ≡ fair) }
+    ensures fair_round { IfOk result (λ a. IsTrue fair
+        → IfSome a.exploration.round (λ r. IsFairRound fresh r)) }
+    ensures fairly_endless { IfOk result (λ a. IsTrue fair
+        → IfSome a.exploration.round (λ r. AreFairlyEndless fresh)) }
+    ensures fairly_bounded { IfOk result (λ a. IsTrue fair → IsTrue a.exploration.complete
+        → a.exploration.round ≡ None → AreFairlyBounded fresh) }
     ensures refuted { IfOk result (λ a. All (λ x. IfSome x.fault (λ i.
         IsRefuted x.word waiters.now fresh (schedule_at a.exploration.ends.items 0)
         (schedule_at a.exploration.ends.items i))) a.answers.items) }
@@ -73,7 +84,7 @@ pub fn ask<O: Observer>(
     ensures failure { IfOk result (λ a.
         IfSome a.failure (λ f. IsFailure a.exploration a.answers.items f)) }
 {
-    let exploration = explore(alloc, fresh, limits, conditions, observer)?;
+    let exploration = explore(alloc, fresh, limits, conditions, fair, observer)?;
     let answers = answers_on(alloc, words, waiters, &exploration.ends)?;
     let told = tell(alloc, &exploration, &answers, conditions)?;
     let failure = failure_of(&exploration, &answers);

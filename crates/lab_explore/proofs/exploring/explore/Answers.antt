@@ -4,7 +4,10 @@ use Rattle.lab_sched.specs.Held.{process_view}
 use Rattle.lab_sched.specs.Starts.{AreStarts, initial_world}
 use Rattle.lab_explore.specs.Closed.{AreAtRest}
 use Rattle.lab_explore.specs.Rounds.{IsRound, AreBounded}
+use Rattle.lab_explore.specs.Fairness.{IsFairRound, AreFairlyBounded}
 use Rattle.lab_explore.proofs.Bounds.{searched_bounded}
+use Rattle.lab_explore.proofs.FairRounds.{some_fairly_endless}
+use Rattle.lab_explore.proofs.Passes.{ranked_bounded}
 use Rattle.lab_explore.proofs.Cycles.{some_repeats, some_endless}
 use Rattle.lab_explore.proofs.Explorations.{started, IsReachedIn, starts_untried, starts_ask, same_ends, all_ends, never_stuck, fresh_consistent}
 use Rattle.lab_explore.proofs.JudgedRows.{same_reached, are_kept}
@@ -33,6 +36,8 @@ returns-in-Ok g c =
     let all : IsTrue c.in-Ok.found.complete → (ps : List ℕ) → AreAtRest (run c.args.fresh ps) → IsReachedIn ends (run c.args.fresh ps) (length (entries c.args.fresh ps)) =
     λ is. all_ends c.args.fresh start c.in_ok-search.search.store ends same consistent asks untried sound (c.in_ok-search.ensures.complete (c.in-Ok.ensures.complete is)) (c.in-Ok.ensures.all is) in
     let round = subst (λ w. IfSome c.in-Ok.found.round (λ r. IsRound w r)) (sym first) c.in-Ok.ensures.round in
+    let fair : IsTrue c.args.fair → IfSome c.in-Ok.found.round (λ r. IsFairRound c.args.fresh r) =
+    λ yes. subst (λ w. IfSome c.in-Ok.found.round (λ r. IsFairRound w r)) (sym first) (c.in-Ok.ensures.fair_round yes) in
     let empty = ap (λ (w : WorldState). w.kernel) (sym c.processes-processes.ensures.world) in
     record {
       sound = sound;
@@ -46,6 +51,12 @@ returns-in-Ok g c =
       round = round;
       repeats = some_repeats c.args.fresh c.in-Ok.found.round (fresh_consistent c.args.fresh (length qs) empty) round;
       endless = some_endless c.args.fresh c.in-Ok.found.round (fresh_consistent c.args.fresh (length qs) empty) round;
-      bounded = λ is none.
-          subst AreBounded (sym same) (searched_bounded c.in_ok-search.search.store start consistent asks untried (c.in_ok-search.ensures.complete (c.in-Ok.ensures.complete is)) (c.in-Ok.ensures.none none));
+      bounded = λ no is none.
+          subst AreBounded (sym same) (searched_bounded c.in_ok-search.search.store start consistent asks untried (c.in_ok-search.ensures.complete (c.in-Ok.ensures.complete is)) (c.in-Ok.ensures.none no none));
+      fair = c.in-Ok.ensures.fair;
+      fair_round = fair;
+      fairly_endless = λ yes. some_fairly_endless c.args.fresh c.in-Ok.found.round (fresh_consistent c.args.fresh (length qs) empty) (fair yes);
+      fairly_bounded = λ yes is none.
+          subst AreFairlyBounded (sym same)
+          (ranked_bounded c.in_ok-search.search.store start consistent asks untried (c.in_ok-search.ensures.complete (c.in-Ok.ensures.complete is)) (c.in-Ok.ensures.no_fair_round yes is none));
     }

@@ -1,4 +1,4 @@
-use Rattle.std.proofs.Common.{string_bytes}
+use Rattle.std.proofs.Common.{refl, string_bytes}
 use Rattle.lab_findings.proofs.ProgramLemmas.{is_complete, has_no_round, tells_every_end, none_stuck, come_to}
 use Rattle.lab_findings.proofs.finding.find.Goals as goal
 
@@ -23,9 +23,9 @@ returns-clause-bounded g c says quiet =
     let found = c.in_ok-exploration.exploration in
     let text = string_bytes c.in_ok-told.told.text in
     let is = c.in_ok-told.ensures.text in
-    c.in_ok-exploration.ensures.bounded (is_complete found text is says) (has_no_round found text is quiet)
+    c.in_ok-exploration.ensures.bounded refl (is_complete found text is says) (has_no_round found text is quiet)
 
 pub returns-clause-passes : goal.returns-clause-passes
 returns-clause-passes g c =
     come_to c.args.fresh c.in_ok-exploration.exploration c.args.required c.shortfall_of-shortfall.result c.shortfall_of-shortfall.ensures.none.0
-    c.in_ok-exploration.ensures.complete c.in_ok-exploration.ensures.bounded
+    c.in_ok-exploration.ensures.complete (c.in_ok-exploration.ensures.bounded refl)

@@ -1,0 +1,19 @@
+use Rattle.std.proofs.Common.{All, arith, subst, below_more}
+use Rattle.lab_explore.specs.Private.Ranked.{IsFalling, IsKept}
+use Rattle.lab_explore.proofs.search.Search.are_ranked.Goals as goal
+
+pub loop-at-preserved : goal.loop-at-preserved
+loop-at-preserved c =
+    let kept : IsKept c.args.self.now.store c.args.ranks.now c.args.keepers.now c.loop-at.at = c.is_kept.ensures.yes c.if-not-is_kept.false in
+    below_more (IsKept c.args.self.now.store c.args.ranks.now c.args.keepers.now) _ c.loop-at.invariant kept
+
+pub returns : goal.returns
+returns c =
+    let past = c.loop-at-test.false in
+    let end = c.len-at-end.ensures in
+    record {
+      yes = λ is. record {
+        falls = subst (λ es. All (IsFalling c.args.ranks.now c.args.keepers.now) es) c.as_slice.ensures.value (c.are_falling.ensures.yes c.if-not-are_falling.false);
+        kept = λ i within. c.loop-at.invariant i (omega (arith, within, past, end));
+      };
+    }

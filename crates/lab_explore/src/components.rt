@@ -1,0 +1,148 @@
+//! The strongly connected sets of the rows of a search, by a descent along the edges. Nothing that is
+//! proved rests on what stands here: what is made of them is checked (`ranks`, `fair`).
+use crate::graph::number_at;
+use crate::store::Edge;
+use std::alloc::{AllocError, Global};
+
+/// A descent along edges: each row is entered once, and left when all edges from it were followed.
+#[derive(Drop)]
+struct Descent {
+    /// For each row the number with which it was entered, from 1, or 0.
+    entered: Vec<u32>,
+    /// For each row the number of its set, from 1, or 0.
+    sets: Vec<u32>,
+    /// The rows that were entered and have no set yet.
+    open: Vec<u32>,
+    /// The open rows with which the sets may begin that the path goes through.
+    roots: Vec<u32>,
+    /// The rows from the first up to this one, each with the place of the next edge from it.
+    path: Vec<(u32, usize)>,
+    /// How many rows were entered.
+    count: u32,
+    /// How many sets are known.
+    known: u32,
+}
+
+/// The number at a place, or 0.
+pub(crate) fn small_at(numbers: &[u32], at: usize) -> u32 {
+    match numbers.get(at) {
+        Some(number) => *number,
+        None => 0,
+    }
+}
+
+/// Puts a number in its place, if there is such a place.
+fn put(numbers: &mut Vec<u32>, at: usize, number: u32) {
+    if at < numbers.len() {
+        numbers[at] = number;
+    }
+}
+
+impl Descent {
+    /// Before the first row.
+    fn new(alloc: Global, count: usize) -> Result<Descent, AllocError> {
+        Ok(Descent {
+            entered: vec![in alloc; 0; count]?,
+            sets: vec![in alloc; 0; count]?,
+            open: Vec::new(alloc),
+            roots: Vec::new(alloc),
+            path: Vec::new(alloc),
+            count: 0,
+            known: 0,
+        })
+    }
+
+    /// Enters a row.
+    fn enter(&mut self, firsts: &[usize], row: u32) -> Result<(), AllocError> {
+        self.count = self.count.saturating_add(1);
+        put(&mut self.entered, row as usize, self.count);
+        self.open.push(row)?;
+        self.roots.push(row)?;
+        self.path.push((row, number_at(firsts, row as usize)))?;
+        Ok(())
+    }
+
+    /// An edge leads to an open row: what was entered after it is in its set.
+    fn join(&mut self, row: u32) {
+        let number = small_at(&self.entered, row as usize);
+        for _ in 0..self.roots.len() {
+            let Some(root) = self.roots.last().copied() else {
+                return;
+            };
+            if small_at(&self.entered, root as usize) <= number {
+                return;
+            }
+            self.roots.pop();
+        }
+    }
+
+    /// Leaves a row. If a set begins with it, the rows that were entered since are those of the set.
+    fn leave(&mut self, row: u32) {
+        if self.roots.last().copied() != Some(row) {
+            return;
+        }
+        self.roots.pop();
+        self.known = self.known.saturating_add(1);
+        for _ in 0..self.open.len() {
+            let Some(member) = self.open.pop() else {
+                return;
+            };
+            put(&mut self.sets, member as usize, self.known);
+            if member == row {
+                return;
+            }
+        }
+    }
+
+    /// Follows an edge to a row.
+    fn follow(&mut self, firsts: &[usize], row: u32) -> Result<(), AllocError> {
+        if small_at(&self.entered, row as usize) == 0 {
+            return self.enter(firsts, row);
+        }
+        if small_at(&self.sets, row as usize) == 0 {
+            self.join(row);
+        }
+        Ok(())
+    }
+
+    /// Follows the next edge, or leaves a row; with whether there was one.
+    fn go_on(&mut self, edges: &[Edge], firsts: &[usize]) -> Result<bool, AllocError> {
+        let Some((row, next)) = self.path.pop() else {
+            return Ok(false);
+        };
+        if next >= number_at(firsts, (row as usize).saturating_add(1)) {
+            self.leave(row);
+            return Ok(true);
+        }
+        self.path.push((row, next.saturating_add(1)))?;
+        if let Some(edge) = edges.get(next) {
+            self.follow(firsts, edge.to)?;
+        }
+        Ok(true)
+    }
+
+    /// Follows all edges.
+    fn go_through(&mut self, edges: &[Edge], firsts: &[usize]) -> Result<(), AllocError> {
+        for _ in 0..edges.len().saturating_add(self.sets.len()) {
+            let went = self.go_on(edges, firsts)?;
+            if !went {
+                return Ok(());
+            }
+        }
+        Ok(())
+    }
+}
+
+/// For each row that the first leads to the number of its strongly connected set, from 1: edges lead to
+/// sets with the same or a lesser number. The place of the first edge from each row is given.
+pub(crate) fn sets_of(
+    alloc: Global,
+    edges: &[Edge],
+    firsts: &[usize],
+    count: usize,
+) -> Result<Vec<u32>, AllocError> {
+    let mut descent = Descent::new(alloc, count)?;
+    descent.enter(firsts, 0)?;
+    descent.go_through(edges, firsts)?;
+    Ok(descent.sets)
+}

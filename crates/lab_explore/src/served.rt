@@ -1,0 +1,160 @@
+//! Which processes go on, and which take steps, in the strongly connected sets of the rows of a search.
+//! Nothing that is proved rests on what stands here: what is made of it is checked (`ranks`, `fair`).
+use crate::components::{sets_of, small_at};
+use crate::graph::first_edges;
+use crate::store::Edge;
+use std::alloc::{AllocError, Global};
+
+/// Processes, as the bits of a number.
+type Processes = u64;
+
+/// The strongly connected sets of rows, and processes in them.
+#[derive(Drop)]
+pub(crate) struct Sets {
+    /// The place of the first edge from each row.
+    pub firsts: Vec<usize>,
+    /// For each row the number of its set, from 1, or 0.
+    pub of_rows: Vec<u32>,
+    /// For each row the processes that go on from it.
+    going: Vec<Processes>,
+    /// For each number of a set the processes that have an edge inside.
+    moving: Vec<Processes>,
+    /// For each number of a set the processes that go on from each of its rows.
+    always: Vec<Processes>,
+}
+
+/// The process alone.
+pub(crate) fn only(pid: u32) -> u64 {
+    1 << (pid % u64::BITS)
+}
+
+/// The processes at a place, or none.
+fn some_at(numbers: &[Processes], at: usize) -> Processes {
+    match numbers.get(at) {
+        Some(processes) => *processes,
+        None => 0,
+    }
+}
+
+/// Adds processes at a place, if there is such a place.
+fn add(numbers: &mut Vec<Processes>, at: usize, processes: Processes) {
+    if at < numbers.len() {
+        numbers[at] |= processes;
+    }
+}
+
+/// Leaves only these of the processes at a place, if there is such a place.
+fn keep_only(numbers: &mut Vec<Processes>, at: usize, processes: Processes) {
+    if at < numbers.len() {
+        numbers[at] &= processes;
+    }
+}
+
+/// For each row the processes that have an edge from it.
+fn going_from(alloc: Global, edges: &[Edge], count: usize) -> Result<Vec<Processes>, AllocError> {
+    let mut going = vec![in alloc; 0; count]?;
+    for edge in edges {
+        add(&mut going, edge.from as usize, only(edge.pid));
+    }
+    Ok(going)
+}
+
+/// For each number of a set the processes that have an edge inside.
+fn moving_in(
+    alloc: Global,
+    edges: &[Edge],
+    of_rows: &[u32],
+    most: usize,
+) -> Result<Vec<Processes>, AllocError> {
+    let mut moving = vec![in alloc; 0; most.saturating_add(1)]?;
+    for edge in edges {
+        let set = small_at(of_rows, edge.from as usize);
+        if set == small_at(of_rows, edge.to as usize) {
+            add(&mut moving, set as usize, only(edge.pid));
+        }
+    }
+    Ok(moving)
+}
+
+/// For each number of a set the processes that go on from each of its rows.
+fn always_in(
+    alloc: Global,
+    of_rows: &[u32],
+    going: &[Processes],
+    most: usize,
+) -> Result<Vec<Processes>, AllocError> {
+    let mut always = vec![in alloc; u64::MAX; most.saturating_add(1)]?;
+    for (row, set) in of_rows.iter().enumerate() {
+        keep_only(&mut always, *set as usize, some_at(going, row));
+    }
+    Ok(always)
+}
+
+/// The first of some processes, if there is one.
+fn first_of(processes: Processes) -> Option<u32> {
+    if processes == 0 {
+        return None;
+    }
+    Some(processes.trailing_zeros())
+}
+
+impl Sets {
+    /// The sets of so many rows.
+    pub(crate) fn new(alloc: Global, edges: &[Edge], count: usize) -> Result<Sets, AllocError> {
+        let firsts = first_edges(alloc, edges, count)?;
+        let of_rows = sets_of(alloc, edges, firsts.as_slice(), count)?;
+        let most = small_at(&of_rows, 0) as usize;
+        let going = going_from(alloc, edges, count)?;
+        let moving = moving_in(alloc, edges, of_rows.as_slice(), most)?;
+        let always = always_in(alloc, of_rows.as_slice(), going.as_slice(), most)?;
+        Ok(Sets {
+            firsts,
+            of_rows,
+            going,
+            moving,
+            always,
+        })
+    }
+
+    /// The number of the set of a row.
+    pub(crate) fn set_of(&self, row: usize) -> u32 {
+        small_at(&self.of_rows, row)
+    }
+
+    /// Whether a process goes on from a row.
+    pub(crate) fn goes_on(&self, row: usize, pid: u32) -> bool {
+        some_at(&self.going, row) & only(pid) != 0
+    }
+
+    /// Whether a process has an edge inside the set of a row.
+    pub(crate) fn moves(&self, row: usize, pid: u32) -> bool {
+        some_at(&self.moving, self.set_of(row) as usize) & only(pid) != 0
+    }
+
+    /// The processes that go on from each row of a set and have no edge inside.
+    fn kept(&self, set: usize) -> Processes {
+        some_at(&self.always, set) & !some_at(&self.moving, set)
+    }
+
+    /// For each number of a set a process that goes on from each of its rows and has no edge inside, if
+    /// there is one.
+    pub(crate) fn keepers(&self, alloc: Global) -> Result<Vec<Option<u32>>, AllocError> {
+        let mut keepers = Vec::with_capacity(alloc, self.moving.len())?;
+        for set in 0..self.moving.len() {
+            keepers.push(first_of(self.kept(set)))?;
+        }
+        Ok(keepers)
+    }
+
+    /// Whether the set of a row has an edge inside, and serves each process: by an edge of it, or by a
+    /// row from which it doesn't go on.
+    fn is_fair(&self, row: usize) -> bool {
+        let set = self.set_of(row) as usize;
+        some_at(&self.moving, set) != 0 && self.kept(set) == 0
+    }
+
+    /// The first row whose set serves each process.
+    pub(crate) fn first_fair(&self) -> Option<usize> {
+        (0..self.of_rows.len()).find(|row| self.is_fair(*row))
+    }
+}

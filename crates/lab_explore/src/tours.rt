@@ -1,0 +1,226 @@
+//! Ways through strongly connected sets of rows that serve each process. Nothing that is proved rests
+//! on what stands here: the steps along them are taken again (`fair`).
+use crate::graph::{number_at, path_of, put};
+use crate::served::{Sets, only};
+use crate::store::Edge;
+use std::alloc::{AllocError, Global};
+
+/// A part of a tour.
+#[derive(Clone, Copy, Drop)]
+pub(crate) enum Leg {
+    /// The steps of an edge.
+    Edge(Edge),
+    /// The process doesn't go on from here: it waits, or has ended.
+    Rest(u32),
+}
+
+/// A tour through a set, from a row back to it. Along its first part processes begin to wait that take
+/// no step inside the set.
+#[derive(Drop)]
+pub(crate) struct Tour {
+    pub at: usize,
+    pub first: Vec<Leg>,
+    pub second: Vec<Leg>,
+}
+
+/// What is looked for on a way.
+#[derive(Clone, Copy)]
+enum Goal {
+    /// A row from which the process doesn't go on.
+    Rest(u32),
+    /// An edge of the process.
+    Step(u32),
+    /// The row.
+    Row(usize),
+}
+
+/// A way, and the row to which it leads.
+#[derive(Drop)]
+struct Way {
+    row: usize,
+    legs: Vec<Leg>,
+    /// The processes that take steps along it, as the bits of a number.
+    moved: u64,
+}
+
+impl Way {
+    /// The way that stays at a row.
+    fn at(alloc: Global, row: usize) -> Way {
+        Way {
+            row,
+            legs: Vec::new(alloc),
+            moved: 0,
+        }
+    }
+
+    /// Goes along edges, the last of which comes first.
+    fn go(&mut self, path: &[Edge]) -> Result<(), AllocError> {
+        for edge in path.iter().rev() {
+            self.legs.push(Leg::Edge(*edge))?;
+            self.moved |= only(edge.pid);
+            self.row = edge.to as usize;
+        }
+        Ok(())
+    }
+
+    /// Whether a process takes a step along it.
+    fn has_moved(&self, pid: u32) -> bool {
+        self.moved & only(pid) != 0
+    }
+}
+
+impl Sets {
+    /// Whether a row is what is looked for.
+    fn is_there(&self, row: usize, goal: Goal) -> bool {
+        match goal {
+            Goal::Rest(pid) => !self.goes_on(row, pid),
+            Goal::Step(_) => false,
+            Goal::Row(other) => row == other,
+        }
+    }
+
+    /// Whether an edge is what is looked for, or leads to it.
+    fn leads_there(&self, edge: &Edge, goal: Goal) -> bool {
+        match goal {
+            Goal::Step(pid) => edge.pid == pid,
+            _ => self.is_there(edge.to as usize, goal),
+        }
+    }
+
+    /// Follows the edges from a row inside its set: those to rows that weren't reached are written down,
+    /// with the place of the edge plus 1; with the place of one that is looked for, or leads to it.
+    fn follow(
+        &self,
+        edges: &[Edge],
+        row: usize,
+        goal: Goal,
+        reached: &mut Vec<usize>,
+        rows: &mut Vec<usize>,
+    ) -> Result<Option<usize>, AllocError> {
+        for at in number_at(&self.firsts, row)..number_at(&self.firsts, row.saturating_add(1)) {
+            if let Some(edge) = edges.get(at) {
+                let to = edge.to as usize;
+                if self.set_of(to) == self.set_of(row) {
+                    if self.leads_there(edge, goal) {
+                        return Ok(Some(at));
+                    }
+                    if number_at(reached, to) == 0 {
+                        put(reached, to, at.saturating_add(1));
+                        rows.push(to)?;
+                    }
+                }
+            }
+        }
+        Ok(None)
+    }
+
+    /// The edges of a shortest way from a row to what is looked for, inside its set, the last of which
+    /// comes first.
+    fn path_to(
+        &self,
+        alloc: Global,
+        edges: &[Edge],
+        from: usize,
+        goal: Goal,
+    ) -> Result<Option<Vec<Edge>>, AllocError> {
+        let count = self.of_rows.len();
+        let mut reached = vec![in alloc; 0; count]?;
+        let mut rows = vec![in alloc; from]?;
+        for place in 0..count {
+            let Some(row) = rows.get(place) else {
+                return Ok(None);
+            };
+            let row = *row;
+            if let Some(last) = self.follow(edges, row, goal, &mut reached, &mut rows)? {
+                let path = path_of(alloc, edges, reached.as_slice(), from, last)?;
+                return Ok(Some(path));
+            }
+        }
+        Ok(None)
+    }
+
+    /// Goes on to what is looked for, inside the set; with whether it is there.
+    fn go_on(
+        &self,
+        alloc: Global,
+        edges: &[Edge],
+        goal: Goal,
+        way: &mut Way,
+    ) -> Result<bool, AllocError> {
+        if self.is_there(way.row, goal) {
+            return Ok(true);
+        }
+        let Some(path) = self.path_to(alloc, edges, way.row, goal)? else {
+            return Ok(false);
+        };
+        way.go(path.as_slice())?;
+        Ok(true)
+    }
+
+    /// Goes, for each process that has no edge inside the set, to a row from which it doesn't go on; with
+    /// whether there is one for each.
+    fn go_to_rests(
+        &self,
+        alloc: Global,
+        edges: &[Edge],
+        count: u32,
+        way: &mut Way,
+    ) -> Result<bool, AllocError> {
+        for pid in 0..count {
+            if !self.moves(way.row, pid) {
+                let came = self.go_on(alloc, edges, Goal::Rest(pid), way)?;
+                if !came {
+                    return Ok(false);
+                }
+                way.legs.push(Leg::Rest(pid))?;
+            }
+        }
+        Ok(true)
+    }
+
+    /// Goes, for each process that has an edge inside the set and took no step so far, along an edge of
+    /// it; with whether there is one for each.
+    fn go_to_steps(
+        &self,
+        alloc: Global,
+        edges: &[Edge],
+        count: u32,
+        way: &mut Way,
+    ) -> Result<bool, AllocError> {
+        for pid in 0..count {
+            if self.moves(way.row, pid) && !way.has_moved(pid) {
+                let came = self.go_on(alloc, edges, Goal::Step(pid), way)?;
+                if !came {
+                    return Ok(false);
+                }
+            }
+        }
+        Ok(true)
+    }
+
+    /// A tour from a row through its set that serves each of so many processes, if the set does.
+    pub(crate) fn tour(
+        &self,
+        alloc: Global,
+        edges: &[Edge],
+        at: usize,
+        count: u32,
+    ) -> Result<Option<Tour>, AllocError> {
+        let mut way = Way::at(alloc, at);
+        if !self.go_to_rests(alloc, edges, count, &mut way)? {
+            return Ok(None);
+        }
+        let mut more = Way::at(alloc, way.row);
+        more.moved = way.moved;
+        if !self.go_to_steps(alloc, edges, count, &mut more)?
+            || !self.go_on(alloc, edges, Goal::Row(at), &mut more)?
+        {
+            return Ok(None);
+        }
+        Ok(Some(Tour {
+            at,
+            first: way.legs,
+            second: more.legs,
+        }))
+    }
+}
