@@ -1,4 +1,4 @@
-"""Tasks that can't be taken are refused, and what outputs may be."""
+"""Tasks that can't be taken are refused, what outputs may be, and what the keys of a run ask."""
 from .calling import HALT
 
 ONE = '[[run]]\nprograms = [{ asked = "a.asm" }]\n'
@@ -38,8 +38,54 @@ OUTPUTS = {
     "{ free = true }": "pass",
 }
 
+WAITS = """
+      .ORIG x3000
+      LEA R0,NAME
+      LD R1,CREATE
+      TRAP x50
+      TRAP x53
+      HALT
+NAME  .STRINGZ "/w"
+CREATE .FILL x40
+      .END
+"""
+ASKS = WAITS.replace("TRAP x53", "ADD R4,R0,#0\nAGAIN ADD R0,R4,#0\n      TRAP x54\n      ADD R0,R0,#0\n      BRn AGAIN")
+POSTS = WAITS.replace("TRAP x53", "TRAP x55")
+ECHOES = "     .ORIG x3000\n     GETC\n     OUT\n     HALT\n     .END\n"
+# a student's program, what stands behind it in the list of programs, the keys of the run, and the verdict
+ASKED = [
+    (WAITS, "", "", "not halted"),
+    (WAITS, "", 'require = "ended"', "not ended"),
+    (WAITS, "", 'require = "stuck"', "pass"),
+    (WAITS, "", 'may-wait = ["0"]', "pass"),
+    (HALT, "", 'require = "stuck"', "not stuck"),
+    (HALT, "", 'never = ["ended"]', "reached ended"),
+    (HALT, "", 'never = ["blocked", "crashed"]', "pass"),
+    (PRINTS, "", 'alternatives = [["1"], ["12\\nabc\\n"]]', "pass"),
+    (PRINTS, "", 'alternatives = [["1"], ["2"]]', "wrong output"),
+    (ECHOES, ', input-file = "x.in"', 'outputs = ["x"]', "pass"),
+    (ECHOES, ', input-file = "x.in"', 'outputs = ["y"]', "wrong output"),
+    (ECHOES, ', input = "y"', 'outputs = ["y"]', "pass"),
+    (POSTS, ', must-not-call = ["sem_post /v"]', "", "pass"),
+    (POSTS, ', must-not-call = ["sem_post /w"]', "", "forbidden call"),
+    (ASKS, '}, { given = "posts.asm"', "", "endless"),
+    (ASKS, '}, { given = "posts.asm"', "fair = true", "pass"),
+]
+
+
+def look_at_keys(check, grader):
+    """What the keys of a run and of a program ask, each with an answer that is so, or with one that isn't."""
+    (grader.place / "x.in").write_text("x")
+    (grader.place / "posts.asm").write_text(POSTS)
+    for number, (source, program, keys, verdict) in enumerate(ASKED):
+        folder = grader.folder(f"key-{number}", a__asm=source)
+        task = grader.task(ONE.replace('"a.asm"', f'"a.asm"{program}') + keys + "\n")
+        found = grader.marks(task, [folder])
+        check(found == {str(folder): [verdict]}, f"{program} {keys}: {found}, not {verdict}")
+
 
 def look(check, grader):
+    look_at_keys(check, grader)
     folder = grader.folder("one", a__asm=PRINTS)
     (grader.place / "given.asm").write_text(HALT)
     for text, complaint in REFUSED.items():
