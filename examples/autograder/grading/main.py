@@ -127,9 +127,18 @@ def grade(said, place, ear):
     return 0 if {it["mark"] for it in marks} <= wanted else 1
 
 
+def said_by(words):
+    """What the words say. argparse forgets a `--` where options and folders are mixed, so what begins with `-` behind it is given
+    as a path of this folder."""
+    if "--" in words:
+        at = words.index("--")
+        words = words[:at] + [f"./{it}" if it.startswith("-") else it for it in words[at + 1:]]
+    return parser().parse_intermixed_args(words)
+
+
 def main():
     sys.stdout.reconfigure(encoding="utf-8", errors="backslashreplace")
-    said = parser().parse_intermixed_args()
+    said = said_by(sys.argv[1:])
     ear = Ear()
     try:
         with tempfile.TemporaryDirectory(prefix="grade-") as place:
