@@ -52,6 +52,8 @@ def look_at_marks(check, names, folders):
     check(failed and all(pages) and all(it["schedule"] for it in failed), f"a page is missing: {failed}")
     attached = [it.text for it in root.iter("system-out")]
     check(attached == [f"[[ATTACHMENT|{it['page']}]]\n[[ATTACHMENT|{it['ends_page']}]]" for it in failed], f"attached: {attached}")
+    check(all(float(it["seconds"]) >= 0 and int(it["megabytes"]) > 0 for it in rows if it["verdict"] != "no program"),
+          f"what it took: {rows}")
     check(all(it["points"] == ("2" if it["mark"] == "pass" else "0") and it["of"] == "2" for it in rows), f"points: {rows}")
 
 

@@ -12,7 +12,8 @@ from .records import PAGES
 NOT_XML = re.compile("[^\t\n\r -\uD7FF\uE000-\uFFFD\U00010000-\U0010FFFF]")
 # a spreadsheet would take a cell that begins so for a formula
 FORMULA = ("=", "+", "-", "@", "\t", "\r")
-COLUMNS = ["folder", "mark", "points", "of", "run", "verdict", "detail", "schedule", "page", "ends_page", "seconds"]
+COLUMNS = ["folder", "mark", "points", "of", "run", "verdict", "detail", "schedule", "page", "ends_page", "seconds",
+           "megabytes"]
 
 
 def number(points):
@@ -89,7 +90,7 @@ def table(task, marks):
             detail = "\n".join(run["detail"])
             row = [shown.name(mark["folder"], ""), mark["mark"], number(mark["points"]), number(mark["of"]), run["name"],
                    run["verdict"], detail, run["schedule"] or "", run["page"] or "", run["ends_page"] or "",
-                   run["seconds"]]
+                   run["seconds"], mark["megabytes"]]
             writer.writerow([it if isinstance(it, (int, float)) else cell(it) for it in row])
     return rows.getvalue().encode("utf-8", "replace")
 
