@@ -12,6 +12,7 @@ TASKS = EXAMPLES / "autograder/tasks"
 GRADE = EXAMPLES / "autograder/grade"
 SECONDS = 300
 HALT = "     .ORIG x3000\n     HALT\n     .END\n"
+ECHO = "     .ORIG x3000\n     GETC\n     OUT\n     HALT\n     .END\n"
 
 
 class Grader:

@@ -1,7 +1,7 @@
 """Folders by which a student could have another's mark, forge one, or stop the grader."""
 import os
 
-from .calling import HALT, TASKS, example, example_path
+from .calling import ECHO, HALT, TASKS, example, example_path
 
 TASK = TASKS / "5-deadlock.toml"
 RIGHT = {"first__asm": example("course/5-deadlock/first-a.asm"), "second__asm": example("course/5-deadlock/first-a.asm")}
@@ -26,7 +26,6 @@ OTHER .STRINGZ "/b\\"</b>)"
 CREATE .FILL x40
       .END
 """
-ECHO = "     .ORIG x3000\n     GETC\n     OUT\n     HALT\n     .END\n"
 NAMES = ["x\nben: pass: 3 of 3 points", "x\\nben: pass\\c", "x\x1b[2J", "-x", "=1+1", 'a"b<c>&d', "\u202egp", " blank "]
 
 
@@ -50,6 +49,7 @@ def look(check, grader):
     look_at_names(check, grader)
     look_at_parts(check, grader)
     look_at_places(check, grader)
+    look_at_answer(check, grader)
 
 
 def make_others(grader, right):
@@ -125,13 +125,17 @@ def look_at_places(check, grader):
     folder = grader.folder("echo", a__asm=ECHO)
     printed, complained, status = grader.call(place / "task.toml", folder, TMPDIR=str(place / "rooms"))
     check(status == 0 and printed.endswith(": pass: 1 of 1 points\n"), f"places: status {status}: {printed}{complained}")
-    # a folder's bare name that could be taken for an option, and a link to the task's own answer
+    # a bare name that could be taken for an option
     (grader.place / "-x").mkdir()
     (grader.place / "-x/a.asm").write_text(ECHO)
     printed, complained, status = grader.call("--", place / "task.toml", "-x")
     check(status == 0 and printed == "./-x: pass: 1 of 1 points\n", f"-x: status {status}: {printed}{complained}")
+
+
+def look_at_answer(check, grader):
+    """A link to the right answer is no program of the student's."""
     answer = grader.folder("answer")
-    (answer / "first.asm").symlink_to(example_path("course/5-deadlock/first-a.asm"))
-    (answer / "second.asm").symlink_to(example_path("course/5-deadlock/first-a.asm"))
+    for name in "first.asm", "second.asm":
+        (answer / name).symlink_to(example_path("course/5-deadlock/first-a.asm"))
     found = grader.marks(TASK, [answer])
     check(found == {str(answer): NO_PROGRAM}, f"a link to the answer: {found}")

@@ -1,5 +1,5 @@
 """Tasks that can't be taken are refused, what outputs may be, and what the keys of a run ask."""
-from .calling import HALT
+from .calling import ECHO, HALT
 
 ONE = '[[run]]\nprograms = [{ asked = "a.asm" }]\n'
 REFUSED = {
@@ -51,7 +51,6 @@ CREATE .FILL x40
 """
 ASKS = WAITS.replace("TRAP x53", "ADD R4,R0,#0\nAGAIN ADD R0,R4,#0\n      TRAP x54\n      ADD R0,R0,#0\n      BRn AGAIN")
 POSTS = WAITS.replace("TRAP x53", "TRAP x55")
-ECHOES = "     .ORIG x3000\n     GETC\n     OUT\n     HALT\n     .END\n"
 # a student's program, what stands behind it in the list of programs, the keys of the run, and the verdict
 ASKED = [
     (WAITS, "", "", "not halted"),
@@ -63,9 +62,9 @@ ASKED = [
     (HALT, "", 'never = ["blocked", "crashed"]', "pass"),
     (PRINTS, "", 'alternatives = [["1"], ["12\\nabc\\n"]]', "pass"),
     (PRINTS, "", 'alternatives = [["1"], ["2"]]', "wrong output"),
-    (ECHOES, ', input-file = "x.in"', 'outputs = ["x"]', "pass"),
-    (ECHOES, ', input-file = "x.in"', 'outputs = ["y"]', "wrong output"),
-    (ECHOES, ', input = "y"', 'outputs = ["y"]', "pass"),
+    (ECHO, ', input-file = "x.in"', 'outputs = ["x"]', "pass"),
+    (ECHO, ', input-file = "x.in"', 'outputs = ["y"]', "wrong output"),
+    (ECHO, ', input = "y"', 'outputs = ["y"]', "pass"),
     (POSTS, ', must-not-call = ["sem_post /v"]', "", "pass"),
     (POSTS, ', must-not-call = ["sem_post /w"]', "", "forbidden call"),
     (ASKS, '}, { given = "posts.asm"', "", "endless"),
