@@ -20,7 +20,7 @@ function mark() {                                 // it comes into view
   const x = cur > 0 ? midX(R[cur - 1].process) : 0, half = lay.lane / 2, left = view.scrollLeft;
   const isBeside = x - half < left + lay.x0 || x + half > left + view.clientWidth;
   if (isBeside) view.scrollLeft = Math.max(0, x - (view.clientWidth + lay.x0) / 2);
-  paintNear();
+  keepGutter(); paintNear();
 }
 
 // ---- going to a moment
