@@ -1,7 +1,7 @@
 //! What is told of a text.
-ghost use Rattle.std.specs.Prelude.{◌≡◌, true, false, not, IfOk, OnOk, filter, IsPermutation};
+ghost use Rattle.std.specs.Prelude.{◌≡◌, ◌<◌, ◌++◌, true, false, length, IfOk, OnOk, map, slice_get, IsPermutation};
 ghost use Rattle.std.specs.List.Sorted.{IsNonDecreasingBy};
-ghost use Rattle.lc3_messages.specs.Private.Told.{names_a_label};
+ghost use Rattle.lc3_messages.specs.Private.Told.{names_a_label, AreFrom, is_error, finding_of, AddsWarnings, Tells};
 
 use crate::report::Wish;
 use crate::texts::{Source, word_at_fault};
@@ -20,7 +20,9 @@ pub(crate) enum What {
 
 impl What {
     /// Whether the source is refused for it.
-    pub fn is_error(self) -> bool {
+    pub fn is_error(self) -> bool
+        ensures value { result ≡ is_error self }
+    {
         matches!(self, What::Fault(_))
     }
 }
@@ -56,24 +58,54 @@ fn may_follow(alloc: Global, source: &Source<'_>, fault: LineFault) -> Result<bo
     }
 }
 
-/// The faults that aren't told only because of an earlier one. All that are about no label are told.
+/// Whether a fault is told behind these: the first one is, and each that isn't one only because of an earlier one.
+fn is_told_behind(
+    alloc: Global,
+    source: &Source<'_>,
+    told: &[LineFault],
+    fault: LineFault,
+) -> Result<bool, AllocError>
+    ensures left_out { IfOk result (λ is_told. is_told ≡ false
+        → (names_a_label fault.kind ≡ true) × (0 < length told.now)) }
+{
+    if told.is_empty() {
+        return Ok(true);
+    }
+    let follows = may_follow(alloc, source, fault)?;
+    Ok(!follows)
+}
+
+/// The faults that aren't told only because of an earlier one: the first, and all that are about no label.
 fn told_faults(
     alloc: Global,
     source: &Source<'_>,
     faults: &[LineFault],
 ) -> Result<Vec<LineFault>, AllocError>
-    ensures told { IfOk result (λ told.
-        filter (λ f. not (names_a_label f.kind)) told.items
-        ≡ filter (λ f. not (names_a_label f.kind)) faults.now) }
+    ensures told { IfOk result (λ told. AreFrom faults.now told.items) }
+    ensures first { IfOk result (λ told. slice_get told.items 0 ≡ slice_get faults.now 0) }
 {
     let mut told = Vec::new(alloc);
     for fault in faults {
-        let follows = may_follow(alloc, source, *fault)?;
-        if !follows {
+        let is_told = is_told_behind(alloc, source, &told, *fault)?;
+        if is_told {
             told.push(*fault)?;
         }
     }
     Ok(told)
+}
+
+/// Adds faults as what is found.
+fn push_faults(found: &mut Vec<Finding>, faults: &[LineFault]) -> Result<(), AllocError>
+    ensures added { OnOk result
+        (found.new.items ≡ found.old.items ++ map finding_of faults.now) }
+{
+    for fault in faults {
+        found.push(Finding {
+            line: fault.line,
+            what: What::Fault(fault.kind),
+        })?;
+    }
+    Ok(())
 }
 
 /// Sorts by the lines; what is found in one line stays in its order.
@@ -91,7 +123,9 @@ fn push_warnings(
     content: &str,
     wish: Wish<'_>,
     found: &mut Vec<Finding>,
-) -> Result<(), AllocError> {
+) -> Result<(), AllocError>
+    ensures added { OnOk result (AddsWarnings found.old.items found.new.items) }
+{
     for warning in &warnings(alloc, content, wish.profile)? {
         if !is_allowed(warning.kind.name(), wish.allowed) {
             found.push(Finding {
@@ -116,15 +150,12 @@ pub(crate) fn findings(
     content: &str,
     wish: Wish<'_>,
 ) -> Result<Vec<Finding>, AllocError>
+    ensures told { IfOk result (λ found. Tells faults.now found.items) }
     ensures ordered { IfOk result (λ found. IsNonDecreasingBy (λ f. f.line) found.items) }
 {
     let mut found = Vec::new(alloc);
-    for fault in &told_faults(alloc, source, faults)? {
-        found.push(Finding {
-            line: fault.line,
-            what: What::Fault(fault.kind),
-        })?;
-    }
+    let told = told_faults(alloc, source, faults)?;
+    push_faults(&mut found, &told)?;
     push_warnings(alloc, content, wish, &mut found)?;
     sort_by_line(&mut found)?;
     Ok(found)

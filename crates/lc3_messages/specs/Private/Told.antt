@@ -1,10 +1,49 @@
--- Which faults are always told.
-use Rattle.std.specs.Prelude.{Bool, true, false}
-use Rattle.lc3_table.specs.declared.operation.Fault.{Fault}
+-- What is told of a text: which of its faults, and how they stand among the warnings.
+use Rattle.std.specs.Prelude.{◌≡◌, ◌⊎◌, Bool, true, false, List, [], ◌∷◌, ◌++◌, map, slice_get}
+use Rattle.std.specs.List.{AllByRecursion}
+use Rattle.std.specs.List.Sorted.{IsPermutation}
+use Rattle.lc3_table.specs.declared.operation.Fault.{Fault as Kind}
 use Rattle.lc3_table.specs.declared.operation.Fault.TheVariants as fault
+use Rattle.lc3_asm.specs.declared.fault.LineFault.{LineFault}
+use Rattle.lc3_messages.specs.declared.told.Finding.{Finding}
+use Rattle.lc3_messages.specs.declared.told.What.{What}
+use Rattle.lc3_messages.specs.declared.told.What.TheVariants.{Fault, Warning}
 
 -- whether a fault is about a label that a line names, or defines again: it may be one only because an earlier line is faulty
-abbrev pub names_a_label : Fault → Bool
+abbrev pub names_a_label : Kind → Bool
 names_a_label fault.Undefined = true
 names_a_label fault.DuplicateLabel = true
 names_a_label _ = false
+
+-- some of these faults, each once and in their order; only those about a label may be left out
+abbrev pub AreFrom : List LineFault → List LineFault → Type 0
+AreFrom [] told = told ≡ []
+AreFrom (f ∷ fs) told =
+    ((names_a_label f.kind ≡ true) × AreFrom fs told)
+    ⊎ ((rest : List LineFault) × (told ≡ f ∷ rest) × AreFrom fs rest)
+
+-- whether the source is refused for it
+abbrev pub is_error : What → Bool
+is_error (Fault k) = true
+is_error (Warning w) = false
+
+-- a fault as what is found
+abbrev pub finding_of : LineFault → Finding
+finding_of f = record { line = f.line; what = Fault f.kind }
+
+-- nothing but warnings
+abbrev pub AreWarnings : List Finding → Type 0
+AreWarnings found = AllByRecursion (λ f. is_error f.what ≡ false) found
+
+-- warnings are added to what was found
+abbrev pub AddsWarnings : List Finding → List Finding → Type 0
+AddsWarnings old new = (warnings : List Finding) × (new ≡ old ++ warnings) × AreWarnings warnings
+
+-- what is found is in some order faults of these, the first among them, and warnings
+pub record Tells (faults : List LineFault) (found : List Finding) : Type 0 where
+  pub told : List LineFault
+  pub warnings : List Finding
+  pub from : AreFrom faults told
+  pub first : slice_get told 0 ≡ slice_get faults 0
+  pub only : AreWarnings warnings
+  pub all : IsPermutation (map finding_of told ++ warnings) found

@@ -1,7 +1,9 @@
-use Rattle.std.proofs.Common.{◌≡◌, filter, take, not}
-use Rattle.lc3_messages.specs.Private.Told.{names_a_label}
+use Rattle.std.proofs.Common.{◌≡◌, take, slice_get}
+use Rattle.lc3_messages.specs.Private.Told.{AreFrom}
 use Rattle.lc3_messages.proofs.told.told_faults.Given as goal
 
--- of the faults so far those that are about no label are told
+-- the faults so far are told but for some about a label, and the first of them is the first told
 abbrev pub invariant-loop-fault : goal.invariant-loop-fault
-invariant-loop-fault l = filter (λ f. not (names_a_label f.kind)) l.told.items ≡ filter (λ f. not (names_a_label f.kind)) (take l.fault-index l.faults)
+invariant-loop-fault l =
+    AreFrom (take l.fault-index l.faults) l.told.items
+    × (slice_get l.told.items 0 ≡ slice_get (take l.fault-index l.faults) 0)
