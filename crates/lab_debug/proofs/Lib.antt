@@ -9,3 +9,4 @@ pub mod WatchLemmas
 pub mod StopLemmas
 pub mod TakenLemmas
 pub mod PlayLemmas
+pub mod LawLemmas

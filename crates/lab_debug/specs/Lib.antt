@@ -11,4 +11,5 @@ pub mod Taken
 pub mod Help
 pub mod Sessions
 pub mod Effects
+pub mod Laws
 pub mod Private

@@ -8,6 +8,7 @@ mod effect;
 mod fault;
 mod help;
 mod label;
+pub mod laws;
 mod lines;
 mod marking;
 mod marks;
