@@ -5,7 +5,7 @@ use crate::reasons::{Extent, push_limits};
 use crate::values::{push_comma, push_schedule, push_text};
 use lab_conditions::Never;
 use lab_explore::{End, Exploration, Round};
-use lab_questions::{Answer, Answers, Failure, Word};
+use lab_questions::{Answer, Answers, Failure, Object, Word};
 use lab_sched::Schedule;
 use std::alloc::{AllocError, Global};
 use std::fmt::Write;
@@ -139,6 +139,17 @@ fn push_conditions(
     Ok(())
 }
 
+/// Adds the semaphores and queues that conditions name and that are never there, with commas between
+/// them.
+fn push_unopened(alloc: Global, text: &mut String, objects: &[Object]) -> Result<(), AllocError> {
+    for (at, object) in objects.iter().enumerate() {
+        push_comma(text, at)?;
+        let named = format!(in alloc; "{object}")?;
+        push_text(text, named.as_bytes())?;
+    }
+    Ok(())
+}
+
 /// Adds a round, or that there is none.
 fn push_round(alloc: Global, text: &mut String, round: &Option<Round>) -> Result<(), AllocError> {
     let Some(round) = round else {
@@ -163,12 +174,10 @@ fn holds_name(judged: bool, failure: Option<Failure>) -> &'static str {
     }
 }
 
-/// The answers as one line, with those on what must never be so, which is given in order, with how far the exploration was to go, and
-/// whether something had to be so.
+/// The answers as one line, with how far the exploration was to go, and whether something had to be so.
 pub fn answers_json(
     alloc: Global,
     answers: &Answers,
-    conditions: &[Never],
     extent: Extent,
     judged: bool,
 ) -> Result<String, AllocError> {
@@ -181,7 +190,9 @@ pub fn answers_json(
     text.push_str("],\"not\":[")?;
     push_faults(alloc, &mut text, &found.ends, &answers.answers)?;
     text.push_str("],\"reached\":[")?;
-    push_conditions(alloc, &mut text, conditions, &found.reached)?;
+    push_conditions(alloc, &mut text, &answers.conditions, &found.reached)?;
+    text.push_str("],\"unopened\":[")?;
+    push_unopened(alloc, &mut text, &answers.unopened)?;
     let fair = found.fair;
     write!(text, "],\"fair\":{fair},\"endless\":")?;
     push_round(alloc, &mut text, &found.round)?;

@@ -4,8 +4,8 @@ ghost use Rattle.std.specs.Prelude.{◌≡◌, false};
 use crate::page::{names_of, of_page, page_sources, refuse_own_file};
 use lab_arguments::{Question, Setup};
 use lab_commands::{
-    At, Complaint, Found, Inquiry, Programs, Progress, explore_programs, find_ends, inquiry_of,
-    laboratory, read_programs, tell_ends, write_whole,
+    At, Complaint, Found, Inquiry, Programs, Progress, asked_of, explore_programs, find_ends,
+    inquiry_of, laboratory, read_programs, tell_ends, write_whole,
 };
 use lab_explore::{Exploration, Round};
 use lab_io::Output;
@@ -49,13 +49,14 @@ fn explore_on_page<'a, T: Files, W: Write, P: Progress>(
 {
     let words = setup.programs.as_slice();
     refuse_own_file(rt, page, words, &[])?;
-    let inquiry = inquiry_of(alloc, question, words.len())?;
+    let inquiry = inquiry_of(question);
+    let asked = asked_of(alloc, question, words.len())?;
     let Programs { programs, sources } = read_programs(rt, alloc, words, progress)?;
     let programs = programs.as_slice();
     let sources = page_sources(rt, alloc, &[], programs, sources.as_slice())?;
     let fresh = laboratory(alloc, programs, setup.profile)?;
-    let found = find_ends(alloc, fresh, &inquiry, progress)?;
-    let told = tell_ends(alloc, &found, &inquiry, output);
+    let found = find_ends(alloc, fresh, &inquiry, asked, progress)?;
+    let told = tell_ends(alloc, &found, &inquiry, output, progress);
     let list = list_of(alloc, setup, programs, &found, page)?;
     let fresh = laboratory(alloc, programs, setup.profile)?;
     let ends = shown_ends(alloc, fresh, words, sources, list, &found, &inquiry).at("run")?;

@@ -3,12 +3,12 @@ ghost use Rattle.std.specs.Prelude.{◌≡◌, false};
 
 use crate::complaint::{At, Complaint, Reason};
 use crate::files::write_text;
-use crate::inquiry::{Asked, Inquiry, inquiry_of};
+use crate::inquiry::{Asked, Inquiry, asked_of, inquiry_of};
 use crate::programs::{Programs, laboratory, read_programs};
 use crate::progress::{Progress, WalkCount, WorldCount};
 use crate::telling::tell_answers;
 use lab_arguments::{Choice, Question, Setup};
-use lab_explore::{Exploration, ExploreFault, Walks};
+use lab_explore::{Exploration, ExploreFault, Limits, Walks};
 use lab_findings::{Findings, Shortfall, find};
 use lab_io::Output;
 use lab_questions::{Answers, Waiter, Word, ask, ask_walks};
@@ -58,11 +58,12 @@ pub fn explore_programs<'a, T: Files, W: Write, P: Progress>(
     requires output_healthy { output.old.failed ≡ false }
 {
     let words = setup.programs.as_slice();
-    let inquiry = inquiry_of(alloc, question, words.len())?;
+    let inquiry = inquiry_of(question);
+    let asked = asked_of(alloc, question, words.len())?;
     let Programs { programs, .. } = read_programs(rt, alloc, words, progress)?;
     let fresh = laboratory(alloc, programs.as_slice(), setup.profile)?;
-    let found = find_ends(alloc, fresh, &inquiry, progress)?;
-    tell_ends(alloc, &found, &inquiry, output)
+    let found = find_ends(alloc, fresh, &inquiry, asked, progress)?;
+    tell_ends(alloc, &found, &inquiry, output, progress)
 }
 
 /// Visits every interleaving of the programs of a laboratory, as far as the limits allow, or takes walks, if these are
@@ -71,11 +72,13 @@ pub fn find_ends<P: Progress>(
     alloc: Global,
     fresh: Fresh,
     inquiry: &Inquiry,
+    asked: Asked,
     progress: &P,
 ) -> Result<Found, Complaint<'static>> {
+    let limits = inquiry.limits;
     let outcome = match inquiry.walks {
-        Some(walks) => take_walks(alloc, fresh, inquiry, walks, progress),
-        None => visit_all(alloc, fresh, inquiry, progress),
+        Some(walks) => take_walks(alloc, fresh, limits, &asked, walks, progress),
+        None => visit_all(alloc, fresh, limits, asked, progress),
     };
     outcome.at("run")
 }
@@ -84,24 +87,17 @@ pub fn find_ends<P: Progress>(
 fn take_walks<P: Progress>(
     alloc: Global,
     fresh: Fresh,
-    inquiry: &Inquiry,
+    limits: Limits,
+    asked: &Asked,
     walks: Walks,
     progress: &P,
 ) -> Result<Found, ExploreFault> {
     let mut count = WalkCount::new(alloc, progress);
-    let (words, waiters): (&[Word], &[Waiter]) = match &inquiry.asked {
+    let (words, waiters): (&[Word], &[Waiter]) = match asked {
         Asked::Verdict(_) => (&[], &[]),
         Asked::More { words, waiters, .. } => (words, waiters),
     };
-    let outcome = ask_walks(
-        alloc,
-        fresh,
-        inquiry.limits,
-        walks,
-        words,
-        waiters,
-        &mut count,
-    );
+    let outcome = ask_walks(alloc, fresh, limits, walks, words, waiters, &mut count);
     count.clear();
     outcome.map(Found::Answers)
 }
@@ -110,14 +106,14 @@ fn take_walks<P: Progress>(
 fn visit_all<P: Progress>(
     alloc: Global,
     fresh: Fresh,
-    inquiry: &Inquiry,
+    limits: Limits,
+    asked: Asked,
     progress: &P,
 ) -> Result<Found, ExploreFault> {
     let mut count = WorldCount::new(alloc, progress);
-    let limits = inquiry.limits;
-    let outcome = match &inquiry.asked {
+    let outcome = match asked {
         Asked::Verdict(required) => {
-            find(alloc, fresh, limits, *required, &mut count).map(Found::Ends)
+            find(alloc, fresh, limits, required, &mut count).map(Found::Ends)
         }
         Asked::More {
             words,
@@ -125,7 +121,7 @@ fn visit_all<P: Progress>(
             never,
             fair,
         } => ask(
-            alloc, fresh, limits, words, waiters, never, *fair, &mut count,
+            alloc, fresh, limits, &words, &waiters, never, fair, &mut count,
         )
         .map(Found::Answers),
     };
@@ -133,18 +129,20 @@ fn visit_all<P: Progress>(
     outcome
 }
 
-/// Writes what was found, and complains where memory was refused on the way, or not all is as it has to be.
-pub fn tell_ends<W: Write>(
+/// Writes what was found, says which objects that conditions name nobody opens, and complains where memory was refused on the
+/// way, or not all is as it has to be.
+pub fn tell_ends<W: Write, P: Progress>(
     alloc: Global,
     found: &Found,
     inquiry: &Inquiry,
     output: &mut Output<W>,
+    progress: &P,
 ) -> Result<(), Complaint<'static>>
     requires output_healthy { output.old.failed ≡ false }
 {
     match found {
         Found::Ends(findings) => tell_findings(findings, inquiry, output),
-        Found::Answers(answers) => tell_answers(alloc, answers, inquiry, output),
+        Found::Answers(answers) => tell_answers(alloc, answers, inquiry, output, progress),
     }
 }
 

@@ -11,13 +11,14 @@ use std::alloc::{AllocError, Global};
 /// How many bytes a megabyte has.
 const MEGABYTE: usize = 1_048_576;
 
-/// What is asked of an exploration.
-#[derive(Drop)]
+/// How far an exploration goes, and how what it finds is told.
+#[derive(Clone, Copy, Debug, PartialEq, Eq)]
 pub struct Inquiry {
     pub limits: Limits,
     /// The walks that are taken in place of every interleaving.
     pub walks: Option<Walks>,
-    pub asked: Asked,
+    /// Whether something has to be so.
+    pub judges: bool,
     /// Which schedule is printed alone.
     pub choice: Option<Choice>,
     /// Whether the answers are printed as JSON.
@@ -40,13 +41,9 @@ pub enum Asked {
     },
 }
 
-/// What a question asks of the exploration of so many processes.
-pub fn inquiry_of<'a>(
-    alloc: Global,
-    question: &Question<'a>,
-    count: usize,
-) -> Result<Inquiry, Complaint<'a>> {
-    Ok(Inquiry {
+/// How far a question lets an exploration go, and how what it finds is told.
+pub fn inquiry_of(question: &Question<'_>) -> Inquiry {
+    Inquiry {
         limits: Limits {
             worlds: question.worlds,
             steps: question.steps,
@@ -56,14 +53,14 @@ pub fn inquiry_of<'a>(
             count: walks.count,
             seed: walks.seed,
         }),
-        asked: asked_of(alloc, question, count)?,
+        judges: question.judges(),
         choice: question.schedule,
         json: question.json,
-    })
+    }
 }
 
-/// What the answers to a question are about.
-fn asked_of<'a>(
+/// What a question asks of the exploration of so many processes.
+pub fn asked_of<'a>(
     alloc: Global,
     question: &Question<'a>,
     count: usize,

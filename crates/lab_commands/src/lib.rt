@@ -22,7 +22,7 @@ pub use debug::debug_programs;
 pub use dis::disassemble_file;
 pub use explore::{Found, explore_programs, find_ends, tell_ends};
 pub use files::{is_same_file, read_source, write_text, write_whole};
-pub use inquiry::{Asked, Inquiry, inquiry_of};
+pub use inquiry::{Asked, Inquiry, asked_of, inquiry_of};
 pub use programs::{Programs, files_of, laboratory, read_programs};
 pub use progress::Progress;
 pub use run::{Manner, run_fresh, run_programs, tell_run};

@@ -2,21 +2,23 @@
 use crate::complaint::{At, Complaint, Reason};
 use crate::explore::write_schedule;
 use crate::files::write_text;
-use crate::inquiry::{Asked, Inquiry};
+use crate::inquiry::Inquiry;
+use crate::progress::Progress;
 use lab_answers::{Extent, answers_json};
 use lab_arguments::Choice;
 use lab_conditions::Never;
 use lab_io::Output;
-use lab_questions::{Answers, Failure, bad_schedule};
-use std::alloc::Global;
+use lab_questions::{Answers, Failure, Object, bad_schedule};
+use std::alloc::{AllocError, Global};
 use std::io::Write;
 
-/// Writes answers, and complains where not all is as it has to be.
-pub(crate) fn tell_answers<W: Write>(
+/// Writes answers, says which objects that conditions name nobody opens, and complains where not all is as it has to be.
+pub(crate) fn tell_answers<W: Write, P: Progress>(
     alloc: Global,
     found: &Answers,
     inquiry: &Inquiry,
     output: &mut Output<W>,
+    progress: &P,
 ) -> Result<(), Complaint<'static>> {
     match inquiry.choice {
         Some(Choice::End(number)) => {
@@ -26,7 +28,21 @@ pub(crate) fn tell_answers<W: Write>(
         Some(Choice::Bad) => write_bad(alloc, found, output)?,
         None => write_answers(alloc, found, inquiry, output)?,
     }
-    complain(alloc, found, inquiry)
+    tell_unopened(alloc, &found.unopened, progress).at("run")?;
+    complain(alloc, found, inquiry.judges)
+}
+
+/// Says which objects that conditions name nobody opens.
+fn tell_unopened<P: Progress>(
+    alloc: Global,
+    objects: &[Object],
+    progress: &P,
+) -> Result<(), AllocError> {
+    for object in objects {
+        let line = format!(in alloc; "lc3lab: explore: nobody opens {object}\n")?;
+        progress.tell(&line);
+    }
+    Ok(())
 }
 
 /// Writes the schedule of the first thing that isn't as it has to be, if there is one.
@@ -53,8 +69,7 @@ fn write_answers<W: Write>(
     if !inquiry.json {
         return write_text(&found.text, output);
     }
-    let never = never_in(inquiry);
-    let json = answers_json(alloc, found, never, extent_of(inquiry), judges(inquiry)).at("run")?;
+    let json = answers_json(alloc, found, extent_of(inquiry), inquiry.judges).at("run")?;
     write_text(&json, output)
 }
 
@@ -66,26 +81,10 @@ fn extent_of(inquiry: &Inquiry) -> Extent {
     }
 }
 
-/// Whether something has to be so.
-fn judges(inquiry: &Inquiry) -> bool {
-    match &inquiry.asked {
-        Asked::Verdict(required) => required.is_some(),
-        Asked::More { words, never, .. } => !words.is_empty() || !never.is_empty(),
-    }
-}
-
-/// What must never be so.
-fn never_in(inquiry: &Inquiry) -> &[Never] {
-    match &inquiry.asked {
-        Asked::Verdict(_) => &[],
-        Asked::More { never, .. } => never.as_slice(),
-    }
-}
-
 /// The complaint that what must never be so was reached, by its number.
-fn reached(alloc: Global, inquiry: &Inquiry, number: usize) -> Complaint<'static> {
+fn reached(alloc: Global, conditions: &[Never], number: usize) -> Complaint<'static> {
     let complaint = Reason::Reached.at("explore");
-    let Some(condition) = never_in(inquiry).get(number) else {
+    let Some(condition) = conditions.get(number) else {
         return complaint;
     };
     match format!(in alloc; "{condition}") {
@@ -95,14 +94,14 @@ fn reached(alloc: Global, inquiry: &Inquiry, number: usize) -> Complaint<'static
 }
 
 /// Complains where something has to be so and isn't, or where memory was refused on the way.
-fn complain(alloc: Global, found: &Answers, inquiry: &Inquiry) -> Result<(), Complaint<'static>> {
+fn complain(alloc: Global, found: &Answers, judges: bool) -> Result<(), Complaint<'static>> {
     let refused = found.exploration.refused;
     match found.failure {
         Some(Failure::Not(word)) => Err(Reason::Not { word }.at("explore")),
-        Some(Failure::Reached(number)) => Err(reached(alloc, inquiry, number)),
+        Some(Failure::Reached(number)) => Err(reached(alloc, &found.conditions, number)),
         Some(Failure::Endless) => Err(Reason::Endless.at("explore")),
         Some(Failure::Incomplete) if refused => Err(Reason::NoMemory.at("run")),
-        Some(Failure::Incomplete) if judges(inquiry) => Err(Reason::Incomplete.at("explore")),
+        Some(Failure::Incomplete) if judges => Err(Reason::Incomplete.at("explore")),
         Some(Failure::Incomplete) | None => Ok(()),
     }
 }

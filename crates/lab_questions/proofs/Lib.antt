@@ -1,2 +1,3 @@
+mod Watched
 pub mod ListLemmas
 pub mod AnswerLemmas

@@ -1,5 +1,5 @@
 -- The text that tells what was found and answered.
-use Rattle.std.specs.Prelude.{ℕ, ◌≡◌, Option, Some, None, Ok, List, [], ◌++◌, Any, codes, flat_map, length, min, slice_get, string_bytes}
+use Rattle.std.specs.Prelude.{ℕ, ◌≡◌, Option, Some, None, Ok, List, [], ◌++◌, Any, codes, flat_map, length, min, slice_get}
 use Rattle.std.specs.Fmt.{decimal}
 use Rattle.lab_sched.specs.ScheduleTexts.{schedule_text, reading}
 use Rattle.lab_texts.specs.Rows.{texts_below}

@@ -1,5 +1,5 @@
 //! Explorations with what is required of their ends.
-ghost use Rattle.std.specs.Prelude.{◌≡◌, None, false, map, string_bytes, All, Any, IfOk, IfSome, IsTrue};
+ghost use Rattle.std.specs.Prelude.{◌≡◌, None, false, [], map, string_bytes, All, Any, IfOk, IfSome, IsTrue};
 ghost use Rattle.lab_sched.specs.ScheduleTexts.{schedule_text};
 ghost use Rattle.lab_explore.specs.Ends.{AreEnds, HaveAllEnds};
 ghost use Rattle.lab_explore.specs.Reached.{AreReached, AreKept};
@@ -7,25 +7,32 @@ ghost use Rattle.lab_explore.specs.Rounds.{IsRound, CanBeRepeated, AreBounded};
 ghost use Rattle.lab_explore.specs.Fairness.{IsFairRound, AreFairlyEndless, AreFairlyBounded};
 ghost use Rattle.lab_findings.specs.Texts.{told_ends};
 ghost use Rattle.lab_questions.specs.Judgments.{IsAnswer};
+ghost use Rattle.lab_questions.specs.Objects.{AreUnopened};
 ghost use Rattle.lab_questions.specs.Programs.{AlwaysMeet, IsRefuted, AsksRest, Passes, IsFailure};
 ghost use Rattle.lab_questions.specs.Texts.{schedule_at, answers_text};
 
 use crate::answers::answers_on;
 use crate::failure::failure_of;
+use crate::object::named_in;
+use crate::presence::{presences_of, unopened_in};
 use crate::texts::tell;
-use crate::{Answer, Failure, Waiter, Word};
+use crate::{Answer, Failure, Object, Waiter, Word};
 use lab_conditions::Never;
 use lab_explore::{Exploration, ExploreFault, Limits, Observer, explore};
 use lab_sched::Fresh;
 use std::alloc::Global;
 
-/// What was found of the programs of a laboratory, the answer on each word that is required, the
-/// text that tells both, the texts of the schedules of the ends that are told, and why not all is
-/// shown to be as it is required, if it isn't.
+/// What was found of the programs of a laboratory, what must never be so, the answer on each word that
+/// is required, the text that tells both, the texts of the schedules of the ends that are told, and why
+/// not all is shown to be as it is required, if it isn't.
 #[derive(Drop)]
 pub struct Answers {
     pub exploration: Exploration,
+    pub conditions: Vec<Never>,
     pub answers: Vec<Answer>,
+    /// The semaphores and queues that the conditions name and that are never there. Where not
+    /// everything was visited that isn't known, and there are none here.
+    pub unopened: Vec<Object>,
     pub text: String,
     pub schedules: Vec<String>,
     pub failure: Option<Failure>,
@@ -35,21 +42,22 @@ pub struct Answers {
 /// word. Where a word isn't so, the schedules that are told with it lead to ends which show that.
 /// Where the exploration is complete and the word is so, every world at rest that any steps lead to
 /// is as the word requires. The schedule of what must never be so leads to it; where the exploration is
-/// complete and there is none, no steps do. If only fair rounds are asked for, a round that is told is
-/// fair; where the exploration is complete and has none, no more than some number of passes that serve
-/// each process can follow each other.
+/// complete and there is none, no steps do. Where it is complete, exactly those of the semaphores and
+/// queues that conditions name are unopened which no steps lead to. If only fair rounds are asked for, a
+/// round that is told is fair; where the exploration is complete and has none, no more than some number
+/// of passes that serve each process can follow each other.
 pub fn ask<O: Observer>(
     alloc: Global,
     fresh: Fresh,
     limits: Limits,
     words: &[Word],
     waiters: &[Waiter],
-    conditions: &[Never],
+    conditions: Vec<Never>,
     fair: bool,
     observer: &mut O,
 ) -> Result<Answers, ExploreFault>
     ensures text { IfOk result (λ a.
-        string_bytes a.text ≡ answers_text conditions.now a.exploration a.answers.items) }
+        string_bytes a.text ≡ answers_text conditions.items a.exploration a.answers.items) }
     ensures schedules { IfOk result (λ a. map string_bytes a.schedules.items
         ≡ map (λ e. schedule_text e.schedule) (told_ends a.exploration.ends.items)) }
     ensures words { IfOk result (λ a. map (λ x. x.word) a.answers.items ≡ words.now) }
@@ -75,22 +83,37 @@ pub fn ask<O: Observer>(
         (schedule_at a.exploration.ends.items i))) a.answers.items) }
     ensures met { IfOk result (λ a. IsTrue a.exploration.complete
         → All (λ x. x.fault ≡ None → AlwaysMeet x.word waiters.now fresh) a.answers.items) }
+    ensures conditions { IfOk result (λ a. a.conditions.items ≡ conditions.items) }
     ensures reached { IfOk result (λ a.
-        AreReached fresh conditions.now a.exploration.reached.items) }
+        AreReached fresh conditions.items a.exploration.reached.items) }
     ensures unreached { IfOk result (λ a. IsTrue a.exploration.complete
-        → AreKept fresh conditions.now a.exploration.reached.items) }
+        → AreKept fresh conditions.items a.exploration.reached.items) }
+    ensures unopened { IfOk result (λ a. IsTrue a.exploration.complete
+        → AreUnopened fresh conditions.items a.unopened.items) }
+    ensures unknown { IfOk result (λ a. a.exploration.complete ≡ false
+        → a.unopened.items ≡ []) }
     ensures passes { IfOk result (λ a. a.failure ≡ None
         → Passes a.exploration a.answers.items) }
     ensures failure { IfOk result (λ a.
         IfSome a.failure (λ f. IsFailure a.exploration a.answers.items f)) }
 {
-    let exploration = explore(alloc, fresh, limits, conditions, fair, observer)?;
+    let mut conditions = conditions;
+    let asked = conditions.len();
+    let objects = named_in(alloc, &conditions)?;
+    let mut presences = presences_of(alloc, &objects)?;
+    conditions.append(&mut presences)?;
+    let mut exploration = explore(alloc, fresh, limits, &conditions, fair, observer)?;
+    conditions.truncate(asked);
+    let seen = exploration.reached.split_off(asked)?;
+    let unopened = unopened_in(alloc, exploration.complete, &objects, &seen)?;
     let answers = answers_on(alloc, words, waiters, &exploration.ends)?;
-    let told = tell(alloc, &exploration, &answers, conditions)?;
+    let told = tell(alloc, &exploration, &answers, &conditions)?;
     let failure = failure_of(&exploration, &answers);
     Ok(Answers {
         exploration,
+        conditions,
         answers,
+        unopened,
         text: told.text,
         schedules: told.schedules,
         failure,

@@ -35,7 +35,7 @@ fn unmet_word(answers: &[Answer]) -> Option<Word>
 }
 
 /// Whether there is a schedule.
-fn has_schedule(schedule: &Option<Schedule>) -> bool
+pub(crate) fn has_schedule(schedule: &Option<Schedule>) -> bool
     ensures no { result ≡ false → schedule.now ≡ None }
     ensures yes { IsTrue result → (s : List Block) × (schedule.now ≡ Some s) }
 {

@@ -1,5 +1,5 @@
 //! Walks with what is required of the ends to which they come.
-ghost use Rattle.std.specs.Prelude.{◌≡◌, None, false, map, string_bytes, All, IfOk, IfSome};
+ghost use Rattle.std.specs.Prelude.{◌≡◌, None, false, [], map, string_bytes, All, IfOk, IfSome};
 ghost use Rattle.lab_sched.specs.ScheduleTexts.{schedule_text};
 ghost use Rattle.lab_explore.specs.Ends.{AreEnds};
 ghost use Rattle.lab_findings.specs.Texts.{told_ends};
@@ -38,6 +38,8 @@ pub fn ask_walks<O: Observer>(
     ensures refuted { IfOk result (λ a. All (λ x. IfSome x.fault (λ i.
         IsRefuted x.word waiters.now fresh (schedule_at a.exploration.ends.items 0)
         (schedule_at a.exploration.ends.items i))) a.answers.items) }
+    ensures conditions { IfOk result (λ a. a.conditions.items ≡ []) }
+    ensures unopened { IfOk result (λ a. a.unopened.items ≡ []) }
     ensures open { IfOk result (λ a. a.exploration.complete ≡ false) }
     ensures round { IfOk result (λ a. a.exploration.round ≡ None) }
     ensures fails { IfOk result (λ a. a.failure ≡ None → ⊥) }
@@ -50,7 +52,9 @@ pub fn ask_walks<O: Observer>(
     let failure = failure_of(&exploration, &answers);
     Ok(Answers {
         exploration,
+        conditions: Vec::new(alloc),
         answers,
+        unopened: Vec::new(alloc),
         text: told.text,
         schedules: told.schedules,
         failure,

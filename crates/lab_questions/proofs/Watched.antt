@@ -1,0 +1,123 @@
+-- Objects that a search looks for beside the conditions that it is asked.
+use Rattle.std.proofs.Common.{ℕ, zero, suc, ◌≡◌, ◌≤◌, ◌++◌, ◌⊎◌, inl, inr, List, [], ◌∷◌, Option, Some, None, All, Contains, length, take, drop, get_or, slice_get, sym, ap, subst, refl, ◌∙◌, arith}
+use Rattle.std.proofs.lemmas.List.Elements.{All-contains}
+use Rattle.std.proofs.lemmas.Option.{get_or_from_slice_get, slice_get-get_or, slice_get_within}
+use Rattle.lab_sched.specs.declared.schedule.block.Block.{Block}
+use Rattle.lab_sched.specs.Schedules.{steps_of}
+use Rattle.lab_sched.specs.Worlds.{WorldState, run}
+use Rattle.lab_conditions.specs.declared.condition.Part.{Part}
+use Rattle.lab_conditions.specs.declared.never.Never.{Never}
+use Rattle.lab_conditions.specs.declared.never.Never.TheVariants as never
+use Rattle.lab_conditions.specs.Conditions.{PartHolds}
+use Rattle.lab_explore.specs.Calls.{Both, Alongside}
+use Rattle.lab_explore.specs.Reached.{Violates, IsKept, ViolatesIfSome, KeptIfNone}
+use Rattle.lab_questions.specs.declared.object.Object.{Object}
+use Rattle.lab_questions.specs.Objects.{named, presence, IsOpened, IsNeverOpened, AreUnopened}
+use Rattle.lab_questions.specs.Private.Presences.{AsksFor, IsUnseen}
+
+-- one more of each
+pub alongside_push : {A B : Type 0} (R : A → B → Type 0) (xs : List A) (ys : List B) (x : A) (y : B) → Alongside R xs ys → R x y → Alongside R (xs ++ x ∷ []) (ys ++ y ∷ [])
+alongside_push R [] [] x y h r zero = r
+alongside_push R [] [] x y h r (suc p) = tt
+alongside_push R [] (z ∷ ys) x y h r p = absurd (h 0)
+alongside_push R (z ∷ xs) [] x y h r p = absurd (h 0)
+alongside_push R (w ∷ xs) (z ∷ ys) x y h r zero = h 0
+alongside_push R (w ∷ xs) (z ∷ ys) x y h r (suc p) = alongside_push R xs ys x y (λ q. h (suc q)) r p
+
+-- at least as many as the first ones
+pub front_within : {A B : Type 0} (R : A → B → Type 0) (xs us : List A) (ys : List B) → Alongside R (xs ++ us) ys → length xs ≤ length ys
+front_within R [] us ys h = omega arith
+front_within R (x ∷ xs) us [] h = absurd (h 0)
+front_within R (x ∷ xs) us (y ∷ ys) h = let rest = front_within R xs us ys (λ p. h (suc p)) in omega (arith, rest)
+
+-- the first ones
+pub front : {A B : Type 0} (R : A → B → Type 0) (xs us : List A) (ys : List B) → Alongside R (xs ++ us) ys → Alongside R xs (take (length xs) ys)
+front R [] us ys h p = tt
+front R (x ∷ xs) us [] h p = absurd (h 0)
+front R (x ∷ xs) us (y ∷ ys) h zero = h 0
+front R (x ∷ xs) us (y ∷ ys) h (suc p) = front R xs us ys (λ q. h (suc q)) p
+
+-- and those behind them
+pub behind : {A B : Type 0} (R : A → B → Type 0) (xs us : List A) (ys : List B) → Alongside R (xs ++ us) ys → Alongside R us (drop (length xs) ys)
+behind R [] us ys h p = h p
+behind R (x ∷ xs) us [] h p = absurd (h 0)
+behind R (x ∷ xs) us (y ∷ ys) h p = behind R xs us ys (λ q. h (suc q)) p
+
+-- what is told of the conditions of a search, and what of those that were put behind them
+pub first_ones : {A B : Type 0} (R : A → B → Type 0) (xs us whole : List A) (ys firsts : List B) (n : ℕ) → whole ≡ xs ++ us → n ≡ length xs → firsts ≡ take n ys → Alongside R whole ys → Alongside R xs firsts
+first_ones R xs us whole ys firsts n is count taken h =
+    subst (Alongside R xs) (sym (taken ∙ ap (λ k. take k ys) count)) (front R xs us ys (subst (λ zs. Alongside R zs ys) is h))
+
+pub last_ones : {A B : Type 0} (R : A → B → Type 0) (xs us whole : List A) (ys lasts : List B) (n : ℕ) → whole ≡ xs ++ us → n ≡ length xs → lasts ≡ drop n ys → Alongside R whole ys → Alongside R us lasts
+last_ones R xs us whole ys lasts n is count dropped h =
+    subst (Alongside R us) (sym (dropped ∙ ap (λ k. drop k ys) count)) (behind R xs us ys (subst (λ zs. Alongside R zs ys) is h))
+
+pub enough : {A B : Type 0} (R : A → B → Type 0) (xs us whole : List A) (ys : List B) (n : ℕ) → whole ≡ xs ++ us → n ≡ length xs → Alongside R whole ys → n ≤ length ys
+enough R xs us whole ys n is count h =
+    let within = front_within R xs us ys (subst (λ zs. Alongside R zs ys) is h) in
+    omega (arith, within, count)
+
+all_one : (P : Part → Type 0) (x : Part) → P x → All P (x ∷ [])
+all_one P x here zero d within = here
+all_one P x here (suc k) d within = absurd (omega (arith, within))
+
+the_one : (P : Part → Type 0) (x : Part) → All P (x ∷ []) → P x
+the_one P x all = all 0 x (omega arith)
+
+-- where the condition never holds, the object is never there
+never_there : (start : WorldState) (o : Object) (n : Never) → AsksFor o n → IsKept start n → IsNeverOpened start o
+never_there start o (never.Holds c) asks kept ps there =
+    kept ps (subst (All (λ part. PartHolds part (run start ps))) (sym asks) (all_one (λ part. PartHolds part (run start ps)) (presence o) there))
+never_there start o never.Lost asks kept ps there = absurd asks
+
+-- a schedule of the condition leads to the object
+opened : (start : WorldState) (o : Object) (n : Never) (s : List Block) → AsksFor o n → Violates start n s → IsOpened start o
+opened start o (never.Holds c) s asks leads = record {
+  schedule = s;
+  effective = leads.effective;
+  there = the_one (λ part. PartHolds part (run start (steps_of s))) (presence o) (subst (All (λ part. PartHolds part (run start (steps_of s)))) asks leads.holds);
+}
+opened start o never.Lost s asks leads = absurd asks
+
+unseen_never : (start : WorldState) (o : Object) (a : Option Object) (b : Option Never) (c : Option (Option (List Block))) → a ≡ Some o → c ≡ Some None
+    → Both AsksFor a b → Both (KeptIfNone start) b c → IsNeverOpened start o
+unseen_never start o None b c is none asks kept = absurd (cc)
+unseen_never start o (Some p) None c is none asks kept = absurd asks
+unseen_never start o (Some p) (Some n) None is none asks kept = absurd kept
+unseen_never start o (Some p) (Some n) (Some None) is none asks kept =
+    let same : p ≡ o = cc in
+    never_there start o n (subst (λ q. AsksFor q n) same asks) kept
+unseen_never start o (Some p) (Some n) (Some (Some s)) is none asks kept = absurd (cc)
+
+seen_opened : (start : WorldState) (o : Object) (a : Option Object) (b : Option Never) (c : Option (Option (List Block))) → a ≡ Some o
+    → Both AsksFor a b → Both (ViolatesIfSome start) b c → (c ≡ Some None) ⊎ IsOpened start o
+seen_opened start o None b c is asks reached = absurd (cc)
+seen_opened start o (Some p) None c is asks reached = absurd asks
+seen_opened start o (Some p) (Some n) None is asks reached = absurd reached
+seen_opened start o (Some p) (Some n) (Some None) is asks reached = inl refl
+seen_opened start o (Some p) (Some n) (Some (Some s)) is asks reached =
+    let same : p ≡ o = cc in
+    inr (opened start o n s (subst (λ q. AsksFor q n) same asks) reached)
+
+held_at : (P : Object → Type 0) (os : List Object) (i : ℕ) (o : Object) → All P os → slice_get os i ≡ Some o → P o
+held_at P os i o all at = subst P (get_or_from_slice_get os i o o at) (all i o (slice_get_within os i o at))
+
+-- the objects for which a whole search has no schedule are those of the named ones that are never there
+pub are_unopened : (start : WorldState) (conditions presences : List Never) (objects unopened : List Object) (seen : List (Option (List Block))) → Alongside AsksFor objects presences
+    → Alongside (ViolatesIfSome start) presences seen → Alongside (KeptIfNone start) presences seen
+    → All (Contains objects) (named conditions) → All (Contains (named conditions)) objects
+    → All (IsUnseen objects seen) unopened → ((i : ℕ) (o : Object) → slice_get objects i ≡ Some o → slice_get seen i ≡ Some None → Contains unopened o)
+    → AreUnopened start conditions unopened
+are_unopened start conditions presences objects unopened seen asks reached kept all only each whole = record {
+  among = λ k d within. let at = each k d within in held_at (Contains (named conditions)) objects at.0 (get_or unopened k d) only at.1;
+  never = λ k d within.
+      let at = each k d within in
+      unseen_never start (get_or unopened k d) (slice_get objects at.0) (slice_get presences at.0) (slice_get seen at.0) at.1 at.2 (asks at.0) (kept at.0);
+  others = λ o is.
+      let at = All-contains (Contains objects) (named conditions) o all is in
+      let here = slice_get-get_or objects at.0 o at.1 ∙ ap Some at.2 in
+      elim (seen_opened start o (slice_get objects at.0) (slice_get presences at.0) (slice_get seen at.0) here (asks at.0) (reached at.0)) [
+        | inl none ↦ inl (whole at.0 o here none)
+        | inr there ↦ inr there
+      ];
+}

@@ -1,0 +1,56 @@
+-- The semaphores and queues that conditions name, and whether any steps lead to a world that has them.
+use Rattle.std.specs.Prelude.{ℕ, ◌⊎◌, List, [], ◌∷◌, All, Contains, flat_map}
+use Rattle.lab_sched.specs.declared.schedule.block.Block.{Block}
+use Rattle.lab_sched.specs.Execution.{AreEffective}
+use Rattle.lab_sched.specs.Schedules.{steps_of}
+use Rattle.lab_sched.specs.Worlds.{WorldState, run}
+use Rattle.lab_conditions.specs.declared.condition.Part.{Part}
+use Rattle.lab_conditions.specs.declared.condition.Part.TheVariants.{Semaphore, Queue, Of, MoreThan}
+use Rattle.lab_conditions.specs.declared.condition.Relation.TheVariants.{Less}
+use Rattle.lab_conditions.specs.declared.never.Never.{Never}
+use Rattle.lab_conditions.specs.declared.never.Never.TheVariants.{Holds, Lost}
+use Rattle.lab_conditions.specs.Conditions.{PartHolds}
+use Rattle.lab_questions.specs.declared.object.Object.{Object}
+use Rattle.lab_questions.specs.declared.object.Object.TheVariants as object
+
+-- the object that a part of a condition names, if it names one
+abbrev pub objects_in : Part → List Object
+objects_in (Semaphore name r x) = object.Semaphore name ∷ []
+objects_in (Queue name r x) = object.Queue name ∷ []
+objects_in (Of p x) = []
+objects_in (MoreThan x n) = []
+
+-- the objects that a condition names
+abbrev pub objects_of : Never → List Object
+objects_of (Holds c) = flat_map objects_in c.parts.items
+objects_of Lost = []
+
+-- the objects that conditions name
+abbrev pub named : List Never → List Object
+named conditions = flat_map objects_of conditions
+
+-- the part of a condition that holds of each world which has the object: each value of a semaphore, and each number of messages in a
+-- queue, is below 65,535
+abbrev pub presence : Object → Part
+presence (object.Semaphore name) = Semaphore name Less 65535
+presence (object.Queue name) = Queue name Less 65535
+
+-- there is the object
+abbrev pub IsThere : Object → WorldState → Type 0
+IsThere o w = PartHolds (presence o) w
+
+-- effective steps lead from the start to a world that has the object
+pub record IsOpened (start : WorldState) (o : Object) : Type 0 where
+  pub schedule : List Block
+  pub effective : AreEffective start (steps_of schedule)
+  pub there : IsThere o (run start (steps_of schedule))
+
+-- whatever steps are taken from the start, effective or not, the world after them hasn't the object
+abbrev pub IsNeverOpened : WorldState → Object → Type 0
+IsNeverOpened start o = (ps : List ℕ) → IsThere o (run start ps) → ⊥
+
+-- of the objects that conditions name these are never there, and the others are at some time
+pub record AreUnopened (start : WorldState) (conditions : List Never) (objects : List Object) : Type 0 where
+  pub among : All (Contains (named conditions)) objects
+  pub never : All (IsNeverOpened start) objects
+  pub others : (o : Object) → Contains (named conditions) o → Contains objects o ⊎ IsOpened start o

@@ -1,0 +1,156 @@
+//! Semaphores and queues that conditions name.
+ghost use Rattle.std.specs.Prelude.{◌≡◌, ◌⊎◌, ◌↔◌, [], ◌∷◌, ◌++◌, All, Contains, IfOk, IsTrue, OnOk, flat_map};
+ghost use Rattle.std.specs.Option.{option_to_list};
+ghost use Rattle.lab_questions.specs.declared.object.Object.{Object as Seen};
+ghost use Rattle.lab_questions.specs.Objects.{objects_in, objects_of, named};
+
+use ipc_names::Name;
+use lab_conditions::{Never, Part};
+use std::alloc::{AllocError, Global};
+use std::fmt;
+
+/// A semaphore or a queue, by its name. It is shown as a condition names it.
+#[derive(Drop)]
+pub enum Object {
+    Semaphore(Name),
+    Queue(Name),
+}
+
+impl fmt::Display for Object {
+    ghost use Rattle.std.specs.Prelude.{Some};
+    ghost use Rattle.lab_questions.specs.Private.Presences.{object_text};
+
+    ghost output = { λ o. Some (object_text o) };
+
+    fn fmt<W: fmt::Write>(&self, f: &mut fmt::Formatter<W>) -> fmt::Result {
+        match self {
+            Object::Semaphore(name) => write!(f, "sem {}", name.text()),
+            Object::Queue(name) => write!(f, "mq {}", name.text()),
+        }
+    }
+}
+
+/// Whether two names are the same.
+fn is_same_name(name: &Name, other: &Name) -> bool
+    ensures same { IsTrue result ↔ (name.now ≡ other.now) }
+{
+    name.text() == other.text()
+}
+
+impl Object {
+    /// The same object.
+    pub(crate) fn copy(&self) -> Result<Object, AllocError>
+        ensures equal { IfOk result (λ copy. copy ≡ self.now) }
+    {
+        match self {
+            Object::Semaphore(name) => Ok(Object::Semaphore(name.copy()?)),
+            Object::Queue(name) => Ok(Object::Queue(name.copy()?)),
+        }
+    }
+
+    /// Whether another object is the same.
+    fn is_same(&self, other: &Object) -> bool
+        ensures same { IsTrue result ↔ (self.now ≡ other.now) }
+    {
+        match (self, other) {
+            (Object::Semaphore(name), Object::Semaphore(same)) => is_same_name(name, same),
+            (Object::Queue(name), Object::Queue(same)) => is_same_name(name, same),
+            _ => false,
+        }
+    }
+
+    /// Whether the object is among others.
+    fn is_among(&self, objects: &[Object]) -> bool
+        ensures among { IsTrue result ↔ Contains objects.now self.now }
+    {
+        for object in objects {
+            if object.is_same(self) {
+                return true;
+            }
+        }
+        false
+    }
+}
+
+/// The object that a part of a condition names, if it names one.
+fn object_in(part: &Part) -> Result<Option<Object>, AllocError>
+    ensures object { IfOk result (λ object. option_to_list object ≡ objects_in part.now) }
+{
+    match part {
+        Part::Semaphore { name, .. } => Ok(Some(Object::Semaphore(name.copy()?))),
+        Part::Queue { name, .. } => Ok(Some(Object::Queue(name.copy()?))),
+        Part::Of { .. } | Part::MoreThan { .. } => Ok(None),
+    }
+}
+
+/// Adds the object that a part of a condition names, if it names one.
+fn push_object(objects: &mut Vec<Object>, part: &Part) -> Result<(), AllocError>
+    ensures objects { OnOk result
+        (objects.new.items ≡ objects.old.items ++ objects_in part.now) }
+{
+    if let Some(object) = object_in(part)? {
+        objects.push(object)?;
+    }
+    Ok(())
+}
+
+/// Adds the objects that parts of a condition name.
+fn push_objects(objects: &mut Vec<Object>, parts: &[Part]) -> Result<(), AllocError>
+    ensures objects { OnOk result
+        (objects.new.items ≡ objects.old.items ++ flat_map objects_in parts.now) }
+{
+    for part in parts {
+        push_object(objects, part)?;
+    }
+    Ok(())
+}
+
+/// Adds the objects that a condition names.
+fn push_named(objects: &mut Vec<Object>, condition: &Never) -> Result<(), AllocError>
+    ensures objects { OnOk result
+        (objects.new.items ≡ objects.old.items ++ objects_of condition.now) }
+{
+    match condition {
+        Never::Holds(condition) => push_objects(objects, &condition.parts),
+        Never::Lost => Ok(()),
+    }
+}
+
+/// The objects that conditions name, as often as they do.
+fn all_named(alloc: Global, conditions: &[Never]) -> Result<Vec<Object>, AllocError>
+    ensures objects { IfOk result (λ objects. objects.items ≡ named conditions.now) }
+{
+    let mut objects = Vec::new(alloc);
+    for condition in conditions {
+        push_named(&mut objects, condition)?;
+    }
+    Ok(objects)
+}
+
+/// Adds an object, unless it is among the others.
+fn push_new(objects: &mut Vec<Object>, object: &Object) -> Result<(), AllocError>
+    ensures old { OnOk result (All (Contains objects.new.items) objects.old.items) }
+    ensures new { OnOk result (Contains objects.new.items object.now) }
+    ensures only { OnOk result ((o : Seen) → Contains objects.new.items o
+        → Contains objects.old.items o ⊎ (object.now ≡ o)) }
+{
+    if object.is_among(objects) {
+        return Ok(());
+    }
+    let copy = object.copy()?;
+    objects.push(copy)?;
+    Ok(())
+}
+
+/// The objects that conditions name, each once.
+pub(crate) fn named_in(alloc: Global, conditions: &[Never]) -> Result<Vec<Object>, AllocError>
+    ensures all { IfOk result (λ objects. All (Contains objects.items) (named conditions.now)) }
+    ensures only { IfOk result (λ objects. All (Contains (named conditions.now)) objects.items) }
+{
+    let repeated = all_named(alloc, conditions)?;
+    let mut objects = Vec::new(alloc);
+    for object in &repeated {
+        push_new(&mut objects, object)?;
+    }
+    Ok(objects)
+}

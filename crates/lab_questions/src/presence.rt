@@ -1,0 +1,115 @@
+//! Whether semaphores and queues that conditions name are ever there.
+ghost use Rattle.std.specs.Prelude.{◌≡◌, ◌⊎◌, ℕ, None, Some, false, [], All, Contains, IfOk, IsTrue, OnOk, slice_get};
+ghost use Rattle.lab_explore.specs.Calls.{Alongside};
+ghost use Rattle.lab_questions.specs.declared.object.Object.{Object as Seen};
+ghost use Rattle.lab_questions.specs.Objects.{presence};
+ghost use Rattle.lab_questions.specs.Private.Presences.{AsksFor, IsUnseen};
+
+use crate::Object;
+use crate::failure::has_schedule;
+use lab_conditions::{Condition, Never, Part, Relation};
+use lab_sched::Schedule;
+use std::alloc::{AllocError, Global};
+
+/// Greater than each value of a semaphore, and than each number of messages in a queue.
+const MORE_THAN_ANY: u16 = 65_535;
+
+/// The part of a condition that holds of each world which has an object.
+fn part_of(object: &Object) -> Result<Part, AllocError>
+    ensures part { IfOk result (λ part. part ≡ presence object.now) }
+{
+    match object {
+        Object::Semaphore(name) => Ok(Part::Semaphore {
+            name: name.copy()?,
+            relation: Relation::Less,
+            value: MORE_THAN_ANY,
+        }),
+        Object::Queue(name) => Ok(Part::Queue {
+            name: name.copy()?,
+            relation: Relation::Less,
+            value: MORE_THAN_ANY,
+        }),
+    }
+}
+
+/// The condition that holds of each world which has an object.
+fn presence_of(alloc: Global, object: &Object) -> Result<Never, AllocError>
+    ensures asks { IfOk result (λ condition. AsksFor object.now condition) }
+{
+    let mut parts = Vec::new(alloc);
+    let part = part_of(object)?;
+    parts.push(part)?;
+    Ok(Never::Holds(Condition {
+        text: String::new(alloc),
+        parts,
+    }))
+}
+
+/// For each object, in order, the condition that holds of each world which has it.
+pub(crate) fn presences_of(alloc: Global, objects: &[Object]) -> Result<Vec<Never>, AllocError>
+    ensures asks { IfOk result (λ conditions. Alongside AsksFor objects.now conditions.items) }
+{
+    let mut conditions = Vec::with_capacity(alloc, objects.len())?;
+    for object in objects {
+        let condition = presence_of(alloc, object)?;
+        conditions.push(condition)?;
+    }
+    Ok(conditions)
+}
+
+/// Adds an object, unless there is a schedule for it.
+fn push_unseen(
+    unseen: &mut Vec<Object>,
+    object: &Object,
+    schedule: &Option<Schedule>,
+) -> Result<(), AllocError>
+    ensures old { OnOk result (All (Contains unseen.new.items) unseen.old.items) }
+    ensures new { OnOk result (schedule.now ≡ None → Contains unseen.new.items object.now) }
+    ensures only { OnOk result ((o : Seen) → Contains unseen.new.items o
+        → Contains unseen.old.items o ⊎ ((schedule.now ≡ None) × (object.now ≡ o))) }
+{
+    if has_schedule(schedule) {
+        return Ok(());
+    }
+    let copy = object.copy()?;
+    unseen.push(copy)?;
+    Ok(())
+}
+
+/// The objects for which there is no schedule.
+fn unseen(
+    alloc: Global,
+    objects: &[Object],
+    seen: &[Option<Schedule>],
+) -> Result<Vec<Object>, AllocError>
+    ensures each { IfOk result (λ unseen. All (IsUnseen objects.now seen.now) unseen.items) }
+    ensures all { IfOk result (λ unseen. (i : ℕ) (o : Seen) → slice_get objects.now i ≡ Some o
+        → slice_get seen.now i ≡ Some None → Contains unseen.items o) }
+{
+    let mut unseen = Vec::new(alloc);
+    for number in 0..objects.len().min(seen.len()) {
+        push_unseen(&mut unseen, &objects[number], &seen[number])?;
+    }
+    Ok(unseen)
+}
+
+/// The objects for which there is no schedule, if everything was visited.
+pub(crate) fn unopened_in(
+    alloc: Global,
+    complete: bool,
+    objects: &[Object],
+    seen: &[Option<Schedule>],
+) -> Result<Vec<Object>, AllocError>
+    ensures each { IfOk result (λ unopened.
+        All (IsUnseen objects.now seen.now) unopened.items) }
+    ensures all { IfOk result (λ unopened. IsTrue complete → (i : ℕ) (o : Seen)
+        → slice_get objects.now i ≡ Some o → slice_get seen.now i ≡ Some None
+        → Contains unopened.items o) }
+    ensures unknown { IfOk result (λ unopened. complete ≡ false → unopened.items ≡ []) }
+{
+    if complete {
+        unseen(alloc, objects, seen)
+    } else {
+        Ok(Vec::new(alloc))
+    }
+}
