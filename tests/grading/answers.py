@@ -9,7 +9,8 @@ def look(check, grader):
     data = tomllib.loads((Path(__file__).parent / "answers.toml").read_text())
     asked = {}
     for number, answer in enumerate(data["answer"], 1):
-        files = {name.replace(".", "__"): data["texts"].get(source) or example(source) for name, source in answer["files"].items()}
+        files = {name.replace(".", "__"): data["texts"].get(source) or example(source)
+                 for name, source in answer["files"].items()}
         folder = grader.folder(f"answer-{number}", **files)
         asked.setdefault(answer["task"], {})[str(folder)] = answer["verdicts"]
     for task, expected in asked.items():

@@ -36,6 +36,58 @@ CREATE .FILL x40
 TEXT  .BLKW 200 x41
       .END
 """.replace(".BLKW 200 x41", '.STRINGZ "' + "A" * 200 + '"')
+# a short text without end between two calls, and one of 60 megabytes
+CHATTERS = "     .ORIG x3000\nLOOP LEA R0,TEXT\n     PUTS\n     BR LOOP\nTEXT .STRINGZ \"a line\\n\"\n     .END\n"
+MUCH = """
+      .ORIG x3000
+      LD R4,TIMES
+LOOP  LEA R0,TEXT
+      PUTS
+      ADD R4,R4,#-1
+      BRp LOOP
+      HALT
+TIMES .FILL 24000
+TEXT  .STRINGZ "%s"
+      .END
+""" % ("A" * 2500)
+# eleven times something is done with a semaphore
+ELEVEN_TIMES = """
+      .ORIG x3000
+      LEA R0,NAME
+      LD R1,CREATE
+      TRAP x50
+      ADD R5,R0,#0
+      LD R4,TIMES
+LOOP  ADD R0,R5,#0
+%s
+      ADD R4,R4,#-1
+      BRp LOOP
+      HALT
+NAME  .STRINGZ "/s"
+CREATE .FILL x40
+TIMES .FILL 11
+YES   .FILL x79
+NO    .FILL x6E
+      .END
+"""
+# it is asked for, while another process posts it as often: each of 2,048 outputs is an end
+ASKS = ELEVEN_TIMES % """
+      TRAP x54
+      ADD R0,R0,#0
+      BRz GOT
+      LD R0,NO
+      OUT
+      BR NEXT
+GOT   LD R0,YES
+      OUT
+NEXT
+"""
+GIVES = ELEVEN_TIMES % "      TRAP x55"
+MANY_ENDS = """
+seconds = 2
+[[run]]
+programs = [{ asked = "a.asm", must-call = ["sem_open /s"] }, { given = "gives.asm" }]
+"""
 TASK = """
 seconds = 20
 worlds = {worlds}
@@ -47,14 +99,18 @@ programs = [{{ asked = "a.asm" }}, {{ given = "other.asm" }}]
 
 def look(check, grader):
     (grader.place / "other.asm").write_text(POSTS)
-    small, large = grader.task(TASK.format(worlds=2000), "small.toml"), grader.task(TASK.format(worlds=10_000_000), "large.toml")
+    small = grader.task(TASK.format(worlds=2000), "small.toml")
+    large = grader.task(TASK.format(worlds=10_000_000), "large.toml")
     folders = {name: str(grader.folder(name, a__asm=text)) for name, text in
-               {"endless": ENDLESS, "round": ROUND, "posts": POSTS, "prints": PRINTS, "halts": HALT}.items()}
+               {"endless": ENDLESS, "round": ROUND, "posts": POSTS, "prints": PRINTS, "halts": HALT, "chatters": CHATTERS,
+                "much": MUCH}.items()}
     began = time.monotonic()
     found = grader.marks(small, folders.values())
     check(found[folders["endless"]] == ["incomplete"], f"a process without a call: {found}")
     check(found[folders["posts"]] == ["incomplete"], f"too many worlds: {found}")
     check(found[folders["prints"]] == ["incomplete"], f"too much output: {found}")
+    check(found[folders["chatters"]] == ["incomplete"], f"a process that prints and makes no call: {found}")
+    check(found[folders["much"]] in (["incomplete"], ["too long"]), f"60 megabytes of output: {found}")
     found = grader.marks(large, [folders["prints"], folders["posts"]])
     check(set(map(tuple, found.values())) <= {("incomplete",), ("too long",)}, f"too much memory: {found}")
     check(time.monotonic() - began < 200, f"bounds: {time.monotonic() - began:.0f} seconds")
@@ -73,3 +129,7 @@ def look_at_seconds(check, grader, folders):
     found = grader.marks(task, [folders["halts"]], "--results", grader.place / "results")
     check(found == {folders["halts"]: ["too long"]}, f"too long: {found}")
     check(not list((grader.place / "results/records").iterdir()), "a mark for want of time is kept")
+    (grader.place / "gives.asm").write_text(GIVES)
+    task = grader.task(MANY_ENDS, "many.toml")
+    printed = grader.call(task, grader.folder("asks", a__asm=ASKS))[0]
+    check(": too long\n    the traces of all ends take more than 2 seconds\n" in printed, f"many ends: {printed}")

@@ -44,9 +44,10 @@ def look_at_targets(check, grader, folders):
     for option in "--results", "--junit", "--csv":
         for target in folders[0] / "x", folders[0], grader.place / "way/x":
             _, complained, status = grader.call(option, target, TASK, *folders)
-            check(status == 2 and "lies in a folder that was handed in" in complained, f"{option} {target}: {status}: {complained}")
+            refused = status == 2 and "lies in a folder that was handed in" in complained
+            check(refused, f"{option} {target}: {status}: {complained}")
     pages = sorted(it.name for it in (grader.place / "results").glob("*.html"))
-    check(pages == [f"{name}.{run}.{ending}" for name in ("anna", "dora") for run in (1, 2) for ending in ("ends.html", "html")],
-          f"pages: {pages}")
+    wanted = [f"{name}.{run}.{ending}" for name in ("anna", "dora") for run in (1, 2) for ending in ("ends.html", "html")]
+    check(pages == wanted, f"pages: {pages}")
     check(all(b"</html>" in (grader.place / "results" / it).read_bytes()[-200:] for it in pages), "a page has no end")
     shutil.rmtree(grader.place / "results")

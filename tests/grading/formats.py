@@ -52,7 +52,8 @@ def attributes_faults(element, known, needed):
 
 def counts_faults(suite):
     """The counts of a suite are those of its cases."""
-    found = {"tests": len(suite), "failures": len(suite.findall("testcase/failure")), "errors": len(suite.findall("testcase/error"))}
+    found = {"tests": len(suite), "failures": len(suite.findall("testcase/failure")),
+             "errors": len(suite.findall("testcase/error"))}
     for name, count in found.items():
         if suite.get(name) != str(count):
             yield f"testsuite: {name} is {suite.get(name)}, and there are {count}"

@@ -51,7 +51,8 @@ def look_at_marks(check, names, folders):
     pages = [it["page"].endswith(".html") and it["ends_page"].endswith(".ends.html") for it in failed]
     check(failed and all(pages) and all(it["schedule"] for it in failed), f"a page is missing: {failed}")
     attached = [it.text for it in root.iter("system-out")]
-    check(attached == [f"[[ATTACHMENT|{it['page']}]]\n[[ATTACHMENT|{it['ends_page']}]]" for it in failed], f"attached: {attached}")
+    wanted = [f"[[ATTACHMENT|{it['page']}]]\n[[ATTACHMENT|{it['ends_page']}]]" for it in failed]
+    check(attached == wanted, f"attached: {attached}")
     check(all(float(it["seconds"]) >= 0 and int(it["megabytes"]) > 0 for it in rows if it["verdict"] != "no program"),
           f"what it took: {rows}")
     check(all(it["points"] == ("2" if it["mark"] == "pass" else "0") and it["of"] == "2" for it in rows), f"points: {rows}")
@@ -79,7 +80,8 @@ def look_at_status(check, grader, folders):
     brief = grader.call("--brief", "--", TASK, *folders)[0].splitlines()
     check(len(brief) == len(folders), f"--brief: {brief}")
     no_lab = grader.place / "no"
-    no_lab.write_text("#!/bin/sh\n[ \"$1\" != explore ] || [ \"$2\" = --help ] || { echo '{}'; exit 0; }\nexec \"$REAL\" \"$@\"\n")
+    no_lab.write_text("#!/bin/sh\n[ \"$1\" != explore ] || [ \"$2\" = --help ] || { echo '{}'; exit 0; }\n"
+                      "exec \"$REAL\" \"$@\"\n")
     no_lab.chmod(0o755)
     # the program's answer isn't as the schema says: that is no fault of the student
     (grader.place / "real").symlink_to(grader.environment["LC3LAB"])

@@ -56,7 +56,7 @@ def make_others(grader, right):
     """Links, what is no file, what is too large or can't be read, and what isn't there."""
     class_ = right.parent
     grader.folder("none")
-    for name, file in ("link", "first.asm"), ("fifo", None), ("device", None), ("folders", None), ("huge", None), ("hard", None):
+    for name, file in ("link", "first.asm"), *((it, None) for it in ("fifo", "device", "folders", "huge", "hard")):
         folder = grader.folder(name, **({} if name in ("hard", "link") else {"first__asm": RIGHT["first__asm"]}))
         second = folder / "second.asm"
         if name == "link":

@@ -17,6 +17,10 @@ def look(check, grader):
         printed, complained, status = grader.call("--brief", "--part", f"{part}/3", "--results", results, TASK, *folders)
         check(status == 0, f"part {part}: status {status}: {complained}")
         lines += printed.splitlines()
+        pending, _, status = grader.call("--pending", "--results", results, TASK, *folders)
+        left = [it for place, it in enumerate(map(str, folders)) if place % 3 >= part]
+        good = status == 0 and pending == "".join(f"{it}\0" for it in left)
+        check(good, f"pending after part {part}: status {status}: {pending!r}")
     whole = grader.call("--brief", TASK, *folders)[0].splitlines()
     check(sorted(lines) == whole and len(whole) == 7, f"parts: {lines}, {whole}")
     check(len(list((results / "records").glob("*.json"))) == 7, "the parts keep not all marks")
@@ -37,9 +41,10 @@ def look_at_array(check, grader, folders, whole):
 
 
 def look_at_ssh(check, grader, whole):
-    """Without a machine that answers, all is marked here. With LC3LAB_MACHINES, names for ssh, some is marked there."""
-    if not shutil.which("parallel"):
-        print("over-ssh: not tried, since there is no GNU parallel")
+    """Without a machine that answers, all is marked here. With LC3LAB_MACHINES, names for ssh, all is marked there."""
+    missing = [it for it in ("parallel", "rsync", "ssh") if not shutil.which(it)]
+    if missing:
+        print(f"over-ssh: skipped, since there is no {missing[0]}")
         return
     given = grader.environment | {it: value for it, value in os.environ.items() if it in ("HOME", "PARALLEL_SSH")}
     machines = os.environ.get("LC3LAB_MACHINES", "nobody.invalid")

@@ -1,4 +1,6 @@
 """Tasks that can't be taken are refused, what outputs may be, and what the keys of a run ask."""
+import json
+
 from .calling import ECHO, HALT
 
 ONE = '[[run]]\nprograms = [{ asked = "a.asm" }]\n'
@@ -32,9 +34,11 @@ REFUSED = {
 }
 PRINTS = '     .ORIG x3000\n     LEA R0,TEXT\n     PUTS\n     HALT\nTEXT .STRINGZ "12\\nabc\\n"\n     .END\n'
 OUTPUTS = {
-    '"12\\nabc\\n"': "pass", '"12\\nabc"': "wrong output", '{ any = ["", "12\\nabc\\n"] }': "pass", '{ any = ["", "12"] }': "wrong output",
+    '"12\\nabc\\n"': "pass", '"12\\nabc"': "wrong output",
+    '{ any = ["", "12\\nabc\\n"] }': "pass", '{ any = ["", "12"] }': "wrong output",
     '{ lines = ["[0-9]+", "a.c"] }': "pass", '{ lines = ["[0-9]+"] }': "wrong output", '{ lines = ["1", "a"] }': "wrong output",
-    '{ lines = ["12", "abc", ""] }': "wrong output", '{ each-line = "[a-c0-2]*" }': "pass", '{ each-line = "[a-c]*" }': "wrong output",
+    '{ lines = ["12", "abc", ""] }': "wrong output",
+    '{ each-line = "[a-c0-2]*" }': "pass", '{ each-line = "[a-c]*" }': "wrong output",
     "{ free = true }": "pass",
 }
 
@@ -83,8 +87,21 @@ def look_at_keys(check, grader):
         check(found == {str(folder): [verdict]}, f"{program} {keys}: {found}, not {verdict}")
 
 
+def look_at_names(check, grader):
+    """A name of a condition that nobody opens is told and costs nothing; one that is opened isn't told."""
+    folder = grader.folder("names", a__asm=POSTS)
+    task = grader.task(ONE + 'never = ["sem /v > 1", "sem /w > 5", "mq /w = 0"]\n')
+    said = ["nobody opens sem /v", "nobody opens mq /w"]
+    printed, _, status = grader.call("--junit", "marks.xml", "--gradescope", "results.json", task, folder)
+    check(status == 0 and printed.splitlines()[1:4] == ["  run 1: pass", *(f"    {it}" for it in said)], f"names: {printed}")
+    check("\n".join(said) in (grader.place / "marks.xml").read_text(), "JUnit's XML doesn't tell the names")
+    test, = json.loads((grader.place / "results.json").read_text())["tests"]
+    check(test["score"] == 1 and test["output"] == "\n".join(["pass", *said]), f"Gradescope: {test}")
+
+
 def look(check, grader):
     look_at_keys(check, grader)
+    look_at_names(check, grader)
     folder = grader.folder("one", a__asm=PRINTS)
     (grader.place / "given.asm").write_text(HALT)
     for text, complaint in REFUSED.items():

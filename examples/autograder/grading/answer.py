@@ -19,11 +19,13 @@ class End:
 
 @dataclass
 class Answer:
-    """The ends, and what isn't as it should be: a verdict, and a schedule that shows it where there is one."""
+    """The ends, what isn't as it should be (a verdict, and a schedule that shows it where there is one), and the objects that
+    conditions name and nobody opens."""
 
     ends: list
     fault: tuple | None
     limits: list
+    unopened: list
 
 
 def member(where, key, kind):
@@ -64,7 +66,8 @@ def fault_of(found, asks_to_end):
     for it in faults_of(found):
         return it
     if endless is not None and asks_to_end:
-        return "endless", f"{schedule_of(member(endless, 'schedule', str))} {schedule_of(member(endless, 'round', str))}".strip()
+        way, back = (schedule_of(member(endless, it, str)) for it in ("schedule", "round"))
+        return "endless", f"{way} {back}".strip()
     return None
 
 
@@ -74,13 +77,13 @@ def read(raw, count, asked, asks_to_end):
         found = json.loads(raw)
     except (ValueError, RecursionError):
         raise NoMark("explore --json: this is no JSON") from None
-    limits = member(found, "limits", list)
+    limits, unopened = member(found, "limits", list), member(found, "unopened", list)
     complete = member(found, "search", str) == "complete"
-    if complete == bool(limits) or not all(isinstance(it, str) for it in limits):
+    if complete == bool(limits) or not all(isinstance(it, str) for it in limits + unopened):
         raise NoMark("explore --json: search and limits contradict each other")
     fault = fault_of(found, asks_to_end)
     # what explore itself makes of it must be the same
     holds = None if not asked or not fault and not complete else not fault
     if found.get("holds", "none") is not holds:
         raise NoMark("explore --json: holds contradicts what was found")
-    return Answer([end_of(it, count) for it in member(found, "ends", list)], fault, limits)
+    return Answer([end_of(it, count) for it in member(found, "ends", list)], fault, limits, unopened)

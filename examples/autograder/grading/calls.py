@@ -1,4 +1,8 @@
-"""Which calls a process must make, read from the trace of a run (docs/trace.md)."""
+"""Which calls a process must make, read from the trace of a run (docs/trace.md).
+
+A trace has a line of its own for each call, and nothing that a program prints or names ends a line or begins one: outputs,
+names and messages stand between quotes, with quotes, backslashes and control characters as numbers.
+"""
 import re
 from dataclasses import dataclass
 
@@ -6,23 +10,26 @@ from .faults import TaskFault
 
 CALLS = "mq_open mq_close mq_unlink mq_send mq_receive mq_getattr mq_setattr sem_open sem_close sem_unlink sem_wait" \
     " sem_trywait sem_post sem_getvalue".split()
-# names have neither blanks nor a second slash, so the first blank ends the handle, whatever the name is
 NAME = r"/[!-.0-~]+"
 LINE = re.compile(rb" *\d+ P(\d+) +x[0-9A-F]{4} +\+\d+ ((?:mq|sem)_[a-z]+)\((.*)")
 BY_NAME = re.compile(r'"([^"]*)"(.*)')
-BY_HANDLE = re.compile(r"-?\d+(?:<(\S*)>)?(?=, |\) )(.*)")
-ANSWERED = re.compile(r"[^)]*\) = \d")
+# names have no blanks, so the first one ends the handle, whatever the name is; an object without a name has its place there
+BY_HANDLE = re.compile(r"(\d+)<(/?)\S*>(?=, |\) )(.*)")
+ANSWERED = re.compile(r"[^)]*\) = (\d+)")
 QUOTED = re.compile(r'"[^"]*"')
+CODE = re.compile(r"\\x([0-9A-F]{4})")
 HELD = {"sem_wait": 1, "sem_trywait": 1, "sem_post": -1}
 
 
 @dataclass(frozen=True)
 class Call:
-    """A call of this process, on this object, that was answered and not refused."""
+    """A call of this process that was answered and not refused, on the object that it opened by this name. The object may
+    have lost the name since, and another one may have it."""
 
     process: int
     call: str
     name: str
+    has_name: bool
 
 
 @dataclass(frozen=True)
@@ -67,17 +74,31 @@ def words_of(words, key):
     return words
 
 
-def call_of(line):
-    """The call that a line of a trace tells, where it tells one that was answered."""
-    found = LINE.fullmatch(line)
-    if not found:
+def calls_of(trace):
+    """The calls that a trace tells, of those that were answered and not refused."""
+    opened, made = {}, []
+    for line in trace.split(b"\n"):
+        found = LINE.fullmatch(line)
+        it = call_of(int(found[1]), found[2].decode(), found[3].decode("latin-1"), opened) if found else None
+        made += [it] if it else []
+    return made
+
+
+def call_of(process, call, rest, opened):
+    """The call of a line, where it was answered. `opened` has the name by which each process opened each of its handles."""
+    by_name, by_handle = BY_NAME.fullmatch(rest), BY_HANDLE.fullmatch(rest)
+    behind = by_name[2] if by_name else by_handle[3] if by_handle else ""
+    # behind the name or handle only what stands between quotes can hold a bracket
+    answered = ANSWERED.match(QUOTED.sub("", behind))
+    if not answered:
         return None
-    process, call, rest = int(found[1]), found[2].decode(), found[3].decode("latin-1")
-    parts = BY_NAME.fullmatch(rest) or BY_HANDLE.fullmatch(rest)
-    # behind the handle only what stands between quotes can hold a bracket
-    if not parts or not ANSWERED.match(QUOTED.sub("", parts[2])):
-        return None
-    return Call(process, call, parts[1] or "")
+    kind = call.partition("_")[0]
+    if by_handle:
+        return Call(process, call, opened[process, kind, by_handle[1]], by_handle[2] == "/")
+    name = CODE.sub(lambda it: chr(int(it[1], 16)), by_name[1])
+    if call == f"{kind}_open":
+        opened[process, kind, answered[1]] = name
+    return Call(process, call, name, True)
 
 
 def holds_together(made, process, names):
@@ -93,12 +114,13 @@ def holds_together(made, process, names):
 
 def fault_of(program, process, made):
     """What a process did that it mustn't, or didn't do that it must: a verdict and a sentence, or nothing."""
+    named = [it for it in made if it.has_name]
     for it in program.must_call:
-        if not it.is_made(made, process):
+        if not it.is_made(named, process):
             return "missing call", f"process {process} never calls {it.told()} with success"
     for it in program.must_not_call:
         if it.is_made(made, process):
             return "forbidden call", f"process {process} calls {it.told()}"
-    if not holds_together(made, process, program.must_hold):
+    if not holds_together(named, process, program.must_hold):
         return "missing call", f"process {process} never holds {' and '.join(program.must_hold)} together"
     return None

@@ -9,9 +9,9 @@ from pathlib import Path
 
 from . import reports
 from .crew import Crew
-from .faults import TaskFault
+from .faults import NoMark, TaskFault
 from .laboratory import Laboratory, found_beside
-from .marking import assemble_given
+from .marking import assemble_given, handed_in
 from .records import Records, file_name, write_whole
 from .task import read_task
 
@@ -33,8 +33,10 @@ def parser():
     words.add_argument("folders", metavar="FOLDER", nargs="+", help="a folder that a student handed in")
     words.add_argument("-j", "--jobs", type=int, metavar="N", help="mark N folders side by side (as many as there are "
                        "processors, and memory for the task's limit in each)")
-    words.add_argument("--results", metavar="PLACE", help="keep marks, and a page of each failure, in this folder; what is kept "
-                       "there is taken up")
+    words.add_argument("--results", metavar="PLACE", help="keep marks, and a page of each failure, in this folder; what is "
+                       "kept there is taken up")
+    words.add_argument("--pending", action="store_true", help="print the folders of which no mark is kept in PLACE, each with "
+                       "a zero byte behind it, and mark none")
     words.add_argument("--part", metavar="K/N", help="take each N-th folder alone, from the K-th on")
     words.add_argument("--junit", metavar="FILE", help="write the marks as JUnit's XML")
     words.add_argument("--gradescope", metavar="FILE", help="write the marks of one folder as Gradescope's results.json")
@@ -68,7 +70,8 @@ def hands_for(task, asked):
     if asked is not None and asked < 1:
         raise TaskFault(f"--jobs: this can't be {asked}")
     processors = len(os.sched_getaffinity(0))
-    free = [int(it.split()[1]) // 1024 for it in Path("/proc/meminfo").read_text().splitlines() if it.startswith("MemAvailable")]
+    memory = Path("/proc/meminfo").read_text().splitlines()
+    free = [int(it.split()[1]) // 1024 for it in memory if it.startswith("MemAvailable")]
     room = free[0] // max(it.bounds.memory for it in task.runs) if free else processors
     return asked or max(1, min(processors, room))
 
@@ -98,7 +101,8 @@ def marks_of(crew, folders, said, ear):
     for number, mark in crew.marks(folders, ear.look):
         found[number] = mark | {"folder": folders[number]}
         if sys.stderr.isatty():
-            print(f"\r{len(found)} of {len(folders)}", end="\r" if len(found) == len(folders) else "", file=sys.stderr, flush=True)
+            end = "\r" if len(found) == len(folders) else ""
+            print(f"\r{len(found)} of {len(folders)}", end=end, file=sys.stderr, flush=True)
         while printed in found:
             if crew.records:
                 crew.records.publish(found[printed], names)
@@ -108,6 +112,17 @@ def marks_of(crew, folders, said, ear):
     return [found[it] for it in range(len(folders))]
 
 
+def print_pending(task, folders, records):
+    """Prints the folders of which no mark is kept. One that can't be read has none."""
+    for it in folders:
+        try:
+            kept = records.kept(handed_in(task, it)[1])
+        except (NoMark, OSError):
+            kept = None
+        if not kept:
+            sys.stdout.buffer.write(os.fsencode(it) + b"\0")
+
+
 def grade(said, place, ear):
     laboratory = Laboratory(found_beside(Path(sys.argv[0])))
     task = read_task(said.task, laboratory)
@@ -115,8 +130,13 @@ def grade(said, place, ear):
     folders = part_of(folders, said.part) if said.part else folders
     if said.gradescope and len(folders) != 1:
         raise TaskFault("--gradescope is for one folder")
+    if said.pending and not said.results:
+        raise TaskFault("--pending is asked of --results")
     keep_out(said)
     records = Records(said.results) if said.results else None
+    if said.pending:
+        print_pending(task, folders, records)
+        return 0
     given = assemble_given(laboratory, task, place)
     crew = Crew(laboratory, task, given, records, hands_for(task, said.jobs), place)
     marks = marks_of(crew, folders, said, ear)
@@ -128,8 +148,8 @@ def grade(said, place, ear):
 
 
 def said_by(words):
-    """What the words say. argparse forgets a `--` where options and folders are mixed, so what begins with `-` behind it is given
-    as a path of this folder."""
+    """What the words say. argparse forgets a `--` where options and folders are mixed, so what begins with `-` behind it is
+    given as a path of this folder."""
     if "--" in words:
         at = words.index("--")
         words = words[:at] + [f"./{it}" if it.startswith("-") else it for it in words[at + 1:]]

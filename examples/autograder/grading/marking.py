@@ -23,9 +23,7 @@ class Marking:
 
     def mark(self, folder, records):
         """The mark of a folder, as JSON will have it; one that is kept is taken as it is."""
-        taken = {name: sources.take(folder, name) for name in self.task.asked()}
-        found = repr([(name, it.content, it.fault) for name, it in taken.items()])
-        key = hashlib.sha256(f"{self.task.key} {found}".encode()).hexdigest()
+        taken, key = handed_in(self.task, folder)
         kept = records.kept(key) if records else None
         if kept:
             return kept
@@ -130,16 +128,24 @@ class Marking:
             wrong = outputs.difference(run.alternatives, end.outputs)
             if wrong:
                 return "wrong output", wrong, end.schedule
-        watched = any(it.is_watched() for it in run.programs)
-        for end in found.ends if watched else []:
-            made = self.calls_made(run, words, end.schedule)
-            for number, program in enumerate(run.programs):
-                fault = calls.fault_of(program, number, made)
-                if fault:
-                    return fault[0], [fault[1]], end.schedule
+        fault = self.fault_of_calls(run, found, words) if any(it.is_watched() for it in run.programs) else None
+        if fault:
+            return fault
         if found.limits:
             return "incomplete", ["the search met the limit of " + ", ".join(found.limits)], None
-        return "pass", [], None
+        return "pass", [f"nobody opens {it}" for it in found.unopened], None
+
+    def fault_of_calls(self, run, found, words):
+        """What is said of the first end on the way to which a process didn't call what it must, or called what it mustn't."""
+        until = spent_so_far() + run.bounds.seconds
+        for end in found.ends:
+            if spent_so_far() > until:
+                return "too long", [f"the traces of all ends take more than {run.bounds.seconds} seconds"], None
+            made = self.calls_made(run, words, end.schedule)
+            faults = [calls.fault_of(program, number, made) for number, program in enumerate(run.programs)]
+            for verdict, said in filter(None, faults):
+                return verdict, [said], end.schedule
+        return None
 
     def traced(self, run, words, schedule, *options):
         """The trace of a run by a schedule."""
@@ -153,7 +159,7 @@ class Marking:
             raise NoMark("the trace of an end is too long to be read")
         if ran.status != 0:
             raise NoMark("; ".join(["trace failed"] + shown.lines(ran.errors, LONGEST_LINE, 5)))
-        return [it for it in map(calls.call_of, ran.output.split(b"\n")) if it]
+        return calls.calls_of(ran.output)
 
     def show(self, place, run, words, schedule):
         """The end of the trace by a schedule. Beside it a page is made, where that has room."""
@@ -179,6 +185,13 @@ class Marking:
         """The file of a page, where there is one."""
         path = self.place / name
         return str(path) if path.exists() else None
+
+
+def handed_in(task, folder):
+    """The sources in a folder, and a digest of them and of all else that their mark depends on."""
+    taken = {name: sources.take(folder, name) for name in task.asked()}
+    found = repr([(name, it.content, it.fault) for name, it in taken.items()])
+    return taken, hashlib.sha256(f"{task.key} {found}".encode()).hexdigest()
 
 
 def spent_so_far():

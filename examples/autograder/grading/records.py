@@ -40,7 +40,8 @@ class Records:
         """The mark of this key, if it is kept with all its pages."""
         try:
             found = json.loads((self.inner / f"{key}.json").read_bytes())
-            whole = found["key"] == key and all((self.inner / run[it]).exists() for run in found["runs"] for it in PAGES if run[it])
+            pages = [run[it] for run in found["runs"] for it in PAGES if run[it]]
+            whole = found["key"] == key and all((self.inner / it).exists() for it in pages)
         except (OSError, ValueError, KeyError, TypeError):
             return None
         return found if whole else None

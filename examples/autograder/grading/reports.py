@@ -38,10 +38,11 @@ def case_of(suite, mark, run):
         kind = "error" if run["verdict"] == "no mark" else "failure"
         fault = ElementTree.SubElement(case, kind, message=xml(run["verdict"]), type=xml(run["verdict"]))
         fault.text = xml("\n".join(told(run)))
+    said = run["detail"] if run["verdict"] == "pass" else []
+    # GitLab shows, and Jenkins keeps, files that are named so
     attached = [f"[[ATTACHMENT|{run[it]}]]" for it in PAGES if run[it]]
-    if attached:
-        # GitLab shows, and Jenkins keeps, files that are named so
-        ElementTree.SubElement(case, "system-out").text = xml("\n".join(attached))
+    if said or attached:
+        ElementTree.SubElement(case, "system-out").text = xml("\n".join(said + attached))
     return case
 
 
@@ -96,11 +97,11 @@ def table(task, marks):
 
 
 def lines(mark, brief):
-    """What is printed of a mark: a line with it, and below it what is wrong, each line behind two blanks or four."""
+    """What is printed of a mark: a line with it, and below it what is said of its runs, each line behind two blanks or four."""
     scored = "" if mark["mark"] == "no mark" else f": {number(mark['points'])} of {number(mark['of'])} points"
     yield f"{shown.name(mark['folder'])}: {mark['mark']}{scored}"
     for run in mark["runs"] if not brief else []:
-        if run["verdict"] != "pass":
+        if run["verdict"] != "pass" or run["detail"]:
             yield f"  {run['name']}: {run['verdict']}"
             yield from (f"    {it}" for it in told(run))
             if run["page"]:

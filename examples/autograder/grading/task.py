@@ -12,7 +12,7 @@ from .faults import TaskFault
 from .laboratory import Bounds
 
 # another number where marks come to be worked out otherwise, so that kept ones aren't taken up
-FORM = 1
+FORM = 2
 VISIBILITIES = ["visible", "hidden", "after_due_date", "after_published"]
 # what stands at the head of a task holds for each run that doesn't say otherwise
 SHARED = {"require": "halted", "may-wait": [], "never": [], "fair": False, "profile": "a", "limit": 100_000,
