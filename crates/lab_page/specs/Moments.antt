@@ -3,13 +3,13 @@ use Rattle.std.specs.Prelude.{ℕ, ◌+◌, ◌-◌, min, Bool, if◌then◌else
 use Rattle.std.specs.List.{sum_by}
 use Rattle.std.specs.Option.{option_map}
 use Rattle.lc3_word.specs.Segment.{first_device}
-use Rattle.lab_sched.specs.Worlds.{Process, WorldState, step_effect_in, step, machine_of}
-use Rattle.lab_sched.specs.Held.{stepped_of}
-use Rattle.lab_sched.specs.declared.stepped.Stepped.{Stepped}
+use Rattle.lab_sched.specs.Worlds.{Process, WorldState, step, machine_of}
 use Rattle.lab_texts.specs.Texts.{regs_text, dis_text}
 use Rattle.lab_texts.specs.Objects.{fds_text, mqs_text, sems_text}
-use Rattle.lab_trace.specs.Scenes.{Scene, first_scene, has_effect, line, next}
+use Rattle.lab_trace.specs.Scenes.{Scene, first_scene, told, line, next}
 use Rattle.lab_trace.specs.Forms.{Form, form_for}
+use Rattle.lab_trace.specs.declared.told.Told.{Told}
+use Rattle.lab_trace.specs.declared.told.Told.TheVariants.{Nothing}
 use Rattle.lab_page.specs.declared.data.Event.{Event as HeldEvent}
 use Rattle.lab_page.specs.declared.data.Moment.{Moment as HeldMoment}
 
@@ -77,13 +77,14 @@ abbrev pub moment_list : Option Moment → List Moment
 moment_list None = []
 moment_list (Some m) = m ∷ []
 
--- the moment after a step of this kind; one without an effect has none
-abbrev pub step_moment : Bool → Stepped → List ℕ → ℕ → ℕ → WorldState → Option Moment
-step_moment whole t l n p w = if has_effect t then moment_by whole l n p w else None
+-- the moment after a step, by what is told of it; one without an effect has none
+abbrev pub step_moment : Bool → Told → List ℕ → ℕ → ℕ → WorldState → Option Moment
+step_moment whole Nothing l n p w = None
+step_moment whole told l n p w = moment_by whole l n p w
 
 -- the moment after the next step, of process p, or nothing
 unfoldable pub moment : Form → Bool → Scene → ℕ → List Moment
-moment v whole s p = moment_list (step_moment whole (stepped_of (step_effect_in s.world p)) (line v s p) s.number p (step s.world p))
+moment v whole s p = moment_list (step_moment whole (told s p) (line v s p) s.number p (step s.world p))
 
 -- the moments of steps
 unfoldable pub moments : Form → Bool → Scene → List ℕ → List Moment

@@ -1,13 +1,13 @@
 //! The moment after a step.
 ghost use Rattle.std.specs.Prelude.{◌≡◌, IfOk, string_bytes};
 ghost use Rattle.std.specs.Option.{option_map};
-ghost use Rattle.lab_trace.specs.Scenes.{has_effect};
 ghost use Rattle.lab_page.specs.Moments.{event_of, moment_by, step_moment, event_shown, moment_shown};
 
 use crate::code::code_text;
 use crate::data::{Event, Moment};
-use lab_sched::{Stepped, World};
+use lab_sched::World;
 use lab_texts::{fds_text, mqs_text, regs_text, sems_text};
+use lab_trace::Told;
 use std::alloc::{AllocError, Global};
 
 /// The event of a step of process `pid` with this line, by the world after it.
@@ -53,32 +53,21 @@ fn moment_by(
     }))
 }
 
-/// Whether a step has an effect.
-fn has_effect(stepped: Stepped) -> bool
-    ensures value { result ≡ has_effect stepped }
-{
-    match stepped {
-        Stepped::Same => false,
-        Stepped::Moved | Stepped::Called | Stepped::Waits => true,
-    }
-}
-
-/// The moment after a step, by what the step was. One without an effect has none.
+/// The moment after a step, by what is told of it. One without an effect has none.
 pub fn step_moment(
     alloc: Global,
     world: &World,
     whole: bool,
-    stepped: Stepped,
+    told: &Told,
     step: u32,
     pid: usize,
     line: String,
 ) -> Result<Option<Moment>, AllocError>
     ensures moment { IfOk result (λ m. option_map moment_shown m
-        ≡ step_moment whole stepped (string_bytes line) step pid world.now) }
+        ≡ step_moment whole told.now (string_bytes line) step pid world.now) }
 {
-    if has_effect(stepped) {
-        moment_by(alloc, world, whole, step, pid, line)
-    } else {
-        Ok(None)
+    match told {
+        Told::Nothing => Ok(None),
+        Told::Counted | Told::Shown(_) => moment_by(alloc, world, whole, step, pid, line),
     }
 }

@@ -2,9 +2,8 @@
 ghost use Rattle.std.specs.Prelude.{ℕ, ◌≡◌, ◌<◌, ◌≤◌, ◌+◌, ◌++◌, ◌∷◌, [], OnOk, IfOk, IfErr, length, map, replicate, string_bytes};
 ghost use Rattle.std.specs.Option.{option_map};
 ghost use Rattle.lab_sched.specs.Schedules.{most_steps, steps_of, total_of};
-ghost use Rattle.lab_sched.specs.Worlds.{step, step_effect_in};
-ghost use Rattle.lab_sched.specs.Held.{stepped_of};
-ghost use Rattle.lab_trace.specs.Scenes.{scene_at, scene_after, next_tally, IsKept};
+ghost use Rattle.lab_sched.specs.Worlds.{step};
+ghost use Rattle.lab_trace.specs.Scenes.{scene_at, scene_after, told, next_tally, IsKept};
 ghost use Rattle.lab_trace.specs.Traces.{AreThere};
 ghost use Rattle.lab_page.specs.Private.Faults.{IsFault};
 ghost use Rattle.lab_page.specs.Limits.{most_bytes};
@@ -14,8 +13,8 @@ use crate::MOST_BYTES;
 use crate::data::{Event, Moment};
 use crate::fault::PageFault;
 use crate::moment::step_moment;
-use lab_sched::{Block, Stepped, World};
-use lab_trace::{Form, Tally, Traced, steps_done, trace_step};
+use lab_sched::{Block, World};
+use lab_trace::{Form, Tally, Told, step_line, steps_done, trace_step};
 use std::alloc::Global;
 use std::marker::Model;
 
@@ -132,7 +131,7 @@ impl Moments {
         whole: bool,
         number: u32,
         pid: usize,
-    ) -> Result<Stepped, PageFault>
+    ) -> Result<Told, PageFault>
         requires process { pid < length world.old.processes }
         requires kept { IsKept (scene_at number world.old tally.old) }
         ensures moments { OnOk result (self.new ≡ self.old
@@ -140,14 +139,15 @@ impl Moments {
         ensures world { OnOk result (world.new ≡ step world.old pid) }
         ensures tally { OnOk result
             (tally.new ≡ next_tally (scene_at number world.old tally.old) pid) }
-        ensures told { IfOk result (λ s. s ≡ stepped_of (step_effect_in world.old pid)) }
+        ensures told { IfOk result (λ t. t ≡ told (scene_at number world.old tally.old) pid) }
         ensures fault { IfErr result (λ e. IsFault e (self.old
             ++ moment form.now whole (scene_at number world.old tally.old) pid)) }
     {
-        let Traced { line, stepped } = trace_step(alloc, world, tally, form, number, pid)?;
-        let moment = step_moment(alloc, world, whole, stepped, number, pid, line)?;
+        let told = trace_step(alloc, world, tally, number, pid)?;
+        let line = step_line(alloc, form, number, pid, &told)?;
+        let moment = step_moment(alloc, world, whole, &told, number, pid, line)?;
         self.push_some(moment)?;
-        Ok(stepped)
+        Ok(told)
     }
 
     /// Takes the steps of a block, of which the first has number `first`, and adds their moments.
@@ -177,8 +177,8 @@ impl Moments {
         let mut done = 0;
         while done < block.count {
             let number = first + done;
-            let stepped = self.add_step(alloc, world, tally, form, whole, number, block.pid)?;
-            done += steps_done(stepped, block.count - done);
+            let told = self.add_step(alloc, world, tally, form, whole, number, block.pid)?;
+            done += steps_done(&told, block.count - done);
         }
         Ok(())
     }

@@ -6,17 +6,19 @@ use Rattle.ipc_kernel.specs.declared.call.Answer.TheVariants.{Done, Wait}
 use Rattle.ipc_kernel.specs.Kernel.{KernelState}
 use Rattle.lab_sched.specs.Worlds.{Process, WorldState, StepEffect, nothing, local_step, kernel_step, step_effect_in, after, step, run}
 use Rattle.lab_sched.specs.Held.{stepped_of}
-use Rattle.lab_sched.specs.declared.stepped.Stepped.{Stepped}
-use Rattle.lab_sched.specs.declared.stepped.Stepped.TheVariants as stepped
 use Rattle.lab_sched.proofs.Runs.{run-one, length-run}
-use Rattle.lab_trace.specs.Events.{Event, local, calls, writes, ends, event_of}
-use Rattle.lab_trace.specs.Questions.{Before}
-use Rattle.lab_trace.specs.Tallies.{TallyState, new_account, account_in, account_of, account_after, AreBelow}
+use Rattle.lab_trace.specs.Events.{act_by, told_with, told_by}
+use Rattle.lab_trace.specs.Lines.{step_line}
+use Rattle.lab_trace.specs.Tallies.{TallyState, new_account, account_in, account_of, account_counted, account_after, tally_after, AreBelow}
 use Rattle.lab_trace.specs.Units.{AreFew, IsFew}
 use Rattle.lab_trace.proofs.UnitLemmas.{few-more, after-few}
-use Rattle.lab_trace.specs.Scenes.{Scene, first_scene, has_effect, line_by, tally_by, before_at, line, next_tally, next, events, scene_after, IsKept}
+use Rattle.lab_trace.specs.Scenes.{Scene, first_scene, has_effect, before_at, told, line, next_tally, next, events, scene_after, IsKept}
 use Rattle.lab_trace.specs.Forms.{Form}
+use Rattle.lab_trace.specs.declared.asking.Observed.{Observed}
 use Rattle.lab_trace.specs.declared.tally.Account.{Account}
+use Rattle.lab_trace.specs.declared.told.Act.{Act}
+use Rattle.lab_trace.specs.declared.told.Told.{Told}
+use Rattle.lab_trace.specs.declared.told.Told.TheVariants.{Nothing, Counted, Shown}
 
 pub events-append : (v : Form) (s : Scene) (xs ys : List ℕ) → events v s (xs ++ ys) ≡ events v s xs ++ events v (scene_after s xs) ys
 unfolding events scene_after
@@ -56,18 +58,35 @@ scene-one s p = refl
 abbrev pub renumbered : Scene → ℕ → Scene
 renumbered s n = record { number = n; world = s.world; tally = s.tally }
 
+-- what is told of a step, by whether it has an effect
+told-if : (s : Scene) (p : ℕ) (effect : Bool) → has_effect (stepped_of (step_effect_in s.world p)) ≡ effect
+    → told s p ≡ (if effect then told_by (step s.world p).kernel s.tally p (before_at s p) (slice_get (step s.world p).processes p) else Nothing)
+unfolding told
+told-if s p effect e =
+    ap (λ (b : Bool). if b then told_by (step s.world p).kernel s.tally p (before_at s p) (slice_get (step s.world p).processes p) else Nothing) e
+
 -- a step without effect has no line, and changes nothing but the number
+pub told-still : (s : Scene) (p : ℕ) → step_effect_in s.world p ≡ nothing → told s p ≡ Nothing
+told-still s p e = told-if s p false (ap (λ t. has_effect (stepped_of t)) e)
+
 line-still : (v : Form) (s : Scene) (p : ℕ) → step_effect_in s.world p ≡ nothing → line v s p ≡ []
-unfolding line
-line-still v s p e =
-    ap (λ (b : Bool). if b then line_by v s.number (step s.world p).kernel s.tally p (before_at s p) (slice_get (step s.world p).processes p) else [])
-    (ap (λ t. has_effect (stepped_of t)) e)
+line-still v s p e = ap (λ (t : Told). step_line v s.number p t) (told-still s p e)
 
 tallied-still : (s : Scene) (p : ℕ) → step_effect_in s.world p ≡ nothing → next_tally s p ≡ s.tally
-unfolding next_tally
-tallied-still s p e =
-    ap (λ (b : Bool). if b then tally_by s.number (step s.world p).kernel s.tally p (before_at s p) (slice_get (step s.world p).processes p) else s.tally)
-    (ap (λ t. has_effect (stepped_of t)) e)
+tallied-still s p e = ap (λ (t : Told). tally_after (step s.world p).kernel s.number p t s.tally) (told-still s p e)
+
+-- of another step something is told
+told_with-some : (b : Observed) (a : Account) (act : Option Act) → told_with b a act ≡ Nothing → ⊥
+told_with-some b a None e = cc
+told_with-some b a (Some act) e = cc
+
+told_by-some : (k : KernelState) (t : TallyState) (p : ℕ) (b : Observed) (u : Option Process) → told_by k t p b u ≡ Nothing → ⊥
+told_by-some k t p b None e = cc
+told_by-some k t p b (Some u) e = told_with-some b (account_of t p) (act_by k t p b.asking b.written u) e
+
+told-some : (s : Scene) (p : ℕ) → has_effect (stepped_of (step_effect_in s.world p)) ≡ true → told s p ≡ Nothing → ⊥
+told-some s p effect e =
+    told_by-some (step s.world p).kernel s.tally p (before_at s p) (slice_get (step s.world p).processes p) (sym (told-if s p true effect) ∙ e)
 
 pub next-still : (s : Scene) (p : ℕ) → step_effect_in s.world p ≡ nothing → next s p ≡ renumbered s (s.number + 1)
 next-still s p e =
@@ -90,7 +109,7 @@ scene-still (suc n) s p e =
     let same : (s.number + 1) + n ≡ s.number + suc n = omega arith in
     ap (λ x. scene_after x (replicate n p)) (next-still s p e) ∙ scene-still n (renumbered s (s.number + 1)) p e ∙ ap (λ k. renumbered s k) same
 
--- what a step is told as stands for: itself, or so many steps without effect
+-- what a step stands for: itself, or so many steps without effect
 pub record Stands (v : Form) (s : Scene) (p k : ℕ) : Type 0 where
   pub lines : events v s (replicate k p) ≡ line v s p
   pub scene : scene_after s (replicate k p) ≡ renumbered (next s p) (s.number + k)
@@ -105,17 +124,17 @@ stands-still v s p k e = record {
   scene = scene-still k s p e ∙ sym (ap (λ x. renumbered x (s.number + k)) (next-still s p e));
 }
 
-pub stands : (v : Form) (s : Scene) (p k : ℕ) (t : Stepped) → t ≡ stepped_of (step_effect_in s.world p) → ((t ≡ stepped.Same → ⊥) → k ≡ 1) → Stands v s p k
-stands v s p k t is one = by (step_effect_in s.world p) refl
+pub stands : (v : Form) (s : Scene) (p k : ℕ) → ((told s p ≡ Nothing → ⊥) → k ≡ 1) → Stands v s p k
+stands v s p k one = by (step_effect_in s.world p) refl
   where
-    other : (u : StepEffect) → step_effect_in s.world p ≡ u → (stepped_of u ≡ stepped.Same → ⊥) → Stands v s p k
-    other u at ne = stands-one v s p k (one (λ e. ne (ap stepped_of (sym at) ∙ sym is ∙ e)))
+    other : (u : StepEffect) → step_effect_in s.world p ≡ u → has_effect (stepped_of u) ≡ true → Stands v s p k
+    other u at effect = stands-one v s p k (one (told-some s p (ap (λ t. has_effect (stepped_of t)) at ∙ effect)))
 
     by : (u : StepEffect) → step_effect_in s.world p ≡ u → Stands v s p k
     by nothing at = stands-still v s p k at
-    by (local_step m) at = other (local_step m) at (λ e. cc)
-    by (kernel_step m c (Done r)) at = other (kernel_step m c (Done r)) at (λ e. cc)
-    by (kernel_step m c Wait) at = other (kernel_step m c Wait) at (λ e. cc)
+    by (local_step m) at = other (local_step m) at refl
+    by (kernel_step m c (Done r)) at = other (kernel_step m c (Done r)) at refl
+    by (kernel_step m c Wait) at = other (kernel_step m c Wait) at refl
 
 -- the lines of a block from its step number k on
 pub events-from : (v : Form) (s : Scene) (n k p : ℕ) → k ≤ n
@@ -160,40 +179,33 @@ below-set n (x ∷ xs) zero a h b (suc q) = b (suc q)
 below-set n (x ∷ xs) (suc p) a h b zero = b 0
 below-set n (x ∷ xs) (suc p) a h b (suc q) = below-set n xs p a h (λ r. b (suc r)) q
 
-after-below : (n : ℕ) (u : Process) (e : Event) (a : Account) → a.local < n → (account_after n u e a).local < n + 1
-after-below n u local a h = omega arith
-after-below n u (calls q) a h = omega arith
-after-below n u (writes bytes) a h = omega arith
-after-below n u (ends how) a h = omega arith
-
 abbrev IsKeptTally : ℕ → ℕ → TallyState → Type 0
 IsKeptTally n count t = (length t.accounts ≡ count) × AreBelow (n + 1) t.accounts × AreFew (n + 1) t.units
 
 kept-still : (n count : ℕ) (t : TallyState) → length t.accounts ≡ count → AreBelow n t.accounts → AreFew n t.units → IsKeptTally n count t
 kept-still n count t l b f = (l, λ p. let h = b p in omega arith, few-more n t.units f)
 
-kept-by : (n count : ℕ) (k : KernelState) (t : TallyState) (p : ℕ) (b : Before) (u : Option Process)
-    → length t.accounts ≡ count → AreBelow n t.accounts → AreFew n t.units → IsKeptTally n count (tally_by n k t p b u)
-kept-by n count k t p b None l h f = kept-still n count t l h f
-kept-by n count k t p b (Some u) l h f =
-    let a : Account = account_after n u (event_of b u) (account_of t p) in
-    let begun : 0 < n = let x = h p in omega arith in (
+kept-told : (n count : ℕ) (k : KernelState) (t : TallyState) (p : ℕ) (told : Told)
+    → length t.accounts ≡ count → AreBelow n t.accounts → AreFew n t.units → IsKeptTally n count (tally_after k n p told t)
+kept-told n count k t p Nothing l h f = kept-still n count t l h f
+kept-told n count k t p Counted l h f =
+    let a : Account = account_counted (account_of t p) in
+    let few : (account_of t p).local < n = h p in (
       length-set t.accounts p a ∙ l,
-      below-set (n + 1) t.accounts p a (after-below n u (event_of b u) (account_of t p) (h p)) (λ q. let x = h q in omega arith),
-      after-few n k p u (event_of b u) t.units begun f,
+      below-set (n + 1) t.accounts p a (omega (arith, few)) (λ q. let x = h q in omega (arith, x)),
+      few-more n t.units f,
+    )
+kept-told n count k t p (Shown e) l h f =
+    let a : Account = account_after n e.act in
+    let begun : 0 < n = let x = h p in omega (arith, x) in (
+      length-set t.accounts p a ∙ l,
+      below-set (n + 1) t.accounts p a (omega arith) (λ q. let x = h q in omega (arith, x)),
+      after-few n k p e.act t.units begun f,
     )
 
-kept-if : (n count : ℕ) (effect : Bool) (t u : TallyState) → IsKeptTally n count u → IsKeptTally n count t → IsKeptTally n count (if effect then t else u)
-kept-if n count true t u still moved = moved
-kept-if n count false t u still moved = still
-
 kept-tallied : (s : Scene) (p : ℕ) → IsKept s → IsKeptTally s.number (length s.world.processes) (next_tally s p)
-unfolding next_tally
 kept-tallied s p kept =
-    kept-if s.number (length s.world.processes) (has_effect (stepped_of (step_effect_in s.world p)))
-    (tally_by s.number (step s.world p).kernel s.tally p (before_at s p) (slice_get (step s.world p).processes p)) s.tally
-    (kept-still s.number (length s.world.processes) s.tally kept.accounts kept.below kept.few)
-    (kept-by s.number (length s.world.processes) (step s.world p).kernel s.tally p (before_at s p) (slice_get (step s.world p).processes p) kept.accounts kept.below kept.few)
+    kept-told s.number (length s.world.processes) (step s.world p).kernel s.tally p (told s p) kept.accounts kept.below kept.few
 
 pub length-step : (w : WorldState) (p : ℕ) → length (step w p).processes ≡ length w.processes
 length-step w p = sym (ap (λ (x : WorldState). length x.processes) (run-one w p)) ∙ length-run w (p ∷ [])

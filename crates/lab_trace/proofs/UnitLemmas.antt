@@ -4,14 +4,13 @@ use Rattle.std.specs.List.{find}
 use Rattle.std.proofs.lemmas.List.{take_more}
 use Rattle.std.proofs.lemmas.List.Elements.{All-nil, All-append, All-cons, All-set, All-filter, All-head, All-tail, filter-append}
 use Rattle.ipc_kernel.specs.Kernel.{KernelState}
-use Rattle.lab_sched.specs.Worlds.{Process}
 use Rattle.lab_trace.specs.Answers.{result_of}
-use Rattle.lab_trace.specs.Events.{Event, local, calls, writes, ends}
-use Rattle.lab_trace.specs.Questions.{Question}
-use Rattle.lab_trace.specs.Tallies.{units_after}
-use Rattle.lab_trace.specs.Units.{most_units, is_of, no_units, units_of, units_with_at, units_with, is_there, remaining_units, count_after_wait, count_after_post, units_after_wait, units_after_post, units_after_success, units_after_call, IsFew, AreFew}
+use Rattle.lab_trace.specs.Units.{most_units, is_of, no_units, units_of, units_with_at, units_with, is_there, remaining_units, count_after_wait, count_after_post, units_after_wait, units_after_post, units_after_success, units_after_call, units_after, IsFew, AreFew}
 use Rattle.lab_trace.specs.Private.Room.{HasRoom}
 use Rattle.lab_trace.specs.declared.units.UnitCount.{UnitCount}
+use Rattle.lab_trace.specs.declared.told.Act.{Act}
+use Rattle.lab_trace.specs.declared.told.Act.TheVariants.{Calls, Writes, Ends}
+use Rattle.lab_trace.specs.declared.told.Called.{Called}
 use Rattle.lab_trace.specs.declared.service.Service.{Service}
 use Rattle.lab_trace.specs.declared.service.Service.TheVariants.{MqOpen, MqClose, MqUnlink, MqSend, MqReceive, MqGetattr, MqSetattr, SemOpen, SemClose, SemUnlink, SemWait, SemTrywait, SemPost, SemGetvalue}
 
@@ -95,18 +94,17 @@ moved-few n p place SemClose cs some hs = few-more n cs hs
 moved-few n p place SemUnlink cs some hs = few-more n cs hs
 moved-few n p place SemGetvalue cs some hs = few-more n cs hs
 
-units_after_call-few : (n p : ℕ) (q : Question) (result : Option ℕ) (cs : List UnitCount) → 0 < n → AreFew n cs → AreFew (n + 1) (units_after_call p q result cs)
-units_after_call-few n p q None cs some hs = few-more n cs hs
-units_after_call-few n p q (Some result) cs some hs = moved-few n p q.place q.service cs some hs
+units_after_call-few : (n p : ℕ) (c : Called) (result : Option ℕ) (cs : List UnitCount) → 0 < n → AreFew n cs → AreFew (n + 1) (units_after_call p c result cs)
+units_after_call-few n p c None cs some hs = few-more n cs hs
+units_after_call-few n p c (Some result) cs some hs = moved-few n p c.place c.service cs some hs
 
 remaining_units-few : (n : ℕ) (k : KernelState) (cs : List UnitCount) → AreFew n cs → AreFew n (remaining_units k cs)
 unfolding remaining_units
 remaining_units-few n k cs hs = All-filter (is_there k) (IsFew n) cs hs
 
--- after an event
-pub after-few : (n : ℕ) (k : KernelState) (p : ℕ) (u : Process) (e : Event) (cs : List UnitCount) → 0 < n → AreFew n cs → AreFew (n + 1) (units_after k p u e cs)
-after-few n k p u local cs some hs = few-more n cs hs
-after-few n k p u (calls q) cs some hs =
-    remaining_units-few (n + 1) k (units_after_call p q (result_of u) cs) (units_after_call-few n p q (result_of u) cs some hs)
-after-few n k p u (writes bytes) cs some hs = few-more n cs hs
-after-few n k p u (ends how) cs some hs = remaining_units-few (n + 1) k cs (few-more n cs hs)
+-- after what a process did
+pub after-few : (n : ℕ) (k : KernelState) (p : ℕ) (act : Act) (cs : List UnitCount) → 0 < n → AreFew n cs → AreFew (n + 1) (units_after k p act cs)
+after-few n k p (Calls c) cs some hs =
+    remaining_units-few (n + 1) k (units_after_call p c (result_of c.outcome) cs) (units_after_call-few n p c (result_of c.outcome) cs some hs)
+after-few n k p (Writes bytes) cs some hs = few-more n cs hs
+after-few n k p (Ends how) cs some hs = remaining_units-few (n + 1) k cs (few-more n cs hs)

@@ -1,9 +1,10 @@
 -- What a call is answered.
-use Rattle.std.specs.Prelude.{ℕ, ◌-◌, ◌==◌, Bool, if◌then◌else◌, is_some, Option, Some, None, List, [], ◌∷◌, ◌++◌, codes}
+use Rattle.std.specs.Prelude.{ℕ, ◌-◌, ◌==◌, if◌then◌else◌, Option, Some, None, List, [], ◌∷◌, ◌++◌, codes, length}
 use Rattle.std.specs.List.{find}
 use Rattle.std.specs.Fmt.{decimal}
 use Rattle.lc3_machine.specs.Process.{Process as Machine, reg}
 use Rattle.ipc_names.specs.Errno.{number_of}
+use Rattle.ipc_names.specs.Flags.{o_nonblock}
 use Rattle.ipc_names.specs.declared.errno.Errno.{Errno}
 use Rattle.ipc_names.specs.declared.errno.Errno.TheVariants.{NoEntry, BadDescriptor, Again, Fault, Exists, Invalid, TooManyOpen, NoSpace, NameTooLong, Overflow, MessageSize}
 use Rattle.ipc_objects.specs.Queue.{QueueState}
@@ -12,9 +13,12 @@ use Rattle.ipc_kernel.specs.declared.process.Descriptor.{Descriptor}
 use Rattle.ipc_kernel.specs.declared.process.Slot.{Slot}
 use Rattle.ipc_kernel.specs.Kernel.{KernelState}
 use Rattle.ipc_kernel.specs.Outcomes.{open_queue, open_semaphore}
-use Rattle.lab_sched.specs.Worlds.{Process, Running, Waiting, Ended}
 use Rattle.lab_trace.specs.Words.{message_text}
 use Rattle.lab_trace.specs.Attributes.{attributes_text}
+use Rattle.lab_trace.specs.declared.answers.Given.{Given}
+use Rattle.lab_trace.specs.declared.answers.Given.TheVariants.{Nothing, Received, Attributes, Value}
+use Rattle.lab_trace.specs.declared.answers.Outcome.{Outcome}
+use Rattle.lab_trace.specs.declared.answers.Outcome.TheVariants.{Waits, Refused, Gives}
 use Rattle.lab_trace.specs.declared.service.Service.{Service}
 use Rattle.lab_trace.specs.declared.service.Service.TheVariants.{MqReceive, MqGetattr, MqSetattr, SemGetvalue}
 
@@ -40,55 +44,67 @@ errors = NoEntry ∷ BadDescriptor ∷ Again ∷ Fault ∷ Exists ∷ Invalid �
 unfoldable pub error_in : ℕ → Option Errno
 error_in result = find (λ e. result == 65536 - number_of e) errors
 
--- whether a result tells an error
-abbrev pub is_refusal : ℕ → Bool
-is_refusal result = is_some (error_in result)
-
--- the words and the priority of the message that is received
-abbrev pub received_text : List Message → List ℕ
-received_text [] = []
-received_text (m ∷ rest) = codes " " ++ message_text m.words ++ codes " prio " ++ decimal m.priority
+-- the message that is received first
+abbrev pub first_given : List Message → Given
+first_given [] = Nothing
+first_given (m ∷ rest) = Received m.words m.priority
 
 -- the message that is received through a descriptor, where one is open
-abbrev pub received_of : Option (Descriptor × QueueState) → List ℕ
-received_of None = []
-received_of (Some held) = received_text held.1.messages
+abbrev pub received_by : Option (Descriptor × QueueState) → Given
+received_by None = Nothing
+received_by (Some held) = first_given held.1.messages
+
+-- the attributes of a queue and a descriptor
+abbrev pub attributes_of : Descriptor → QueueState → Given
+attributes_of d q = Attributes (if d.nonblock then o_nonblock else 0) q.max_messages q.message_size (length q.messages)
 
 -- the attributes of an open descriptor and its queue, where one is open
-abbrev pub attributes_of : Option (Descriptor × QueueState) → List ℕ
-attributes_of None = []
-attributes_of (Some held) = attributes_text held.0 held.1
+abbrev pub attributes_by : Option (Descriptor × QueueState) → Given
+attributes_by None = Nothing
+attributes_by (Some held) = attributes_of held.0 held.1
 
 -- the value of the semaphore behind a slot, where one is open
-abbrev pub value_of : Option (Slot × ℕ) → List ℕ
-value_of None = []
-value_of (Some held) = codes " value " ++ decimal held.1
+abbrev pub value_by : Option (Slot × ℕ) → Given
+value_by None = Nothing
+value_by (Some held) = Value held.1
 
--- what a call of process p that isn't refused answers behind its result, by the kernel before it
-unfoldable pub reply_text : KernelState → ℕ → Machine → Service → List ℕ
-reply_text k p m MqReceive = received_of (open_queue k p (reg m 0))
-reply_text k p m MqGetattr = attributes_of (open_queue k p (reg m 0))
-reply_text k p m MqSetattr = if reg m 2 == 0 then [] else attributes_of (open_queue k p (reg m 0))
-reply_text k p m SemGetvalue = value_of (open_semaphore k p (reg m 0))
-reply_text k p m other = []
+-- what a call of process p that isn't refused gives beside its result, by the kernel before it
+unfoldable pub given_by : KernelState → ℕ → Machine → Service → Given
+given_by k p m MqReceive = received_by (open_queue k p (reg m 0))
+given_by k p m MqGetattr = attributes_by (open_queue k p (reg m 0))
+given_by k p m MqSetattr = if reg m 2 == 0 then Nothing else attributes_by (open_queue k p (reg m 0))
+given_by k p m SemGetvalue = value_by (open_semaphore k p (reg m 0))
+given_by k p m other = Nothing
 
--- the error, or the result and what stands behind it
-abbrev pub result_text : ℕ → Option Errno → List ℕ → List ℕ
-result_text result None reply = decimal result ++ reply
-result_text result (Some e) reply = error_name e
+-- what became of a call with this result: it tells an error, or the call gives this beside it
+abbrev pub outcome_by : ℕ → Option Errno → Given → Outcome
+outcome_by result None given = Gives result given
+outcome_by result (Some e) given = Refused e
 
--- the answer, by the process after its call; the result stands in R0
-unfoldable pub answer_text : Process → List ℕ → List ℕ
-answer_text (Running m) reply = codes " = " ++ result_text (reg m 0) (error_in (reg m 0)) reply
-answer_text (Waiting m c) reply = codes " waits"
-answer_text (Ended e) reply = []
+-- what became of a call with this result
+abbrev pub outcome_in : ℕ → Given → Outcome
+outcome_in result given = outcome_by result (error_in result) given
+
+-- what became of a call, by its result, which it has where it doesn't wait
+abbrev pub outcome_of : Option ℕ → Given → Outcome
+outcome_of None given = Waits
+outcome_of (Some result) given = outcome_in result given
 
 -- the result of a call that was answered and not refused
-abbrev pub unrefused_result : ℕ → Option ℕ
-unrefused_result result = if is_refusal result then None else Some result
+abbrev pub result_of : Outcome → Option ℕ
+result_of Waits = None
+result_of (Refused e) = None
+result_of (Gives result given) = Some result
 
--- the result of a call that was answered and not refused, by the process after it
-abbrev pub result_of : Process → Option ℕ
-result_of (Running m) = unrefused_result (reg m 0)
-result_of (Waiting m c) = None
-result_of (Ended e) = None
+-- what stands behind a result
+unfoldable pub given_text : Given → List ℕ
+given_text Nothing = []
+given_text (Received words priority) = codes " " ++ message_text words ++ codes " prio " ++ decimal priority
+given_text (Attributes flags most size count) = attributes_text flags most size count
+given_text (Value value) = codes " value " ++ decimal value
+
+-- what became of a call, in words
+unfoldable pub outcome_text : Outcome → List ℕ
+outcome_text Waits = codes "waits"
+outcome_text (Refused e) = codes "= " ++ error_name e
+outcome_text (Gives result given) = codes "= " ++ decimal result ++ given_text given

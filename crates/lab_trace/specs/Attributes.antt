@@ -1,9 +1,6 @@
 -- The attributes of a queue by their names in POSIX.1-2017, <mqueue.h>.
-use Rattle.std.specs.Prelude.{ℕ, if◌then◌else◌, List, ◌++◌, codes, length}
-use Rattle.ipc_names.specs.Flags.{o_nonblock}
+use Rattle.std.specs.Prelude.{ℕ, List, ◌++◌, codes}
 use Rattle.std.specs.Fmt.{decimal}
-use Rattle.ipc_objects.specs.Queue.{QueueState}
-use Rattle.ipc_kernel.specs.declared.process.Descriptor.{Descriptor}
 use Rattle.lab_trace.specs.Flags.{flag_word}
 
 -- the flags, by their name
@@ -30,14 +27,10 @@ sizes_text most size = codes "{" ++ most_field most ++ size_field size ++ codes 
 abbrev pub flags_text : ℕ → List ℕ
 flags_text w = codes "{" ++ flags_field w ++ codes "}"
 
--- the flags of a descriptor
-abbrev pub descriptor_field : Descriptor → List ℕ
-descriptor_field d = flags_field (if d.nonblock then o_nonblock else 0)
-
 -- the limits of a queue, and how many messages it has
-abbrev pub queue_fields : QueueState → List ℕ
-queue_fields q = most_field q.max_messages ++ size_field q.message_size ++ count_field (length q.messages)
+abbrev pub queue_fields : ℕ → ℕ → ℕ → List ℕ
+queue_fields most size count = most_field most ++ size_field size ++ count_field count
 
--- the attributes of a queue and a descriptor
-abbrev pub attributes_text : Descriptor → QueueState → List ℕ
-attributes_text d q = codes " {" ++ descriptor_field d ++ codes ", " ++ queue_fields q ++ codes "}"
+-- all attributes, which a call gives
+abbrev pub attributes_text : ℕ → ℕ → ℕ → ℕ → List ℕ
+attributes_text flags most size count = codes " {" ++ flags_field flags ++ codes ", " ++ queue_fields most size count ++ codes "}"

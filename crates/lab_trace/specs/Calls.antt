@@ -1,5 +1,5 @@
 -- A call with its arguments, as POSIX.1-2017 writes them.
-use Rattle.std.specs.Prelude.{ℕ, ◌+◌, ◌==◌, if◌then◌else◌, List, [], ◌++◌, codes, slice_index}
+use Rattle.std.specs.Prelude.{ℕ, ◌+◌, ◌==◌, if◌then◌else◌, Option, Some, None, List, [], ◌++◌, codes, slice_index}
 use Rattle.std.specs.Fmt.{decimal}
 use Rattle.lc3_machine.specs.Process.{Process as Machine, reg}
 use Rattle.ipc_names.specs.Flags.{has_flag, o_creat}
@@ -7,10 +7,10 @@ use Rattle.ipc_kernel.specs.Kernel.{KernelState}
 use Rattle.ipc_traps.specs.Names.{is_in_memory, words_at}
 use Rattle.lc3_word.specs.Words.{hexadecimal_text}
 use Rattle.lab_trace.specs.Attributes.{sizes_text, flags_text}
-use Rattle.lab_trace.specs.Words.{pointer_text, name_text, message_text}
+use Rattle.lab_trace.specs.Words.{pointer_text, name_text, bare_name_text, message_text}
 use Rattle.lab_trace.specs.Flags.{mq_flags, sem_flags}
-use Rattle.lab_trace.specs.Objects.{handle_text}
-use Rattle.lab_trace.specs.Services.{service_name}
+use Rattle.lab_trace.specs.Objects.{held_place, object_or_number, handle_text}
+use Rattle.lab_trace.specs.Services.{service_name, is_by_name}
 use Rattle.lab_trace.specs.declared.service.Service.{Service}
 use Rattle.lab_trace.specs.declared.service.Service.TheVariants.{MqOpen, MqUnlink, MqSend, MqReceive, MqGetattr, MqSetattr, SemOpen, SemUnlink, SemGetvalue}
 
@@ -61,6 +61,24 @@ arguments k p m MqUnlink = name_text m.memory (reg m 0)
 arguments k p m SemUnlink = name_text m.memory (reg m 0)
 arguments k p m s = handle_text k p s (reg m 0) ++ further_arguments m s
 
--- a call of process p
-unfoldable pub call_text : KernelState → ℕ → Machine → Service → List ℕ
-call_text k p m s = service_name s ++ codes "(" ++ arguments k p m s ++ codes ")"
+-- what a call of process p is on: its object by its name, or what stands for an object that isn't there
+abbrev pub object_called : KernelState → ℕ → Machine → Service → List ℕ
+object_called k p m s =
+    if is_by_name s then bare_name_text m.memory (reg m 0) else object_or_number k (reg m 0) (held_place k p s (reg m 0))
+
+-- the place of the object that a call of process p is on, where a descriptor or a slot stands for one
+abbrev pub place_of : KernelState → ℕ → Machine → Service → Option ℕ
+place_of k p m s = if is_by_name s then None else held_place k p s (reg m 0)
+
+-- the words in a buffer that lies in memory
+abbrev pub buffer_words : Machine → ℕ → ℕ → Option (List ℕ)
+buffer_words m at len = if is_in_memory at len then Some (words_at m.memory at len) else None
+
+-- the words that a call sends
+abbrev pub sent_words : Machine → Service → Option (List ℕ)
+sent_words m MqSend = buffer_words m (reg m 1) (reg m 2)
+sent_words m other = None
+
+-- a call with its arguments
+unfoldable pub call_text : Service → List ℕ → List ℕ
+call_text s arguments = service_name s ++ codes "(" ++ arguments ++ codes ")"

@@ -8,8 +8,8 @@ use Rattle.ipc_kernel.specs.Processes.{descriptor_of, slot_of, slot_refers}
 use Rattle.ipc_kernel.specs.declared.process.Descriptor.{Descriptor}
 use Rattle.lab_sched.specs.Worlds.{Process, Running, Waiting, Ended, WorldState}
 use Rattle.lab_texts.specs.Rows.{texts_below}
-use Rattle.lab_trace.specs.Calls.{call_text}
-use Rattle.lab_trace.specs.Objects.{held_place, level_text}
+use Rattle.lab_trace.specs.Calls.{arguments, call_text}
+use Rattle.lab_trace.specs.Objects.{held_place, level_at, level_part}
 use Rattle.lab_trace.specs.Services.{service_at}
 use Rattle.lab_trace.specs.Tallies.{TallyState, account_of}
 use Rattle.lab_trace.specs.Forms.{Form, process_text, head, line_end}
@@ -93,7 +93,7 @@ takers_part w cs place s = codes ", taken by" ++ takers_text w cs place
 abbrev pub object_part : WorldState → List UnitCount → ℕ → Service → Option ℕ → List ℕ
 object_part w cs p s None = []
 object_part w cs p s (Some place) =
-    level_text w.kernel place ++ takers_part w cs place s ++ others_title s ++ others_text w p place s
+    level_part (level_at w.kernel place) ++ takers_part w cs place s ++ others_title s ++ others_text w p place s
 
 -- since when a process waits, where that is known
 abbrev pub since_part : Option ℕ → List ℕ
@@ -104,7 +104,7 @@ since_part (Some n) = codes " since " ++ decimal n
 abbrev pub wait_text : WorldState → TallyState → ℕ → Machine → Option Service → List ℕ
 wait_text w t p m None = []
 wait_text w t p m (Some s) =
-    codes "waits" ++ since_part (account_of t p).since ++ codes " in " ++ call_text w.kernel p m s ++ codes ": "
+    codes "waits" ++ since_part (account_of t p).since ++ codes " in " ++ call_text s (arguments w.kernel p m s) ++ codes ": "
     ++ object_part w t.units p s (held_place w.kernel p s (reg m 0))
 
 -- the end of the line of process p at its program counter

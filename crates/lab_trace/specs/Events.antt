@@ -1,37 +1,80 @@
--- What a step with an effect shows.
-use Rattle.std.specs.Prelude.{ℕ, Bool, true, false, Option, Some, None, List, [], ◌∷◌, drop}
-use Rattle.lc3_machine.specs.declared.want.How.{How}
+-- What a step did, as a value.
+use Rattle.std.specs.Prelude.{ℕ, ◌||◌, if◌then◌else◌, Option, Some, None, List, [], ◌∷◌, drop}
+use Rattle.std.specs.Option.{option_and_then}
+use Rattle.lc3_machine.specs.Process.{reg}
+use Rattle.ipc_kernel.specs.Kernel.{KernelState}
 use Rattle.lab_sched.specs.Worlds.{Process, Running, Waiting, Ended}
-use Rattle.lab_trace.specs.Questions.{Question, Before}
+use Rattle.lab_trace.specs.Answers.{outcome_of, result_of}
+use Rattle.lab_trace.specs.Objects.{held_place, level_at}
+use Rattle.lab_trace.specs.Services.{is_open, is_on_level}
+use Rattle.lab_trace.specs.Origins.{origin_by}
+use Rattle.lab_trace.specs.Tallies.{TallyState, account_of}
+use Rattle.lab_trace.specs.declared.answers.Outcome.{Outcome}
+use Rattle.lab_trace.specs.declared.asking.Asking.{Asking}
+use Rattle.lab_trace.specs.declared.asking.Observed.{Observed}
+use Rattle.lab_trace.specs.declared.handles.Level.{Level}
+use Rattle.lab_trace.specs.declared.service.Service.{Service}
+use Rattle.lab_trace.specs.declared.tally.Account.{Account}
+use Rattle.lab_trace.specs.declared.told.Called.{Called}
+use Rattle.lab_trace.specs.declared.told.Act.{Act}
+use Rattle.lab_trace.specs.declared.told.Act.TheVariants.{Calls, Writes, Ends}
+use Rattle.lab_trace.specs.declared.told.Told.{Told}
+use Rattle.lab_trace.specs.declared.told.Told.TheVariants.{Counted, Shown}
 
--- a counted step, a call, bytes of output, or the end of the process
-pub data Event : Type 0 where
-  local : Event
-  calls : Question → Event
-  writes : List ℕ → Event
-  ends : How → Event
+-- the place of the object that an open opened, by its result
+abbrev pub opened_place : KernelState → ℕ → Service → Option ℕ → Option ℕ
+opened_place k p s None = None
+opened_place k p s (Some result) = held_place k p s result
+
+-- the place of the object of a call of process p, by that before it: of an open that isn't refused the one that it opened; k is
+-- the kernel after it
+abbrev pub place_by : KernelState → ℕ → Service → Option ℕ → Option ℕ → Option ℕ
+place_by k p s place result = if is_open s then opened_place k p s result else place
+
+-- the level of the object in this place after a call, which is told of an open, and of a call that can change a level
+abbrev pub level_by : KernelState → Service → Option ℕ → Option Level
+level_by k s place = if is_open s || is_on_level s then option_and_then (level_at k) place else None
+
+-- a call of process p and what became of it; k is the kernel after it, t the tally before it
+abbrev pub call_with : KernelState → TallyState → ℕ → Asking → Outcome → Called
+call_with k t p q o = record {
+  service = q.service;
+  arguments = q.arguments;
+  object = q.object;
+  place = place_by k p q.service q.place (result_of o);
+  sent = q.sent;
+  priority = q.priority;
+  outcome = o;
+  level = level_by k q.service (place_by k p q.service q.place (result_of o));
+  origin = origin_by q.service q.place (result_of o) t.origins;
+  since = (account_of t p).since;
+}
+
+-- the same by its result, which it has where it doesn't wait
+unfoldable pub call_by : KernelState → TallyState → ℕ → Asking → Option ℕ → Called
+call_by k t p q result = call_with k t p q (outcome_of result q.given)
 
 -- bytes of output, where there are any
-abbrev pub output_event : List ℕ → Event
-output_event [] = local
-output_event (b ∷ bs) = writes (b ∷ bs)
+abbrev pub wrote : List ℕ → Option Act
+wrote [] = None
+wrote (b ∷ bs) = Some (Writes (b ∷ bs))
 
--- a step that is no call, by the process after it
-abbrev pub own_event : ℕ → Process → Event
-own_event count (Running m) = output_event (drop count m.output)
-own_event count (Waiting m c) = output_event (drop count m.output)
-own_event count (Ended e) = ends e.how
+-- what a step of process p did, by its call, if it made one, how many bytes were written before it, and the process after it; a
+-- step that is only counted did nothing that is shown
+abbrev pub act_by : KernelState → TallyState → ℕ → Option Asking → ℕ → Process → Option Act
+act_by k t p (Some q) count (Running m) = Some (Calls (call_by k t p q (Some (reg m 0))))
+act_by k t p (Some q) count (Waiting m c) = Some (Calls (call_by k t p q None))
+act_by k t p (Some q) count (Ended e) = Some (Ends e.how)
+act_by k t p None count (Running m) = wrote (drop count m.output)
+act_by k t p None count (Waiting m c) = wrote (drop count m.output)
+act_by k t p None count (Ended e) = Some (Ends e.how)
 
--- a step by the call that it makes, if it makes one, and the process after it
-abbrev pub event_by : Option Question → ℕ → Process → Event
-event_by (Some q) count after = calls q
-event_by None count after = own_event count after
+-- what is told of a step that did this
+abbrev pub told_with : Observed → Account → Option Act → Told
+told_with b a None = Counted
+told_with b a (Some act) = Shown (record { pc = b.pc; word = b.word; local = a.local; act = act })
 
--- a step, by what stood before it and the process after it
-abbrev pub event_of : Before → Process → Event
-event_of b after = event_by b.asking b.written after
-
--- whether an event has a line
-abbrev pub has_line : Event → Bool
-has_line local = false
-has_line other = true
+-- what is told of a step of process p with an effect, by the process after it
+abbrev pub told_by : KernelState → TallyState → ℕ → Observed → Option Process → Told
+told_by k t p b None = Counted
+told_by k t p b (Some after) = told_with b (account_of t p) (act_by k t p b.asking b.written after)

@@ -6,10 +6,10 @@ pub mod Objects
 pub mod Calls
 pub mod Answers
 pub mod Questions
-pub mod Events
 pub mod Origins
 pub mod Units
 pub mod Tallies
+pub mod Events
 pub mod Forms
 pub mod Lines
 pub mod Scenes

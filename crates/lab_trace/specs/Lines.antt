@@ -1,38 +1,27 @@
 -- The line of a step.
-use Rattle.std.specs.Prelude.{ℕ, Bool, false, ◌||◌, if◌then◌else◌, Option, Some, None, is_some, List, [], ◌++◌, codes}
+use Rattle.std.specs.Prelude.{ℕ, Bool, false, ◌||◌, Option, Some, None, is_some, List, [], ◌++◌, codes}
 use Rattle.std.specs.Fmt.{decimal}
 use Rattle.lc3_table.specs.Text.{word_text}
 use Rattle.lc3_machine.specs.declared.want.How.{How}
-use Rattle.ipc_kernel.specs.Kernel.{KernelState}
-use Rattle.lab_sched.specs.Worlds.{Process}
 use Rattle.lab_texts.specs.Texts.{how_text}
 use Rattle.lab_trace.specs.Words.{bytes_text}
-use Rattle.lab_trace.specs.Answers.{answer_text, result_of}
-use Rattle.lab_trace.specs.Objects.{held_place, level_text}
-use Rattle.lab_trace.specs.Services.{is_open, is_on_level}
-use Rattle.lab_trace.specs.Questions.{Question, Before}
-use Rattle.lab_trace.specs.Events.{Event, local, calls, writes, ends, has_line}
-use Rattle.lab_trace.specs.Origins.{origin_by}
+use Rattle.lab_trace.specs.Answers.{outcome_text}
+use Rattle.lab_trace.specs.Calls.{call_text}
+use Rattle.lab_trace.specs.Objects.{level_text}
 use Rattle.lab_trace.specs.declared.origins.Origin.{Origin}
 use Rattle.lab_trace.specs.Forms.{Form, separator, head, line_end}
-use Rattle.lab_trace.specs.declared.tally.Account.{Account}
-use Rattle.lab_trace.specs.declared.service.Service.{Service}
-
--- the place of the object whose level is told: of an open that isn't refused the one that it opened
-abbrev pub opened_place : KernelState → ℕ → Service → Option ℕ → Option ℕ
-opened_place k p s None = None
-opened_place k p s (Some result) = held_place k p s result
-
--- the place whose level is told behind a call, if one is: that of an open, or of a call that can change a level
-unfoldable pub told_place : KernelState → ℕ → Question → Process → Option ℕ
-told_place k p q after =
-    if is_open q.service then opened_place k p q.service (result_of after) else
-    if is_on_level q.service then q.place else None
+use Rattle.lab_trace.specs.declared.handles.Level.{Level}
+use Rattle.lab_trace.specs.declared.told.Called.{Called}
+use Rattle.lab_trace.specs.declared.told.Act.{Act}
+use Rattle.lab_trace.specs.declared.told.Act.TheVariants.{Calls, Writes, Ends}
+use Rattle.lab_trace.specs.declared.told.Event.{Event}
+use Rattle.lab_trace.specs.declared.told.Told.{Told}
+use Rattle.lab_trace.specs.declared.told.Told.TheVariants.{Nothing, Counted, Shown}
 
 -- the level after the step
-abbrev pub level_note : KernelState → Option ℕ → List ℕ
-level_note k None = []
-level_note k (Some place) = separator false ++ level_text k place
+abbrev pub level_note : Option Level → List ℕ
+level_note None = []
+level_note (Some level) = separator false ++ level_text level
 
 -- that a process waited, from which step on
 unfoldable pub waited_text : ℕ → List ℕ
@@ -53,16 +42,16 @@ origin_note begun None = []
 origin_note begun (Some o) = separator begun ++ origin_text o
 
 -- the notes of a call
-abbrev pub notes : KernelState → Account → Option Origin → Option ℕ → List ℕ
-notes k a origin place = level_note k place ++ origin_note (is_some place) origin ++ wait_note (is_some place) a.since
+abbrev pub notes : Called → List ℕ
+notes c = level_note c.level ++ origin_note (is_some c.level) c.origin ++ wait_note (is_some c.level) c.since
 
 -- whether a call has notes
-abbrev pub has_notes : Account → Option Origin → Option ℕ → Bool
-has_notes a origin place = is_some place || is_some origin || is_some a.since
+abbrev pub has_notes : Called → Bool
+has_notes c = is_some c.level || is_some c.origin || is_some c.since
 
--- a call of process p; k is the kernel after it
-unfoldable pub call_line : KernelState → Account → List Origin → ℕ → Question → Process → List ℕ
-call_line k a os p q after = q.call ++ answer_text after q.reply ++ notes k a (origin_by q (result_of after) os) (told_place k p q after)
+-- a call and what became of it
+unfoldable pub called_text : Called → List ℕ
+called_text c = call_text c.service c.arguments ++ codes " " ++ outcome_text c.outcome ++ notes c
 
 -- bytes of output behind the text of the instruction that wrote them
 unfoldable pub output_text : ℕ → List ℕ → List ℕ
@@ -72,21 +61,27 @@ output_text word bytes = word_text word ++ codes " " ++ bytes_text bytes
 abbrev pub end_text : How → List ℕ
 end_text how = codes "ends " ++ how_text how
 
--- what happened
-abbrev pub event_text : KernelState → Account → List Origin → ℕ → Before → Process → Event → List ℕ
-event_text k a os p b after local = []
-event_text k a os p b after (calls q) = call_line k a os p q after
-event_text k a os p b after (writes bytes) = output_text b.word bytes
-event_text k a os p b after (ends how) = end_text how
+-- what a step did by the instruction with this word
+abbrev pub act_text : ℕ → Act → List ℕ
+act_text word (Calls c) = called_text c
+act_text word (Writes bytes) = output_text word bytes
+act_text word (Ends how) = end_text how
 
--- whether notes stand behind what happened
-abbrev pub is_noted : KernelState → Account → List Origin → ℕ → Process → Event → Bool
-is_noted k a os p after (calls q) = has_notes a (origin_by q (result_of after) os) (told_place k p q after)
-is_noted k a os p after other = false
+-- whether notes stand behind what a step did
+abbrev pub is_noted : Act → Bool
+is_noted (Calls c) = has_notes c
+is_noted other = false
 
--- the line of process p in step n, where its event has one
-abbrev pub event_line : Form → ℕ → KernelState → Account → List Origin → ℕ → Before → Process → Event → List ℕ
-event_line v n k a os p b after e =
-    if has_line e
-    then head v (decimal n) p b.pc a.local ++ event_text k a os p b after e ++ line_end v (is_noted k a os p after e) p b.pc b.word
-    else []
+-- the columns of an event in step n, of process p
+abbrev pub columns : Form → ℕ → ℕ → Event → List ℕ
+columns v n p e = head v (decimal n) p e.pc e.local
+
+-- the line of an event in step n, of process p
+abbrev pub event_line : Form → ℕ → ℕ → Event → List ℕ
+event_line v n p e = columns v n p e ++ act_text e.word e.act ++ line_end v (is_noted e.act) p e.pc e.word
+
+-- the line of step n, of process p, by what is told of it; nothing where that is no event
+abbrev pub step_line : Form → ℕ → ℕ → Told → List ℕ
+step_line v n p Nothing = []
+step_line v n p Counted = []
+step_line v n p (Shown e) = event_line v n p e

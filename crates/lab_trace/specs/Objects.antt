@@ -2,7 +2,6 @@
 use Rattle.std.specs.Prelude.{ℕ, if◌then◌else◌, Option, Some, None, List, [], ◌++◌, codes, length}
 use Rattle.std.specs.Option.{option_map}
 use Rattle.std.specs.Fmt.{decimal}
-use Rattle.ipc_objects.specs.Queue.{QueueState}
 use Rattle.ipc_kernel.specs.Kernel.{KernelState}
 use Rattle.ipc_kernel.specs.Places.{place_at}
 use Rattle.ipc_kernel.specs.Processes.{descriptor_of, slot_of}
@@ -11,6 +10,8 @@ use Rattle.ipc_kernel.specs.declared.place.Place.TheVariants.{Empty, Mq, Sem}
 use Rattle.lab_trace.specs.Words.{signed_text}
 use Rattle.lab_trace.specs.Services.{is_on_queues}
 use Rattle.lab_trace.specs.declared.service.Service.{Service}
+use Rattle.lab_trace.specs.declared.handles.Level.{Level}
+use Rattle.lab_trace.specs.declared.handles.Level.TheVariants.{Messages, Value}
 
 -- the place of the object that a number of process p stands for: a descriptor's for a call on queues, else a slot's
 unfoldable pub held_place : KernelState → ℕ → Service → ℕ → Option ℕ
@@ -38,16 +39,27 @@ behind_text k (Some place) = codes "<" ++ object_text place (place_at k.places p
 unfoldable pub handle_text : KernelState → ℕ → Service → ℕ → List ℕ
 handle_text k p s number = signed_text number ++ behind_text k (held_place k p s number)
 
--- how many messages a queue has, of how many
-abbrev pub fill_text : QueueState → List ℕ
-fill_text q = decimal (length q.messages) ++ codes " of " ++ decimal q.max_messages
+-- the object behind a number, where it is open, else the number
+abbrev pub object_or_number : KernelState → ℕ → Option ℕ → List ℕ
+object_or_number k number None = signed_text number
+object_or_number k number (Some place) = object_text place (place_at k.places place)
 
--- the level of an object: the messages of a queue, or the value of a semaphore
-abbrev pub level_of : Place → List ℕ
-level_of Empty = []
-level_of (Mq name queue) = fill_text queue
-level_of (Sem name value) = codes "value " ++ decimal value
+-- the level of an object: how many messages a queue has, of how many, or the value of a semaphore
+abbrev pub level_of : Place → Option Level
+level_of Empty = None
+level_of (Mq name queue) = Some (Messages (length queue.messages) queue.max_messages)
+level_of (Sem name value) = Some (Value value)
 
 -- the level of the object in a place
-unfoldable pub level_text : KernelState → ℕ → List ℕ
-level_text k place = level_of (place_at k.places place)
+unfoldable pub level_at : KernelState → ℕ → Option Level
+level_at k place = level_of (place_at k.places place)
+
+-- a level in words
+abbrev pub level_text : Level → List ℕ
+level_text (Messages count most) = decimal count ++ codes " of " ++ decimal most
+level_text (Value value) = codes "value " ++ decimal value
+
+-- the level of an object, where there is one
+abbrev pub level_part : Option Level → List ℕ
+level_part None = []
+level_part (Some level) = level_text level

@@ -3,9 +3,11 @@ use Rattle.std.specs.Prelude.{ℕ, ◌==◌, ◌&&◌, nat_lt, not, Bool, if◌t
 use Rattle.std.specs.List.{find, filter, insert, remove, position_or_len}
 use Rattle.ipc_kernel.specs.Kernel.{KernelState}
 use Rattle.ipc_kernel.specs.Outcomes.{queue_at}
-use Rattle.lab_trace.specs.Objects.{held_place}
-use Rattle.lab_trace.specs.Questions.{Question}
+use Rattle.lab_trace.specs.Answers.{result_of}
 use Rattle.lab_trace.specs.declared.origins.Origin.{Origin}
+use Rattle.lab_trace.specs.declared.told.Called.{Called}
+use Rattle.lab_trace.specs.declared.told.Act.{Act}
+use Rattle.lab_trace.specs.declared.told.Act.TheVariants.{Calls}
 use Rattle.lab_trace.specs.declared.service.Service.{Service}
 use Rattle.lab_trace.specs.declared.service.Service.TheVariants.{MqOpen, MqSend, MqReceive}
 
@@ -49,16 +51,21 @@ origins_after_receive None os = os
 origins_after_receive (Some place) os = origins_without_first place os
 
 -- after a call of process p in step n that was answered and not refused; k is the kernel after it
-abbrev pub origins_after_success : KernelState → ℕ → ℕ → Question → Service → ℕ → List Origin → List Origin
-origins_after_success k n p q MqOpen result os = origins_after_open k (held_place k p MqOpen result) os
-origins_after_success k n p q MqSend result os = origins_after_send n p q.priority q.place os
-origins_after_success k n p q MqReceive result os = origins_after_receive q.place os
-origins_after_success k n p q other result os = os
+abbrev pub origins_after_success : KernelState → ℕ → ℕ → Called → Service → List Origin → List Origin
+origins_after_success k n p c MqOpen os = origins_after_open k c.place os
+origins_after_success k n p c MqSend os = origins_after_send n p c.priority c.place os
+origins_after_success k n p c MqReceive os = origins_after_receive c.place os
+origins_after_success k n p c other os = os
 
 -- after a call of process p in step n; one that waits or was refused changes nothing
-abbrev pub origins_after_call : KernelState → ℕ → ℕ → Question → Option ℕ → List Origin → List Origin
-origins_after_call k n p q None os = os
-origins_after_call k n p q (Some result) os = origins_after_success k n p q q.service result os
+abbrev pub origins_after_call : KernelState → ℕ → ℕ → Called → Option ℕ → List Origin → List Origin
+origins_after_call k n p c None os = os
+origins_after_call k n p c (Some result) os = origins_after_success k n p c c.service os
+
+-- after what process p did in step n; k is the kernel after it
+abbrev pub origins_after : KernelState → ℕ → ℕ → Act → List Origin → List Origin
+origins_after k n p (Calls c) os = origins_after_call k n p c (result_of c.outcome) os
+origins_after k n p other os = os
 
 -- the message that is received first from the queue in a place, where there is one
 abbrev pub first_in : Option ℕ → List Origin → Option Origin
@@ -70,7 +77,7 @@ abbrev pub origin_in : Service → Option ℕ → List Origin → Option Origin
 origin_in MqReceive place os = first_in place os
 origin_in other place os = None
 
--- where the message comes from that a call received
-abbrev pub origin_by : Question → Option ℕ → List Origin → Option Origin
-origin_by q None os = None
-origin_by q (Some result) os = origin_in q.service q.place os
+-- where the message comes from that a call with this result received, if it isn't refused
+abbrev pub origin_by : Service → Option ℕ → Option ℕ → List Origin → Option Origin
+origin_by s place None os = None
+origin_by s place (Some result) os = origin_in s place os

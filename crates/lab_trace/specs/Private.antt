@@ -1,4 +1,3 @@
 -- Definitions that only contracts inside the crate cite.
-pub mod Observed
 pub mod Faults
 pub mod Room

@@ -1,36 +1,34 @@
 -- What a trace looks at before a step.
-use Rattle.std.specs.Prelude.{ℕ, Option, List, length, slice_index}
+use Rattle.std.specs.Prelude.{ℕ, Option, Some, None, length, slice_index}
 use Rattle.std.specs.Option.{option_map}
 use Rattle.lc3_machine.specs.Process.{Process as Machine, reg}
 use Rattle.ipc_kernel.specs.Kernel.{KernelState}
-use Rattle.lab_trace.specs.Answers.{reply_text}
-use Rattle.lab_trace.specs.Calls.{call_text}
-use Rattle.lab_trace.specs.Objects.{held_place}
+use Rattle.lab_sched.specs.Worlds.{Process, machine_of}
+use Rattle.lab_trace.specs.Answers.{given_by}
+use Rattle.lab_trace.specs.Calls.{arguments, object_called, place_of, sent_words}
 use Rattle.lab_trace.specs.Services.{service_at}
+use Rattle.lab_trace.specs.declared.asking.Asking.{Asking}
+use Rattle.lab_trace.specs.declared.asking.Observed.{Observed}
 use Rattle.lab_trace.specs.declared.service.Service.{Service}
 
--- a call that a process is about to make: its text, what stands behind its result, the place of its object, and the priority
--- of a message that is sent
-pub record Question : Type 0 where
-  pub service : Service
-  pub call : List ℕ
-  pub reply : List ℕ
-  pub place : Option ℕ
-  pub priority : ℕ
+-- a call that process p is about to make: by its words, by what it is on, and by what it gives where it isn't refused
+abbrev pub question : KernelState → ℕ → Machine → Service → Asking
+question k p m s = record {
+  service = s;
+  arguments = arguments k p m s;
+  object = object_called k p m s;
+  place = place_of k p m s;
+  sent = sent_words m s;
+  priority = reg m 3;
+  given = given_by k p m s;
+}
 
--- a call of process p
-abbrev pub question : KernelState → ℕ → Machine → Service → Question
-question k p m s =
-    record { service = s; call = call_text k p m s; reply = reply_text k p m s; place = held_place k p s (reg m 0); priority = reg m 3 }
-
--- a process before its step: its program counter, the word there, how many bytes it has written, and its call
-pub record Before : Type 0 where
-  pub pc : ℕ
-  pub word : ℕ
-  pub written : ℕ
-  pub asking : Option Question
-
--- process p before its step, by its machine
-abbrev pub before : KernelState → ℕ → Machine → Before
+-- process p before its step, by its machine: its program counter, the word there, how many bytes it has written, and its call
+abbrev pub before : KernelState → ℕ → Machine → Observed
 before k p m =
     record { pc = m.pc; word = slice_index m.memory m.pc; written = length m.output; asking = option_map (question k p m) (service_at m) }
+
+-- process p before its step
+abbrev pub before_in : KernelState → ℕ → Option Process → Observed
+before_in k p None = record { pc = 0; word = 0; written = 0; asking = None }
+before_in k p (Some s) = before k p (machine_of s)

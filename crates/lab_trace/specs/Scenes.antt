@@ -1,15 +1,17 @@
 -- The steps of a schedule, one after another, as a trace goes through them.
-use Rattle.std.specs.Prelude.{◌≡◌, ℕ, ◌+◌, Bool, true, false, if◌then◌else◌, Option, Some, None, List, [], ◌∷◌, ◌++◌, length, slice_get}
-use Rattle.ipc_kernel.specs.Kernel.{KernelState}
-use Rattle.lab_sched.specs.Worlds.{Process, WorldState, step_effect_in, step, machine_of}
+use Rattle.std.specs.Prelude.{◌≡◌, ℕ, ◌+◌, Bool, true, false, if◌then◌else◌, List, [], ◌∷◌, ◌++◌, length, slice_get}
+use Rattle.lab_sched.specs.Worlds.{WorldState, step_effect_in, step}
 use Rattle.lab_sched.specs.Held.{stepped_of}
 use Rattle.lab_sched.specs.declared.stepped.Stepped.{Stepped}
 use Rattle.lab_sched.specs.declared.stepped.Stepped.TheVariants.{Same}
-use Rattle.lab_trace.specs.Questions.{Before, before}
-use Rattle.lab_trace.specs.Events.{event_of}
-use Rattle.lab_trace.specs.Tallies.{TallyState, new_tally, account_of, tally_after, AreBelow}
+use Rattle.lab_trace.specs.Questions.{before_in}
+use Rattle.lab_trace.specs.Events.{told_by}
+use Rattle.lab_trace.specs.Tallies.{TallyState, new_tally, tally_after, AreBelow}
 use Rattle.lab_trace.specs.Units.{AreFew}
-use Rattle.lab_trace.specs.Lines.{event_line}
+use Rattle.lab_trace.specs.Lines.{step_line}
+use Rattle.lab_trace.specs.declared.asking.Observed.{Observed}
+use Rattle.lab_trace.specs.declared.told.Told.{Told}
+use Rattle.lab_trace.specs.declared.told.Told.TheVariants.{Nothing}
 use Rattle.lab_trace.specs.Forms.{Form}
 
 -- the number of the next step, the world before it, and the tally
@@ -31,38 +33,24 @@ abbrev pub has_effect : Stepped → Bool
 has_effect Same = false
 has_effect other = true
 
--- process p before its step
-abbrev pub before_in : KernelState → ℕ → Option Process → Before
-before_in k p None = record { pc = 0; word = 0; written = 0; asking = None }
-before_in k p (Some s) = before k p (machine_of s)
-
--- the line of step n of process p, by the process after it; k is the kernel after it
-abbrev pub line_by : Form → ℕ → KernelState → TallyState → ℕ → Before → Option Process → List ℕ
-line_by v n k t p b None = []
-line_by v n k t p b (Some after) = event_line v n k (account_of t p) t.origins p b after (event_of b after)
-
--- the tally after step n of process p, by the process after it; k is the kernel after it
-abbrev pub tally_by : ℕ → KernelState → TallyState → ℕ → Before → Option Process → TallyState
-tally_by n k t p b None = t
-tally_by n k t p b (Some after) = tally_after k n p after (event_of b after) t
-
 -- process p before the next step of a scene
-abbrev pub before_at : Scene → ℕ → Before
+abbrev pub before_at : Scene → ℕ → Observed
 before_at s p = before_in s.world.kernel p (slice_get s.world.processes p)
 
--- the line of the next step, of process p, or nothing
-unfoldable pub line : Form → Scene → ℕ → List ℕ
-line v s p =
+-- what is told of the next step, of process p
+unfoldable pub told : Scene → ℕ → Told
+told s p =
     if has_effect (stepped_of (step_effect_in s.world p))
-    then line_by v s.number (step s.world p).kernel s.tally p (before_at s p) (slice_get (step s.world p).processes p)
-    else []
+    then told_by (step s.world p).kernel s.tally p (before_at s p) (slice_get (step s.world p).processes p)
+    else Nothing
+
+-- the line of the next step, of process p, or nothing
+abbrev pub line : Form → Scene → ℕ → List ℕ
+line v s p = step_line v s.number p (told s p)
 
 -- the tally after the next step, of process p
-unfoldable pub next_tally : Scene → ℕ → TallyState
-next_tally s p =
-    if has_effect (stepped_of (step_effect_in s.world p))
-    then tally_by s.number (step s.world p).kernel s.tally p (before_at s p) (slice_get (step s.world p).processes p)
-    else s.tally
+abbrev pub next_tally : Scene → ℕ → TallyState
+next_tally s p = tally_after (step s.world p).kernel s.number p (told s p) s.tally
 
 -- the scene after the next step, of process p
 abbrev pub next : Scene → ℕ → Scene

@@ -70,6 +70,14 @@ is_open MqOpen = true
 is_open SemOpen = true
 is_open other = false
 
+-- whether a call names its object in memory, and not by a descriptor or a slot
+abbrev pub is_by_name : Service → Bool
+is_by_name MqOpen = true
+is_by_name MqUnlink = true
+is_by_name SemOpen = true
+is_by_name SemUnlink = true
+is_by_name other = false
+
 -- whether a call can change the messages of a queue or the value of a semaphore that is open
 abbrev pub is_on_level : Service → Bool
 is_on_level MqSend = true

@@ -3,7 +3,10 @@ use Rattle.std.specs.Prelude.{ℕ, ◌+◌, ◌-◌, ◌<◌, ◌==◌, ◌&&◌
 use Rattle.std.specs.List.{find}
 use Rattle.ipc_kernel.specs.Kernel.{KernelState}
 use Rattle.ipc_kernel.specs.Places.{place_at, semaphore_value}
-use Rattle.lab_trace.specs.Questions.{Question}
+use Rattle.lab_trace.specs.Answers.{result_of}
+use Rattle.lab_trace.specs.declared.told.Called.{Called}
+use Rattle.lab_trace.specs.declared.told.Act.{Act}
+use Rattle.lab_trace.specs.declared.told.Act.TheVariants.{Calls, Writes, Ends}
 use Rattle.lab_trace.specs.declared.units.UnitCount.{UnitCount}
 use Rattle.lab_trace.specs.declared.service.Service.{Service}
 use Rattle.lab_trace.specs.declared.service.Service.TheVariants.{SemWait, SemTrywait, SemPost}
@@ -67,9 +70,15 @@ units_after_success p place SemPost cs = units_after_post p place cs
 units_after_success p place other cs = cs
 
 -- after a call of process p; one that waits or was refused moves no unit
-abbrev pub units_after_call : ℕ → Question → Option ℕ → List UnitCount → List UnitCount
-units_after_call p q None cs = cs
-units_after_call p q (Some result) cs = units_after_success p q.place q.service cs
+abbrev pub units_after_call : ℕ → Called → Option ℕ → List UnitCount → List UnitCount
+units_after_call p c None cs = cs
+units_after_call p c (Some result) cs = units_after_success p c.place c.service cs
+
+-- after what process p did; k is the kernel after it
+abbrev pub units_after : KernelState → ℕ → Act → List UnitCount → List UnitCount
+units_after k p (Calls c) cs = remaining_units k (units_after_call p c (result_of c.outcome) cs)
+units_after k p (Writes bytes) cs = cs
+units_after k p (Ends how) cs = remaining_units k cs
 
 -- the most units that a count tells of a process: it has 32 bits
 abbrev pub most_units : ℕ

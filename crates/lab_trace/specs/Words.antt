@@ -43,9 +43,18 @@ abbrev pub name_of : List ℕ → ℕ → Option ℕ → List ℕ
 name_of memory at None = hexadecimal_text at
 name_of memory at (Some len) = string_text (words_at memory at len)
 
+-- the same without quotation marks
+abbrev pub bare_name_of : List ℕ → ℕ → Option ℕ → List ℕ
+bare_name_of memory at None = hexadecimal_text at
+bare_name_of memory at (Some len) = flat_map character_text (words_at memory at len)
+
 -- the name at an address
 abbrev pub name_text : List ℕ → ℕ → List ℕ
 name_text memory at = name_of memory at (name_end memory at)
+
+-- the same without quotation marks
+abbrev pub bare_name_text : List ℕ → ℕ → List ℕ
+bare_name_text memory at = bare_name_of memory at (name_end memory at)
 
 -- a word behind a blank
 abbrev pub further_word : ℕ → List ℕ

@@ -1,18 +1,22 @@
 //! A call with its arguments.
-ghost use Rattle.std.specs.Prelude.{◌≡◌, ◌<◌, ◌++◌, OnOk, length, string_bytes};
+ghost use Rattle.std.specs.Prelude.{◌≡◌, ◌<◌, ◌++◌, OnOk, IfOk, length, string_bytes};
 ghost use Rattle.lab_sched.specs.Held.{process_view};
 ghost use Rattle.lab_sched.specs.Worlds.{machine_of};
 ghost use Rattle.lab_trace.specs.declared.service.Service.TheVariants.{MqSend, MqReceive};
-ghost use Rattle.lab_trace.specs.Calls.{attributes_asked, mq_open_arguments, sem_open_arguments, flags_asked, further_arguments, arguments, call_text};
+ghost use Rattle.lab_trace.specs.Calls.{attributes_asked, mq_open_arguments, sem_open_arguments, flags_asked, further_arguments, arguments, call_text, object_called, place_of, buffer_words, sent_words};
 
 use crate::attributes::{push_flags, push_sizes};
 use crate::flags::{has_flag, push_mq_flags, push_sem_flags};
-use crate::handles::push_handle;
+use crate::handles::{held_place, push_handle, push_object_or_number};
 use crate::message::push_buffer;
 use crate::service::Service;
-use crate::words::{is_in_memory, push_address, push_name, push_pointer, register};
+use crate::text::Text;
+use crate::words::{
+    is_in_memory, push_address, push_bare_name, push_name, push_pointer, read_words, register,
+};
 use ipc_kernel::Kernel;
 use ipc_names::O_CREAT;
+use ipc_objects::Words;
 use lab_sched::Process;
 use std::alloc::{AllocError, Global};
 
@@ -167,22 +171,101 @@ fn push_arguments(
     }
 }
 
-/// Adds a call of process `pid`.
-#[tactic(auto, unfolding(crate::specs::Calls::call_text))]
-pub fn push_call(
+/// The arguments of a call of process `pid`.
+pub fn arguments_of(
     alloc: Global,
-    text: &mut String,
     kernel: &Kernel,
     pid: usize,
     process: &Process,
     service: Service,
-) -> Result<(), AllocError>
+) -> Result<Text, AllocError>
     requires process { pid < length kernel.now.processes }
+    ensures text { IfOk result (λ t. t
+        ≡ arguments kernel.now pid (machine_of (process_view process.now)) service) }
+{
+    let mut text = String::new(alloc);
+    push_arguments(alloc, &mut text, kernel, pid, process, service)?;
+    Ok(Text::new(text))
+}
+
+/// Adds a call with its arguments.
+#[tactic(auto, unfolding(crate::specs::Calls::call_text))]
+pub fn push_call(text: &mut String, service: Service, arguments: &Text) -> Result<(), AllocError>
     ensures text { OnOk result (string_bytes text.new ≡ string_bytes text.old
-        ++ call_text kernel.now pid (machine_of (process_view process.now)) service) }
+        ++ call_text service arguments.now) }
 {
     text.push_str(service.name())?;
     text.push_str("(")?;
-    push_arguments(alloc, text, kernel, pid, process, service)?;
+    text.push_str(arguments.as_str())?;
     text.push_str(")")
+}
+
+/// What a call of process `pid` is on, by a name where there is one.
+pub fn object_called(
+    alloc: Global,
+    kernel: &Kernel,
+    pid: usize,
+    process: &Process,
+    service: Service,
+) -> Result<Text, AllocError>
+    requires process { pid < length kernel.now.processes }
+    ensures text { IfOk result (λ t. t
+        ≡ object_called kernel.now pid (machine_of (process_view process.now)) service) }
+{
+    let mut text = String::new(alloc);
+    let first = register(process, 0);
+    if service.is_by_name() {
+        push_bare_name(alloc, &mut text, process, first)?;
+    } else {
+        let place = held_place(kernel, pid, service, first);
+        push_object_or_number(&mut text, kernel, first, place)?;
+    }
+    Ok(Text::new(text))
+}
+
+/// The place of the object that a call of process `pid` is on, where a descriptor or a slot stands for one.
+pub fn place_of(kernel: &Kernel, pid: usize, process: &Process, service: Service) -> Option<u8>
+    requires process { pid < length kernel.now.processes }
+    ensures place { result
+        ≡ place_of kernel.now pid (machine_of (process_view process.now)) service }
+{
+    if service.is_by_name() {
+        None
+    } else {
+        held_place(kernel, pid, service, register(process, 0))
+    }
+}
+
+/// The words in a buffer of a process that lies in memory.
+fn buffer_words(
+    alloc: Global,
+    process: &Process,
+    at: u16,
+    len: u16,
+) -> Result<Option<Words>, AllocError>
+    ensures words { IfOk result (λ w. w
+        ≡ buffer_words (machine_of (process_view process.now)) at len) }
+{
+    if !is_in_memory(at, len) {
+        return Ok(None);
+    }
+    let words = read_words(alloc, process, at, len)?;
+    Ok(Some(Words::from_vec(words)?))
+}
+
+/// The words that a call sends.
+pub fn sent_words(
+    alloc: Global,
+    process: &Process,
+    service: Service,
+) -> Result<Option<Words>, AllocError>
+    ensures words { IfOk result (λ w. w
+        ≡ sent_words (machine_of (process_view process.now)) service) }
+{
+    match service {
+        Service::MqSend => {
+            buffer_words(alloc, process, register(process, 1), register(process, 2))
+        }
+        _ => Ok(None),
+    }
 }

@@ -2,16 +2,15 @@
 ghost use Rattle.std.specs.Prelude.{◌≡◌, ◌<◌, IfOk, length, slice_get};
 ghost use Rattle.lab_sched.specs.Held.{process_view};
 ghost use Rattle.lab_sched.specs.Worlds.{machine_of};
-ghost use Rattle.lab_trace.specs.Questions.{question, before};
-ghost use Rattle.lab_trace.specs.Private.Observed.{question_of, before_of};
-ghost use Rattle.lab_trace.specs.Scenes.{before_in};
+ghost use Rattle.lab_trace.specs.Questions.{question, before, before_in};
 
-use crate::answers::push_reply;
-use crate::arguments::push_call;
-use crate::handles::held_place;
+use crate::answers::{Given, given_by};
+use crate::arguments::{arguments_of, object_called, place_of, sent_words};
 use crate::service::{Service, service_at};
+use crate::text::Text;
 use crate::words::register;
 use ipc_kernel::Kernel;
+use ipc_objects::Words;
 use lab_sched::{Process, World};
 use std::alloc::{AllocError, Global};
 
@@ -19,14 +18,18 @@ use std::alloc::{AllocError, Global};
 #[derive(Drop)]
 pub struct Asking {
     pub service: Service,
-    /// The call with its arguments.
-    pub call: String,
-    /// What stands behind the result where the call isn't refused.
-    pub reply: String,
-    /// The place of the object that it is on.
+    /// Its arguments, as a trace writes them.
+    pub arguments: Text,
+    /// What it is on, by a name where there is one.
+    pub object: Text,
+    /// The place of the object that a descriptor or a slot stands for.
     pub place: Option<u8>,
-    /// The priority of a message that is sent.
+    /// The words of a message that it sends, where they lie in memory.
+    pub sent: Option<Words>,
+    /// R3, of mq_send the priority.
     pub priority: u16,
+    /// What it gives where it isn't refused.
+    pub given: Given,
 }
 
 /// A process before its step.
@@ -50,20 +53,17 @@ fn asking_of(
     service: Service,
 ) -> Result<Asking, AllocError>
     requires process { pid < length kernel.now.processes }
-    ensures question { IfOk result (λ a. question_of a
+    ensures question { IfOk result (λ a. a
         ≡ question kernel.now pid (machine_of (process_view process.now)) service) }
 {
-    let mut call = String::new(alloc);
-    push_call(alloc, &mut call, kernel, pid, process, service)?;
-    let mut reply = String::new(alloc);
-    push_reply(&mut reply, kernel, pid, process, service)?;
-    let place = held_place(kernel, pid, service, register(process, 0));
     Ok(Asking {
         service,
-        call,
-        reply,
-        place,
+        arguments: arguments_of(alloc, kernel, pid, process, service)?,
+        object: object_called(alloc, kernel, pid, process, service)?,
+        place: place_of(kernel, pid, process, service),
+        sent: sent_words(alloc, process, service)?,
         priority: register(process, 3),
+        given: given_by(kernel, pid, process, service)?,
     })
 }
 
@@ -75,7 +75,7 @@ fn observed_of(
     process: &Process,
 ) -> Result<Observed, AllocError>
     requires process { pid < length kernel.now.processes }
-    ensures before { IfOk result (λ o. before_of o
+    ensures before { IfOk result (λ o. o
         ≡ before kernel.now pid (machine_of (process_view process.now))) }
 {
     let asking = match service_at(process) {
@@ -94,7 +94,7 @@ fn observed_of(
 /// Process `pid` of a world before its step.
 pub fn observe(alloc: Global, world: &World, pid: usize) -> Result<Observed, AllocError>
     requires process { pid < length world.now.processes }
-    ensures before { IfOk result (λ o. before_of o
+    ensures before { IfOk result (λ o. o
         ≡ before_in world.now.kernel pid (slice_get world.now.processes pid)) }
 {
     let kernel = world.kernel();

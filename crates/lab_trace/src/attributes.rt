@@ -1,11 +1,8 @@
 //! The attributes of a queue by their names.
 ghost use Rattle.std.specs.Prelude.{◌≡◌, ◌++◌, OnOk, string_bytes};
-ghost use Rattle.lab_trace.specs.Attributes.{flags_field, most_field, size_field, count_field, sizes_text, flags_text, descriptor_field, queue_fields, attributes_text};
+ghost use Rattle.lab_trace.specs.Attributes.{flags_field, most_field, size_field, count_field, sizes_text, flags_text, queue_fields, attributes_text};
 
 use crate::flags::push_flag_word;
-use ipc_kernel::Descriptor;
-use ipc_names::O_NONBLOCK;
-use ipc_objects::Queue;
 use std::alloc::AllocError;
 
 /// Adds mq_flags.
@@ -73,37 +70,30 @@ pub fn push_flags(text: &mut String, word: u16) -> Result<(), AllocError>
     text.push_str("}")
 }
 
-/// Adds the flags of a descriptor.
-fn push_descriptor(text: &mut String, held: Descriptor) -> Result<(), AllocError>
-    ensures text { OnOk result (string_bytes text.new ≡ string_bytes text.old
-        ++ descriptor_field held) }
-{
-    if held.nonblock {
-        push_flags_field(text, O_NONBLOCK)
-    } else {
-        push_flags_field(text, 0)
-    }
-}
-
 /// Adds the limits of a queue, and how many messages it has.
-fn push_queue(text: &mut String, queue: &Queue) -> Result<(), AllocError>
+fn push_queue(text: &mut String, most: u16, size: u16, count: u16) -> Result<(), AllocError>
     ensures text { OnOk result (string_bytes text.new ≡ string_bytes text.old
-        ++ queue_fields queue.now) }
+        ++ queue_fields most size count) }
 {
-    let (most, size, count) = queue.attr();
     push_most(text, most)?;
     push_size(text, size)?;
     push_count(text, count)
 }
 
-/// Adds the attributes of a queue and a descriptor.
-pub fn push_attributes(text: &mut String, held: Descriptor, queue: &Queue) -> Result<(), AllocError>
+/// Adds all attributes, which a call gives.
+pub fn push_attributes(
+    text: &mut String,
+    flags: u16,
+    most: u16,
+    size: u16,
+    count: u16,
+) -> Result<(), AllocError>
     ensures text { OnOk result (string_bytes text.new ≡ string_bytes text.old
-        ++ attributes_text held queue.now) }
+        ++ attributes_text flags most size count) }
 {
     text.push_str(" {")?;
-    push_descriptor(text, held)?;
+    push_flags_field(text, flags)?;
     text.push_str(", ")?;
-    push_queue(text, queue)?;
+    push_queue(text, most, size, count)?;
     text.push_str("}")
 }

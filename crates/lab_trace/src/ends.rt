@@ -5,9 +5,9 @@ ghost use Rattle.lab_sched.specs.Worlds.{machine_of};
 ghost use Rattle.lab_trace.specs.Services.{service_at};
 ghost use Rattle.lab_trace.specs.Ends.{object_part, since_part, wait_text, stand, stand_line, end_lines};
 
-use crate::arguments::push_call;
+use crate::arguments::{arguments_of, push_call};
 use crate::form::Form;
-use crate::handles::{held_place, push_level};
+use crate::handles::{held_place, level_at, push_level_part};
 use crate::others::{others_title, push_others};
 use crate::service::{Service, service_at};
 use crate::takers::push_takers;
@@ -32,7 +32,7 @@ fn push_object(
     let Some(place) = place else {
         return Ok(());
     };
-    push_level(text, world.kernel(), place)?;
+    push_level_part(text, level_at(world.kernel(), place))?;
     push_takers(alloc, text, world, tally, place, service)?;
     text.push_str(others_title(service))?;
     push_others(alloc, text, world, pid, place, service)
@@ -72,7 +72,8 @@ fn push_wait(
     text.push_str("waits")?;
     push_since(text, tally.account(pid).since)?;
     text.push_str(" in ")?;
-    push_call(alloc, text, kernel, pid, process, service)?;
+    let arguments = arguments_of(alloc, kernel, pid, process, service)?;
+    push_call(text, service, &arguments)?;
     text.push_str(": ")?;
     let place = held_place(kernel, pid, service, register(process, 0));
     push_object(alloc, text, world, tally, pid, service, place)

@@ -3,14 +3,22 @@ ghost use Rattle.std.specs.Prelude.{◌≡◌, ◌<◌, ◌++◌, OnOk, IfSome, 
 ghost use Rattle.std.specs.Option.{option_copied};
 ghost use Rattle.ipc_kernel.specs.Limits.{object_places};
 ghost use Rattle.ipc_kernel.specs.Places.{place_at};
-ghost use Rattle.lab_trace.specs.Objects.{held_place, named_text, object_text, behind_text, handle_text, fill_text, level_text};
+ghost use Rattle.lab_trace.specs.Objects.{held_place, named_text, object_text, behind_text, handle_text, object_or_number, level_at, level_text, level_part};
 
 use crate::service::Service;
 use crate::words::push_signed;
 use ipc_kernel::Kernel;
 use ipc_names::Name;
-use ipc_objects::Queue;
 use std::alloc::AllocError;
+
+/// The level of an object.
+#[derive(Clone, Copy, Debug, PartialEq, Eq)]
+pub enum Level {
+    /// How many messages a queue has, and the most that it can have.
+    Messages { count: u16, most: u16 },
+    /// The value of a semaphore.
+    Value(u16),
+}
 
 /// The place of the object that a number of process `pid` stands for: a descriptor's for a call on queues, else a
 /// slot's.
@@ -91,32 +99,57 @@ pub fn push_handle(
     push_behind(text, kernel, held_place(kernel, pid, service, number))
 }
 
-/// Adds how many messages a queue has, of how many.
-fn push_fill(text: &mut String, queue: &Queue) -> Result<(), AllocError>
+/// Adds the object behind a number, where it is open, else the number.
+pub fn push_object_or_number(
+    text: &mut String,
+    kernel: &Kernel,
+    number: u16,
+    place: Option<u8>,
+) -> Result<(), AllocError>
     ensures text { OnOk result (string_bytes text.new ≡ string_bytes text.old
-        ++ fill_text queue.now) }
+        ++ object_or_number kernel.now number place) }
 {
-    let (most, _, count) = queue.attr();
-    match write!(text, "{count} of {most}") {
+    match place {
+        Some(place) => push_object(text, kernel, place),
+        None => push_signed(text, number),
+    }
+}
+
+/// The level of the object in a place.
+#[tactic(auto, unfolding(crate::specs::Objects::level_at))]
+pub fn level_at(kernel: &Kernel, place: u8) -> Option<Level>
+    ensures level { result ≡ level_at kernel.now place }
+{
+    if let Some((_, queue)) = kernel.queue_at(place) {
+        let (most, _, count) = queue.attr();
+        return Some(Level::Messages { count, most });
+    }
+    let (_, value) = kernel.semaphore_at(place)?;
+    Some(Level::Value(value))
+}
+
+/// Adds a level.
+pub fn push_level(text: &mut String, level: Level) -> Result<(), AllocError>
+    ensures text { OnOk result (string_bytes text.new ≡ string_bytes text.old
+        ++ level_text level) }
+{
+    let written = match level {
+        Level::Messages { count, most } => write!(text, "{count} of {most}"),
+        Level::Value(value) => write!(text, "value {value}"),
+    };
+    match written {
         Ok(()) => Ok(()),
         Err(error) => Err(error),
     }
 }
 
-/// Adds the messages of the queue or the value of the semaphore in a place.
-#[tactic(auto, unfolding(crate::specs::Objects::level_text))]
-pub fn push_level(text: &mut String, kernel: &Kernel, place: u8) -> Result<(), AllocError>
+/// Adds the level of an object, where there is one.
+pub fn push_level_part(text: &mut String, level: Option<Level>) -> Result<(), AllocError>
     ensures text { OnOk result (string_bytes text.new ≡ string_bytes text.old
-        ++ level_text kernel.now place) }
+        ++ level_part level) }
 {
-    if let Some((_, queue)) = kernel.queue_at(place) {
-        return push_fill(text, queue);
-    }
-    let Some((_, value)) = kernel.semaphore_at(place) else {
-        return Ok(());
-    };
-    match write!(text, "value {value}") {
-        Ok(()) => Ok(()),
-        Err(error) => Err(error),
+    match level {
+        Some(level) => push_level(text, level),
+        None => Ok(()),
     }
 }

@@ -1,23 +1,18 @@
-//! What a trace keeps after a step, of messages and of units of semaphores.
-ghost use Rattle.std.specs.Prelude.{◌≡◌, ◌<◌, ◌==◌, OnOk, length};
+//! What a trace keeps after a step: counted steps, since when processes wait, messages, and units of semaphores.
+ghost use Rattle.std.specs.Prelude.{◌≡◌, ◌<◌, ◌==◌, OnOk, length, slice_set};
 ghost use Rattle.ipc_kernel.specs.Outcomes.{queue_at};
-ghost use Rattle.lab_sched.specs.Held.{process_view};
 ghost use Rattle.lab_trace.specs.Answers.{result_of};
-ghost use Rattle.lab_trace.specs.Private.Observed.{question_of, before_of};
-ghost use Rattle.lab_trace.specs.Events.{event_of};
-ghost use Rattle.lab_trace.specs.Tallies.{origins_after, units_after};
-ghost use Rattle.lab_trace.specs.Origins.{origins_after_open, origins_after_send, origins_after_receive, origins_after_success};
-ghost use Rattle.lab_trace.specs.Units.{units_after_wait, units_after_post, units_after_success, units_after_call};
+ghost use Rattle.lab_trace.specs.Tallies.{account_of, account_counted, waits_from, tally_with, tally_after};
+ghost use Rattle.lab_trace.specs.Origins.{origins_after_open, origins_after_send, origins_after_receive, origins_after_success, origins_after_call, origins_after};
+ghost use Rattle.lab_trace.specs.Units.{most_units, units_after_wait, units_after_post, units_after_success, units_after_call, units_after, AreFew};
 ghost use Rattle.lab_trace.specs.Private.Room.{HasRoom};
 
-use crate::answers::result_of;
-use crate::asking::{Asking, Observed};
-use crate::handles::held_place;
+use crate::answers::{Outcome, result_of};
 use crate::origins::Origin;
 use crate::service::Service;
-use crate::tally::Tally;
+use crate::tally::{Account, Tally};
+use crate::told::{Act, Called, Told};
 use ipc_kernel::Kernel;
-use lab_sched::Process;
 use std::alloc::AllocError;
 
 /// Whether the queue in a place has no messages.
@@ -83,57 +78,64 @@ fn keep_received(tally: &mut Tally, place: Option<u8>)
     }
 }
 
-/// Keeps where messages come from after a call of process `pid` that was answered and not refused.
+/// Keeps where messages come from after a call of process `pid` in step `number` that was answered and not refused.
 fn keep_messages(
     kernel: &Kernel,
     tally: &mut Tally,
     number: u32,
     pid: usize,
-    asking: &Asking,
-    word: u16,
+    call: &Called,
 ) -> Result<(), AllocError>
-    requires process { pid < length kernel.now.processes }
     ensures kept { OnOk result (tally.new ≡ record tally.old {
-      origins = origins_after_success kernel.now number pid
-          (question_of asking.now) asking.now.service word
+      origins = origins_after_success kernel.now number pid call.now call.now.service
           tally.old.origins;
     }) }
 {
-    match asking.service {
-        Service::MqOpen => {
-            keep_opened(
-                tally,
-                kernel,
-                held_place(kernel, pid, Service::MqOpen, word),
-            )
-        }
-        Service::MqSend => keep_sent(tally, number, pid, asking.priority, asking.place),
+    match call.service {
+        Service::MqOpen => keep_opened(tally, kernel, call.place),
+        Service::MqSend => keep_sent(tally, number, pid, call.priority, call.place),
         Service::MqReceive => {
-            keep_received(tally, asking.place);
+            keep_received(tally, call.place);
             Ok(())
         }
         _ => Ok(()),
     }
 }
 
-/// Keeps where messages come from after an event of process `pid`.
-pub fn keep_origins(
+/// Keeps where messages come from after a call of process `pid` in step `number`.
+fn keep_called(
     kernel: &Kernel,
     tally: &mut Tally,
     number: u32,
     pid: usize,
-    before: &Observed,
-    after: &Process,
+    call: &Called,
 ) -> Result<(), AllocError>
-    requires process { pid < length kernel.now.processes }
     ensures kept { OnOk result (tally.new ≡ record tally.old {
-      origins = origins_after kernel.now number pid (process_view after.now)
-          (event_of (before_of before.now) (process_view after.now)) tally.old.origins;
+      origins = origins_after_call kernel.now number pid call.now (result_of call.now.outcome)
+          tally.old.origins;
     }) }
 {
-    match (&before.asking, result_of(after)) {
-        (Some(asking), Some(word)) => keep_messages(kernel, tally, number, pid, asking, word),
-        _ => Ok(()),
+    match result_of(&call.outcome) {
+        Some(_) => keep_messages(kernel, tally, number, pid, call),
+        None => Ok(()),
+    }
+}
+
+/// Keeps where messages come from after what process `pid` did in step `number`.
+fn keep_origins(
+    kernel: &Kernel,
+    tally: &mut Tally,
+    number: u32,
+    pid: usize,
+    act: &Act,
+) -> Result<(), AllocError>
+    ensures kept { OnOk result (tally.new ≡ record tally.old {
+      origins = origins_after kernel.now number pid act.now tally.old.origins;
+    }) }
+{
+    match act {
+        Act::Calls(call) => keep_called(kernel, tally, number, pid, call),
+        Act::Writes(_) | Act::Ends(_) => Ok(()),
     }
 }
 
@@ -164,58 +166,123 @@ fn keep_given(tally: &mut Tally, pid: usize, place: Option<u8>) -> Result<(), Al
 }
 
 /// Counts the unit that process `pid` took or gave by a call that was answered and not refused.
-fn keep_moved(tally: &mut Tally, pid: usize, asking: &Asking) -> Result<(), AllocError>
+fn keep_moved(tally: &mut Tally, pid: usize, call: &Called) -> Result<(), AllocError>
     requires room { HasRoom pid tally.old.units }
     ensures kept { OnOk result (tally.new ≡ record tally.old {
-      units = units_after_success pid asking.now.place asking.now.service tally.old.units;
+      units = units_after_success pid call.now.place call.now.service tally.old.units;
     }) }
 {
-    match asking.service {
-        Service::SemWait | Service::SemTrywait => keep_taken(tally, pid, asking.place),
-        Service::SemPost => keep_given(tally, pid, asking.place),
+    match call.service {
+        Service::SemWait | Service::SemTrywait => keep_taken(tally, pid, call.place),
+        Service::SemPost => keep_given(tally, pid, call.place),
         _ => Ok(()),
     }
 }
 
 /// Counts the unit that process `pid` took or gave by a call, if it did.
-fn keep_answered(
-    tally: &mut Tally,
-    pid: usize,
-    asking: &Asking,
-    after: &Process,
-) -> Result<(), AllocError>
+fn keep_answered(tally: &mut Tally, pid: usize, call: &Called) -> Result<(), AllocError>
     requires room { HasRoom pid tally.old.units }
     ensures kept { OnOk result (tally.new ≡ record tally.old {
-      units = units_after_call pid (question_of asking.now)
-          (result_of (process_view after.now)) tally.old.units;
+      units = units_after_call pid call.now (result_of call.now.outcome) tally.old.units;
     }) }
 {
-    match result_of(after) {
-        Some(_) => keep_moved(tally, pid, asking),
+    match result_of(&call.outcome) {
+        Some(_) => keep_moved(tally, pid, call),
         None => Ok(()),
     }
 }
 
-/// Counts the units that process `pid` took or gave by an event, and lets go of those of semaphores that are no more.
-pub fn keep_units(
-    kernel: &Kernel,
-    tally: &mut Tally,
-    pid: usize,
-    before: &Observed,
-    after: &Process,
-) -> Result<(), AllocError>
+/// Counts the units that process `pid` took or gave, and lets go of those of semaphores that are no more.
+fn keep_units(kernel: &Kernel, tally: &mut Tally, pid: usize, act: &Act) -> Result<(), AllocError>
     requires room { HasRoom pid tally.old.units }
     ensures kept { OnOk result (tally.new ≡ record tally.old {
-      units = units_after kernel.now pid (process_view after.now)
-          (event_of (before_of before.now) (process_view after.now)) tally.old.units;
+      units = units_after kernel.now pid act.now tally.old.units;
     }) }
 {
-    match (&before.asking, after) {
-        (Some(asking), _) => {
-            keep_answered(tally, pid, asking, after)?;
+    match act {
+        Act::Calls(call) => {
+            keep_answered(tally, pid, call)?;
             tally.forget(kernel)
         }
-        (None, Process::Ended(_)) => tally.forget(kernel),
-        (None, _) => Ok(()),
+        Act::Ends(_) => tally.forget(kernel),
+        Act::Writes(_) => Ok(()),
+    }
+}
+
+/// The step since which a process waits, by what it did in step `number`.
+fn waits_from(number: u32, act: &Act) -> Option<u32>
+    ensures value { result ≡ waits_from number act.now }
+{
+    match act {
+        Act::Calls(call) => match call.outcome {
+            Outcome::Waits => Some(number),
+            Outcome::Refused(_) | Outcome::Gives { .. } => None,
+        },
+        Act::Writes(_) | Act::Ends(_) => None,
+    }
+}
+
+/// Keeps what process `pid` did in step `number`, by the kernel after it.
+fn keep_act(
+    kernel: &Kernel,
+    tally: &mut Tally,
+    number: u32,
+    pid: usize,
+    act: &Act,
+) -> Result<(), AllocError>
+    requires account { pid < length tally.old.accounts }
+    requires some { 0 < number }
+    requires few { AreFew number tally.old.units }
+    ensures kept { OnOk result (tally.new
+        ≡ tally_with kernel.now number pid act.now tally.old) }
+{
+    let account = Account {
+        local: 0,
+        since: waits_from(number, act),
+    };
+    tally.keep(pid, account);
+    keep_origins(kernel, tally, number, pid, act)?;
+    keep_units(kernel, tally, pid, act)
+}
+
+/// Keeps a counted step of process `pid`.
+fn keep_counted(tally: &mut Tally, pid: usize)
+    requires account { pid < length tally.old.accounts }
+    requires room { (account_of tally.old pid).local < most_units }
+    ensures kept { tally.new ≡ record tally.old {
+      accounts = slice_set tally.old.accounts pid (account_counted (account_of tally.old pid));
+    } }
+{
+    let Account { local, since } = tally.account(pid);
+    tally.keep(
+        pid,
+        Account {
+            local: local + 1,
+            since,
+        },
+    );
+}
+
+/// Keeps what is told of step `number`, of process `pid`, by the kernel after it.
+pub fn keep(
+    kernel: &Kernel,
+    tally: &mut Tally,
+    number: u32,
+    pid: usize,
+    told: &Told,
+) -> Result<(), AllocError>
+    requires account { pid < length tally.old.accounts }
+    requires room { (account_of tally.old pid).local < number }
+    requires few { AreFew number tally.old.units }
+    ensures kept { OnOk result (tally.new
+        ≡ tally_after kernel.now number pid told.now tally.old) }
+{
+    match told {
+        Told::Nothing => Ok(()),
+        Told::Counted => {
+            keep_counted(tally, pid);
+            Ok(())
+        }
+        Told::Shown(event) => keep_act(kernel, tally, number, pid, &event.act),
     }
 }

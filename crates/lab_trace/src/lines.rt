@@ -1,71 +1,29 @@
 //! The line of a step.
-ghost use Rattle.std.specs.Prelude.{◌≡◌, ◌<◌, ◌++◌, OnOk, IfOk, length, string_bytes, drop};
-ghost use Rattle.lab_sched.specs.Held.{process_view};
-ghost use Rattle.lab_sched.specs.Worlds.{machine_of};
-ghost use Rattle.lab_trace.specs.Answers.{result_of};
-ghost use Rattle.lab_trace.specs.Private.Observed.{question_of};
-ghost use Rattle.lab_trace.specs.Origins.{first_in, origin_by};
-ghost use Rattle.lab_trace.specs.Tallies.{account_of};
-ghost use Rattle.lab_trace.specs.Lines.{opened_place, told_place, level_note, waited_text, wait_note, origin_text, origin_note, notes, has_notes, call_line, output_text, end_text};
+ghost use Rattle.std.specs.Prelude.{◌≡◌, ◌++◌, OnOk, IfOk, string_bytes};
+ghost use Rattle.lab_trace.specs.Lines.{level_note, waited_text, wait_note, origin_text, origin_note, notes, has_notes, called_text, output_text, end_text, act_text, is_noted, columns, event_line, step_line};
 
-use crate::answers::{push_answer, result_of};
-use crate::asking::{Asking, Observed};
-use crate::form::separator;
-use crate::handles::{held_place, push_level};
+use crate::answers::push_outcome;
+use crate::arguments::push_call;
+use crate::form::{Form, separator};
+use crate::handles::{Level, push_level};
 use crate::origins::Origin;
-use crate::service::Service;
-use crate::tally::{Account, Tally};
+use crate::told::{Act, Called, Event, Told};
 use crate::words::push_bytes;
-use ipc_kernel::Kernel;
-use lab_sched::Process;
 use lab_texts::how_name;
 use lc3_machine::How;
 use lc3_table::WordText;
 use std::alloc::{AllocError, Global};
 
-/// The place of the object that an open opened, by its result.
-fn opened_place(
-    kernel: &Kernel,
-    pid: usize,
-    service: Service,
-    result_word: Option<u16>,
-) -> Option<u8>
-    requires process { pid < length kernel.now.processes }
-    ensures place { result ≡ opened_place kernel.now pid service result_word }
-{
-    match result_word {
-        Some(number) => held_place(kernel, pid, service, number),
-        None => None,
-    }
-}
-
-/// The place of the object whose level is told.
-#[tactic(auto, unfolding(crate::specs::Lines::told_place))]
-fn told_place(kernel: &Kernel, pid: usize, asking: &Asking, after: &Process) -> Option<u8>
-    requires process { pid < length kernel.now.processes }
-    ensures place { result
-        ≡ told_place kernel.now pid (question_of asking.now) (process_view after.now) }
-{
-    if asking.service.is_open() {
-        return opened_place(kernel, pid, asking.service, result_of(after));
-    }
-    if asking.service.is_on_level() {
-        asking.place
-    } else {
-        None
-    }
-}
-
-/// Adds the level of the object in a place, where there is one.
-fn push_level_note(text: &mut String, kernel: &Kernel, place: Option<u8>) -> Result<(), AllocError>
+/// Adds the level of an object, where it is told.
+fn push_level_note(text: &mut String, level: Option<Level>) -> Result<(), AllocError>
     ensures text { OnOk result (string_bytes text.new ≡ string_bytes text.old
-        ++ level_note kernel.now place) }
+        ++ level_note level) }
 {
-    let Some(place) = place else {
+    let Some(level) = level else {
         return Ok(());
     };
-    text.push_str(" ; ")?;
-    push_level(text, kernel, place)
+    text.push_str(separator(false))?;
+    push_level(text, level)
 }
 
 /// Adds since when a process waited.
@@ -122,73 +80,38 @@ fn push_origin_note(
     push_origin(text, origin)
 }
 
-/// Where the first message of the queue in a place comes from.
-fn first_in(tally: &Tally, place: Option<u8>) -> Option<Origin>
-    ensures value { result ≡ first_in place tally.now.origins }
-{
-    match place {
-        Some(place) => tally.first_origin(place),
-        None => None,
-    }
-}
-
-/// Where the message comes from that a call received.
-fn origin_of(tally: &Tally, asking: &Asking, after: &Process) -> Option<Origin>
-    ensures value { result ≡ origin_by (question_of asking.now) (result_of (process_view after.now))
-        tally.now.origins }
-{
-    match (result_of(after), asking.service) {
-        (Some(_), Service::MqReceive) => first_in(tally, asking.place),
-        _ => None,
-    }
-}
-
-/// Adds the notes of a call, and tells whether there are some.
-fn push_notes(
-    text: &mut String,
-    kernel: &Kernel,
-    account: Account,
-    origin: Option<Origin>,
-    place: Option<u8>,
-) -> Result<bool, AllocError>
+/// Adds the notes of a call.
+fn push_notes(text: &mut String, call: &Called) -> Result<(), AllocError>
     ensures text { OnOk result (string_bytes text.new ≡ string_bytes text.old
-        ++ notes kernel.now account origin place) }
-    ensures noted { IfOk result (λ noted. noted ≡ has_notes account origin place) }
+        ++ notes call.now) }
 {
-    push_level_note(text, kernel, place)?;
-    push_origin_note(text, place.is_some(), origin)?;
-    push_wait_note(text, place.is_some(), account.since)?;
-    Ok(place.is_some() || origin.is_some() || account.since.is_some())
+    push_level_note(text, call.level)?;
+    push_origin_note(text, call.level.is_some(), call.origin)?;
+    push_wait_note(text, call.level.is_some(), call.since)
 }
 
-/// Adds a call of process `pid`, its answer and its notes, and tells whether there are notes.
-#[tactic(auto, unfolding(crate::specs::Lines::call_line))]
-pub fn push_call_line(
-    text: &mut String,
-    kernel: &Kernel,
-    tally: &Tally,
-    pid: usize,
-    asking: &Asking,
-    after: &Process,
-) -> Result<bool, AllocError>
-    requires process { pid < length kernel.now.processes }
-    ensures text { OnOk result (string_bytes text.new ≡ string_bytes text.old
-        ++ call_line kernel.now (account_of tally.now pid) tally.now.origins pid
-        (question_of asking.now) (process_view after.now)) }
-    ensures noted { IfOk result (λ noted. noted ≡ has_notes (account_of tally.now pid)
-        (origin_by (question_of asking.now) (result_of (process_view after.now)) tally.now.origins)
-        (told_place kernel.now pid (question_of asking.now) (process_view after.now))) }
+/// Whether a call has notes.
+fn has_notes(call: &Called) -> bool
+    ensures value { result ≡ has_notes call.now }
 {
-    text.push_str(&asking.call)?;
-    push_answer(text, after, &asking.reply)?;
-    let origin = origin_of(tally, asking, after);
-    let place = told_place(kernel, pid, asking, after);
-    push_notes(text, kernel, tally.account(pid), origin, place)
+    call.level.is_some() || call.origin.is_some() || call.since.is_some()
+}
+
+/// Adds a call and what became of it.
+#[tactic(auto, unfolding(crate::specs::Lines::called_text))]
+fn push_called(text: &mut String, call: &Called) -> Result<(), AllocError>
+    ensures text { OnOk result (string_bytes text.new ≡ string_bytes text.old
+        ++ called_text call.now) }
+{
+    push_call(text, call.service, &call.arguments)?;
+    text.push_str(" ")?;
+    push_outcome(text, &call.outcome)?;
+    push_notes(text, call)
 }
 
 /// Adds the text of the instruction and the bytes that it wrote.
 #[tactic(auto, unfolding(crate::specs::Lines::output_text))]
-pub fn push_output(text: &mut String, word: u16, bytes: &[u8]) -> Result<(), AllocError>
+fn push_output(text: &mut String, word: u16, bytes: &[u8]) -> Result<(), AllocError>
     ensures text { OnOk result (string_bytes text.new ≡ string_bytes text.old
         ++ output_text word bytes.now) }
 {
@@ -198,18 +121,89 @@ pub fn push_output(text: &mut String, word: u16, bytes: &[u8]) -> Result<(), All
 }
 
 /// Adds how a process ended.
-pub fn push_end(text: &mut String, how: How) -> Result<(), AllocError>
+fn push_end(text: &mut String, how: How) -> Result<(), AllocError>
     ensures text { OnOk result (string_bytes text.new ≡ string_bytes text.old ++ end_text how) }
 {
     text.push_str("ends ")?;
     text.push_str(how_name(how))
 }
 
-/// The bytes that a process wrote in its step.
-pub fn new_output<'a>(before: &Observed, after: &'a Process) -> &'a [u8]
-    ensures bytes { result.now
-        ≡ drop before.now.written (machine_of (process_view after.now)).output }
+/// Adds what a process did by the instruction with this word.
+fn push_act(text: &mut String, word: u16, act: &Act) -> Result<(), AllocError>
+    ensures text { OnOk result (string_bytes text.new ≡ string_bytes text.old
+        ++ act_text word act.now) }
 {
-    let output = after.machine().output();
-    &output[before.written.min(output.len())..]
+    match act {
+        Act::Calls(call) => push_called(text, call),
+        Act::Writes(bytes) => push_output(text, word, bytes.as_slice()),
+        Act::Ends(how) => push_end(text, *how),
+    }
+}
+
+/// Whether notes stand behind what a process did.
+fn is_noted(act: &Act) -> bool
+    ensures value { result ≡ is_noted act.now }
+{
+    match act {
+        Act::Calls(call) => has_notes(call),
+        Act::Writes(_) | Act::Ends(_) => false,
+    }
+}
+
+/// The columns before what happened in step `number`, of process `pid`.
+pub fn columns_text(
+    alloc: Global,
+    form: &Form<'_>,
+    number: u32,
+    pid: usize,
+    event: &Event,
+) -> Result<String, AllocError>
+    ensures text { IfOk result (λ s. string_bytes s
+        ≡ columns form.now number pid event.now) }
+{
+    let mut text = String::new(alloc);
+    let number = format!(in alloc; "{number}")?;
+    form.push_head(alloc, &mut text, &number, pid, event.pc, event.local)?;
+    Ok(text)
+}
+
+/// What happened in a step.
+pub fn event_text(alloc: Global, event: &Event) -> Result<String, AllocError>
+    ensures text { IfOk result (λ s. string_bytes s ≡ act_text event.now.word event.now.act) }
+{
+    let mut text = String::new(alloc);
+    push_act(&mut text, event.word, &event.act)?;
+    Ok(text)
+}
+
+/// The line of an event in step `number`, of process `pid`.
+fn event_line(
+    alloc: Global,
+    form: &Form<'_>,
+    number: u32,
+    pid: usize,
+    event: &Event,
+) -> Result<String, AllocError>
+    ensures line { IfOk result (λ s. string_bytes s ≡ event_line form.now number pid event.now) }
+{
+    let mut line = columns_text(alloc, form, number, pid, event)?;
+    push_act(&mut line, event.word, &event.act)?;
+    form.push_line_end(&mut line, is_noted(&event.act), pid, event.pc, event.word)?;
+    Ok(line)
+}
+
+/// The line of step `number`, of process `pid`, or no text where nothing is shown of it.
+pub fn step_line(
+    alloc: Global,
+    form: &Form<'_>,
+    number: u32,
+    pid: usize,
+    told: &Told,
+) -> Result<String, AllocError>
+    ensures line { IfOk result (λ s. string_bytes s ≡ step_line form.now number pid told.now) }
+{
+    match told {
+        Told::Nothing | Told::Counted => Ok(String::new(alloc)),
+        Told::Shown(event) => event_line(alloc, form, number, pid, event),
+    }
 }

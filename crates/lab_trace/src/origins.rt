@@ -90,6 +90,13 @@ impl Origins {
         }
     }
 
+    /// All of them.
+    pub fn as_slice(&self) -> &[Origin]
+        ensures value { result.now ≡ self.now }
+    {
+        self.list.as_slice()
+    }
+
     /// Where the message comes from that is first to be received from the queue in a place.
     #[tactic(auto, unfolding(crate::specs::Origins::first))]
     pub fn first(&self, place: u8) -> Option<Origin>

@@ -2,7 +2,7 @@
 ghost use Rattle.std.specs.Prelude.{◌≡◌};
 ghost use Rattle.lab_sched.specs.Held.{process_view};
 ghost use Rattle.lab_sched.specs.Worlds.{machine_of};
-ghost use Rattle.lab_trace.specs.Services.{service_in, service_of, service_at, service_name, is_on_queues, is_open, is_on_level};
+ghost use Rattle.lab_trace.specs.Services.{service_in, service_of, service_at, service_name, is_on_queues, is_open, is_by_name, is_on_level};
 
 use lab_sched::Process;
 use lc3_table::{Instr, decode};
@@ -118,6 +118,16 @@ impl Service {
         ensures value { result ≡ is_open self }
     {
         matches!(self, Service::MqOpen | Service::SemOpen)
+    }
+
+    /// Whether the call names its object in memory, and not by a descriptor or a slot.
+    pub fn is_by_name(self) -> bool
+        ensures value { result ≡ is_by_name self }
+    {
+        matches!(
+            self,
+            Service::MqOpen | Service::MqUnlink | Service::SemOpen | Service::SemUnlink
+        )
     }
 
     /// Whether the call can change the messages of a queue or the value of a semaphore that is open.

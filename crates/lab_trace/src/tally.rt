@@ -87,6 +87,13 @@ impl Tally {
         self.origins.first(place)
     }
 
+    /// Where the messages in queues come from, those of one queue in the order of receive.
+    pub fn origins(&self) -> &[Origin]
+        ensures value { result.now ≡ self.now.origins }
+    {
+        self.origins.as_slice()
+    }
+
     /// Keeps where a message comes from that was sent.
     pub fn send(&mut self, origin: Origin) -> Result<(), AllocError>
         ensures ok { OnOk result (self.new

@@ -2,21 +2,23 @@
 ghost use Rattle.std.specs.Prelude.{◌≡◌, ◌<◌, ◌≤◌, ◌+◌, ℕ, Some, Err, IfNone, IsTrue, IfOk, IfErr, OnOk, OnErr, length, replicate, string_bytes, ◌++◌};
 ghost use Rattle.std.specs.Io.KnownBytes.{Appends, Keeps};
 ghost use Rattle.lab_io.specs.Device.{AppendsPrefix};
-ghost use Rattle.lab_sched.specs.Worlds.{run};
+ghost use Rattle.lab_sched.specs.Worlds.{step, run};
 ghost use Rattle.lab_sched.specs.Schedules.{steps_of, total_of, most_steps};
-ghost use Rattle.lab_sched.specs.declared.stepped.Stepped.TheVariants.{Same};
-ghost use Rattle.lab_trace.specs.Scenes.{scene_at, events, scene_after, IsKept};
+ghost use Rattle.lab_trace.specs.Scenes.{scene_at, told, line, next_tally, events, scene_after, IsKept};
 ghost use Rattle.lab_trace.specs.Traces.{ending, trace_text, missing_after, AreThere, Explains};
 ghost use Rattle.lab_trace.specs.Private.Faults.{IsFault};
+ghost use Rattle.lab_trace.specs.declared.told.Told.TheVariants.{Nothing};
 ghost use Rattle.lab_trace.specs.declared.fault.TraceFault.TheVariants.{NoProcess, Write};
 
 use crate::ends::push_ends;
 use crate::fault::TraceFault;
 use crate::form::Form;
+use crate::lines::step_line;
 use crate::step::trace_step;
 use crate::tally::Tally;
+use crate::told::Told;
 use lab_io::Output;
-use lab_sched::{Block, Schedule, Stepped, World};
+use lab_sched::{Block, Schedule, World};
 use lab_sources::Source;
 use lab_texts::report_text;
 use std::alloc::{AllocError, Global};
@@ -53,16 +55,52 @@ fn write_text<W: Write>(text: &str, output: &mut Output<W>) -> Result<(), TraceF
 }
 
 /// How many of a block's steps a step stands for: one without effect for the rest of them.
-pub fn steps_done(stepped: Stepped, most: u32) -> u32
+pub fn steps_done(told: &Told, most: u32) -> u32
     requires some { 1 ≤ most }
-    ensures other { (stepped ≡ Same → ⊥) → result ≡ 1 }
+    ensures other { (told.now ≡ Nothing → ⊥) → result ≡ 1 }
     ensures some { 1 ≤ result }
     ensures within { result ≤ most }
 {
-    match stepped {
-        Stepped::Same => most,
-        Stepped::Moved | Stepped::Called | Stepped::Waits => 1,
+    match told {
+        Told::Nothing => most,
+        Told::Counted | Told::Shown(_) => 1,
     }
+}
+
+/// Takes step number `number`, of process `pid`, and writes its line. The answer is how many of at most so many steps of the
+/// process it stands for.
+fn trace_one<W: Write>(
+    alloc: Global,
+    world: &mut World,
+    tally: &mut Tally,
+    form: &Form<'_>,
+    number: u32,
+    pid: usize,
+    most: u32,
+    output: &mut Output<W>,
+) -> Result<u32, TraceFault>
+    requires process { pid < length world.old.processes }
+    requires kept { IsKept (scene_at number world.old tally.old) }
+    requires some { 1 ≤ most }
+    ensures world { OnOk result (world.new ≡ step world.old pid) }
+    ensures tally { OnOk result
+        (tally.new ≡ next_tally (scene_at number world.old tally.old) pid) }
+    ensures written { OnOk result
+        (Appends (W.contents output.old.device) (W.contents output.new.device)
+        (line form.now (scene_at number world.old tally.old) pid)) }
+    ensures prefix { OnErr result
+        (AppendsPrefix (W.contents output.old.device) (W.contents output.new.device)
+        (line form.now (scene_at number world.old tally.old) pid)) }
+    ensures other { IfOk result (λ done.
+        (told (scene_at number world.old tally.old) pid ≡ Nothing → ⊥) → done ≡ 1) }
+    ensures some { IfOk result (λ done. 1 ≤ done) }
+    ensures within { IfOk result (λ done. done ≤ most) }
+    ensures fault { IfErr result (λ e. IsFault e output.new.failed) }
+{
+    let told = trace_step(alloc, world, tally, number, pid)?;
+    let line = step_line(alloc, form, number, pid, &told)?;
+    write_text(&line, output)?;
+    Ok(steps_done(&told, most))
 }
 
 /// Takes the steps of a block, of which the first has number `first`, and writes their lines.
@@ -90,9 +128,17 @@ fn trace_block<W: Write>(
 {
     let mut done = 0;
     while done < block.count {
-        let traced = trace_step(alloc, world, tally, form, first + done, block.pid)?;
-        write_text(&traced.line, output)?;
-        done += steps_done(traced.stepped, block.count - done);
+        let rest = block.count - done;
+        done += trace_one(
+            alloc,
+            world,
+            tally,
+            form,
+            first + done,
+            block.pid,
+            rest,
+            output,
+        )?;
     }
     Ok(())
 }

@@ -5,7 +5,7 @@ ghost use Rattle.lab_sched.specs.Worlds.{machine_of};
 ghost use Rattle.lc3_word.specs.Words.{hexadecimal_text};
 ghost use Rattle.lc3_machine.specs.Process.{reg};
 ghost use Rattle.ipc_traps.specs.Names.{is_in_memory, words_at};
-ghost use Rattle.lab_trace.specs.Words.{pointer_text, signed_text, is_quotable, character_text, string_text, byte_text, bytes_text, name_end, name_text, blanks, at_left, at_right};
+ghost use Rattle.lab_trace.specs.Words.{pointer_text, signed_text, is_quotable, character_text, string_text, byte_text, bytes_text, name_end, name_text, bare_name_text, blanks, at_left, at_right};
 
 use lab_sched::Process;
 use lab_texts::Escape;
@@ -204,6 +204,23 @@ pub fn push_name(
     };
     let words = read_words(alloc, process, at, len)?;
     push_string(text, words.as_slice())
+}
+
+/// Adds the name at an address of a process without quotation marks, or the address where no zero word ends one.
+pub fn push_bare_name(
+    alloc: Global,
+    text: &mut String,
+    process: &Process,
+    at: u16,
+) -> Result<(), AllocError>
+    ensures text { OnOk result (string_bytes text.new ≡ string_bytes text.old
+        ++ bare_name_text (machine_of (process_view process.now)).memory at) }
+{
+    let Some(len) = name_end(process, at) else {
+        return push_address(text, at);
+    };
+    let words = read_words(alloc, process, at, len)?;
+    push_characters(text, words.as_slice())
 }
 
 /// Adds so many blanks.

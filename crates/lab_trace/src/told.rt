@@ -1,0 +1,288 @@
+//! What a step did.
+ghost use Rattle.std.specs.Prelude.{◌≡◌, ◌<◌, IfOk, length, slice_get, drop};
+ghost use Rattle.lab_sched.specs.Held.{process_view};
+ghost use Rattle.lab_sched.specs.Worlds.{machine_of};
+ghost use Rattle.lab_trace.specs.Origins.{first_in, origin_by};
+ghost use Rattle.lab_trace.specs.Tallies.{account_of};
+ghost use Rattle.lab_trace.specs.Events.{opened_place, place_by, level_by, call_by, wrote, act_by, told_with, told_by};
+
+use crate::answers::{Outcome, outcome_of, result_of};
+use crate::asking::{Asking, Observed};
+use crate::handles::{Level, held_place, level_at};
+use crate::origins::Origin;
+use crate::service::Service;
+use crate::tally::Tally;
+use crate::text::{Bytes, Text};
+use crate::words::register;
+use ipc_kernel::Kernel;
+use ipc_objects::Words;
+use lab_sched::{Process, World};
+use lc3_machine::How;
+use std::alloc::{AllocError, Global};
+
+/// A call of the kernel, and what became of it.
+#[derive(Drop)]
+pub struct Called {
+    pub service: Service,
+    /// Its arguments, as a trace writes them.
+    pub arguments: Text,
+    /// What it is on: the name of its object; `#` and its place, once it is unlinked; of an object that isn't there what the call
+    /// names: the name, the address of one, or the number.
+    pub object: Text,
+    /// The place of its object, where a descriptor or a slot stands for one; of an open the one that it opened.
+    pub place: Option<u8>,
+    /// The words of the message that it sends, where they lie in memory.
+    pub sent: Option<Words>,
+    /// R3, of mq_send the priority.
+    pub priority: u16,
+    pub outcome: Outcome,
+    /// The level of its object after it, where the call opened it or could change its level.
+    pub level: Option<Level>,
+    /// Where the message comes from that it received.
+    pub origin: Option<Origin>,
+    /// The step since which the process waited.
+    pub since: Option<u32>,
+}
+
+/// What a process did in a step.
+#[derive(Drop)]
+pub enum Act {
+    /// It called the kernel.
+    Calls(Called),
+    /// It wrote bytes.
+    Writes(Bytes),
+    /// It ended.
+    Ends(How),
+}
+
+/// A step that a trace shows.
+#[derive(Drop)]
+pub struct Event {
+    /// The program counter before the step.
+    pub pc: u16,
+    /// The word there.
+    pub word: u16,
+    /// The counted steps of the process since its last event.
+    pub local: u32,
+    pub act: Act,
+}
+
+/// What is told of a step.
+#[derive(Drop)]
+pub enum Told {
+    /// It had no effect.
+    Nothing,
+    /// It did nothing that is shown, and is counted.
+    Counted,
+    /// It is shown.
+    Shown(Event),
+}
+
+/// The place of the object that an open opened, by its result.
+fn opened_place(
+    kernel: &Kernel,
+    pid: usize,
+    service: Service,
+    result_word: Option<u16>,
+) -> Option<u8>
+    requires process { pid < length kernel.now.processes }
+    ensures place { result ≡ opened_place kernel.now pid service result_word }
+{
+    match result_word {
+        Some(number) => held_place(kernel, pid, service, number),
+        None => None,
+    }
+}
+
+/// The place of the object of a call, by that before it and the kernel after it.
+fn place_by(
+    kernel: &Kernel,
+    pid: usize,
+    service: Service,
+    place: Option<u8>,
+    result_word: Option<u16>,
+) -> Option<u8>
+    requires process { pid < length kernel.now.processes }
+    ensures place { result ≡ place_by kernel.now pid service place result_word }
+{
+    if service.is_open() {
+        opened_place(kernel, pid, service, result_word)
+    } else {
+        place
+    }
+}
+
+/// The level of the object in this place after a call, where it is told.
+fn level_by(kernel: &Kernel, service: Service, place: Option<u8>) -> Option<Level>
+    ensures level { result ≡ level_by kernel.now service place }
+{
+    if service.is_open() || service.is_on_level() {
+        level_at(kernel, place?)
+    } else {
+        None
+    }
+}
+
+/// Where the first message of the queue in a place comes from.
+fn first_in(tally: &Tally, place: Option<u8>) -> Option<Origin>
+    ensures value { result ≡ first_in place tally.now.origins }
+{
+    match place {
+        Some(place) => tally.first_origin(place),
+        None => None,
+    }
+}
+
+/// Where the message comes from that a call with this result received, by the tally before it.
+fn origin_by(
+    tally: &Tally,
+    service: Service,
+    place: Option<u8>,
+    result_word: Option<u16>,
+) -> Option<Origin>
+    ensures value { result ≡ origin_by service place result_word tally.now.origins }
+{
+    match (result_word, service) {
+        (Some(_), Service::MqReceive) => first_in(tally, place),
+        _ => None,
+    }
+}
+
+/// A call of process `pid` with this result, which it has where it doesn't wait, and what became of it, by the kernel after
+/// it and the tally before it.
+#[tactic(auto, unfolding(crate::specs::Events::call_by))]
+fn call_by(
+    kernel: &Kernel,
+    tally: &Tally,
+    pid: usize,
+    asking: Asking,
+    result_word: Option<u16>,
+) -> Called
+    requires process { pid < length kernel.now.processes }
+    ensures called { result ≡ call_by kernel.now tally.now pid asking result_word }
+{
+    let Asking {
+        service,
+        arguments,
+        object,
+        place: before,
+        sent,
+        priority,
+        given,
+    } = asking;
+    let outcome = outcome_of(result_word, given);
+    let given_result = result_of(&outcome);
+    let place = place_by(kernel, pid, service, before, given_result);
+    Called {
+        service,
+        arguments,
+        object,
+        place,
+        sent,
+        priority,
+        outcome,
+        level: level_by(kernel, service, place),
+        origin: origin_by(tally, service, before, given_result),
+        since: tally.account(pid).since,
+    }
+}
+
+/// The bytes that a process wrote in its step, before which it had written so many.
+fn new_output(written: usize, after: &Process) -> &[u8]
+    ensures bytes { result.now ≡ drop written (machine_of (process_view after.now)).output }
+{
+    let output = after.machine().output();
+    &output[written.min(output.len())..]
+}
+
+/// Bytes of output, where there are any.
+fn wrote(alloc: Global, bytes: &[u8]) -> Result<Option<Act>, AllocError>
+    ensures act { IfOk result (λ a. a ≡ wrote bytes.now) }
+{
+    if bytes.is_empty() {
+        Ok(None)
+    } else {
+        Ok(Some(Act::Writes(Bytes::of(alloc, bytes)?)))
+    }
+}
+
+/// What process `pid` did in a step with an effect, if it is shown, by the process and the kernel after it.
+fn act_by(
+    alloc: Global,
+    kernel: &Kernel,
+    tally: &Tally,
+    pid: usize,
+    asking: Option<Asking>,
+    written: usize,
+    after: &Process,
+) -> Result<Option<Act>, AllocError>
+    requires process { pid < length kernel.now.processes }
+    ensures act { IfOk result (λ a. a
+        ≡ act_by kernel.now tally.now pid asking written (process_view after.now)) }
+{
+    match (asking, after) {
+        (_, Process::Ended(ended)) => Ok(Some(Act::Ends(ended.how()))),
+        (None, _) => wrote(alloc, new_output(written, after)),
+        (Some(asking), Process::Waiting(_, _)) => Ok(Some(Act::Calls(call_by(
+            kernel, tally, pid, asking, None,
+        )))),
+        (Some(asking), Process::Running(_)) => Ok(Some(Act::Calls(call_by(
+            kernel,
+            tally,
+            pid,
+            asking,
+            Some(register(after, 0)),
+        )))),
+    }
+}
+
+/// What is told of a step of process `pid` with an effect, by the process and the kernel after it.
+fn told_of(
+    alloc: Global,
+    kernel: &Kernel,
+    tally: &Tally,
+    pid: usize,
+    before: Observed,
+    after: &Process,
+) -> Result<Told, AllocError>
+    requires process { pid < length kernel.now.processes }
+    ensures told { IfOk result (λ t. t ≡ told_with before (account_of tally.now pid)
+        (act_by kernel.now tally.now pid before.asking before.written (process_view after.now))) }
+{
+    let Observed {
+        pc,
+        word,
+        written,
+        asking,
+    } = before;
+    let local = tally.account(pid).local;
+    Ok(
+        match act_by(alloc, kernel, tally, pid, asking, written, after)? {
+            Some(act) => Told::Shown(Event {
+                pc,
+                word,
+                local,
+                act,
+            }),
+            None => Told::Counted,
+        },
+    )
+}
+
+/// What is told of a step of process `pid` with an effect, by the world after it and the tally before it.
+pub fn told_by(
+    alloc: Global,
+    world: &World,
+    tally: &Tally,
+    pid: usize,
+    before: Observed,
+) -> Result<Told, AllocError>
+    requires process { pid < length world.now.processes }
+    ensures told { IfOk result (λ t. t
+        ≡ told_by world.now.kernel tally.now pid before (slice_get world.now.processes pid)) }
+{
+    match world.process(pid) {
+        Some(after) => told_of(alloc, world.kernel(), tally, pid, before, after),
+        None => Ok(Told::Counted),
+    }
+}
