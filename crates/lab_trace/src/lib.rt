@@ -27,7 +27,7 @@ mod tracing;
 mod units;
 mod words;
 
-pub use answers::{Given, Outcome, error_name};
+pub use answers::{Given, Outcome, error_name, push_outcome};
 pub use fault::TraceFault;
 pub use form::Form;
 pub use handles::Level;
@@ -38,4 +38,4 @@ pub use step::trace_step;
 pub use tally::{Account, Tally};
 pub use text::{Bytes, Text};
 pub use told::{Act, Called, Event, Told};
-pub use tracing::{ending, missing_after, steps_done, trace};
+pub use tracing::{ending, missing_after, stands, steps_done, trace};

@@ -5,6 +5,7 @@ ghost use Rattle.lab_io.specs.Device.{AppendsPrefix};
 ghost use Rattle.lab_sched.specs.Worlds.{step, run};
 ghost use Rattle.lab_sched.specs.Schedules.{steps_of, total_of, most_steps};
 ghost use Rattle.lab_trace.specs.Scenes.{scene_at, told, line, next_tally, events, scene_after, IsKept};
+ghost use Rattle.lab_trace.specs.Ends.{end_lines};
 ghost use Rattle.lab_trace.specs.Traces.{ending, trace_text, missing_after, AreThere, Explains};
 ghost use Rattle.lab_trace.specs.Private.Faults.{IsFault};
 ghost use Rattle.lab_trace.specs.declared.told.Told.TheVariants.{Nothing};
@@ -173,6 +174,20 @@ fn trace_blocks<W: Write>(
     Ok(())
 }
 
+/// Where the processes stand that haven't ended.
+pub fn stands(
+    alloc: Global,
+    world: &World,
+    tally: &Tally,
+    form: &Form<'_>,
+) -> Result<String, AllocError>
+    ensures text { IfOk result (λ s. string_bytes s ≡ end_lines form.now world.now tally.now) }
+{
+    let mut text = String::new(alloc);
+    push_ends(alloc, &mut text, world, form, tally)?;
+    Ok(text)
+}
+
 /// Where the processes stand that haven't ended, and the report.
 pub fn ending(
     alloc: Global,
@@ -182,8 +197,7 @@ pub fn ending(
 ) -> Result<String, AllocError>
     ensures text { IfOk result (λ s. string_bytes s ≡ ending form.now world.now tally.now) }
 {
-    let mut text = String::new(alloc);
-    push_ends(alloc, &mut text, world, form, tally)?;
+    let mut text = stands(alloc, world, tally, form)?;
     let report = report_text(alloc, world)?;
     text.push_str(&report)?;
     Ok(text)
