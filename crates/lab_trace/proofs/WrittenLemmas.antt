@@ -21,28 +21,19 @@ pub on_err : {T E : Type 0} (r : Result T E) (P : Type 0) → P → OnErr r P
 on_err (Ok x) P p = tt
 on_err (Err e) P p = p
 
--- the lines of a block up to step number k were written
-pub prefix-from : (v : Form) (s : Scene) (n k p : ℕ) (a b : Option (List ℕ)) → k ≤ n → Appends a b (events v s (replicate k p)) → AppendsPrefix a b (events v s (replicate n p))
-prefix-from v s n k p a b h sent = record {
-  sent = events v s (replicate k p);
-  unsent = events v (scene_after s (replicate k p)) (replicate (n - k) p);
-  whole = events-from v s n k p h;
-  appended = sent;
-}
-
--- and then a beginning of its line
-pub prefix-at : (v : Form) (s u : Scene) (n k p : ℕ) (a b c : Option (List ℕ)) (text : List ℕ) → k < n → u ≡ scene_after s (replicate k p) → text ≡ line v u p
-    → Appends a b (events v s (replicate k p)) → AppendsPrefix b c text → AppendsPrefix a c (events v s (replicate n p))
-prefix-at v s u n k p a b c text h is shown sent part =
-    AppendsPrefix-after a b c (events v s (replicate k p)) text (events v (next u p) (replicate (n - k - 1) p)) (events v s (replicate n p)) sent part
-    (events-at v s u n k p h is ∙ ap (λ (l : List ℕ). events v s (replicate k p) ++ (l ++ events v (next u p) (replicate (n - k - 1) p))) (sym shown))
+-- the lines of a block before step number k were written, and then a beginning of its line
+pub prefix-at : (v : Form) (s u : Scene) (n k p : ℕ) (a b c : Option (List ℕ)) → k < n → u ≡ scene_after s (replicate k p)
+    → Appends a b (events v s (replicate k p)) → AppendsPrefix b c (line v u p) → AppendsPrefix a c (events v s (replicate n p))
+prefix-at v s u n k p a b c h is sent part =
+    AppendsPrefix-after a b c (events v s (replicate k p)) (line v u p) (events v (next u p) (replicate (n - k - 1) p)) (events v s (replicate n p)) sent part
+    (events-at v s u n k p h is)
 
 -- or its whole line
-pub written-more : (v : Form) (s u : Scene) (done k p : ℕ) (a b c : Option (List ℕ)) (text : List ℕ) → u ≡ scene_after s (replicate done p) → Stands v u p k → text ≡ line v u p
-    → Appends a b (events v s (replicate done p)) → Appends b c text → Appends a c (events v s (replicate (done + k) p))
-written-more v s u done k p a b c text is stand shown sent more =
-    let both = Appends-trans a b c (events v s (replicate done p)) text sent more in
-    subst (λ (l : List ℕ). Appends a c l) (ap (λ (l : List ℕ). events v s (replicate done p) ++ l) shown ∙ sym (events-more v s u done k p is stand)) both
+pub written-more : (v : Form) (s u : Scene) (done k p : ℕ) (a b c : Option (List ℕ)) → u ≡ scene_after s (replicate done p) → Stands v u p k
+    → Appends a b (events v s (replicate done p)) → Appends b c (line v u p) → Appends a c (events v s (replicate (done + k) p))
+written-more v s u done k p a b c is stand sent more =
+    let both = Appends-trans a b c (events v s (replicate done p)) (line v u p) sent more in
+    subst (λ (l : List ℕ). Appends a c l) (sym (events-more v s u done k p is stand)) both
 
 -- the scene after a step of a block, or after its other steps where they have no effect
 pub scene-told : (v : Form) (s : Scene) (first done k p : ℕ) (w x : WorldState) (t r : TallyState) → scene_at (first + done) w t ≡ scene_after s (replicate done p)

@@ -96,10 +96,14 @@ result_of Waits = None
 result_of (Refused e) = None
 result_of (Gives result given) = Some result
 
+-- a message that was received
+abbrev pub received_text : List ℕ → ℕ → List ℕ
+received_text words priority = codes " " ++ message_text words ++ codes " prio " ++ decimal priority
+
 -- what stands behind a result
 unfoldable pub given_text : Given → List ℕ
 given_text Nothing = []
-given_text (Received words priority) = codes " " ++ message_text words ++ codes " prio " ++ decimal priority
+given_text (Received words priority) = received_text words priority
 given_text (Attributes flags most size count) = attributes_text flags most size count
 given_text (Value value) = codes " value " ++ decimal value
 

@@ -4,8 +4,7 @@ ghost use Rattle.std.specs.Option.{option_map};
 ghost use Rattle.lab_sched.specs.Held.{process_view};
 ghost use Rattle.lab_sched.specs.Worlds.{machine_of};
 ghost use Rattle.ipc_kernel.specs.Outcomes.{open_queue, open_semaphore};
-ghost use Rattle.lab_trace.specs.Answers.{error_name, error_in, first_given, attributes_of, attributes_by, given_by, outcome_of, result_of, given_text, outcome_text};
-ghost use Rattle.lab_trace.specs.declared.answers.Given.TheVariants.{Received};
+ghost use Rattle.lab_trace.specs.Answers.{error_name, error_in, first_given, attributes_of, attributes_by, given_by, outcome_of, result_of, received_text, given_text, outcome_text};
 
 use crate::attributes::push_attributes;
 use crate::message::push_message;
@@ -198,7 +197,7 @@ pub fn result_of(outcome: &Outcome) -> Option<u16>
 /// Adds words and priority of a message that was received.
 fn push_received(text: &mut String, words: &[u16], priority: u16) -> Result<(), AllocError>
     ensures text { OnOk result (string_bytes text.new ≡ string_bytes text.old
-        ++ given_text (Received words.now priority)) }
+        ++ received_text words.now priority) }
 {
     text.push_str(" ")?;
     push_message(text, words)?;

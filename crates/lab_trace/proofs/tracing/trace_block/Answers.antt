@@ -3,7 +3,7 @@ use Rattle.std.proofs.KnownBytes.{Appends-nil}
 use Rattle.lab_sched.specs.Worlds.{WorldState}
 use Rattle.lab_trace.specs.Scenes.{scene_at, IsKept}
 use Rattle.lab_trace.proofs.SceneLemmas.{scene-none, events-none, stands, kept-after, length-step}
-use Rattle.lab_trace.proofs.WrittenLemmas.{on_err, prefix-from, prefix-at, written-more, scene-told}
+use Rattle.lab_trace.proofs.WrittenLemmas.{on_err, prefix-at, written-more, scene-told}
 use Rattle.lab_trace.proofs.tracing.trace_block.Goals as goal
 
 pub loop-done-init : goal.loop-done-init
@@ -18,32 +18,27 @@ loop-done-init g c =
       there = c.requires.process;
     }
 
-pub returns-in_err-traced-clause-prefix : goal.returns-in_err-traced-clause-prefix
-returns-in_err-traced-clause-prefix g c =
-    let s = scene_at c.args.first c.args.world.now c.args.tally.now in
-    on_err _ _ (prefix-from c.args.form.now s c.args.block.count c.loop-done.done c.args.block.pid _ _ c.loop-done.invariant.within c.loop-done.invariant.written)
-
-pub returns-in_err-write_text-clause-prefix : goal.returns-in_err-write_text-clause-prefix
-returns-in_err-write_text-clause-prefix g c =
+pub returns-in_err-trace_one-clause-prefix : goal.returns-in_err-trace_one-clause-prefix
+returns-in_err-trace_one-clause-prefix g c =
     let s = scene_at c.args.first c.args.world.now c.args.tally.now in
     let u = scene_at (c.args.first + c.loop-done.done) c.loop-done.world c.loop-done.tally in
-    on_err _ _ (prefix-at c.args.form.now s u c.args.block.count c.loop-done.done c.args.block.pid _ _ _ c.deref.result.now c.loop-done-test.true c.loop-done.invariant.scene
-    (c.deref.ensures ∙ c.in_ok-traced.ensures.line) c.loop-done.invariant.written c.in_err-write_text.ensures.prefix)
+    on_err _ _ (prefix-at c.args.form.now s u c.args.block.count c.loop-done.done c.args.block.pid _ _ _ c.loop-done-test.true c.loop-done.invariant.scene
+    c.loop-done.invariant.written c.in_err-trace_one.ensures.prefix)
 
 pub loop-done-preserved : goal.loop-done-preserved
 loop-done-preserved g c =
     let s = scene_at c.args.first c.args.world.now c.args.tally.now in
     let u = scene_at (c.args.first + c.loop-done.done) c.loop-done.world c.loop-done.tally in
-    let k = c.steps_done-done.result in
-    let stand = stands c.args.form.now u c.args.block.pid k c.in_ok-traced.traced.stepped c.in_ok-traced.ensures.told c.steps_done-done.ensures.other in
-    let told = scene-told c.args.form.now s c.args.first c.loop-done.done k c.args.block.pid c.loop-done.world c.trace_step.new.world c.loop-done.tally c.trace_step.new.tally
-    c.loop-done.invariant.scene stand c.in_ok-traced.ensures.world c.in_ok-traced.ensures.tally in
-    let len = ap (λ (w : WorldState). length w.processes) c.in_ok-traced.ensures.world ∙ length-step c.loop-done.world c.args.block.pid in
+    let k = c.in_ok-trace_one.value in
+    let stand = stands c.args.form.now u c.args.block.pid k c.in_ok-trace_one.ensures.other in
+    let told = scene-told c.args.form.now s c.args.first c.loop-done.done k c.args.block.pid c.loop-done.world c.trace_one.new.world c.loop-done.tally c.trace_one.new.tally
+    c.loop-done.invariant.scene stand c.in_ok-trace_one.ensures.world c.in_ok-trace_one.ensures.tally in
+    let len = ap (λ (w : WorldState). length w.processes) c.in_ok-trace_one.ensures.world ∙ length-step c.loop-done.world c.args.block.pid in
     record {
-      within = omega arith;
+      within = omega (arith, c.in_ok-trace_one.ensures.within);
       scene = told;
-      written = written-more c.args.form.now s u c.loop-done.done k c.args.block.pid _ _ _ c.deref.result.now c.loop-done.invariant.scene stand
-          (c.deref.ensures ∙ c.in_ok-traced.ensures.line) c.loop-done.invariant.written c.in_ok-write_text.ensures.written;
+      written = written-more c.args.form.now s u c.loop-done.done k c.args.block.pid _ _ _ c.loop-done.invariant.scene stand
+          c.loop-done.invariant.written c.in_ok-trace_one.ensures.written;
       kept = subst IsKept (sym told) (kept-after s (replicate (c.loop-done.done + k) c.args.block.pid) c.requires.kept);
       there = omega (arith, len, c.loop-done.invariant.there);
     }
