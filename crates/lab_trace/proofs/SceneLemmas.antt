@@ -84,7 +84,7 @@ told_by-some : (k : KernelState) (t : TallyState) (p : ℕ) (b : Observed) (u : 
 told_by-some k t p b None e = cc
 told_by-some k t p b (Some u) e = told_with-some b (account_of t p) (act_by k t p b.asking b.written u) e
 
-told-some : (s : Scene) (p : ℕ) → has_effect (stepped_of (step_effect_in s.world p)) ≡ true → told s p ≡ Nothing → ⊥
+pub told-some : (s : Scene) (p : ℕ) → has_effect (stepped_of (step_effect_in s.world p)) ≡ true → told s p ≡ Nothing → ⊥
 told-some s p effect e =
     told_by-some (step s.world p).kernel s.tally p (before_at s p) (slice_get (step s.world p).processes p) (sym (told-if s p true effect) ∙ e)
 

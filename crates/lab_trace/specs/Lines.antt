@@ -76,12 +76,8 @@ is_noted other = false
 abbrev pub columns : Form → ℕ → ℕ → Event → List ℕ
 columns v n p e = head v (decimal n) p e.pc e.local
 
--- the line of an event in step n, of process p
-abbrev pub event_line : Form → ℕ → ℕ → Event → List ℕ
-event_line v n p e = columns v n p e ++ act_text e.word e.act ++ line_end v (is_noted e.act) p e.pc e.word
-
 -- the line of step n, of process p, by what is told of it; nothing where that is no event
 abbrev pub step_line : Form → ℕ → ℕ → Told → List ℕ
 step_line v n p Nothing = []
 step_line v n p Counted = []
-step_line v n p (Shown e) = event_line v n p e
+step_line v n p (Shown e) = columns v n p e ++ act_text e.word e.act ++ line_end v (is_noted e.act) p e.pc e.word

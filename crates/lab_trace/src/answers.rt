@@ -201,10 +201,8 @@ fn push_received(text: &mut String, words: &[u16], priority: u16) -> Result<(), 
 {
     text.push_str(" ")?;
     push_message(text, words)?;
-    match write!(text, " prio {priority}") {
-        Ok(()) => Ok(()),
-        Err(error) => Err(error),
-    }
+    write!(text, " prio {priority}")?;
+    Ok(())
 }
 
 /// Adds what stands behind a result.

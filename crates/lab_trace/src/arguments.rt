@@ -3,7 +3,7 @@ ghost use Rattle.std.specs.Prelude.{◌≡◌, ◌<◌, ◌++◌, OnOk, IfOk, le
 ghost use Rattle.lab_sched.specs.Held.{process_view};
 ghost use Rattle.lab_sched.specs.Worlds.{machine_of};
 ghost use Rattle.lab_trace.specs.declared.service.Service.TheVariants.{MqSend, MqReceive};
-ghost use Rattle.lab_trace.specs.Calls.{attributes_asked, mq_open_arguments, sem_open_arguments, flags_asked, further_arguments, arguments, call_text, object_called, place_of, buffer_words, sent_words};
+ghost use Rattle.lab_trace.specs.Calls.{attributes_asked, mq_open_arguments, sem_open_arguments, flags_asked, further_arguments, arguments, call_text, object_called, place_of, sent_words};
 
 use crate::attributes::{push_flags, push_sizes};
 use crate::flags::{has_flag, push_mq_flags, push_sem_flags};
@@ -67,10 +67,8 @@ fn push_sem_open(alloc: Global, text: &mut String, process: &Process) -> Result<
         return Ok(());
     }
     let value = register(process, 2);
-    match write!(text, ", {value}") {
-        Ok(()) => Ok(()),
-        Err(error) => Err(error),
-    }
+    write!(text, ", {value}")?;
+    Ok(())
 }
 
 /// Adds the new mq_flags at an address.
@@ -95,10 +93,8 @@ fn push_sent(alloc: Global, text: &mut String, process: &Process) -> Result<(), 
     let priority = register(process, 3);
     text.push_str(", ")?;
     push_buffer(alloc, text, process, register(process, 1), len)?;
-    match write!(text, ", {len}, {priority}") {
-        Ok(()) => Ok(()),
-        Err(error) => Err(error),
-    }
+    write!(text, ", {len}, {priority}")?;
+    Ok(())
 }
 
 /// Adds what stands behind the descriptor of mq_receive.
@@ -236,23 +232,6 @@ pub fn place_of(kernel: &Kernel, pid: usize, process: &Process, service: Service
     }
 }
 
-/// The words in a buffer of a process that lies in memory.
-fn buffer_words(
-    alloc: Global,
-    process: &Process,
-    at: u16,
-    len: u16,
-) -> Result<Option<Words>, AllocError>
-    ensures words { IfOk result (λ w. w
-        ≡ buffer_words (machine_of (process_view process.now)) at len) }
-{
-    if !is_in_memory(at, len) {
-        return Ok(None);
-    }
-    let words = read_words(alloc, process, at, len)?;
-    Ok(Some(Words::from_vec(words)?))
-}
-
 /// The words that a call sends.
 pub fn sent_words(
     alloc: Global,
@@ -262,9 +241,12 @@ pub fn sent_words(
     ensures words { IfOk result (λ w. w
         ≡ sent_words (machine_of (process_view process.now)) service) }
 {
+    let at = register(process, 1);
+    let len = register(process, 2);
     match service {
-        Service::MqSend => {
-            buffer_words(alloc, process, register(process, 1), register(process, 2))
+        Service::MqSend if is_in_memory(at, len) => {
+            let words = read_words(alloc, process, at, len)?;
+            Ok(Some(Words::from_vec(words)?))
         }
         _ => Ok(None),
     }

@@ -20,10 +20,8 @@ fn push_most(text: &mut String, number: u16) -> Result<(), AllocError>
     ensures text { OnOk result (string_bytes text.new ≡ string_bytes text.old
         ++ most_field number) }
 {
-    match write!(text, "mq_maxmsg={number}") {
-        Ok(()) => Ok(()),
-        Err(error) => Err(error),
-    }
+    write!(text, "mq_maxmsg={number}")?;
+    Ok(())
 }
 
 /// Adds mq_msgsize.
@@ -32,10 +30,8 @@ fn push_size(text: &mut String, number: u16) -> Result<(), AllocError>
     ensures text { OnOk result (string_bytes text.new ≡ string_bytes text.old
         ++ size_field number) }
 {
-    match write!(text, ", mq_msgsize={number}") {
-        Ok(()) => Ok(()),
-        Err(error) => Err(error),
-    }
+    write!(text, ", mq_msgsize={number}")?;
+    Ok(())
 }
 
 /// Adds mq_curmsgs.
@@ -44,10 +40,8 @@ fn push_count(text: &mut String, number: u16) -> Result<(), AllocError>
     ensures text { OnOk result (string_bytes text.new ≡ string_bytes text.old
         ++ count_field number) }
 {
-    match write!(text, ", mq_curmsgs={number}") {
-        Ok(()) => Ok(()),
-        Err(error) => Err(error),
-    }
+    write!(text, ", mq_curmsgs={number}")?;
+    Ok(())
 }
 
 /// Adds the attributes that mq_open asks for.

@@ -7,7 +7,7 @@ ghost use Rattle.lab_trace.specs.Ends.{object_part, since_part, wait_text, stand
 
 use crate::arguments::{arguments_of, push_call};
 use crate::form::Form;
-use crate::handles::{held_place, level_at, push_level_part};
+use crate::handles::{held_place, level_at, push_level};
 use crate::others::{others_title, push_others};
 use crate::service::{Service, service_at};
 use crate::takers::push_takers;
@@ -32,7 +32,9 @@ fn push_object(
     let Some(place) = place else {
         return Ok(());
     };
-    push_level_part(text, level_at(world.kernel(), place))?;
+    if let Some(level) = level_at(world.kernel(), place) {
+        push_level(text, level)?;
+    }
     push_takers(alloc, text, world, tally, place, service)?;
     text.push_str(others_title(service))?;
     push_others(alloc, text, world, pid, place, service)

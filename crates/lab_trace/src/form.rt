@@ -196,10 +196,8 @@ fn push_at(text: &mut String, near: Near<'_>) -> Result<(), AllocError>
     ensures text { OnOk result (string_bytes text.new ≡ string_bytes text.old
         ++ at_text (near.entry.name.now, near.entry.place) near.entry.address) }
 {
-    match write!(text, "at {near}") {
-        Ok(()) => Ok(()),
-        Err(error) => Err(error),
-    }
+    write!(text, "at {near}")?;
+    Ok(())
 }
 
 /// Adds a line of a source by its number.
@@ -208,10 +206,8 @@ fn push_row(text: &mut String, row: Row) -> Result<(), AllocError>
     ensures text { OnOk result (string_bytes text.new ≡ string_bytes text.old ++ row_text row) }
 {
     let number = row.line;
-    match write!(text, "line {number}") {
-        Ok(()) => Ok(()),
-        Err(error) => Err(error),
-    }
+    write!(text, "line {number}")?;
+    Ok(())
 }
 
 /// Adds the line of a source, where there is one. `begun` says whether a note stands before it.

@@ -3,7 +3,7 @@ ghost use Rattle.std.specs.Prelude.{◌≡◌, ◌<◌, ◌++◌, OnOk, IfSome, 
 ghost use Rattle.std.specs.Option.{option_copied};
 ghost use Rattle.ipc_kernel.specs.Limits.{object_places};
 ghost use Rattle.ipc_kernel.specs.Places.{place_at};
-ghost use Rattle.lab_trace.specs.Objects.{held_place, named_text, object_text, behind_text, handle_text, object_or_number, level_at, level_text, level_part};
+ghost use Rattle.lab_trace.specs.Objects.{held_place, named_text, object_text, behind_text, handle_text, object_or_number, level_at, level_text};
 
 use crate::service::Service;
 use crate::words::push_signed;
@@ -133,23 +133,9 @@ pub fn push_level(text: &mut String, level: Level) -> Result<(), AllocError>
     ensures text { OnOk result (string_bytes text.new ≡ string_bytes text.old
         ++ level_text level) }
 {
-    let written = match level {
-        Level::Messages { count, most } => write!(text, "{count} of {most}"),
-        Level::Value(value) => write!(text, "value {value}"),
-    };
-    match written {
-        Ok(()) => Ok(()),
-        Err(error) => Err(error),
-    }
-}
-
-/// Adds the level of an object, where there is one.
-pub fn push_level_part(text: &mut String, level: Option<Level>) -> Result<(), AllocError>
-    ensures text { OnOk result (string_bytes text.new ≡ string_bytes text.old
-        ++ level_part level) }
-{
     match level {
-        Some(level) => push_level(text, level),
-        None => Ok(()),
+        Level::Messages { count, most } => write!(text, "{count} of {most}")?,
+        Level::Value(value) => write!(text, "value {value}")?,
     }
+    Ok(())
 }

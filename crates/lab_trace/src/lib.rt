@@ -11,7 +11,6 @@ mod fault;
 mod flags;
 mod form;
 mod handles;
-mod keeping;
 pub mod laws;
 mod lines;
 mod message;

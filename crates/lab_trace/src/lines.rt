@@ -1,6 +1,6 @@
 //! The line of a step.
 ghost use Rattle.std.specs.Prelude.{◌≡◌, ◌++◌, OnOk, IfOk, string_bytes};
-ghost use Rattle.lab_trace.specs.Lines.{level_note, waited_text, wait_note, origin_text, origin_note, notes, has_notes, called_text, output_text, end_text, act_text, is_noted, columns, event_line, step_line};
+ghost use Rattle.lab_trace.specs.Lines.{level_note, waited_text, wait_note, origin_text, origin_note, notes, has_notes, called_text, output_text, end_text, act_text, is_noted, columns, step_line};
 
 use crate::answers::push_outcome;
 use crate::arguments::push_call;
@@ -32,10 +32,8 @@ fn push_waited(text: &mut String, since: u32) -> Result<(), AllocError>
     ensures text { OnOk result (string_bytes text.new ≡ string_bytes text.old
         ++ waited_text since) }
 {
-    match write!(text, "waited since {since}") {
-        Ok(()) => Ok(()),
-        Err(error) => Err(error),
-    }
+    write!(text, "waited since {since}")?;
+    Ok(())
 }
 
 /// Adds since when a process waited, where it did.
@@ -58,10 +56,8 @@ fn push_origin(text: &mut String, origin: Origin) -> Result<(), AllocError>
 {
     let sender = origin.pid;
     let step = origin.step;
-    match write!(text, "from P{sender} at {step}") {
-        Ok(()) => Ok(()),
-        Err(error) => Err(error),
-    }
+    write!(text, "from P{sender} at {step}")?;
+    Ok(())
 }
 
 /// Adds where the message comes from that was received, where one was.
@@ -176,22 +172,6 @@ pub fn event_text(alloc: Global, event: &Event) -> Result<String, AllocError>
     Ok(text)
 }
 
-/// The line of an event in step `number`, of process `pid`.
-fn event_line(
-    alloc: Global,
-    form: &Form<'_>,
-    number: u32,
-    pid: usize,
-    event: &Event,
-) -> Result<String, AllocError>
-    ensures line { IfOk result (λ s. string_bytes s ≡ event_line form.now number pid event.now) }
-{
-    let mut line = columns_text(alloc, form, number, pid, event)?;
-    push_act(&mut line, event.word, &event.act)?;
-    form.push_line_end(&mut line, is_noted(&event.act), pid, event.pc, event.word)?;
-    Ok(line)
-}
-
 /// The line of step `number`, of process `pid`, or no text where nothing is shown of it.
 pub fn step_line(
     alloc: Global,
@@ -202,8 +182,11 @@ pub fn step_line(
 ) -> Result<String, AllocError>
     ensures line { IfOk result (λ s. string_bytes s ≡ step_line form.now number pid told.now) }
 {
-    match told {
-        Told::Nothing | Told::Counted => Ok(String::new(alloc)),
-        Told::Shown(event) => event_line(alloc, form, number, pid, event),
-    }
+    let Told::Shown(event) = told else {
+        return Ok(String::new(alloc));
+    };
+    let mut line = columns_text(alloc, form, number, pid, event)?;
+    push_act(&mut line, event.word, &event.act)?;
+    form.push_line_end(&mut line, is_noted(&event.act), pid, event.pc, event.word)?;
+    Ok(line)
 }

@@ -1,8 +1,13 @@
 //! Where the messages in queues come from.
-ghost use Rattle.std.specs.Prelude.{◌≡◌, ◌≤◌, OnOk, IfOk, length, []};
+ghost use Rattle.std.specs.Prelude.{◌≡◌, ◌≤◌, ◌==◌, OnOk, IfOk, length, []};
 ghost use Rattle.std.specs.List.{position_or_len};
-ghost use Rattle.lab_trace.specs.Origins.{is_in, is_below, origins_with, first, origins_without_first, origins_without_queue};
+ghost use Rattle.ipc_kernel.specs.Outcomes.{queue_at};
+ghost use Rattle.lab_trace.specs.Origins.{is_in, is_below, origins_with, first, origins_without_first, origins_without_queue, origins_after_open, origins_after_send, origins_after_receive, origins_after_success, origins_after};
 
+use crate::answers::result_of;
+use crate::service::Service;
+use crate::told::{Act, Called};
+use ipc_kernel::Kernel;
 use std::alloc::{AllocError, Global};
 use std::marker::Model;
 
@@ -67,6 +72,19 @@ fn index_in(origins: &[Origin], place: u8) -> usize
     origins.len()
 }
 
+/// Whether the queue in a place has no messages.
+fn is_unused(kernel: &Kernel, place: u8) -> bool
+    ensures value { result ≡ (length (queue_at kernel.now place).messages == 0) }
+{
+    match kernel.queue_at(place) {
+        Some((_, queue)) => {
+            let (_, _, count) = queue.attr();
+            count == 0
+        }
+        None => true,
+    }
+}
+
 /// The messages that aren't in the queue in a place.
 fn others(alloc: Global, list: &[Origin], place: u8) -> Result<Vec<Origin>, AllocError>
     ensures kept { IfOk result (λ v. v.items ≡ origins_without_queue place list.now) }
@@ -110,7 +128,7 @@ impl Origins {
 
     /// Keeps where a message comes from that was sent.
     #[tactic(auto, unfolding(crate::specs::Origins::origins_with))]
-    pub fn send(&mut self, origin: Origin) -> Result<(), AllocError>
+    fn send(&mut self, origin: Origin) -> Result<(), AllocError>
         ensures ok { OnOk result (self.new ≡ origins_with origin self.old) }
     {
         let index = index_below(&self.list, origin.place, origin.priority);
@@ -122,7 +140,7 @@ impl Origins {
 
     /// Lets go of the message that was received from the queue in a place.
     #[tactic(auto, unfolding(crate::specs::Origins::origins_without_first))]
-    pub fn receive(&mut self, place: u8)
+    fn receive(&mut self, place: u8)
         ensures kept { self.new ≡ origins_without_first place self.old }
     {
         let index = index_in(&self.list, place);
@@ -132,12 +150,99 @@ impl Origins {
     }
 
     /// Lets go of the messages of the queue in a place.
-    pub fn clear(&mut self, place: u8) -> Result<(), AllocError>
+    fn clear(&mut self, place: u8) -> Result<(), AllocError>
         ensures kept { OnOk result (self.new ≡ origins_without_queue place self.old) }
     {
         let alloc = *self.list.allocator();
         let kept = others(alloc, &self.list, place)?;
         self.list = kept;
         Ok(())
+    }
+
+    /// Keeps that a queue was opened.
+    fn keep_opened(&mut self, kernel: &Kernel, place: Option<u8>) -> Result<(), AllocError>
+        ensures kept { OnOk result (self.new ≡ origins_after_open kernel.now place self.old) }
+    {
+        let Some(place) = place else {
+            return Ok(());
+        };
+        if is_unused(kernel, place) {
+            self.clear(place)
+        } else {
+            Ok(())
+        }
+    }
+
+    /// Keeps where a message comes from that process `pid` sent in step `number`.
+    fn keep_sent(
+        &mut self,
+        number: u32,
+        pid: usize,
+        priority: u16,
+        place: Option<u8>,
+    ) -> Result<(), AllocError>
+        ensures kept { OnOk result (self.new
+            ≡ origins_after_send number pid priority place self.old) }
+    {
+        match place {
+            Some(place) => self.send(Origin {
+                place,
+                priority,
+                step: number,
+                pid,
+            }),
+            None => Ok(()),
+        }
+    }
+
+    /// Lets go of the message that was received.
+    fn keep_received(&mut self, place: Option<u8>)
+        ensures kept { self.new ≡ origins_after_receive place self.old }
+    {
+        if let Some(place) = place {
+            self.receive(place);
+        }
+    }
+
+    /// Keeps where messages come from after a call of process `pid` in step `number` that was answered and not refused.
+    fn keep_answered(
+        &mut self,
+        kernel: &Kernel,
+        number: u32,
+        pid: usize,
+        call: &Called,
+    ) -> Result<(), AllocError>
+        ensures kept { OnOk result (self.new
+            ≡ origins_after_success kernel.now number pid call.now call.now.service self.old) }
+    {
+        match call.service {
+            Service::MqOpen => self.keep_opened(kernel, call.place),
+            Service::MqSend => self.keep_sent(number, pid, call.priority, call.place),
+            Service::MqReceive => {
+                self.keep_received(call.place);
+                Ok(())
+            }
+            _ => Ok(()),
+        }
+    }
+
+    /// Keeps where messages come from after what process `pid` did in step `number`, by the kernel after it.
+    pub fn keep(
+        &mut self,
+        kernel: &Kernel,
+        number: u32,
+        pid: usize,
+        act: &Act,
+    ) -> Result<(), AllocError>
+        ensures kept { OnOk result (self.new
+            ≡ origins_after kernel.now number pid act.now self.old) }
+    {
+        let Act::Calls(call) = act else {
+            return Ok(());
+        };
+        match result_of(&call.outcome) {
+            Some(_) => self.keep_answered(kernel, number, pid, call),
+            None => Ok(()),
+        }
     }
 }

@@ -6,7 +6,6 @@ ghost use Rattle.lab_trace.specs.Units.{AreFew};
 ghost use Rattle.lab_trace.specs.Scenes.{scene_at, has_effect, told, next_tally};
 
 use crate::asking::observe;
-use crate::keeping::keep;
 use crate::tally::Tally;
 use crate::told::{Told, told_by};
 use lab_sched::{Stepped, World};
@@ -59,6 +58,6 @@ pub fn trace_step(
         ≡ next_tally (scene_at number world.old tally.old) pid) }
 {
     let told = tell(alloc, world, tally, pid)?;
-    keep(world.kernel(), tally, number, pid, &told)?;
+    tally.keep(world.kernel(), number, pid, &told)?;
     Ok(told)
 }

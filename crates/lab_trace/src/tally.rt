@@ -1,10 +1,13 @@
 //! What a trace keeps of each process beside the world.
 ghost use Rattle.std.specs.Prelude.{◌≡◌, ◌<◌, IfOk, OnOk, length, slice_set};
-ghost use Rattle.lab_trace.specs.Origins.{origins_with, first, origins_without_first, origins_without_queue};
-ghost use Rattle.lab_trace.specs.Units.{most_units, units_of, balance, units_with, remaining_units, count_after_wait, count_after_post};
-ghost use Rattle.lab_trace.specs.Tallies.{new_tally, account_of};
+ghost use Rattle.lab_trace.specs.Origins.{first};
+ghost use Rattle.lab_trace.specs.Units.{most_units, units_of, balance, AreFew};
+ghost use Rattle.lab_trace.specs.Tallies.{new_tally, account_of, account_counted, waits_from, tally_with, tally_after};
+ghost use Rattle.lab_trace.specs.Private.Room.{HasRoom};
 
+use crate::answers::Outcome;
 use crate::origins::{Origin, Origins};
+use crate::told::{Act, Told};
 use crate::units::Units;
 use ipc_kernel::Kernel;
 use std::alloc::{AllocError, Global};
@@ -45,6 +48,19 @@ const NEW_ACCOUNT: Account = Account {
     since: None,
 };
 
+/// The step since which a process waits, by what it did in step `number`.
+fn waits_from(number: u32, act: &Act) -> Option<u32>
+    ensures value { result ≡ waits_from number act.now }
+{
+    match act {
+        Act::Calls(call) => match call.outcome {
+            Outcome::Waits => Some(number),
+            Outcome::Refused(_) | Outcome::Gives { .. } => None,
+        },
+        Act::Writes(_) | Act::Ends(_) => None,
+    }
+}
+
 impl Tally {
     /// The tally of so many processes before the first step.
     pub fn new(alloc: Global, count: usize) -> Result<Tally, AllocError>
@@ -71,15 +87,6 @@ impl Tally {
         }
     }
 
-    /// Keeps another account of a process.
-    pub fn keep(&mut self, pid: usize, account: Account)
-        requires process { pid < length self.old.accounts }
-        ensures kept { self.new
-            ≡ record self.old { accounts = slice_set self.old.accounts pid account } }
-    {
-        self.accounts[pid] = account;
-    }
-
     /// Where the message comes from that is first to be received from the queue in a place.
     pub fn first_origin(&self, place: u8) -> Option<Origin>
         ensures value { result ≡ first place self.now.origins }
@@ -94,30 +101,6 @@ impl Tally {
         self.origins.as_slice()
     }
 
-    /// Keeps where a message comes from that was sent.
-    pub fn send(&mut self, origin: Origin) -> Result<(), AllocError>
-        ensures ok { OnOk result (self.new
-            ≡ record self.old { origins = origins_with origin self.old.origins }) }
-    {
-        self.origins.send(origin)
-    }
-
-    /// Lets go of the message that was received from the queue in a place.
-    pub fn receive(&mut self, place: u8)
-        ensures kept { self.new
-            ≡ record self.old { origins = origins_without_first place self.old.origins } }
-    {
-        self.origins.receive(place);
-    }
-
-    /// Lets go of the messages of the queue in a place.
-    pub fn clear(&mut self, place: u8) -> Result<(), AllocError>
-        ensures kept { OnOk result (self.new
-            ≡ record self.old { origins = origins_without_queue place self.old.origins }) }
-    {
-        self.origins.clear(place)
-    }
-
     /// How many units more of the semaphore in a place process `pid` took than it gave.
     pub fn balance(&self, place: u8, pid: usize) -> u32
         ensures value { result ≡ balance (units_of place pid self.now.units) }
@@ -125,32 +108,63 @@ impl Tally {
         self.units.of(place, pid).balance()
     }
 
-    /// Counts a unit that process `pid` took of the semaphore in a place.
-    pub fn take(&mut self, place: u8, pid: usize) -> Result<(), AllocError>
-        requires room { (units_of place pid self.old.units).taken < most_units }
-        ensures kept { OnOk result (self.new ≡ record self.old {
-          units = units_with (count_after_wait (units_of place pid self.old.units)) self.old.units;
-        }) }
+    /// Keeps what process `pid` did in step `number`, by the kernel after it.
+    fn keep_act(
+        &mut self,
+        kernel: &Kernel,
+        number: u32,
+        pid: usize,
+        act: &Act,
+    ) -> Result<(), AllocError>
+        requires account { pid < length self.old.accounts }
+        requires room { HasRoom pid self.old.units }
+        ensures kept { OnOk result (self.new
+            ≡ tally_with kernel.now number pid act.now self.old) }
     {
-        self.units.take(place, pid)
+        self.accounts[pid] = Account {
+            local: 0,
+            since: waits_from(number, act),
+        };
+        self.origins.keep(kernel, number, pid, act)?;
+        self.units.keep(kernel, pid, act)
     }
 
-    /// Counts a unit that process `pid` gave to the semaphore in a place.
-    pub fn give(&mut self, place: u8, pid: usize) -> Result<(), AllocError>
-        requires room { (units_of place pid self.old.units).given < most_units }
-        ensures kept { OnOk result (self.new ≡ record self.old {
-          units = units_with (count_after_post (units_of place pid self.old.units)) self.old.units;
-        }) }
+    /// Keeps a counted step of process `pid`.
+    fn keep_counted(&mut self, pid: usize)
+        requires account { pid < length self.old.accounts }
+        requires room { (account_of self.old pid).local < most_units }
+        ensures kept { self.new ≡ record self.old {
+          accounts = slice_set self.old.accounts pid (account_counted (account_of self.old pid));
+        } }
     {
-        self.units.give(place, pid)
+        let Account { local, since } = self.account(pid);
+        self.accounts[pid] = Account {
+            local: local + 1,
+            since,
+        };
     }
 
-    /// Lets go of the counts for semaphores that are no more.
-    pub fn forget(&mut self, kernel: &Kernel) -> Result<(), AllocError>
-        ensures kept { OnOk result (self.new ≡ record self.old {
-          units = remaining_units kernel.now self.old.units;
-        }) }
+    /// Keeps what is told of step `number`, of process `pid`, by the kernel after it.
+    pub fn keep(
+        &mut self,
+        kernel: &Kernel,
+        number: u32,
+        pid: usize,
+        told: &Told,
+    ) -> Result<(), AllocError>
+        requires account { pid < length self.old.accounts }
+        requires room { (account_of self.old pid).local < number }
+        requires few { AreFew number self.old.units }
+        ensures kept { OnOk result (self.new
+            ≡ tally_after kernel.now number pid told.now self.old) }
     {
-        self.units.forget(kernel)
+        match told {
+            Told::Nothing => Ok(()),
+            Told::Counted => {
+                self.keep_counted(pid);
+                Ok(())
+            }
+            Told::Shown(event) => self.keep_act(kernel, number, pid, &event.act),
+        }
     }
 }

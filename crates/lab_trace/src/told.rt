@@ -2,9 +2,8 @@
 ghost use Rattle.std.specs.Prelude.{◌≡◌, ◌<◌, IfOk, length, slice_get, drop};
 ghost use Rattle.lab_sched.specs.Held.{process_view};
 ghost use Rattle.lab_sched.specs.Worlds.{machine_of};
-ghost use Rattle.lab_trace.specs.Origins.{first_in, origin_by};
-ghost use Rattle.lab_trace.specs.Tallies.{account_of};
-ghost use Rattle.lab_trace.specs.Events.{opened_place, place_by, level_by, call_by, wrote, act_by, told_with, told_by};
+ghost use Rattle.lab_trace.specs.Origins.{origin_by};
+ghost use Rattle.lab_trace.specs.Events.{place_by, level_by, call_by, wrote, act_by, told_by};
 
 use crate::answers::{Outcome, outcome_of, result_of};
 use crate::asking::{Asking, Observed};
@@ -78,22 +77,6 @@ pub enum Told {
     Shown(Event),
 }
 
-/// The place of the object that an open opened, by its result.
-fn opened_place(
-    kernel: &Kernel,
-    pid: usize,
-    service: Service,
-    result_word: Option<u16>,
-) -> Option<u8>
-    requires process { pid < length kernel.now.processes }
-    ensures place { result ≡ opened_place kernel.now pid service result_word }
-{
-    match result_word {
-        Some(number) => held_place(kernel, pid, service, number),
-        None => None,
-    }
-}
-
 /// The place of the object of a call, by that before it and the kernel after it.
 fn place_by(
     kernel: &Kernel,
@@ -106,7 +89,7 @@ fn place_by(
     ensures place { result ≡ place_by kernel.now pid service place result_word }
 {
     if service.is_open() {
-        opened_place(kernel, pid, service, result_word)
+        held_place(kernel, pid, service, result_word?)
     } else {
         place
     }
@@ -123,16 +106,6 @@ fn level_by(kernel: &Kernel, service: Service, place: Option<u8>) -> Option<Leve
     }
 }
 
-/// Where the first message of the queue in a place comes from.
-fn first_in(tally: &Tally, place: Option<u8>) -> Option<Origin>
-    ensures value { result ≡ first_in place tally.now.origins }
-{
-    match place {
-        Some(place) => tally.first_origin(place),
-        None => None,
-    }
-}
-
 /// Where the message comes from that a call with this result received, by the tally before it.
 fn origin_by(
     tally: &Tally,
@@ -143,7 +116,7 @@ fn origin_by(
     ensures value { result ≡ origin_by service place result_word tally.now.origins }
 {
     match (result_word, service) {
-        (Some(_), Service::MqReceive) => first_in(tally, place),
+        (Some(_), Service::MqReceive) => tally.first_origin(place?),
         _ => None,
     }
 }
@@ -236,39 +209,6 @@ fn act_by(
     }
 }
 
-/// What is told of a step of process `pid` with an effect, by the process and the kernel after it.
-fn told_of(
-    alloc: Global,
-    kernel: &Kernel,
-    tally: &Tally,
-    pid: usize,
-    before: Observed,
-    after: &Process,
-) -> Result<Told, AllocError>
-    requires process { pid < length kernel.now.processes }
-    ensures told { IfOk result (λ t. t ≡ told_with before (account_of tally.now pid)
-        (act_by kernel.now tally.now pid before.asking before.written (process_view after.now))) }
-{
-    let Observed {
-        pc,
-        word,
-        written,
-        asking,
-    } = before;
-    let local = tally.account(pid).local;
-    Ok(
-        match act_by(alloc, kernel, tally, pid, asking, written, after)? {
-            Some(act) => Told::Shown(Event {
-                pc,
-                word,
-                local,
-                act,
-            }),
-            None => Told::Counted,
-        },
-    )
-}
-
 /// What is told of a step of process `pid` with an effect, by the world after it and the tally before it.
 pub fn told_by(
     alloc: Global,
@@ -281,8 +221,23 @@ pub fn told_by(
     ensures told { IfOk result (λ t. t
         ≡ told_by world.now.kernel tally.now pid before (slice_get world.now.processes pid)) }
 {
-    match world.process(pid) {
-        Some(after) => told_of(alloc, world.kernel(), tally, pid, before, after),
-        None => Ok(Told::Counted),
-    }
+    let Some(after) = world.process(pid) else {
+        return Ok(Told::Counted);
+    };
+    let Observed {
+        pc,
+        word,
+        written,
+        asking,
+    } = before;
+    let local = tally.account(pid).local;
+    let Some(act) = act_by(alloc, world.kernel(), tally, pid, asking, written, after)? else {
+        return Ok(Told::Counted);
+    };
+    Ok(Told::Shown(Event {
+        pc,
+        word,
+        local,
+        act,
+    }))
 }

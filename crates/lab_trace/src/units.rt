@@ -1,8 +1,13 @@
 //! Who took the units of semaphores, and who gave units.
-ghost use Rattle.std.specs.Prelude.{◌≡◌, ℕ, ◌<◌, OnOk, IfOk, IfSome, length, position, []};
+ghost use Rattle.std.specs.Prelude.{◌≡◌, ◌<◌, OnOk, IfOk, IfSome, length, position, []};
 ghost use Rattle.std.specs.List.{find};
-ghost use Rattle.lab_trace.specs.Units.{most_units, is_of, is_there, units_of, balance, units_with, remaining_units, count_after_wait, count_after_post};
+ghost use Rattle.lab_trace.specs.Answers.{result_of};
+ghost use Rattle.lab_trace.specs.Units.{is_of, is_there, units_of, balance, units_with, remaining_units, units_after_wait, units_after_post, units_after_success, units_after_call, units_after};
+ghost use Rattle.lab_trace.specs.Private.Room.{HasRoom};
 
+use crate::answers::result_of;
+use crate::service::Service;
+use crate::told::{Act, Called};
 use ipc_kernel::Kernel;
 use std::alloc::{AllocError, Global};
 use std::marker::Model;
@@ -121,7 +126,7 @@ impl Units {
 
     /// Keeps another count of the same process for the same semaphore.
     #[tactic(auto, unfolding(crate::specs::Units::units_with))]
-    fn keep(&mut self, count: UnitCount) -> Result<(), AllocError>
+    fn keep_count(&mut self, count: UnitCount) -> Result<(), AllocError>
         ensures kept { OnOk result (self.new ≡ units_with count self.old) }
     {
         match index_of(&self.list, count.place, count.pid) {
@@ -137,13 +142,15 @@ impl Units {
     }
 
     /// Counts a unit that process `pid` took of the semaphore in a place.
-    pub fn take(&mut self, place: u8, pid: usize) -> Result<(), AllocError>
-        requires room { (units_of place pid self.old).taken < most_units }
-        ensures kept { OnOk result (self.new
-            ≡ units_with (count_after_wait (units_of place pid self.old)) self.old) }
+    fn keep_taken(&mut self, pid: usize, place: Option<u8>) -> Result<(), AllocError>
+        requires room { HasRoom pid self.old }
+        ensures kept { OnOk result (self.new ≡ units_after_wait pid place self.old) }
     {
+        let Some(place) = place else {
+            return Ok(());
+        };
         let count = self.of(place, pid);
-        self.keep(UnitCount {
+        self.keep_count(UnitCount {
             place: count.place,
             pid: count.pid,
             taken: count.taken + 1,
@@ -152,13 +159,15 @@ impl Units {
     }
 
     /// Counts a unit that process `pid` gave to the semaphore in a place.
-    pub fn give(&mut self, place: u8, pid: usize) -> Result<(), AllocError>
-        requires room { (units_of place pid self.old).given < most_units }
-        ensures kept { OnOk result (self.new
-            ≡ units_with (count_after_post (units_of place pid self.old)) self.old) }
+    fn keep_given(&mut self, pid: usize, place: Option<u8>) -> Result<(), AllocError>
+        requires room { HasRoom pid self.old }
+        ensures kept { OnOk result (self.new ≡ units_after_post pid place self.old) }
     {
+        let Some(place) = place else {
+            return Ok(());
+        };
         let count = self.of(place, pid);
-        self.keep(UnitCount {
+        self.keep_count(UnitCount {
             place: count.place,
             pid: count.pid,
             taken: count.taken,
@@ -167,12 +176,53 @@ impl Units {
     }
 
     /// Lets go of the counts for semaphores that are no more.
-    pub fn forget(&mut self, kernel: &Kernel) -> Result<(), AllocError>
+    fn forget(&mut self, kernel: &Kernel) -> Result<(), AllocError>
         ensures kept { OnOk result (self.new ≡ remaining_units kernel.now self.old) }
     {
         let alloc = *self.list.allocator();
         let kept = remaining_units(alloc, kernel, &self.list)?;
         self.list = kept;
         Ok(())
+    }
+
+    /// Counts the unit that process `pid` took or gave by a call that was answered and not refused.
+    fn keep_answered(&mut self, pid: usize, call: &Called) -> Result<(), AllocError>
+        requires room { HasRoom pid self.old }
+        ensures kept { OnOk result (self.new
+            ≡ units_after_success pid call.now.place call.now.service self.old) }
+    {
+        match call.service {
+            Service::SemWait | Service::SemTrywait => self.keep_taken(pid, call.place),
+            Service::SemPost => self.keep_given(pid, call.place),
+            _ => Ok(()),
+        }
+    }
+
+    /// Counts the unit that process `pid` took or gave by a call, if it did.
+    fn keep_call(&mut self, pid: usize, call: &Called) -> Result<(), AllocError>
+        requires room { HasRoom pid self.old }
+        ensures kept { OnOk result (self.new
+            ≡ units_after_call pid call.now (result_of call.now.outcome) self.old) }
+    {
+        match result_of(&call.outcome) {
+            Some(_) => self.keep_answered(pid, call),
+            None => Ok(()),
+        }
+    }
+
+    /// Counts the units that process `pid` took or gave by what it did, and lets go of those of semaphores that are no more, by
+    /// the kernel after it.
+    pub fn keep(&mut self, kernel: &Kernel, pid: usize, act: &Act) -> Result<(), AllocError>
+        requires room { HasRoom pid self.old }
+        ensures kept { OnOk result (self.new ≡ units_after kernel.now pid act.now self.old) }
+    {
+        match act {
+            Act::Calls(call) => {
+                self.keep_call(pid, call)?;
+                self.forget(kernel)
+            }
+            Act::Ends(_) => self.forget(kernel),
+            Act::Writes(_) => Ok(()),
+        }
     }
 }

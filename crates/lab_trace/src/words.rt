@@ -36,10 +36,8 @@ pub fn push_address(text: &mut String, address: u16) -> Result<(), AllocError>
         ++ hexadecimal_text address) }
 {
     let address = Hex(address);
-    match write!(text, "{address}") {
-        Ok(()) => Ok(()),
-        Err(error) => Err(error),
-    }
+    write!(text, "{address}")?;
+    Ok(())
 }
 
 /// Adds an address, of which 0 stands for none.
@@ -59,16 +57,13 @@ pub fn push_pointer(text: &mut String, address: u16) -> Result<(), AllocError>
 pub fn push_signed(text: &mut String, word: u16) -> Result<(), AllocError>
     ensures text { OnOk result (string_bytes text.new ≡ string_bytes text.old ++ signed_text word) }
 {
-    let written = if word < 0x8000 {
-        write!(text, "{word}")
+    if word < 0x8000 {
+        write!(text, "{word}")?;
     } else {
         let size = word.wrapping_neg();
-        write!(text, "-{size}")
-    };
-    match written {
-        Ok(()) => Ok(()),
-        Err(error) => Err(error),
+        write!(text, "-{size}")?;
     }
+    Ok(())
 }
 
 /// Whether a character stands for itself between quotation marks.
@@ -103,10 +98,8 @@ fn push_byte(text: &mut String, byte: u8) -> Result<(), AllocError>
         return text.push(char::from(byte));
     }
     let escape = Escape(byte);
-    match write!(text, "{escape}") {
-        Ok(()) => Ok(()),
-        Err(error) => Err(error),
-    }
+    write!(text, "{escape}")?;
+    Ok(())
 }
 
 /// Adds bytes, each as it stands between quotation marks.
