@@ -220,10 +220,10 @@ fn push_given(text: &mut String, given: &Given) -> Result<(), AllocError>
             size,
             count,
         } => push_attributes(text, *flags, *most, *size, *count),
-        Given::Value(value) => match write!(text, " value {value}") {
-            Ok(()) => Ok(()),
-            Err(error) => Err(error),
-        },
+        Given::Value(value) => {
+            write!(text, " value {value}")?;
+            Ok(())
+        }
     }
 }
 

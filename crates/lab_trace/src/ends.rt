@@ -44,13 +44,10 @@ fn push_object(
 fn push_since(text: &mut String, since: Option<u32>) -> Result<(), AllocError>
     ensures text { OnOk result (string_bytes text.new ≡ string_bytes text.old ++ since_part since) }
 {
-    match since {
-        Some(since) => match write!(text, " since {since}") {
-            Ok(()) => Ok(()),
-            Err(error) => Err(error),
-        },
-        None => Ok(()),
+    if let Some(since) = since {
+        write!(text, " since {since}")?;
     }
+    Ok(())
 }
 
 /// Adds what process `pid` waits for.

@@ -47,12 +47,10 @@ fn push_named(text: &mut String, place: u8, name: Option<&Name>) -> Result<(), A
         ++ named_text place (option_copied name.entry)) }
 {
     match name {
-        Some(name) => text.push_str(name.text()),
-        None => match write!(text, "#{place}") {
-            Ok(()) => Ok(()),
-            Err(error) => Err(error),
-        },
+        Some(name) => text.push_str(name.text())?,
+        None => write!(text, "#{place}")?,
     }
+    Ok(())
 }
 
 /// Adds the object in a place.

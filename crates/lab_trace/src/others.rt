@@ -88,13 +88,9 @@ fn push_other(
         ++ other_text kernel.now pid place service other) }
 {
     if other != pid && has_open(kernel, place, service, other) {
-        match write!(text, " P{other}") {
-            Ok(()) => Ok(()),
-            Err(error) => Err(error),
-        }
-    } else {
-        Ok(())
+        write!(text, " P{other}")?;
     }
+    Ok(())
 }
 
 /// The other processes that could serve a call of process `pid`, each with a blank before it.

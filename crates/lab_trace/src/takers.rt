@@ -17,13 +17,9 @@ fn push_times(text: &mut String, count: u32) -> Result<(), AllocError>
     ensures text { OnOk result (string_bytes text.new ≡ string_bytes text.old ++ times_text count) }
 {
     if count > 1 {
-        match write!(text, "*{count}") {
-            Ok(()) => Ok(()),
-            Err(error) => Err(error),
-        }
-    } else {
-        Ok(())
+        write!(text, "*{count}")?;
     }
+    Ok(())
 }
 
 /// That a process has ended, or no text.
