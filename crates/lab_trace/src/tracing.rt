@@ -99,9 +99,11 @@ fn trace_one<W: Write>(
     ensures fault { IfErr result (λ e. IsFault e output.new.failed) }
 {
     let told = trace_step(alloc, world, tally, number, pid)?;
-    let line = step_line(alloc, form, number, pid, &told)?;
-    write_text(&line, output)?;
-    Ok(steps_done(&told, most))
+    let line = step_line(alloc, form, number, pid, &told);
+    let done = steps_done(&told, most);
+    drop(told);
+    write_text(&line?, output)?;
+    Ok(done)
 }
 
 /// Takes the steps of a block, of which the first has number `first`, and writes their lines.
@@ -129,17 +131,10 @@ fn trace_block<W: Write>(
 {
     let mut done = 0;
     while done < block.count {
-        let rest = block.count - done;
-        done += trace_one(
-            alloc,
-            world,
-            tally,
-            form,
-            first + done,
-            block.pid,
-            rest,
-            output,
-        )?;
+        let number = first + done;
+        let most = block.count - done;
+        let taken = trace_one(alloc, world, tally, form, number, block.pid, most, output)?;
+        done += taken;
     }
     Ok(())
 }

@@ -18,27 +18,27 @@ loop-done-init g c =
       there = c.requires.process;
     }
 
-pub returns-in_err-trace_one-clause-prefix : goal.returns-in_err-trace_one-clause-prefix
-returns-in_err-trace_one-clause-prefix g c =
+pub returns-in_err-taken-clause-prefix : goal.returns-in_err-taken-clause-prefix
+returns-in_err-taken-clause-prefix g c =
     let s = scene_at c.args.first c.args.world.now c.args.tally.now in
     let u = scene_at (c.args.first + c.loop-done.done) c.loop-done.world c.loop-done.tally in
     on_err _ _ (prefix-at c.args.form.now s u c.args.block.count c.loop-done.done c.args.block.pid _ _ _ c.loop-done-test.true c.loop-done.invariant.scene
-    c.loop-done.invariant.written c.in_err-trace_one.ensures.prefix)
+    c.loop-done.invariant.written c.in_err-taken.ensures.prefix)
 
 pub loop-done-preserved : goal.loop-done-preserved
 loop-done-preserved g c =
     let s = scene_at c.args.first c.args.world.now c.args.tally.now in
     let u = scene_at (c.args.first + c.loop-done.done) c.loop-done.world c.loop-done.tally in
-    let k = c.in_ok-trace_one.value in
-    let stand = stands c.args.form.now u c.args.block.pid k c.in_ok-trace_one.ensures.other in
+    let k = c.in_ok-taken.taken in
+    let stand = stands c.args.form.now u c.args.block.pid k c.in_ok-taken.ensures.other in
     let told = scene-told c.args.form.now s c.args.first c.loop-done.done k c.args.block.pid c.loop-done.world c.trace_one.new.world c.loop-done.tally c.trace_one.new.tally
-    c.loop-done.invariant.scene stand c.in_ok-trace_one.ensures.world c.in_ok-trace_one.ensures.tally in
-    let len = ap (λ (w : WorldState). length w.processes) c.in_ok-trace_one.ensures.world ∙ length-step c.loop-done.world c.args.block.pid in
+    c.loop-done.invariant.scene stand c.in_ok-taken.ensures.world c.in_ok-taken.ensures.tally in
+    let len = ap (λ (w : WorldState). length w.processes) c.in_ok-taken.ensures.world ∙ length-step c.loop-done.world c.args.block.pid in
     record {
-      within = omega (arith, c.in_ok-trace_one.ensures.within);
+      within = omega (arith, c.in_ok-taken.ensures.within);
       scene = told;
       written = written-more c.args.form.now s u c.loop-done.done k c.args.block.pid _ _ _ c.loop-done.invariant.scene stand
-          c.loop-done.invariant.written c.in_ok-trace_one.ensures.written;
+          c.loop-done.invariant.written c.in_ok-taken.ensures.written;
       kept = subst IsKept (sym told) (kept-after s (replicate (c.loop-done.done + k) c.args.block.pid) c.requires.kept);
       there = omega (arith, len, c.loop-done.invariant.there);
     }
