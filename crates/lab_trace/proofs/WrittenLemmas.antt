@@ -1,5 +1,5 @@
 -- What is written of a trace.
-use Rattle.std.proofs.Common.{◌≡◌, ℕ, suc, ◌+◌, ◌-◌, ◌<◌, ◌≤◌, List, ◌++◌, Option, Result, Ok, Err, length, replicate, take, drop, get_or, sym, ap, subst, ◌∙◌, arith}
+use Rattle.std.proofs.Common.{◌≡◌, ℕ, suc, ◌+◌, ◌-◌, ◌<◌, List, ◌++◌, Option, Result, Ok, Err, length, replicate, take, drop, get_or, sym, ap, subst, ◌∙◌, arith}
 use Rattle.std.specs.Prelude.{OnErr, OnOk}
 use Rattle.std.specs.Io.KnownBytes.{Appends}
 use Rattle.std.proofs.KnownBytes.{Appends-trans}
@@ -14,7 +14,7 @@ use Rattle.lab_trace.specs.Scenes.{Scene, scene_at, first_scene, line, next_tall
 use Rattle.lab_trace.specs.Tallies.{TallyState, new_tally}
 use Rattle.lab_trace.specs.Traces.{ending, trace_with, trace_text}
 use Rattle.lab_trace.specs.Forms.{Form, form_for}
-use Rattle.lab_trace.proofs.SceneLemmas.{Stands, events-append, scene-append, events-from, events-at, events-more, scene-more}
+use Rattle.lab_trace.proofs.SceneLemmas.{Stands, events-append, scene-append, events-at, events-more, scene-more}
 
 -- what holds, holds on an error
 pub on_err : {T E : Type 0} (r : Result T E) (P : Type 0) → P → OnErr r P
