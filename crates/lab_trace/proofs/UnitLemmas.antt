@@ -5,8 +5,8 @@ use Rattle.std.proofs.lemmas.List.{take_more}
 use Rattle.std.proofs.lemmas.List.Elements.{All-nil, All-append, All-cons, All-set, All-filter, All-head, All-tail, filter-append}
 use Rattle.ipc_kernel.specs.Kernel.{KernelState}
 use Rattle.lab_trace.specs.Answers.{result_of}
-use Rattle.lab_trace.specs.Units.{most_units, is_of, no_units, units_of, units_with_at, units_with, is_there, remaining_units, count_after_wait, count_after_post, units_after_wait, units_after_post, units_after_success, units_after_call, units_after, IsFew, AreFew}
-use Rattle.lab_trace.specs.Private.Room.{HasRoom}
+use Rattle.lab_trace.specs.Units.{is_of, no_units, units_of, units_with_at, units_with, is_there, remaining_units, count_after_wait, count_after_post, units_after_wait, units_after_post, units_after_success, units_after_call, units_after, IsFew, AreFew}
+use Rattle.lab_trace.specs.Private.Room.{most_units, HasRoom}
 use Rattle.lab_trace.specs.declared.units.UnitCount.{UnitCount}
 use Rattle.lab_trace.specs.declared.told.Act.{Act}
 use Rattle.lab_trace.specs.declared.told.Act.TheVariants.{Calls, Writes, Ends}

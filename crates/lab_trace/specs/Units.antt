@@ -80,10 +80,6 @@ units_after k p (Calls c) cs = remaining_units k (units_after_call p c (result_o
 units_after k p (Writes bytes) cs = cs
 units_after k p (Ends how) cs = remaining_units k cs
 
--- the most units that a count tells of a process: it has 32 bits
-abbrev pub most_units : ℕ
-most_units = 0xffffffff
-
 -- before step number n: a process took and gave fewer units
 abbrev pub IsFew : ℕ → UnitCount → Type 0
 IsFew n c = (c.taken < n) × (c.given < n)

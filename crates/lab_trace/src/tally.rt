@@ -1,9 +1,9 @@
 //! What a trace keeps of each process beside the world.
 ghost use Rattle.std.specs.Prelude.{◌≡◌, ◌<◌, IfOk, OnOk, length, slice_set};
 ghost use Rattle.lab_trace.specs.Origins.{first};
-ghost use Rattle.lab_trace.specs.Units.{most_units, units_of, balance, AreFew};
+ghost use Rattle.lab_trace.specs.Units.{units_of, balance, AreFew};
 ghost use Rattle.lab_trace.specs.Tallies.{new_tally, account_of, account_counted, waits_from, tally_with, tally_after};
-ghost use Rattle.lab_trace.specs.Private.Room.{HasRoom};
+ghost use Rattle.lab_trace.specs.Private.Room.{most_units, HasRoom};
 
 use crate::answers::Outcome;
 use crate::origins::{Origin, Origins};

@@ -1,5 +1,5 @@
 use Rattle.std.proofs.Common.{◌<◌, ◌≤◌, arith}
-use Rattle.lab_trace.specs.Units.{most_units}
+use Rattle.lab_trace.specs.Private.Room.{most_units}
 use Rattle.lab_trace.proofs.UnitLemmas.{has_room}
 use Rattle.lab_trace.proofs.tally.Tally.keep.Goals as goal
 
