@@ -7,10 +7,10 @@ use lab_commands::{
     At, Complaint, Found, Inquiry, Programs, Progress, asked_of, explore_programs, find_ends,
     inquiry_of, laboratory, read_programs, tell_ends, write_whole,
 };
-use lab_explore::{Exploration, Round};
+use lab_explore::Exploration;
 use lab_io::Output;
-use lab_page::{EndList, Endless, Ends, Extent, Source, ends_of, ends_page};
-use lab_sched::{Fresh, Program, World};
+use lab_page::{EndList, Endless, Extent, PageFault, ends_page};
+use lab_sched::{Program, World};
 use std::alloc::{AllocError, Global};
 use std::io::Write;
 use std::rt::Files;
@@ -58,9 +58,19 @@ fn explore_on_page<'a, T: Files, W: Write, P: Progress>(
     let found = find_ends(alloc, fresh, &inquiry, asked, progress)?;
     let told = tell_ends(alloc, &found, &inquiry, output, progress);
     let list = list_of(alloc, setup, programs, &found, page)?;
-    let fresh = laboratory(alloc, programs, setup.profile)?;
-    let ends = shown_ends(alloc, fresh, words, sources, list, &found, &inquiry).at("run")?;
-    write_ends(rt, alloc, &ends, page)?;
+    let names = names_of(alloc, words).at("run")?;
+    let endless = endless_of(found.exploration());
+    let extent = extent_of(found.exploration(), found.schedules().len(), &inquiry);
+    let made = ends_page(
+        alloc,
+        programs.len(),
+        names.as_slice(),
+        sources.as_slice(),
+        &list,
+        &endless,
+        extent,
+    );
+    write_ends(rt, alloc, made, page)?;
     told
 }
 
@@ -87,38 +97,12 @@ fn list_of<'a>(
     Ok(list)
 }
 
-/// What a page holds of what was found, of programs that these words name.
-fn shown_ends(
-    alloc: Global,
-    fresh: Fresh,
-    words: &[&str],
-    sources: Vec<Option<Source>>,
-    list: EndList,
-    found: &Found,
-    inquiry: &Inquiry,
-) -> Result<Ends, AllocError> {
-    let names = names_of(alloc, words)?;
-    let endless = match &found.exploration().round {
-        Some(round) => Some(endless_of(alloc, round)?),
-        None => None,
-    };
-    let extent = extent_of(found.exploration(), found.schedules().len(), inquiry);
-    ends_of(
-        alloc,
-        &World::from(fresh),
-        names.as_slice(),
-        sources,
-        list,
-        endless,
-        extent,
-    )
-}
-
-/// A round, as printed schedules.
-fn endless_of(alloc: Global, round: &Round) -> Result<Endless, AllocError> {
-    Ok(Endless {
-        schedule: round.schedule.text(alloc)?,
-        round: round.steps.text(alloc)?,
+/// The round of an exploration, where there is one.
+fn endless_of(found: &Exploration) -> Option<Endless<'_>> {
+    let round = found.round.as_ref()?;
+    Some(Endless {
+        schedule: &round.schedule,
+        round: &round.steps,
     })
 }
 
@@ -135,14 +119,14 @@ fn extent_of(found: &Exploration, ends: usize, inquiry: &Inquiry) -> Extent {
     }
 }
 
-/// Writes the page of ends.
+/// Writes the page of ends, where it could be made.
 fn write_ends<'a, T: Files>(
     rt: &T,
     alloc: Global,
-    ends: &Ends,
+    made: Result<Vec<u8>, PageFault>,
     file: &'a str,
 ) -> Result<(), Complaint<'a>> {
-    match ends_page(alloc, ends) {
+    match made {
         Ok(bytes) => write_whole(rt, alloc, file, bytes.as_slice()).at(file),
         Err(fault) => Err(of_page(fault, file)),
     }

@@ -55,5 +55,16 @@ fn run_on_page<'a, T: Files + Threads + Wait + Clock + Sync, W: Write, P: Progre
     let report = run_fresh(rt, alloc, fresh, manner, progress)?;
     tell_run(alloc, &report, output)?;
     let fresh = laboratory(alloc, programs, setup.profile)?;
-    write_page(rt, alloc, fresh, &report.schedule, words, sources, page)
+    let schedule = &report.schedule;
+    write_page(
+        rt,
+        alloc,
+        fresh,
+        schedule,
+        words,
+        sources.as_slice(),
+        &[],
+        page,
+    )?;
+    Ok(())
 }

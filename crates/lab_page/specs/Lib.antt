@@ -1,5 +1,10 @@
 pub mod Limits
+pub mod Values
+pub mod States
+pub mod Objects
+pub mod Events
 pub mod Moments
+pub mod Sources
 pub mod Runs
 pub mod Ends
 pub mod Faults

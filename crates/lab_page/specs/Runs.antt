@@ -1,115 +1,80 @@
 -- What a page holds of a run by a schedule.
-use Rattle.std.specs.Prelude.{ℕ, nat_le, Bool, Option, List, [], map, length, codes, string_bytes}
-use Rattle.std.specs.List.{enumerate_from}
+use Rattle.std.specs.Prelude.{ℕ, nat_le, Bool, Option, Some, None, List, [], ◌∷◌, map, length, codes, slice_get}
 use Rattle.std.specs.Option.{option_map}
-use Rattle.lc3_asm.specs.Texts.{Program}
-use Rattle.lc3_asm.specs.declared.assembled.Row.{Row as AssembledRow}
+use Rattle.serde_json.specs.Data.{Data, null, string, boolean, object, member, no_members}
+use Rattle.serde_json.specs.Written.{compact_text}
 use Rattle.lab_sched.specs.Schedules.{steps_of}
-use Rattle.lab_sched.specs.ScheduleTexts.{schedule_text}
-use Rattle.lab_sched.specs.Worlds.{WorldState}
+use Rattle.lab_sched.specs.Verdicts.{verdict_of}
+use Rattle.lab_sched.specs.Worlds.{Process, WorldState, machine_of}
 use Rattle.lab_sched.specs.declared.schedule.block.Block.{Block}
-use Rattle.lab_texts.specs.Texts.{regs_text}
-use Rattle.lab_trace.specs.Scenes.{Scene, first_scene, scene_after}
-use Rattle.lab_trace.specs.Traces.{ending}
+use Rattle.lab_sched.specs.declared.verdict.Verdict.{Verdict}
+use Rattle.lab_sched.specs.declared.verdict.Verdict.TheVariants.{Ended, Stuck, Open}
+use Rattle.lab_texts.specs.Reports.{report_text}
+use Rattle.lab_trace.specs.Ends.{end_lines}
 use Rattle.lab_trace.specs.Forms.{Form, form_for}
+use Rattle.lab_trace.specs.Scenes.{Scene, first_scene, scene_after}
 use Rattle.lab_page.specs.Limits.{most_whole}
-use Rattle.lab_page.specs.Moments.{Moment, code_text, size_of, moments_of, moment_shown}
-use Rattle.lab_page.specs.declared.data.Row.{Row}
-use Rattle.lab_page.specs.declared.data.Run.{Run as HeldRun}
-use Rattle.lab_page.specs.declared.data.Source.{Source as HeldSource}
-use Rattle.lab_page.specs.declared.data.Start.{Start as HeldStart}
+use Rattle.lab_page.specs.Moments.{moments_of}
+use Rattle.lab_page.specs.Sources.{Source, programs}
+use Rattle.lab_page.specs.States.{states}
+use Rattle.lab_page.specs.Values.{list, natural, naturals, or_null, all_below}
 
--- a process before the first step: how it is called, its registers, and the words around its program counter
-pub record Start : Type 0 where
-  pub name : List ℕ
-  pub registers : List ℕ
-  pub code : List ℕ
+-- so many steps of a process in a row
+abbrev pub block_data : Block → Data
+block_data b = list (natural b.pid ∷ natural b.count ∷ [])
 
--- process p of a world, with this name
-abbrev pub start : WorldState → ℕ → List ℕ → Start
-start w p name = record { name = name; registers = regs_text p w; code = code_text p w }
+-- the blocks of a schedule
+abbrev pub schedule_data : List Block → Data
+schedule_data s = list (map block_data s)
 
--- the processes with these names, in order
-abbrev pub starts : WorldState → List (List ℕ) → List Start
-starts w names = map (λ (e : ℕ × List ℕ). start w e.0 e.1) (enumerate_from 0 names)
+-- a verdict in a word
+abbrev pub verdict_word : Verdict → List ℕ
+verdict_word Ended = codes "ended"
+verdict_word Stuck = codes "stuck"
+verdict_word Open = codes "open"
 
--- a source: its text, the lines that have words, and these words
-pub record Source : Type 0 where
-  pub text : List ℕ
-  pub rows : List AssembledRow
-  pub words : List ℕ
+-- the bytes that a process has written, where it is there
+abbrev pub output_of : Option Process → Data
+output_of None = null
+output_of (Some s) = naturals (machine_of s).output
 
--- the source with this text, by what it is assembled to
-abbrev pub source_of : List ℕ → Program → Source
-source_of text p = record { text = text; rows = p.rows; words = p.image.words }
+-- what each process has written
+abbrev pub outputs : WorldState → Data
+outputs w = list (all_below (length w.processes) (λ p. output_of (slice_get w.processes p) ∷ []))
 
--- what stands behind the lines of a run's trace
-abbrev pub ending_at : Form → Scene → List ℕ
-ending_at v s = ending v s.world s.tally
+-- the end of a run: the verdict, where the processes stand, the report, and what each process has written
+unfoldable pub outcome_at : Form → Scene → Data
+outcome_at v s =
+    list (string (verdict_word (verdict_of s.world)) ∷ string (end_lines v s.world s.tally) ∷ string (report_text s.world)
+    ∷ outputs s.world ∷ [])
 
--- what stands behind the lines of the trace of a world by these steps, without labels
-unfoldable pub ending_of : WorldState → List ℕ → List ℕ
-ending_of w ps = ending_at (form_for (length ps) (length w.processes) []) (scene_after (first_scene w) ps)
+-- the end of the run of a world by these steps; its lines are without labels
+unfoldable pub outcome_of : WorldState → List ℕ → Data
+outcome_of w ps = outcome_at (form_for (length ps) (length w.processes) []) (scene_after (first_scene w) ps)
 
 -- whether a page of a schedule has its counted steps too
 abbrev pub is_whole : List Block → Bool
 is_whole s = nat_le (length (steps_of s)) most_whole
 
--- how many bytes the texts of the moments have that a schedule leads to
-abbrev pub run_size : WorldState → List Block → ℕ
-run_size w s = size_of (moments_of (is_whole s) w (steps_of s))
+-- a run by its parts: the moments, the end, the schedule, and whether each step with an effect has a moment
+abbrev pub run_with : List Data → Data → Data → Bool → Data
+run_with moments outcome blocks whole =
+    object (member (codes "moments") (list moments) (member (codes "outcome") outcome
+    (member (codes "schedule") blocks (member (codes "whole") (boolean whole) no_members))))
 
--- a run: the schedule, the processes before it, their sources, what the steps led to, and the end of the trace
-pub record Run : Type 0 where
-  pub format : List ℕ
-  pub schedule : List ℕ
-  pub whole : Bool
-  pub processes : List Start
-  pub sources : List (Option Source)
-  pub moments : List Moment
-  pub ending : List ℕ
+-- the run of a world by a schedule; the first moment is that before the first step
+unfoldable pub run_data : WorldState → List Block → Data
+run_data w s = run_with (states w ∷ moments_of (is_whole s) w (steps_of s)) (outcome_of w (steps_of s)) (schedule_data s) (is_whole s)
 
--- the run of a world by a schedule, with names and sources of its processes
-abbrev pub run_of : WorldState → List Block → List (List ℕ) → List (Option Source) → Run
-run_of w s names sources = record {
-  format = codes "lc3lab-page-1";
-  schedule = schedule_text s;
-  whole = is_whole s;
-  processes = starts w names;
-  sources = sources;
-  moments = moments_of (is_whole s) w (steps_of s);
-  ending = ending_of w (steps_of s);
-}
+-- what a page holds of a run: the processes, and the run
+abbrev pub page_data : Data → Data → Data
+page_data processes run =
+    object (member (codes "format") (string (codes "lc3lab-page-2")) (member (codes "processes") processes (member (codes "run") run no_members)))
 
--- the start that is kept as texts
-abbrev pub start_shown : HeldStart → Start
-start_shown s =
-    record { name = string_bytes s.name; registers = string_bytes s.registers; code = string_bytes s.code }
+-- what a page holds of the run of a world by a schedule, with names and sources of its processes
+abbrev pub run_page_data : WorldState → List Block → List (List ℕ) → List (Option Source) → Data
+run_page_data w s names sources = page_data (programs (length w.processes) names sources) (run_data w s)
 
--- the row that is kept
-abbrev pub row_shown : Row → AssembledRow
-row_shown r = record { line = r.line; address = r.address; count = r.count }
-
--- the rows that are kept
-abbrev pub rows_shown : List Row → List AssembledRow
-rows_shown rs = map row_shown rs
-
--- the source that is kept as texts
-abbrev pub source_shown : HeldSource → Source
-source_shown s = record { text = string_bytes s.text; rows = rows_shown s.rows.items; words = s.words.items }
-
--- the sources that are kept as texts, each where there is one
-abbrev pub sources_shown : List (Option HeldSource) → List (Option Source)
-sources_shown ss = map (option_map source_shown) ss
-
--- the run that is kept as texts
-abbrev pub run_shown : HeldRun → Run
-run_shown r = record {
-  format = r.format.now;
-  schedule = string_bytes r.schedule;
-  whole = r.whole;
-  processes = map start_shown r.processes.items;
-  sources = sources_shown r.sources.items;
-  moments = map moment_shown r.moments.items;
-  ending = string_bytes r.ending;
-}
+-- the JSON of what a page holds of that run
+abbrev pub run_json : WorldState → List Block → List (List ℕ) → List (Option Source) → List ℕ
+run_json w s names sources = compact_text (run_page_data w s names sources)

@@ -1,118 +1,119 @@
 //! The ends of an exploration, as a page holds them.
-ghost use Rattle.std.specs.Prelude.{◌≡◌, ◌≢◌, ◌<◌, false, [], Err, OnOk, IfOk, IfErr, length, map, string_bytes};
+ghost use Rattle.std.specs.Prelude.{◌≡◌, ◌≢◌, ◌<◌, ◌≤◌, ◌++◌, false, [], Err, OnOk, IfOk, IfErr, length, nat_lt};
 ghost use Rattle.std.specs.Option.{option_map};
-ghost use Rattle.lab_page.specs.Ends.{end_run, end_shown, end_size, endless_shown, ends_of, ends_shown, with_end};
+ghost use Rattle.serde_json.specs.View.{view};
+ghost use Rattle.serde_json.specs.Written.{compact_text, has_float};
+ghost use Rattle.lab_page.specs.Ends.{end_data, endless_shown, extent_data, ends_json, with_end};
 ghost use Rattle.lab_page.specs.Faults.{Explains};
 ghost use Rattle.lab_page.specs.Limits.{most_ends};
-ghost use Rattle.lab_page.specs.Runs.{sources_shown};
+ghost use Rattle.lab_page.specs.Private.Json.{end_json};
+ghost use Rattle.lab_page.specs.Runs.{run_data};
+ghost use Rattle.lab_page.specs.Values.{or_null};
 ghost use Rattle.lab_page.specs.declared.fault.PageFault.TheVariants.{TooLarge};
 
-use crate::data::{EndRun, Endless, Ends, Extent, Source};
 use crate::fault::PageFault;
-use crate::run::{Outcome, take_steps};
-use crate::start::starts;
-use crate::{MOST_END_BYTES, MOST_ENDS, MOST_WHOLE};
+use crate::run::{schedule_value, written_run};
+use crate::values::push_behind;
+use crate::{MOST_END_BYTES, MOST_ENDS};
 use lab_sched::{Schedule, World};
-use lab_trace::missing_after;
+use serde_json::{Value, json};
 use std::alloc::{AllocError, Global};
 use std::marker::Model;
 
-/// The form of the data.
-const FORMAT: &str = "lc3lab-ends-1";
+/// An interleaving that never ends.
+#[derive(Drop)]
+pub struct Endless<'a> {
+    /// What leads to a world.
+    pub schedule: &'a Schedule,
+    /// What leads from that world to itself, or to one alike.
+    pub round: &'a Schedule,
+}
+
+/// How far an exploration went.
+#[derive(Clone, Copy, Debug, PartialEq, Eq)]
+pub struct Extent {
+    /// Whether there is no other end.
+    pub complete: bool,
+    /// How many worlds were visited.
+    pub worlds: u32,
+    /// How many ends are told.
+    pub ends: usize,
+    /// The most worlds to visit.
+    pub most_worlds: u32,
+    /// The most local steps of a process in a row.
+    pub most_steps: u32,
+    /// The most bytes of memory to take.
+    pub most_memory: usize,
+    /// Whether memory was refused on the way.
+    pub refused: bool,
+}
 
 /// The runs to the first ends of an exploration.
 #[derive(Drop)]
 pub struct EndList {
-    shown: Vec<EndRun>,
-    /// The bytes of their texts.
-    bytes: usize,
+    /// The runs as JSON, with commas between them.
+    json: Vec<u8>,
+    count: usize,
     /// Whether there is no room for another.
     full: bool,
 }
 
 impl Model for EndList {
-    ghost use Rattle.std.specs.Prelude.{◌≡◌, ◌≤◌, map};
-    ghost use Rattle.std.specs.List.{sum_by};
-    ghost use Rattle.lab_page.specs.Limits.{most_end_bytes};
-    ghost use Rattle.lab_page.specs.Ends.{EndList as Listed, end_shown, end_size};
+    ghost use Rattle.std.specs.Prelude.{◌≤◌, length};
+    ghost use Rattle.lab_page.specs.Limits.{most_ends, most_end_bytes};
+    ghost use Rattle.lab_page.specs.Ends.{EndList as Listed};
 
     ghost Value = { Listed };
 
-    ghost view = { λ l. record { shown = map end_shown l.shown.items; full = l.full } };
+    ghost view = { λ l. record { json = l.json.items; count = l.count; full = l.full } };
 
-    ghost invariant = { λ l. (l.bytes ≡ sum_by end_size (map end_shown l.shown.items))
-        × (l.bytes ≤ most_end_bytes) };
+    ghost invariant = { λ l. (length l.json.items ≤ most_end_bytes) × (l.count ≤ most_ends) };
 }
 
-/// A run, and the bytes of the texts of its moments.
-#[derive(Drop)]
-struct Measured {
-    run: EndRun,
-    bytes: usize,
-}
-
-/// The run of a world by a schedule with so many calls.
-fn run_to_end(
-    alloc: Global,
-    world: &mut World,
-    schedule: &Schedule,
-    calls: u32,
-) -> Result<Measured, PageFault>
-    ensures run { IfOk result (λ m. end_shown m.run ≡ end_run world.old schedule.now calls) }
-    ensures bytes { IfOk result (λ m. m.bytes
-        ≡ end_size (end_run world.old schedule.now calls)) }
-    ensures fault { IfErr result (λ e. Explains e world.old schedule.now) }
+/// The JSON of an end to which so many calls lead.
+#[tactic(auto, unfolding(crate::specs::Private::Json::end_json))]
+fn end_json(alloc: Global, calls: u32, run: &[u8]) -> Result<Vec<u8>, AllocError>
+    ensures json { IfOk result (λ v. v.items ≡ end_json calls run.now) }
 {
-    if let Some(done) = missing_after(world, schedule) {
-        return Err(PageFault::NoProcess { done });
-    }
-    let whole = schedule.total() <= MOST_WHOLE;
-    let Outcome {
-        moments,
-        bytes,
-        ending,
-    } = take_steps(alloc, world, schedule, whole)?;
-    let run = EndRun {
-        calls,
-        schedule: schedule.text(alloc)?,
-        whole,
-        moments,
-        ending,
-    };
-    Ok(Measured { run, bytes })
+    let start = format!(in alloc; "[{calls},")?;
+    let mut json = Vec::new(alloc);
+    json.extend_from_slice(start.as_bytes())?;
+    json.extend_from_slice(run)?;
+    json.extend_from_slice(b"]")?;
+    Ok(json)
 }
 
 impl EndList {
     /// No runs.
     pub fn new(alloc: Global) -> EndList
-        ensures none { result ≡ record { shown = []; full = false } }
+        ensures none { result ≡ record { json = []; count = 0; full = false } }
     {
         EndList {
-            shown: Vec::new(alloc),
-            bytes: 0,
+            json: Vec::new(alloc),
+            count: 0,
             full: false,
         }
     }
 
-    /// Adds a run of so many bytes behind fewer than the most that there can be, where there is room for it.
-    fn push(&mut self, measured: Measured) -> Result<(), AllocError>
+    /// Adds the JSON of an end behind fewer than the most that there can be, where there is room for it.
+    fn push(&mut self, end: &[u8]) -> Result<(), AllocError>
         requires some { self.old.full ≡ false }
-        requires few { length self.old.shown < most_ends }
-        requires bytes { measured.bytes ≡ end_size (end_shown measured.run) }
-        ensures list { OnOk result (self.new ≡ with_end self.old (end_shown measured.run)) }
+        requires few { self.old.count < most_ends }
+        ensures list { OnOk result (self.new ≡ with_end self.old end.now) }
     {
-        let Measured { run, bytes } = measured;
-        if bytes > MOST_END_BYTES - self.bytes {
+        let comma: &[u8] = if self.count > 0 { b"," } else { b"" };
+        if comma.len().saturating_add(end.len()) > MOST_END_BYTES - self.json.len() {
             self.full = true;
             return Ok(());
         }
-        self.shown.push(run)?;
-        self.bytes += bytes;
+        self.json.extend_from_slice(comma)?;
+        self.json.extend_from_slice(end)?;
+        self.count += 1;
         Ok(())
     }
 
-    /// Adds the run of a world by a schedule with so many calls, where fewer than [`MOST_ENDS`] are there and the texts of
-    /// the moments have no more than [`MOST_END_BYTES`] bytes with it. Once there was no room for one, none is added.
+    /// Adds the run of a world by a schedule with so many calls, where fewer than [`MOST_ENDS`] are there and their JSON has
+    /// no more than [`MOST_END_BYTES`] bytes with it. Once there was no room for one, none is added.
     ///
     /// # Errors
     ///
@@ -126,16 +127,20 @@ impl EndList {
         calls: u32,
     ) -> Result<(), PageFault>
         ensures list { OnOk result (self.new
-            ≡ with_end self.old (end_run world.old schedule.now calls)) }
-        ensures fault { IfErr result (λ e. Explains e world.old schedule.now) }
+            ≡ with_end self.old (compact_text (end_data calls (run_data world.old schedule.now)))) }
+        ensures fault { IfErr result (λ e. Explains e world.old schedule.now
+            (compact_text (run_data world.old schedule.now))) }
         ensures fits { result ≢ Err TooLarge }
     {
-        if self.full || self.shown.len() >= MOST_ENDS {
+        if self.full || self.count >= MOST_ENDS {
             self.full = true;
             return Ok(());
         }
-        match run_to_end(alloc, world, schedule, calls) {
-            Ok(measured) => Ok(self.push(measured)?),
+        match written_run(alloc, world, schedule, &[]) {
+            Ok(run) => {
+                let end = end_json(alloc, calls, &run.json)?;
+                Ok(self.push(&end)?)
+            }
             Err(PageFault::TooLarge) => {
                 self.full = true;
                 Ok(())
@@ -145,26 +150,52 @@ impl EndList {
     }
 }
 
-/// What a page holds of the ends of a world. The processes are called by these names, and have these sources, each where
-/// there is one.
-pub fn ends_of(
-    alloc: Global,
-    world: &World,
-    names: &[String],
-    sources: Vec<Option<Source>>,
-    list: EndList,
-    endless: Option<Endless>,
-    extent: Extent,
-) -> Result<Ends, AllocError>
-    ensures ends { IfOk result (λ e. ends_shown e ≡ ends_of world.now (map string_bytes names.now)
-        (sources_shown sources.items) list (option_map endless_shown endless) extent) }
+/// An interleaving that never ends, where there is one.
+fn endless_value(alloc: Global, endless: &Option<Endless<'_>>) -> Result<Value, AllocError>
+    ensures value { IfOk result (λ v. view v ≡ or_null (option_map endless_shown endless.now)) }
 {
-    Ok(Ends {
-        format: FORMAT,
-        processes: starts(alloc, world, names)?,
-        sources,
-        ends: list.shown,
-        endless,
-        extent,
-    })
+    let Some(endless) = endless else {
+        return Ok(Value::Null);
+    };
+    let schedule = schedule_value(alloc, endless.schedule)?;
+    let round = schedule_value(alloc, endless.round)?;
+    json!(in alloc; [schedule, round])
+}
+
+/// How far an exploration went.
+fn extent_value(alloc: Global, extent: Extent) -> Result<Value, AllocError>
+    ensures value { IfOk result (λ v. view v ≡ extent_data extent) }
+{
+    let (complete, worlds, ends) = (extent.complete, extent.worlds, extent.ends);
+    let (most_worlds, most_steps) = (extent.most_worlds, extent.most_steps);
+    let (most_memory, refused) = (extent.most_memory, extent.refused);
+    json!(in alloc; [complete, worlds, ends, most_worlds, most_steps, most_memory, refused])
+}
+
+/// What a page holds of ends as JSON.
+pub fn ends_json(
+    alloc: Global,
+    processes: &Value,
+    list: &EndList,
+    endless: &Option<Endless<'_>>,
+    extent: Extent,
+) -> Result<Vec<u8>, AllocError>
+    requires plain { has_float (view processes.now) ≡ false }
+    ensures json { IfOk result (λ v. v.items
+        ≡ ends_json (view processes.now) list.now (option_map endless_shown endless.now) extent) }
+{
+    let endless = endless_value(alloc, endless)?;
+    let extent = extent_value(alloc, extent)?;
+    let mut json = Vec::new(alloc);
+    push_behind(&mut json, "{\"endless\":", &endless)?;
+    json.extend_from_slice(b",\"ends\":[")?;
+    json.extend_from_slice(&list.json)?;
+    push_behind(&mut json, "],\"extent\":", &extent)?;
+    push_behind(
+        &mut json,
+        ",\"format\":\"lc3lab-ends-2\",\"processes\":",
+        processes,
+    )?;
+    json.extend_from_slice(b"}")?;
+    Ok(json)
 }

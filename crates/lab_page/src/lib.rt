@@ -2,25 +2,25 @@
 //! the page of the ends of an exploration, each with its run.
 #![tactic(auto)]
 
-mod code;
-mod data;
 mod ends;
+mod event;
 mod fault;
 mod moment;
 mod moments;
+mod objects;
+mod open;
 mod paging;
 mod run;
 mod safe;
 mod source;
-mod start;
+mod state;
 mod template;
+mod values;
 
-pub use data::{EndRun, Endless, Ends, Event, Extent, Moment, Row, Run, Source, Start};
-pub use ends::{EndList, ends_of};
+pub use ends::{EndList, Endless, Extent};
 pub use fault::PageFault;
-pub use paging::{ends_page, page};
-pub use run::run_of;
-pub use source::source_of;
+pub use paging::{Shown, ends_page, run_page};
+pub use source::{Source, source_of};
 
 /// The most steps of a schedule of which a page has the counted ones too.
 pub const MOST_WHOLE: u32 = 20_000;
@@ -31,5 +31,5 @@ pub const MOST_BYTES: usize = 32_000_000;
 /// The most ends of which a page has the runs.
 pub const MOST_ENDS: usize = 64;
 
-/// The most bytes of the texts of these runs.
+/// The most bytes of these runs, as JSON.
 pub const MOST_END_BYTES: usize = 16_000_000;

@@ -1,73 +1,72 @@
 //! The moment after a step.
-ghost use Rattle.std.specs.Prelude.{◌≡◌, IfOk, string_bytes};
+ghost use Rattle.std.specs.Prelude.{◌≡◌, ◌<◌, false, IfOk, length, option_to_list};
 ghost use Rattle.std.specs.Option.{option_map};
-ghost use Rattle.lab_page.specs.Moments.{event_of, moment_by, step_moment, event_shown, moment_shown};
+ghost use Rattle.serde_json.specs.View.{view};
+ghost use Rattle.lab_page.specs.Moments.{counted_moment, shown_moment, moment_by};
 
-use crate::code::code_text;
-use crate::data::{Event, Moment};
+use crate::event::event_value;
+use crate::state::state_in;
 use lab_sched::World;
-use lab_texts::{fds_text, mqs_text, regs_text, sems_text};
-use lab_trace::Told;
+use lab_trace::{Event, Form, Tally, Told};
+use serde_json::{Value, json};
 use std::alloc::{AllocError, Global};
 
-/// The event of a step of process `pid` with this line, by the world after it.
-fn event_of(alloc: Global, world: &World, pid: usize, line: String) -> Result<Event, AllocError>
-    ensures event { IfOk result (λ e. event_shown e ≡ event_of (string_bytes line) pid world.now) }
-{
-    Ok(Event {
-        line,
-        held: fds_text(alloc, world, pid)?,
-        queues: mqs_text(alloc, world)?,
-        semaphores: sems_text(alloc, world)?,
-    })
-}
-
-/// The moment after step `step`, of process `pid`, by its line and the world after it. A counted step has one in a whole
-/// page alone.
-fn moment_by(
+/// The moment after step `number` of process `pid`, which is only counted.
+#[tactic(auto, unfolding(crate::specs::Moments::counted_moment))]
+fn counted_moment(
     alloc: Global,
     world: &World,
-    whole: bool,
-    step: u32,
+    number: u32,
     pid: usize,
-    line: String,
-) -> Result<Option<Moment>, AllocError>
-    ensures moment { IfOk result (λ m. option_map moment_shown m
-        ≡ moment_by whole (string_bytes line) step pid world.now) }
+) -> Result<Value, AllocError>
+    ensures moment { IfOk result (λ v. view v ≡ counted_moment number pid world.now) }
 {
-    let is_counted = line.is_empty();
-    if is_counted && !whole {
-        return Ok(None);
-    }
-    let event = if is_counted {
-        None
-    } else {
-        Some(event_of(alloc, world, pid, line)?)
-    };
-    Ok(Some(Moment {
-        step,
-        process: pid,
-        registers: regs_text(alloc, world, pid)?,
-        code: code_text(alloc, world, pid)?,
-        event,
-    }))
+    let state = state_in(alloc, world, pid)?;
+    json!(in alloc; [number, pid, state])
 }
 
-/// The moment after a step, by what is told of it. One without an effect has none.
-pub fn step_moment(
+/// The moment after step `number` of process `pid`, which has a line.
+#[tactic(auto, unfolding(crate::specs::Moments::shown_moment))]
+fn shown_moment(
     alloc: Global,
     world: &World,
+    tally: &Tally,
+    form: &Form<'_>,
+    number: u32,
+    pid: usize,
+    event: &Event,
+) -> Result<Value, AllocError>
+    requires process { pid < length world.now.processes }
+    ensures moment { IfOk result (λ v. view v
+        ≡ shown_moment form.now number pid event.now world.now tally.now) }
+{
+    let state = state_in(alloc, world, pid)?;
+    let event = event_value(alloc, world, tally, form, number, pid, event)?;
+    json!(in alloc; [number, pid, state, event])
+}
+
+/// The moment after step `number` of process `pid`, by what is told of it, where it has one; the world and the tally are those
+/// after it.
+pub fn moment_by(
+    alloc: Global,
+    world: &World,
+    tally: &Tally,
+    form: &Form<'_>,
     whole: bool,
+    number: u32,
+    pid: usize,
     told: &Told,
-    step: u32,
-    pid: usize,
-    line: String,
-) -> Result<Option<Moment>, AllocError>
-    ensures moment { IfOk result (λ m. option_map moment_shown m
-        ≡ step_moment whole told.now (string_bytes line) step pid world.now) }
+) -> Result<Option<Value>, AllocError>
+    requires process { pid < length world.now.processes }
+    ensures moment { IfOk result (λ m. option_to_list (option_map view m)
+        ≡ moment_by form.now whole number pid told.now world.now tally.now) }
 {
     match told {
-        Told::Nothing => Ok(None),
-        Told::Counted | Told::Shown(_) => moment_by(alloc, world, whole, step, pid, line),
+        Told::Counted if whole => Ok(Some(counted_moment(alloc, world, number, pid)?)),
+        Told::Shown(event) => {
+            let moment = shown_moment(alloc, world, tally, form, number, pid, event)?;
+            Ok(Some(moment))
+        }
+        Told::Nothing | Told::Counted => Ok(None),
     }
 }

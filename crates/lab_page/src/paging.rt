@@ -1,16 +1,35 @@
 //! A whole page.
-ghost use Rattle.std.specs.Prelude.{◌≡◌, List, ℕ, IfOk};
+ghost use Rattle.std.specs.Prelude.{◌≡◌, ◌≤◌, ℕ, Some, Err, false, IfOk, IfErr, OnOk, length, map, string_bytes};
+ghost use Rattle.std.specs.Option.{option_map};
+ghost use Rattle.serde_json.specs.View.{view};
+ghost use Rattle.serde_json.specs.Written.{has_float};
+ghost use Rattle.lab_sched.specs.Schedules.{steps_of};
+ghost use Rattle.lab_sched.specs.Worlds.{run};
+ghost use Rattle.lab_trace.specs.Traces.{missing_after, trace_text};
 ghost use Rattle.lab_page.specs.Pages.{page_text, safe, HasNoTag};
+ghost use Rattle.lab_page.specs.Ends.{endless_shown, ends_json};
+ghost use Rattle.lab_page.specs.Faults.{Explains};
+ghost use Rattle.lab_page.specs.Limits.{most_bytes};
+ghost use Rattle.lab_page.specs.Private.Faults.{IsFault};
+ghost use Rattle.lab_page.specs.Private.Json.{page_json};
+ghost use Rattle.lab_page.specs.Runs.{run_json};
+ghost use Rattle.lab_page.specs.declared.fault.PageFault.TheVariants.{NoProcess};
+ghost use Rattle.lab_page.specs.Sources.{programs, sources_shown};
 
 use crate::MOST_BYTES;
-use crate::data::{Ends, Run};
+use crate::ends::{EndList, Endless, Extent, ends_json};
 use crate::fault::PageFault;
+use crate::run::{Taken, written_run};
+use crate::source::{Source, programs};
 use crate::template::{push_data, push_page_end, push_page_start};
-use serde::Serialize;
+use crate::values::push_value;
+use lab_sched::{Schedule, World};
+use lab_sources::Source as Given;
+use serde_json::Value;
 use std::alloc::{AllocError, Global};
 
 /// The page with these data, as JSON.
-fn page_with(alloc: Global, json: &str) -> Result<Vec<u8>, AllocError>
+fn page_with(alloc: Global, json: &[u8]) -> Result<Vec<u8>, AllocError>
     ensures page { IfOk result (λ v. v.items ≡ page_text json.now) }
 {
     let mut bytes = Vec::new(alloc);
@@ -20,30 +39,79 @@ fn page_with(alloc: Global, json: &str) -> Result<Vec<u8>, AllocError>
     Ok(bytes)
 }
 
-/// The page of data: HTML around them as JSON, in which no `<` stands.
-fn page_of<T: Serialize>(alloc: Global, data: &T) -> Result<Vec<u8>, PageFault>
-    ensures page { IfOk result (λ v. (json : List ℕ)
-        × (v.items ≡ page_text json) × HasNoTag (safe json)) }
+/// The page with these data as JSON, where they aren't too large.
+fn page_of(alloc: Global, json: &[u8]) -> Result<Vec<u8>, PageFault>
+    ensures page { IfOk result (λ v. v.items ≡ page_text json.now) }
+    ensures closed { OnOk result (HasNoTag (safe json.now)) }
+    ensures fits { OnOk result (length json.now ≤ most_bytes) }
+    ensures fault { IfErr result (λ e. IsFault e json.now) }
 {
-    let Ok(json) = serde_json::to_string(alloc, data) else {
-        return Err(PageFault::NoMemory);
-    };
     if json.len() > MOST_BYTES {
         return Err(PageFault::TooLarge);
     }
-    Ok(page_with(alloc, &json)?)
+    Ok(page_with(alloc, json)?)
 }
 
-/// The page of a run: HTML around the run as JSON, in which no `<` stands.
+/// What a page holds of a run as JSON.
+#[tactic(auto, unfolding(crate::specs::Private::Json::page_json))]
+fn page_json(alloc: Global, processes: &Value, run: &[u8]) -> Result<Vec<u8>, AllocError>
+    requires plain { has_float (view processes.now) ≡ false }
+    ensures json { IfOk result (λ v. v.items ≡ page_json (view processes.now) run.now) }
+{
+    let mut json = Vec::new(alloc);
+    json.extend_from_slice(b"{\"format\":\"lc3lab-page-2\",\"processes\":")?;
+    push_value(&mut json, processes)?;
+    json.extend_from_slice(b",\"run\":")?;
+    json.extend_from_slice(run)?;
+    json.extend_from_slice(b"}")?;
+    Ok(json)
+}
+
+/// The page of a run, and its trace.
+#[derive(Drop)]
+pub struct Shown {
+    pub page: Vec<u8>,
+    pub trace: Vec<u8>,
+}
+
+/// The page of the run of a world by a schedule, HTML around the run as JSON, in which no `<` stands; and the trace of that
+/// run, whose lines have the labels of the processes that were `given` as sources. On the page the processes are called by
+/// these names, and have these sources, each where there is one. The world takes the schedule's steps; where it names a process
+/// that isn't there, none.
 ///
 /// # Errors
 ///
-/// `TooLarge` tells that the data have more than [`MOST_BYTES`] bytes.
-pub fn page(alloc: Global, run: &Run) -> Result<Vec<u8>, PageFault>
-    ensures page { IfOk result (λ v. (json : List ℕ)
-        × (v.items ≡ page_text json) × HasNoTag (safe json)) }
+/// `NoProcess` tells after how many steps the schedule names a process that isn't there, and then no step was taken;
+/// `TooLarge` that the data have more than [`MOST_BYTES`](crate::MOST_BYTES) bytes. After it, and after `NoMemory`, nothing is
+/// said of the world.
+pub fn run_page(
+    alloc: Global,
+    world: &mut World,
+    schedule: &Schedule,
+    names: &[String],
+    sources: &[Option<Source>],
+    given: &[Option<Given>],
+) -> Result<Shown, PageFault>
+    ensures trace { IfOk result (λ s. s.trace.items
+        ≡ trace_text world.old given.now (steps_of schedule.now)) }
+    ensures page { IfOk result (λ s. s.page.items ≡ page_text (run_json world.old schedule.now
+        (map string_bytes names.now) (sources_shown sources.now))) }
+    ensures closed { OnOk result (HasNoTag (safe (run_json world.old schedule.now
+        (map string_bytes names.now) (sources_shown sources.now)))) }
+    ensures fits { OnOk result (length (run_json world.old schedule.now
+        (map string_bytes names.now) (sources_shown sources.now)) ≤ most_bytes) }
+    ensures world { OnOk result (world.new ≡ run world.old (steps_of schedule.now)) }
+    ensures no_process { (done : ℕ) → missing_after world.old (steps_of schedule.now) ≡ Some done
+        → result ≡ Err (NoProcess done) }
+    ensures fault { IfErr result (λ e. Explains e world.old schedule.now (run_json world.old
+        schedule.now (map string_bytes names.now) (sources_shown sources.now))) }
+    ensures untouched { (done : ℕ) → result ≡ Err (NoProcess done) → world.new ≡ world.old }
 {
-    page_of(alloc, run)
+    let count = world.count();
+    let Taken { json, trace } = written_run(alloc, world, schedule, given)?;
+    let processes = programs(alloc, count, names, sources)?;
+    let page = page_of(alloc, &page_json(alloc, &processes, &json)?)?;
+    Ok(Shown { page, trace })
 }
 
 /// The page of ends: HTML around them as JSON, in which no `<` stands.
@@ -51,9 +119,25 @@ pub fn page(alloc: Global, run: &Run) -> Result<Vec<u8>, PageFault>
 /// # Errors
 ///
 /// `TooLarge` tells that the data have more than [`MOST_BYTES`] bytes.
-pub fn ends_page(alloc: Global, ends: &Ends) -> Result<Vec<u8>, PageFault>
-    ensures page { IfOk result (λ v. (json : List ℕ)
-        × (v.items ≡ page_text json) × HasNoTag (safe json)) }
+pub fn ends_page(
+    alloc: Global,
+    count: usize,
+    names: &[String],
+    sources: &[Option<Source>],
+    list: &EndList,
+    endless: &Option<Endless<'_>>,
+    extent: Extent,
+) -> Result<Vec<u8>, PageFault>
+    ensures page { IfOk result (λ v. v.items ≡ page_text (ends_json
+        (programs count (map string_bytes names.now) (sources_shown sources.now)) list.now
+        (option_map endless_shown endless.now) extent)) }
+    ensures closed { OnOk result (HasNoTag (safe (ends_json
+        (programs count (map string_bytes names.now) (sources_shown sources.now)) list.now
+        (option_map endless_shown endless.now) extent))) }
+    ensures fault { IfErr result (λ e. IsFault e (ends_json
+        (programs count (map string_bytes names.now) (sources_shown sources.now)) list.now
+        (option_map endless_shown endless.now) extent)) }
 {
-    page_of(alloc, ends)
+    let processes = programs(alloc, count, names, sources)?;
+    page_of(alloc, &ends_json(alloc, &processes, list, endless, extent)?)
 }

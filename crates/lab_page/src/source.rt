@@ -1,24 +1,23 @@
-//! The source of a process.
-ghost use Rattle.std.specs.Prelude.{◌≡◌, IfOk, string_bytes};
-ghost use Rattle.lab_page.specs.Runs.{rows_shown, source_of, source_shown};
+//! The programs of a page.
+ghost use Rattle.std.specs.Prelude.{◌≡◌, IfOk, map, slice_get, string_bytes};
+ghost use Rattle.std.specs.Option.{option_map, option_and_then};
+ghost use Rattle.serde_json.specs.View.{view};
+ghost use Rattle.lab_page.specs.Sources.{source_of, row_data, source_data, name_at, source_at, program_at, programs, source_shown, sources_shown};
 
-use crate::data::{Row, Source};
-use lc3_asm::Assembled;
+use crate::values::words_value;
+use lc3_asm::{Assembled, Row};
+use serde_json::{Value, json};
 use std::alloc::{AllocError, Global};
 
-/// The rows of an assembled text.
-fn rows_of(alloc: Global, assembled: &Assembled) -> Result<Vec<Row>, AllocError>
-    ensures rows { IfOk result (λ v. rows_shown v.items ≡ assembled.now.rows) }
-{
-    let mut rows = Vec::new(alloc);
-    for row in assembled.rows() {
-        rows.push(Row {
-            line: row.line,
-            address: row.address,
-            count: row.count,
-        })?;
-    }
-    Ok(rows)
+/// The source of a process.
+#[derive(Drop)]
+pub struct Source {
+    /// The whole text.
+    pub text: String,
+    /// Its lines that have words, in order; they follow each other in memory.
+    pub rows: Vec<Row>,
+    /// Their words, in order.
+    pub words: Vec<u16>,
 }
 
 /// The source with this text, by what it is assembled to.
@@ -28,7 +27,92 @@ pub fn source_of(alloc: Global, text: String, assembled: &Assembled) -> Result<S
 {
     Ok(Source {
         text,
-        rows: rows_of(alloc, assembled)?,
+        rows: assembled.rows().to_vec(alloc)?,
         words: assembled.image().words().to_vec(alloc)?,
     })
+}
+
+/// A line that has words.
+fn row_value(alloc: Global, row: &Row) -> Result<Value, AllocError>
+    ensures value { IfOk result (λ v. view v ≡ row_data row.now) }
+{
+    let (line, address, count) = (row.line, row.address, row.count);
+    json!(in alloc; [line, address, count])
+}
+
+/// The lines of a source that have words.
+fn row_values(alloc: Global, rows: &[Row]) -> Result<Vec<Value>, AllocError>
+    ensures values { IfOk result (λ v. map view v.items ≡ map row_data rows.now) }
+{
+    let mut values = Vec::new(alloc);
+    for row in rows {
+        values.push(row_value(alloc, row)?)?;
+    }
+    Ok(values)
+}
+
+/// A source.
+#[tactic(auto, unfolding(crate::specs::Sources::source_data))]
+fn source_value(alloc: Global, source: &Source) -> Result<Value, AllocError>
+    ensures value { IfOk result (λ v. view v ≡ source_data (source_shown source.now)) }
+{
+    let rows = row_values(alloc, &source.rows)?;
+    let words = words_value(alloc, &source.words)?;
+    json!(in alloc; [&source.text, rows, words])
+}
+
+/// The name of a process, where one is given.
+#[tactic(auto, using(crate::proofs::ValueLemmas::slice_get_seen))]
+fn name_at(alloc: Global, names: &[String], process: usize) -> Result<Value, AllocError>
+    ensures value { IfOk result (λ v. view v ≡ name_at (map string_bytes names.now) process) }
+{
+    match names.get(process) {
+        Some(name) => Value::try_from_str(alloc, name),
+        None => Ok(Value::Null),
+    }
+}
+
+/// The source of a process, where there is one.
+#[tactic(auto, using(crate::proofs::ValueLemmas::slice_get_seen))]
+fn source_at(alloc: Global, sources: &[Option<Source>], process: usize) -> Result<Value, AllocError>
+    ensures value { IfOk result (λ v. view v ≡ source_at (sources_shown sources.now) process) }
+{
+    match sources.get(process) {
+        Some(Some(source)) => source_value(alloc, source),
+        Some(None) => Ok(Value::Null),
+        None => Ok(Value::Null),
+    }
+}
+
+/// How a process is called, and its source.
+fn program_at(
+    alloc: Global,
+    names: &[String],
+    sources: &[Option<Source>],
+    process: usize,
+) -> Result<Value, AllocError>
+    ensures value { IfOk result (λ v. view v
+        ≡ program_at (map string_bytes names.now) (sources_shown sources.now) process) }
+{
+    let name = name_at(alloc, names, process)?;
+    let source = source_at(alloc, sources, process)?;
+    json!(in alloc; [name, source])
+}
+
+/// So many processes with these names and sources.
+#[tactic(auto, using(crate::proofs::ValueLemmas::all_below_none), unfolding(crate::specs::Sources::programs))]
+pub fn programs(
+    alloc: Global,
+    count: usize,
+    names: &[String],
+    sources: &[Option<Source>],
+) -> Result<Value, AllocError>
+    ensures value { IfOk result (λ v. view v
+        ≡ programs count (map string_bytes names.now) (sources_shown sources.now)) }
+{
+    let mut programs = Vec::new(alloc);
+    for process in 0..count {
+        programs.push(program_at(alloc, names, sources, process)?)?;
+    }
+    Ok(Value::Array(programs))
 }

@@ -81,12 +81,12 @@ pub fn push_page_start(bytes: &mut Vec<u8>) -> Result<(), AllocError>
 
 /// Adds the data, as JSON in which each `<` is escaped.
 #[tactic(auto, unfolding(crate::specs::Pages::data_block))]
-pub fn push_data(bytes: &mut Vec<u8>, json: &str) -> Result<(), AllocError>
+pub fn push_data(bytes: &mut Vec<u8>, json: &[u8]) -> Result<(), AllocError>
     ensures bytes { OnOk result (bytes.new.items
         ≡ bytes.old.items ++ data_block (safe json.now)) }
 {
     push_part(bytes, DATA)?;
-    push_safe(bytes, json.as_bytes())?;
+    push_safe(bytes, json)?;
     push_part(bytes, DATA_END)?;
     Ok(())
 }

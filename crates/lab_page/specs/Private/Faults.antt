@@ -1,12 +1,11 @@
--- Why moments were not kept.
-use Rattle.std.specs.Prelude.{◌<◌, List, ⊤}
+-- Why moments aren't kept.
+use Rattle.std.specs.Prelude.{◌<◌, ℕ, List, length, ⊤}
 use Rattle.lab_page.specs.Limits.{most_bytes}
-use Rattle.lab_page.specs.Moments.{Moment, size_of}
 use Rattle.lab_page.specs.declared.fault.PageFault.{PageFault}
 use Rattle.lab_page.specs.declared.fault.PageFault.TheVariants.{NoProcess, TooLarge, NoMemory}
 
--- why moments were not kept: their texts have too many bytes, or memory was refused
-abbrev pub IsFault : PageFault → List Moment → Type 0
-IsFault (NoProcess done) ms = ⊥
-IsFault TooLarge ms = most_bytes < size_of ms
-IsFault NoMemory ms = ⊤
+-- the JSON has too many bytes with them, or memory was refused
+abbrev pub IsFault : PageFault → List ℕ → Type 0
+IsFault (NoProcess done) json = ⊥
+IsFault TooLarge json = most_bytes < length json
+IsFault NoMemory json = ⊤

@@ -1,0 +1,90 @@
+-- What a step did that has a line in the trace.
+use Rattle.std.specs.Prelude.{ℕ, Bool, true, false, if◌then◌else◌, Option, Some, None, List, [], ◌∷◌, codes}
+use Rattle.std.specs.Option.{option_map}
+use Rattle.serde_json.specs.Data.{Data, null, string}
+use Rattle.lab_sched.specs.Worlds.{WorldState}
+use Rattle.lab_texts.specs.Texts.{how_text}
+use Rattle.lab_trace.specs.Answers.{error_name, outcome_text}
+use Rattle.lab_trace.specs.Forms.{Form}
+use Rattle.lab_trace.specs.Lines.{columns, act_text}
+use Rattle.lab_trace.specs.Services.{service_name, is_on_level}
+use Rattle.lab_trace.specs.Tallies.{TallyState}
+use Rattle.lab_trace.specs.declared.answers.Given.{Given}
+use Rattle.lab_trace.specs.declared.answers.Given.TheVariants.{Received}
+use Rattle.lab_trace.specs.declared.answers.Outcome.{Outcome}
+use Rattle.lab_trace.specs.declared.answers.Outcome.TheVariants.{Waits, Refused, Gives}
+use Rattle.lab_trace.specs.declared.service.Service.{Service}
+use Rattle.lab_trace.specs.declared.service.Service.TheVariants.{MqGetattr, SemGetvalue}
+use Rattle.lab_trace.specs.declared.told.Act.{Act}
+use Rattle.lab_trace.specs.declared.told.Act.TheVariants.{Calls, Writes, Ends}
+use Rattle.lab_trace.specs.declared.told.Called.{Called}
+use Rattle.lab_trace.specs.declared.told.Event.{Event}
+use Rattle.lab_page.specs.Values.{list, natural, naturals, or_null}
+use Rattle.lab_page.specs.Objects.{object_at, objects, open_data}
+
+-- what became of a call: it waits, or this error or this result was answered
+abbrev pub outcome_data : Outcome → Data
+outcome_data Waits = null
+outcome_data (Refused e) = string (error_name e)
+outcome_data (Gives result given) = natural result
+
+-- the words of a message that a call received, else those that it sends
+abbrev pub words_of : Outcome → Option (List ℕ) → Option (List ℕ)
+words_of (Gives result (Received words priority)) sent = Some words
+words_of other sent = sent
+
+-- a call: its name, its object by place and by name, its answer as the trace has it and as a value, the words of its message, and
+-- the step that sent the message that it received
+unfoldable pub called_data : Called → Data
+called_data c =
+    list (string (codes "call") ∷ string (service_name c.service) ∷ or_null (option_map natural c.place) ∷ string c.object
+    ∷ string (outcome_text c.outcome) ∷ outcome_data c.outcome ∷ or_null (option_map naturals (words_of c.outcome c.sent))
+    ∷ or_null (option_map (λ o. natural o.step) c.origin) ∷ [])
+
+-- what a process did
+abbrev pub act_data : Act → Data
+act_data (Calls c) = called_data c
+act_data (Writes bytes) = list (string (codes "output") ∷ naturals bytes ∷ [])
+act_data (Ends how) = list (string (codes "ends") ∷ string (how_text how) ∷ [])
+
+-- whether a call only tells of its object
+abbrev pub is_asking : Service → Bool
+is_asking MqGetattr = true
+is_asking SemGetvalue = true
+is_asking other = false
+
+-- whether a call can make, name or end objects, or change what the process has open
+abbrev pub is_arranging : Service → Bool
+is_arranging s = if is_on_level s then false else if is_asking s then false else true
+
+-- whether all objects are told behind what a process did, and what it has open
+abbrev pub tells_all : Act → Bool
+tells_all (Calls c) = is_arranging c.service
+tells_all (Writes bytes) = false
+tells_all (Ends how) = true
+
+-- the place of the object whose level a call could change
+abbrev pub place_changed : Act → Option ℕ
+place_changed (Calls c) = if is_on_level c.service then c.place else None
+place_changed (Writes bytes) = None
+place_changed (Ends how) = None
+
+-- the object in a place, where one is named
+abbrev pub object_in : WorldState → TallyState → Option ℕ → List Data
+object_in w t None = []
+object_in w t (Some place) = object_at w t place
+
+-- the objects that are told behind what a process did: all, or the one that it could change
+unfoldable pub objects_told : WorldState → TallyState → Act → List Data
+objects_told w t act = if tells_all act then objects w t else object_in w t (place_changed act)
+
+-- what the process has open, where it is told
+unfoldable pub open_told : WorldState → ℕ → Act → Data
+open_told w p act = if tells_all act then open_data w p else null
+
+-- an event of process p in step n, by the world and the tally after it: the program counter before it, its line in two parts, what the
+-- process did, the objects, and what the process has open
+unfoldable pub event_data : Form → ℕ → ℕ → Event → WorldState → TallyState → Data
+event_data v n p e w t =
+    list (natural e.pc ∷ string (columns v n p e) ∷ string (act_text e.word e.act) ∷ act_data e.act
+    ∷ list (objects_told w t e.act) ∷ open_told w p e.act ∷ [])

@@ -1,0 +1,94 @@
+-- Message queues, semaphores, and what a process has open of them.
+use Rattle.std.specs.Prelude.{ℕ, ◌==◌, Option, Some, None, List, [], ◌∷◌, ◌++◌, length, codes, filter, slice_get, if◌then◌else◌}
+use Rattle.std.specs.Option.{option_map, option_to_list}
+use Rattle.serde_json.specs.Data.{Data, null, string, boolean}
+use Rattle.ipc_objects.specs.Queue.{QueueState}
+use Rattle.ipc_objects.specs.declared.queue.Message.{Message}
+use Rattle.ipc_kernel.specs.Limits.{object_places, open_max}
+use Rattle.ipc_kernel.specs.Places.{place_at, queue_and_name, value_and_name}
+use Rattle.ipc_kernel.specs.Processes.{descriptor_of, slot_of}
+use Rattle.ipc_kernel.specs.declared.place.Place.{Place}
+use Rattle.ipc_kernel.specs.declared.process.Descriptor.{Descriptor}
+use Rattle.ipc_kernel.specs.declared.process.Slot.{Slot}
+use Rattle.lab_sched.specs.Worlds.{WorldState}
+use Rattle.lab_texts.specs.Objects.{access_text}
+use Rattle.lab_trace.specs.Origins.{is_in}
+use Rattle.lab_trace.specs.Tallies.{TallyState}
+use Rattle.lab_trace.specs.Units.{units_of, balance}
+use Rattle.lab_trace.specs.declared.origins.Origin.{Origin}
+use Rattle.lab_page.specs.Values.{list, natural, naturals, or_null, all_below}
+
+-- the name of an object, none once it is unlinked
+abbrev pub name_data : Option (List ℕ) → Data
+name_data name = or_null (option_map string name)
+
+-- a process that took so many units of a semaphore more than it gave
+abbrev pub taker : ℕ → ℕ → List Data
+taker p n = if n == 0 then [] else list (natural p ∷ natural n ∷ []) ∷ []
+
+-- the processes that took more units of the semaphore in a place than they gave, each with how many more
+abbrev pub takers : WorldState → TallyState → ℕ → List Data
+takers w t place = all_below (length w.processes) (λ p. taker p (balance (units_of place p t.units)))
+
+-- the semaphore in a place: its name, its value, and who has taken units of it
+unfoldable pub semaphore_data : WorldState → TallyState → ℕ → Option (List ℕ) × ℕ → Data
+semaphore_data w t place held =
+    list (string (codes "sem") ∷ natural place ∷ name_data held.0 ∷ natural held.1 ∷ list (takers w t place) ∷ [])
+
+-- the process and the step that sent a message
+abbrev pub origin_data : Origin → Data
+origin_data o = list (natural o.pid ∷ natural o.step ∷ [])
+
+-- a message: its priority, its words, and where it comes from
+unfoldable pub message_data : Message → Option Origin → Data
+message_data m origin =
+    list (natural m.priority ∷ naturals m.words ∷ or_null (option_map origin_data origin) ∷ [])
+
+-- where the messages in the queue in a place come from, in the order of receive
+abbrev pub origins_in : TallyState → ℕ → List Origin
+origins_in t place = filter (is_in place) t.origins
+
+-- message number i of a queue, where it is there
+abbrev pub message_at : List Origin → QueueState → ℕ → List Data
+message_at os q i = option_to_list (option_map (λ m. message_data m (slice_get os i)) (slice_get q.messages i))
+
+-- the messages of a queue in the order of receive
+abbrev pub messages : List Origin → QueueState → List Data
+messages os q = all_below (length q.messages) (message_at os q)
+
+-- the queue in a place: its name, mq_maxmsg, mq_msgsize, and its messages
+unfoldable pub queue_data : TallyState → ℕ → Option (List ℕ) × QueueState → Data
+queue_data t place held =
+    list (string (codes "mq") ∷ natural place ∷ name_data held.0 ∷ natural held.1.max_messages
+    ∷ natural held.1.message_size ∷ list (messages (origins_in t place) held.1) ∷ [])
+
+-- the object in a place, where there is one
+unfoldable pub object_at : WorldState → TallyState → ℕ → List Data
+object_at w t place =
+    option_to_list (option_map (queue_data t place) (queue_and_name (place_at w.kernel.places place)))
+    ++ option_to_list (option_map (semaphore_data w t place) (value_and_name (place_at w.kernel.places place)))
+
+-- all objects in order of place
+unfoldable pub objects : WorldState → TallyState → List Data
+objects w t = all_below object_places (object_at w t)
+
+-- an open descriptor: the place of its queue, for what it is open, and whether a call that would wait is refused
+abbrev pub descriptor_data : ℕ → Descriptor → Data
+descriptor_data number d =
+    list (string (codes "mq") ∷ natural number ∷ natural d.place ∷ string (access_text d.access) ∷ boolean d.nonblock ∷ [])
+
+-- an open slot: the place of its semaphore, and how often it was opened
+abbrev pub slot_data : ℕ → Slot → Data
+slot_data number s = list (string (codes "sem") ∷ natural number ∷ natural s.place ∷ natural s.opens ∷ [])
+
+-- descriptor d of process p, where it is open
+abbrev pub descriptor_at : WorldState → ℕ → ℕ → List Data
+descriptor_at w p d = option_to_list (option_map (descriptor_data d) (descriptor_of w.kernel.processes p d))
+
+-- slot s of process p, where it is open
+abbrev pub slot_at : WorldState → ℕ → ℕ → List Data
+slot_at w p s = option_to_list (option_map (slot_data s) (slot_of w.kernel.processes p s))
+
+-- what process p has open: descriptors, then slots
+unfoldable pub open_data : WorldState → ℕ → Data
+open_data w p = list (all_below open_max (descriptor_at w p) ++ all_below open_max (slot_at w p))

@@ -1,0 +1,24 @@
+-- The JSON of a run, by its parts.
+use Rattle.std.specs.Prelude.{ℕ, Bool, List, ◌++◌, codes, decimal}
+use Rattle.serde_json.specs.Data.{Data, boolean}
+use Rattle.serde_json.specs.Written.{compact_text}
+
+-- the JSON of a run and the lines of its trace, as far as its steps are taken
+pub record Written : Type 0 where
+  pub json : List ℕ
+  pub lines : List ℕ
+
+-- what stands behind the moments of a run: its end, its schedule, and whether each step with an effect has a moment
+unfoldable pub run_end : Data → Data → Bool → List ℕ
+run_end outcome blocks whole =
+    codes "],\"outcome\":" ++ (compact_text outcome ++ (codes ",\"schedule\":" ++ (compact_text blocks ++ (codes ",\"whole\":"
+    ++ (compact_text (boolean whole) ++ codes "}")))))
+
+-- an end: how many calls lead to it, and the run as JSON
+unfoldable pub end_json : ℕ → List ℕ → List ℕ
+end_json calls run = codes "[" ++ decimal calls ++ codes "," ++ run ++ codes "]"
+
+-- what a page holds of a run: the processes, and the run as JSON
+unfoldable pub page_json : Data → List ℕ → List ℕ
+page_json processes run =
+    codes "{\"format\":\"lc3lab-page-2\",\"processes\":" ++ compact_text processes ++ codes ",\"run\":" ++ run ++ codes "}"

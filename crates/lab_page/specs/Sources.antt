@@ -1,0 +1,50 @@
+-- The programs of a page.
+use Rattle.std.specs.Prelude.{ℕ, Option, List, [], ◌∷◌, map, slice_get, string_bytes}
+use Rattle.std.specs.Option.{option_map, option_and_then}
+use Rattle.serde_json.specs.Data.{Data, string}
+use Rattle.lc3_asm.specs.Texts.{Program}
+use Rattle.lc3_asm.specs.declared.assembled.Row.{Row}
+use Rattle.lab_page.specs.Values.{list, natural, naturals, or_null, all_below}
+use Rattle.lab_page.specs.declared.source.Source.{Source as HeldSource}
+
+-- a source: its text, the lines that have words, and these words
+pub record Source : Type 0 where
+  pub text : List ℕ
+  pub rows : List Row
+  pub words : List ℕ
+
+-- the source with this text, by what it is assembled to
+abbrev pub source_of : List ℕ → Program → Source
+source_of text p = record { text = text; rows = p.rows; words = p.image.words }
+
+-- a line of a source that has words: its number, the address of its first word, and how many it has
+abbrev pub row_data : Row → Data
+row_data r = list (natural r.line ∷ natural r.address ∷ natural r.count ∷ [])
+
+-- a source
+unfoldable pub source_data : Source → Data
+source_data s = list (string s.text ∷ list (map row_data s.rows) ∷ naturals s.words ∷ [])
+
+-- the name of process p, where one is given
+abbrev pub name_at : List (List ℕ) → ℕ → Data
+name_at names p = or_null (option_map string (slice_get names p))
+
+-- the source of process p, where there is one
+abbrev pub source_at : List (Option Source) → ℕ → Data
+source_at sources p = or_null (option_map source_data (option_and_then (λ s. s) (slice_get sources p)))
+
+-- how process p is called, and its source
+abbrev pub program_at : List (List ℕ) → List (Option Source) → ℕ → Data
+program_at names sources p = list (name_at names p ∷ source_at sources p ∷ [])
+
+-- so many processes with these names and sources
+unfoldable pub programs : ℕ → List (List ℕ) → List (Option Source) → Data
+programs count names sources = list (all_below count (λ p. program_at names sources p ∷ []))
+
+-- the source that is kept as a text
+abbrev pub source_shown : HeldSource → Source
+source_shown s = record { text = string_bytes s.text; rows = s.rows.items; words = s.words.items }
+
+-- the sources that are kept as texts, each where there is one
+abbrev pub sources_shown : List (Option HeldSource) → List (Option Source)
+sources_shown ss = map (option_map source_shown) ss

@@ -1,0 +1,198 @@
+//! A step that has a line in the trace.
+ghost use Rattle.std.specs.Prelude.{◌≡◌, ◌<◌, IfOk, length, map, option_to_list};
+ghost use Rattle.std.specs.Option.{option_map};
+ghost use Rattle.serde_json.specs.View.{view};
+ghost use Rattle.lab_page.specs.Values.{natural, naturals, or_null};
+ghost use Rattle.lab_page.specs.Events.{outcome_data, words_of, called_data, act_data, is_asking, is_arranging, tells_all, place_changed, object_in, objects_told, open_told, event_data};
+
+use crate::objects::{object_at, objects};
+use crate::open::open_value;
+use crate::values::{bytes_value, push_some, words_value};
+use lab_sched::World;
+use lab_texts::how_name;
+use lab_trace::{
+    Act, Called, Event, Form, Given, Origin, Outcome, Service, Tally, columns_text, error_name,
+    event_text, push_outcome,
+};
+use serde_json::{Value, json};
+use std::alloc::{AllocError, Global};
+
+/// What became of a call.
+fn outcome_value(alloc: Global, outcome: &Outcome) -> Result<Value, AllocError>
+    ensures value { IfOk result (λ v. view v ≡ outcome_data outcome.now) }
+{
+    match outcome {
+        Outcome::Waits => Ok(Value::Null),
+        Outcome::Refused(error) => Value::try_from_str(alloc, error_name(*error)),
+        Outcome::Gives { result, .. } => Ok(Value::from(*result)),
+    }
+}
+
+/// The words of the message that a call received, else of that which it sends.
+fn message_words(alloc: Global, call: &Called) -> Result<Value, AllocError>
+    ensures value { IfOk result (λ v. view v
+        ≡ or_null (option_map naturals (words_of call.now.outcome call.now.sent))) }
+{
+    if let Outcome::Gives {
+        given: Given::Received { words, .. },
+        ..
+    } = &call.outcome
+    {
+        return words_value(alloc, words.as_slice());
+    }
+    match &call.sent {
+        Some(words) => words_value(alloc, words.as_slice()),
+        None => Ok(Value::Null),
+    }
+}
+
+/// A place, where there is one.
+fn place_value(place: Option<u8>) -> Value
+    ensures value { view result ≡ or_null (option_map natural place) }
+{
+    match place {
+        Some(place) => Value::from(place),
+        None => Value::Null,
+    }
+}
+
+/// The step that sent a message, where one was received.
+fn sender_value(origin: Option<Origin>) -> Value
+    ensures value { view result ≡ or_null (option_map (λ o. natural o.step) origin) }
+{
+    match origin {
+        Some(origin) => Value::from(origin.step),
+        None => Value::Null,
+    }
+}
+
+/// A call.
+#[tactic(auto, unfolding(crate::specs::Events::called_data))]
+fn called_value(alloc: Global, call: &Called) -> Result<Value, AllocError>
+    ensures value { IfOk result (λ v. view v ≡ called_data call.now) }
+{
+    let name = call.service.name();
+    let object = call.object.as_str();
+    let mut answer = String::new(alloc);
+    push_outcome(&mut answer, &call.outcome)?;
+    let outcome = outcome_value(alloc, &call.outcome)?;
+    let words = message_words(alloc, call)?;
+    let sender = sender_value(call.origin);
+    let place = place_value(call.place);
+    json!(in alloc; ["call", name, place, object, answer, outcome, words, sender])
+}
+
+/// What a process did.
+fn act_value(alloc: Global, act: &Act) -> Result<Value, AllocError>
+    ensures value { IfOk result (λ v. view v ≡ act_data act.now) }
+{
+    match act {
+        Act::Calls(call) => called_value(alloc, call),
+        Act::Writes(bytes) => {
+            let bytes = bytes_value(alloc, bytes.as_slice())?;
+            json!(in alloc; ["output", bytes])
+        }
+        Act::Ends(how) => {
+            let how = how_name(*how);
+            json!(in alloc; ["ends", how])
+        }
+    }
+}
+
+/// Whether a call can make, name or end objects, or change what the process has open.
+fn is_arranging(service: Service) -> bool
+    ensures value { result ≡ is_arranging service }
+{
+    !service.is_on_level() && !matches!(service, Service::MqGetattr | Service::SemGetvalue)
+}
+
+/// Whether all objects are told behind what a process did, and what it has open.
+fn tells_all(act: &Act) -> bool
+    ensures value { result ≡ tells_all act.now }
+{
+    match act {
+        Act::Calls(call) => is_arranging(call.service),
+        Act::Writes(_) => false,
+        Act::Ends(_) => true,
+    }
+}
+
+/// The place of the object whose level a call could change.
+fn place_changed(act: &Act) -> Option<u8>
+    ensures place { result ≡ place_changed act.now }
+{
+    match act {
+        Act::Calls(call) if call.service.is_on_level() => call.place,
+        _ => None,
+    }
+}
+
+/// The object in a place, where one is named.
+fn object_in(
+    alloc: Global,
+    world: &World,
+    tally: &Tally,
+    place: Option<u8>,
+) -> Result<Vec<Value>, AllocError>
+    ensures objects { IfOk result (λ v. map view v.items ≡ object_in world.now tally.now place) }
+{
+    let mut objects = Vec::new(alloc);
+    if let Some(place) = place {
+        push_some(&mut objects, object_at(alloc, world, tally, place)?)?;
+    }
+    Ok(objects)
+}
+
+/// The objects that are told behind what a process did: all, or the one that it could change.
+#[tactic(auto, unfolding(crate::specs::Events::objects_told))]
+fn objects_told(
+    alloc: Global,
+    world: &World,
+    tally: &Tally,
+    act: &Act,
+) -> Result<Vec<Value>, AllocError>
+    ensures objects { IfOk result (λ v. map view v.items ≡ objects_told world.now tally.now act.now) }
+{
+    if tells_all(act) {
+        objects(alloc, world, tally)
+    } else {
+        object_in(alloc, world, tally, place_changed(act))
+    }
+}
+
+/// What process `pid` has open, where it is told behind what it did.
+#[tactic(auto, unfolding(crate::specs::Events::open_told))]
+fn open_told(alloc: Global, world: &World, pid: usize, act: &Act) -> Result<Value, AllocError>
+    requires process { pid < length world.now.processes }
+    ensures value { IfOk result (λ v. view v ≡ open_told world.now pid act.now) }
+{
+    if tells_all(act) {
+        open_value(alloc, world, pid)
+    } else {
+        Ok(Value::Null)
+    }
+}
+
+/// The event of process `pid` in step `number`, by the world and the tally after it.
+#[tactic(auto, unfolding(crate::specs::Events::event_data))]
+pub fn event_value(
+    alloc: Global,
+    world: &World,
+    tally: &Tally,
+    form: &Form<'_>,
+    number: u32,
+    pid: usize,
+    event: &Event,
+) -> Result<Value, AllocError>
+    requires process { pid < length world.now.processes }
+    ensures value { IfOk result (λ v. view v
+        ≡ event_data form.now number pid event.now world.now tally.now) }
+{
+    let pc = event.pc;
+    let head = columns_text(alloc, form, number, pid, event)?;
+    let what = event_text(alloc, event)?;
+    let act = act_value(alloc, &event.act)?;
+    let objects = objects_told(alloc, world, tally, &event.act)?;
+    let open = open_told(alloc, world, pid, &event.act)?;
+    json!(in alloc; [pc, head, what, act, objects, open])
+}

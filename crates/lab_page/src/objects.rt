@@ -1,0 +1,195 @@
+//! Message queues and semaphores at a moment.
+ghost use Rattle.std.specs.Prelude.{◌≡◌, [], IfOk, map, length, filter};
+ghost use Rattle.std.specs.Option.{option_map, option_copied, option_to_list};
+ghost use Rattle.serde_json.specs.View.{view};
+ghost use Rattle.lab_trace.specs.Origins.{is_in};
+ghost use Rattle.lab_page.specs.Values.{or_null};
+ghost use Rattle.lab_page.specs.Objects.{name_data, taker, takers, semaphore_data, origin_data, message_data, message_at, messages, queue_data, object_at, objects};
+
+use crate::values::{push_some, words_value};
+use ipc_kernel::OBJECT_PLACES;
+use ipc_names::Name;
+use ipc_objects::Queue;
+use lab_sched::World;
+use lab_trace::{Origin, Tally};
+use serde_json::{Value, json};
+use std::alloc::{AllocError, Global};
+
+/// The name of an object, none once it is unlinked.
+fn name_value(alloc: Global, name: Option<&Name>) -> Result<Value, AllocError>
+    ensures value { IfOk result (λ v. view v ≡ name_data (option_copied name.entry)) }
+{
+    match name {
+        Some(name) => Value::try_from_str(alloc, name.text()),
+        None => Ok(Value::Null),
+    }
+}
+
+/// A process that took so many units of a semaphore more than it gave, where it did.
+fn taker(alloc: Global, pid: usize, count: u32) -> Result<Option<Value>, AllocError>
+    ensures taker { IfOk result (λ v. option_to_list (option_map view v) ≡ taker pid count) }
+{
+    if count == 0 {
+        return Ok(None);
+    }
+    Ok(Some(json!(in alloc; [pid, count])?))
+}
+
+/// The processes that took more units of the semaphore in a place than they gave.
+#[tactic(auto, using(crate::proofs::ValueLemmas::all_below_none))]
+fn takers(alloc: Global, world: &World, tally: &Tally, place: u8) -> Result<Vec<Value>, AllocError>
+    ensures takers { IfOk result (λ v. map view v.items ≡ takers world.now tally.now place) }
+{
+    let mut takers = Vec::new(alloc);
+    for pid in 0..world.count() {
+        let taker = taker(alloc, pid, tally.balance(place, pid))?;
+        push_some(&mut takers, taker)?;
+    }
+    Ok(takers)
+}
+
+/// The semaphore in a place.
+#[tactic(auto, unfolding(crate::specs::Objects::semaphore_data))]
+fn semaphore_value(
+    alloc: Global,
+    world: &World,
+    tally: &Tally,
+    place: u8,
+    name: Option<&Name>,
+    value: u16,
+) -> Result<Value, AllocError>
+    ensures value { IfOk result (λ v. view v
+        ≡ semaphore_data world.now tally.now place (option_copied name.entry, value)) }
+{
+    let name = name_value(alloc, name)?;
+    let takers = takers(alloc, world, tally, place)?;
+    json!(in alloc; ["sem", place, name, value, takers])
+}
+
+/// Where the messages in the queue in a place come from.
+fn origins_in(alloc: Global, tally: &Tally, place: u8) -> Result<Vec<Origin>, AllocError>
+    ensures origins { IfOk result (λ v. v.items ≡ filter (is_in place) tally.now.origins) }
+{
+    let mut origins = Vec::new(alloc);
+    for origin in tally.origins() {
+        if origin.place == place {
+            origins.push(*origin)?;
+        }
+    }
+    Ok(origins)
+}
+
+/// Where a message comes from.
+fn origin_value(alloc: Global, origin: Option<&Origin>) -> Result<Value, AllocError>
+    ensures value { IfOk result (λ v. view v
+        ≡ or_null (option_map origin_data (option_copied origin.entry))) }
+{
+    match origin {
+        Some(origin) => json!(in alloc; [origin.pid, origin.step]),
+        None => Ok(Value::Null),
+    }
+}
+
+/// A message.
+#[tactic(auto, unfolding(crate::specs::Objects::message_data))]
+fn message_value(
+    alloc: Global,
+    priority: u16,
+    words: &[u16],
+    origin: Option<&Origin>,
+) -> Result<Value, AllocError>
+    ensures value { IfOk result (λ v. view v
+        ≡ message_data (record { priority = priority; words = words.now }) (option_copied origin.entry)) }
+{
+    let words = words_value(alloc, words)?;
+    let origin = origin_value(alloc, origin)?;
+    json!(in alloc; [priority, words, origin])
+}
+
+/// Message number `index` of a queue, where it is there.
+fn message_at(
+    alloc: Global,
+    queue: &Queue,
+    origins: &[Origin],
+    index: usize,
+) -> Result<Option<Value>, AllocError>
+    ensures message { IfOk result (λ v. option_to_list (option_map view v)
+        ≡ message_at origins.now queue.now index) }
+{
+    match queue.entry(index) {
+        Some((priority, words)) => {
+            let message = message_value(alloc, priority, words, origins.get(index))?;
+            Ok(Some(message))
+        }
+        None => Ok(None),
+    }
+}
+
+/// The messages of a queue in the order of receive.
+#[tactic(auto, using(crate::proofs::ValueLemmas::all_below_none))]
+fn messages(alloc: Global, queue: &Queue, origins: &[Origin]) -> Result<Vec<Value>, AllocError>
+    ensures messages { IfOk result (λ v. map view v.items ≡ messages origins.now queue.now) }
+{
+    let (_, _, count) = queue.attr();
+    let mut messages = Vec::new(alloc);
+    for index in 0..count {
+        let message = message_at(alloc, queue, origins, index as usize)?;
+        push_some(&mut messages, message)?;
+    }
+    Ok(messages)
+}
+
+/// The queue in a place.
+#[tactic(auto, unfolding(crate::specs::Objects::queue_data))]
+fn queue_value(
+    alloc: Global,
+    tally: &Tally,
+    place: u8,
+    name: Option<&Name>,
+    queue: &Queue,
+) -> Result<Value, AllocError>
+    ensures value { IfOk result (λ v. view v
+        ≡ queue_data tally.now place (option_copied name.entry, queue.now)) }
+{
+    let name = name_value(alloc, name)?;
+    let (most, size, _) = queue.attr();
+    let origins = origins_in(alloc, tally, place)?;
+    let messages = messages(alloc, queue, &origins)?;
+    json!(in alloc; ["mq", place, name, most, size, messages])
+}
+
+/// The object in a place, where there is one.
+#[tactic(auto, unfolding(crate::specs::Objects::object_at))]
+pub fn object_at(
+    alloc: Global,
+    world: &World,
+    tally: &Tally,
+    place: u8,
+) -> Result<Option<Value>, AllocError>
+    ensures object { IfOk result (λ v. option_to_list (option_map view v)
+        ≡ object_at world.now tally.now place) }
+{
+    let kernel = world.kernel();
+    if let Some((name, queue)) = kernel.queue_at(place) {
+        return Ok(Some(queue_value(alloc, tally, place, name, queue)?));
+    }
+    match kernel.semaphore_at(place) {
+        Some((name, value)) => {
+            Ok(Some(semaphore_value(alloc, world, tally, place, name, value)?))
+        }
+        None => Ok(None),
+    }
+}
+
+/// All objects in order of place.
+#[tactic(auto, using(crate::proofs::ValueLemmas::all_below_none), unfolding(crate::specs::Objects::objects))]
+pub fn objects(alloc: Global, world: &World, tally: &Tally) -> Result<Vec<Value>, AllocError>
+    ensures objects { IfOk result (λ v. map view v.items ≡ objects world.now tally.now) }
+{
+    let mut objects = Vec::new(alloc);
+    for place in 0..OBJECT_PLACES as u8 {
+        let object = object_at(alloc, world, tally, place)?;
+        push_some(&mut objects, object)?;
+    }
+    Ok(objects)
+}

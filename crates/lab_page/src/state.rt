@@ -1,0 +1,125 @@
+//! A process at a moment.
+ghost use Rattle.std.specs.Prelude.{◌≡◌, ◌≤◌, ◌<◌, ◌+◌, ◌-◌, IfOk, map};
+ghost use Rattle.serde_json.specs.View.{view};
+ghost use Rattle.lc3_machine.specs.Process.{reg};
+ghost use Rattle.lab_sched.specs.Held.{process_view};
+ghost use Rattle.lab_sched.specs.Worlds.{machine_of};
+ghost use Rattle.lab_texts.specs.Texts.{code_text};
+ghost use Rattle.lab_page.specs.States.{word_data, shown_count, words_from, registers, state_data, state_in, states};
+
+use lab_sched::{Process, World};
+use lc3_table::text;
+use lc3_word::{Cc, FIRST_DEVICE, Reg};
+use serde_json::{Value, json};
+use std::alloc::{AllocError, Global};
+
+/// How many words are shown before the next instruction.
+const BEFORE: u16 = 3;
+/// How many words are shown from the next instruction on.
+const FROM: u32 = 5;
+
+/// A word and the text of its instruction.
+#[tactic(auto, unfolding(crate::specs::States::word_data))]
+fn word_value(alloc: Global, word: u16) -> Result<Value, AllocError>
+    ensures value { IfOk result (λ v. view v ≡ word_data word) }
+{
+    let text = text(alloc, word)?;
+    json!(in alloc; [word, text])
+}
+
+/// So many words of the memory of a process, from an address on.
+#[tactic(auto, using(crate::proofs::ValueLemmas::all_below_none))]
+fn words_from(
+    alloc: Global,
+    process: &Process,
+    first: u32,
+    count: u32,
+) -> Result<Vec<Value>, AllocError>
+    requires range { first + count ≤ 65536 }
+    ensures words { IfOk result (λ v. map view v.items
+        ≡ words_from (machine_of (process_view process.now)) first count) }
+{
+    let mut words = Vec::new(alloc);
+    for i in 0..count {
+        let word = process.machine().word((first + i) as u16);
+        words.push(word_value(alloc, word)?)?;
+    }
+    Ok(words)
+}
+
+/// A register of a process, by its number.
+fn register(process: &Process, number: u16) -> u16
+    requires number { number < 8 }
+    ensures word { result ≡ reg (machine_of (process_view process.now)) number }
+{
+    process.machine().reg(Reg::of_low_bits(number))
+}
+
+/// R0 to R7 of a process.
+#[tactic(auto, using(crate::proofs::ValueLemmas::all_below_none))]
+fn registers(alloc: Global, process: &Process) -> Result<Vec<Value>, AllocError>
+    ensures registers { IfOk result (λ v. map view v.items
+        ≡ registers (machine_of (process_view process.now))) }
+{
+    let mut registers = Vec::new(alloc);
+    for number in 0..8u16 {
+        registers.push(Value::from(register(process, number)))?;
+    }
+    Ok(registers)
+}
+
+/// A condition code by its letter.
+fn letter(code: Cc) -> &'static str
+    ensures text { result.now ≡ code_text code }
+{
+    match code {
+        Cc::N => "N",
+        Cc::Z => "Z",
+        Cc::P => "P",
+    }
+}
+
+/// How many words are shown around a program counter.
+fn shown_count(pc: u16) -> u32
+    ensures count { result ≡ shown_count pc }
+    ensures range { (pc - 3) + result ≤ 65536 }
+{
+    let end = (u32::from(pc) + FROM).min(u32::from(FIRST_DEVICE));
+    end.saturating_sub(u32::from(pc.saturating_sub(BEFORE)))
+}
+
+/// A process: program counter, condition code, registers, and the words around the program counter.
+#[tactic(auto, unfolding(crate::specs::States::state_data))]
+fn state_value(alloc: Global, process: &Process) -> Result<Value, AllocError>
+    ensures value { IfOk result (λ v. view v ≡ state_data (machine_of (process_view process.now))) }
+{
+    let pc = process.machine().pc();
+    let code = letter(process.machine().cc());
+    let first = pc.saturating_sub(BEFORE);
+    let registers = Value::Array(registers(alloc, process)?);
+    let words = words_from(alloc, process, u32::from(first), shown_count(pc))?;
+    json!(in alloc; [pc, code, registers, first, words])
+}
+
+/// Process `pid` of a world, where it is there.
+#[tactic(auto, unfolding(crate::specs::States::state_in))]
+pub fn state_in(alloc: Global, world: &World, pid: usize) -> Result<Value, AllocError>
+    ensures value { IfOk result (λ v. view v ≡ state_in world.now pid) }
+{
+    match world.process(pid) {
+        Some(process) => state_value(alloc, process),
+        None => Ok(Value::Null),
+    }
+}
+
+/// The processes of a world.
+#[tactic(auto, using(crate::proofs::ValueLemmas::all_below_none))]
+pub fn states(alloc: Global, world: &World) -> Result<Value, AllocError>
+    ensures value { IfOk result (λ v. view v ≡ states world.now) }
+{
+    let mut states = Vec::new(alloc);
+    for pid in 0..world.count() {
+        states.push(state_in(alloc, world, pid)?)?;
+    }
+    Ok(Value::Array(states))
+}

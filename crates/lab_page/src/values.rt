@@ -1,0 +1,71 @@
+//! What the data of a page are made of: values of JSON.
+ghost use Rattle.std.specs.Prelude.{◌≡◌, ◌++◌, ◌∷◌, [], false, IfOk, OnOk, map, string_bytes, option_to_list};
+ghost use Rattle.std.specs.Option.{option_map};
+ghost use Rattle.serde_json.specs.View.{view};
+ghost use Rattle.serde_json.specs.Written.{compact_text, has_float};
+ghost use Rattle.lab_page.specs.Values.{naturals, more_json};
+
+use serde_json::Value;
+use std::alloc::{AllocError, Global};
+
+/// Words as numbers.
+pub fn words_value(alloc: Global, words: &[u16]) -> Result<Value, AllocError>
+    ensures value { IfOk result (λ v. view v ≡ naturals words.now) }
+{
+    let mut values = Vec::new(alloc);
+    for word in words {
+        values.push(Value::from(*word))?;
+    }
+    Ok(Value::Array(values))
+}
+
+/// Bytes as numbers.
+pub fn bytes_value(alloc: Global, bytes: &[u8]) -> Result<Value, AllocError>
+    ensures value { IfOk result (λ v. view v ≡ naturals bytes.now) }
+{
+    let mut values = Vec::new(alloc);
+    for byte in bytes {
+        values.push(Value::from(*byte))?;
+    }
+    Ok(Value::Array(values))
+}
+
+/// Adds a value, where there is one.
+pub fn push_some(values: &mut Vec<Value>, value: Option<Value>) -> Result<(), AllocError>
+    ensures added { OnOk result (map view values.new.items
+        ≡ map view values.old.items ++ option_to_list (option_map view value)) }
+{
+    match value {
+        Some(value) => Ok(values.push(value)?),
+        None => Ok(()),
+    }
+}
+
+/// Adds the JSON of a value.
+pub fn push_value(json: &mut Vec<u8>, value: &Value) -> Result<(), AllocError>
+    requires plain { has_float (view value.now) ≡ false }
+    ensures added { OnOk result (json.new.items ≡ json.old.items ++ compact_text (view value.now)) }
+{
+    let text = value.to_vec(*json.allocator())?;
+    json.extend_from_slice(&text)
+}
+
+/// Adds a text and the JSON of a value.
+pub fn push_behind(json: &mut Vec<u8>, text: &str, value: &Value) -> Result<(), AllocError>
+    requires plain { has_float (view value.now) ≡ false }
+    ensures added { OnOk result (json.new.items
+        ≡ json.old.items ++ (text.now ++ compact_text (view value.now))) }
+{
+    json.extend_from_slice(text.as_bytes())?;
+    push_value(json, value)
+}
+
+/// Adds the JSON of a value behind others in a list.
+pub fn push_more(json: &mut Vec<u8>, value: &Value) -> Result<(), AllocError>
+    requires plain { has_float (view value.now) ≡ false }
+    ensures added { OnOk result (json.new.items
+        ≡ json.old.items ++ more_json (view value.now ∷ [])) }
+{
+    json.push(b',')?;
+    push_value(json, value)
+}
