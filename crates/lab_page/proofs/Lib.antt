@@ -1,4 +1,12 @@
-pub mod FaultLemmas
+pub mod ValueLemmas
+pub mod PlainLemmas
+pub mod StateLemmas
+pub mod ObjectLemmas
+pub mod EventLemmas
+pub mod JsonLemmas
 pub mod MomentLemmas
+pub mod FaultLemmas
+pub mod RunLemmas
+pub mod SourceLemmas
+pub mod EndLemmas
 pub mod SafeLemmas
-pub mod StartLemmas

@@ -1,5 +1,5 @@
 use Rattle.lab_page.proofs.SafeLemmas.{safe_closed}
 use Rattle.lab_page.proofs.paging.page_of.Goals as goal
 
-pub returns : goal.returns
-returns _ c = record { page = (_, c.in_ok-page_with.ensures.page, safe_closed _) }
+pub returns-clause-closed : goal.returns-clause-closed
+returns-clause-closed c = safe_closed c.args.json.now

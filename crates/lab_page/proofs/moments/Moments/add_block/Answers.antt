@@ -1,11 +1,12 @@
-use Rattle.std.proofs.Common.{◌≡◌, ◌+◌, ◌++◌, List, length, replicate, sym, ap, subst, ◌∙◌, arith, append-nil}
+use Rattle.std.proofs.Common.{◌≡◌, ℕ, ◌+◌, ◌++◌, List, length, replicate, sym, ap, subst, ◌∙◌, arith, append-nil}
 use Rattle.std.proofs.lemmas.Result.{err_from_is_err_and}
 use Rattle.lab_sched.specs.Worlds.{WorldState}
 use Rattle.lab_trace.specs.Scenes.{scene_at, IsKept}
-use Rattle.lab_trace.proofs.SceneLemmas.{scene-none, stands, kept-after, length-step}
+use Rattle.lab_trace.proofs.SceneLemmas.{scene-none, events-none, stands, kept-after, length-step}
 use Rattle.lab_trace.proofs.WrittenLemmas.{scene-told}
-use Rattle.lab_page.specs.Moments.{Moment}
-use Rattle.lab_page.proofs.MomentLemmas.{moments-none, moments-told, moments-more}
+use Rattle.serde_json.specs.Data.{Data}
+use Rattle.lab_page.specs.Values.{more_json}
+use Rattle.lab_page.proofs.MomentLemmas.{moments-none, moments-told, json-more, lines-more}
 use Rattle.lab_page.proofs.FaultLemmas.{fault-step}
 use Rattle.lab_page.proofs.moments.Moments.add_block.Goals as goal
 
@@ -16,7 +17,8 @@ loop-done-init c =
     record {
       within = omega arith;
       scene = ap (λ n. scene_at n c.args.world.now c.args.tally.now) e ∙ sym (scene-none s);
-      moments = sym (ap (λ (l : List Moment). c.args.self.now ++ l) (moments-none c.args.form.now c.args.whole s) ∙ append-nil c.args.self.now);
+      moments = sym (ap (λ (l : List Data). c.args.self.now.json ++ more_json l) (moments-none c.args.form.now c.args.whole s) ∙ append-nil c.args.self.now.json);
+      lines = sym (ap (λ (l : List ℕ). c.args.self.now.lines ++ l) (events-none c.args.labels.now s) ∙ append-nil c.args.self.now.lines);
       kept = rw e c.requires.kept;
       there = c.requires.process;
     }
@@ -25,25 +27,28 @@ pub loop-done-preserved : goal.loop-done-preserved
 loop-done-preserved c =
     let s = scene_at c.args.first c.args.world.now c.args.tally.now in
     let u = scene_at (c.args.first + c.loop-done.done) c.loop-done.world c.loop-done.tally in
-    let k = c.steps_done-done.result in
-    let stand = stands c.args.form.now u c.args.block.pid k c.in_ok-stepped.stepped c.in_ok-stepped.ensures.told c.steps_done-done.ensures.other in
+    let k = c.in_ok-taken.taken in
+    let one = c.in_ok-taken.ensures.other in
+    let stand = stands c.args.form.now u c.args.block.pid k one in
     let told = scene-told c.args.form.now s c.args.first c.loop-done.done k c.args.block.pid c.loop-done.world c.add_step.new.world c.loop-done.tally c.add_step.new.tally
-    c.loop-done.invariant.scene stand c.in_ok-stepped.ensures.world c.in_ok-stepped.ensures.tally in
-    let len = ap (λ (w : WorldState). length w.processes) c.in_ok-stepped.ensures.world ∙ length-step c.loop-done.world c.args.block.pid in
-    let added = moments-told c.args.form.now c.args.whole u c.args.block.pid k c.in_ok-stepped.stepped c.in_ok-stepped.ensures.told c.steps_done-done.ensures.other in
+    c.loop-done.invariant.scene stand c.in_ok-taken.ensures.world c.in_ok-taken.ensures.tally in
+    let len = ap (λ (w : WorldState). length w.processes) c.in_ok-taken.ensures.world ∙ length-step c.loop-done.world c.args.block.pid in
+    let added = moments-told c.args.form.now c.args.whole u c.args.block.pid k one in
     record {
-      within = omega arith;
+      within = omega (arith, c.in_ok-taken.ensures.within);
       scene = told;
-      moments = moments-more c.args.form.now c.args.whole s u c.loop-done.done k c.args.block.pid _ _ _ c.loop-done.invariant.scene added
-          c.loop-done.invariant.moments c.in_ok-stepped.ensures.moments;
+      moments = json-more c.args.form.now c.args.whole s u c.loop-done.done k c.args.block.pid _ _ _ c.loop-done.invariant.scene added
+          c.loop-done.invariant.moments c.in_ok-taken.ensures.moments;
+      lines = lines-more c.args.labels.now s u c.loop-done.done k c.args.block.pid _ _ _ c.loop-done.invariant.scene (stands c.args.labels.now u c.args.block.pid k one)
+          c.loop-done.invariant.lines c.in_ok-taken.ensures.lines;
       kept = subst IsKept (sym told) (kept-after s (replicate (c.loop-done.done + k) c.args.block.pid) c.requires.kept);
       there = omega (arith, len, c.loop-done.invariant.there);
     }
 
-pub returns-in_err-stepped-clause-fault : goal.returns-in_err-stepped-clause-fault
-returns-in_err-stepped-clause-fault c =
+pub returns-in_err-taken-clause-fault : goal.returns-in_err-taken-clause-fault
+returns-in_err-taken-clause-fault c =
     let s = scene_at c.args.first c.args.world.now c.args.tally.now in
     let u = scene_at (c.args.first + c.loop-done.done) c.loop-done.world c.loop-done.tally in
     let p = err_from_is_err_and c.from_residual.result c.from_residual.ensures.1 in
     rw (p.1, p.2) (fault-step c.args.form.now c.args.whole s u c.args.block.count c.loop-done.done c.args.block.pid _ _ _ c.loop-done-test.true c.loop-done.invariant.scene
-    c.loop-done.invariant.moments c.in_err-stepped.ensures.fault)
+    c.loop-done.invariant.moments c.in_err-taken.ensures.fault)

@@ -1,6 +1,7 @@
 use Rattle.std.proofs.Common.{◌≡◌, ◌+◌, ◌-◌, ◌<◌, ◌≤◌, ◌++◌, length, replicate}
-use Rattle.lab_trace.specs.Scenes.{scene_after, IsKept}
+use Rattle.lab_trace.specs.Scenes.{events, scene_after, IsKept}
 use Rattle.lab_page.specs.Moments.{moments}
+use Rattle.lab_page.specs.Values.{more_json}
 use Rattle.lab_page.proofs.moments.Moments.add_block.Given as goal
 
 -- the steps so far are taken, and their moments added
@@ -9,8 +10,10 @@ invariant-loop-done l = record {
   within : l.done ≤ l.block.count;
   scene : record { number = l.first + l.done; world = l.world; tally = l.tally }
       ≡ scene_after (record { number = l.first; world = l.fn.world; tally = l.fn.tally }) (replicate l.done l.block.pid);
-  moments : l.self ≡ l.fn.self
-      ++ moments l.form l.whole (record { number = l.first; world = l.fn.world; tally = l.fn.tally }) (replicate l.done l.block.pid);
+  moments : l.self.json ≡ l.fn.self.json
+      ++ more_json (moments l.form l.whole (record { number = l.first; world = l.fn.world; tally = l.fn.tally }) (replicate l.done l.block.pid));
+  lines : l.self.lines ≡ l.fn.self.lines
+      ++ events l.labels (record { number = l.first; world = l.fn.world; tally = l.fn.tally }) (replicate l.done l.block.pid);
   kept : IsKept (record { number = l.first + l.done; world = l.world; tally = l.tally });
   there : l.block.pid < length l.world.processes;
 }

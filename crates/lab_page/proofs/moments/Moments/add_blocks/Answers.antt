@@ -1,14 +1,16 @@
-use Rattle.std.proofs.Common.{◌+◌, ◌++◌, List, length, take, get_or, refl, sym, ap, subst, ◌∙◌, arith, append-nil, length-append}
+use Rattle.std.proofs.Common.{ℕ, ◌+◌, ◌++◌, List, length, take, get_or, refl, sym, ap, subst, ◌∙◌, arith, append-nil, length-append}
 use Rattle.std.proofs.lemmas.List.{length-replicate}
 use Rattle.std.proofs.lemmas.Result.{err_from_is_err_and}
 use Rattle.lab_sched.specs.Schedules.{block, steps_of}
 use Rattle.lab_sched.proofs.ScheduleJoins.{length-steps}
 use Rattle.lab_sched.proofs.ScheduleRuns.{steps_of-none, steps-more, steps-among}
-use Rattle.lab_trace.specs.Scenes.{Scene, scene_at, scene_after, IsKept}
-use Rattle.lab_trace.proofs.SceneLemmas.{scene-none, kept-after, length-scene}
+use Rattle.lab_trace.specs.Scenes.{Scene, scene_at, events, scene_after, IsKept}
+use Rattle.lab_trace.proofs.SceneLemmas.{scene-none, events-none, kept-after, length-scene}
 use Rattle.lab_trace.proofs.WrittenLemmas.{scene-block}
-use Rattle.lab_page.specs.Moments.{Moment, moments}
-use Rattle.lab_page.proofs.MomentLemmas.{moments-none, moments-block}
+use Rattle.serde_json.specs.Data.{Data}
+use Rattle.lab_page.specs.Moments.{moments}
+use Rattle.lab_page.specs.Values.{more_json}
+use Rattle.lab_page.proofs.MomentLemmas.{moments-none, json-block, lines-block}
 use Rattle.lab_page.proofs.FaultLemmas.{fault-block}
 use Rattle.lab_page.proofs.moments.Moments.add_blocks.Goals as goal
 
@@ -19,7 +21,8 @@ loop-block-init c =
     record {
       number = omega (arith, ap length steps_of-none);
       scene = sym (ap (scene_after s) steps_of-none ∙ scene-none s);
-      moments = sym (ap (λ (l : List Moment). c.args.self.now ++ l) (ap (moments v c.args.whole s) steps_of-none ∙ moments-none v c.args.whole s) ∙ append-nil c.args.self.now);
+      moments = sym (ap (λ (l : List Data). c.args.self.now.json ++ more_json l) (ap (moments v c.args.whole s) steps_of-none ∙ moments-none v c.args.whole s) ∙ append-nil c.args.self.now.json);
+      lines = sym (ap (λ (l : List ℕ). c.args.self.now.lines ++ l) (ap (events c.args.labels.now s) steps_of-none ∙ events-none c.args.labels.now s) ∙ append-nil c.args.self.now.lines);
       kept = c.requires.kept;
       count = refl;
     }
@@ -48,8 +51,9 @@ loop-block-preserved c =
     record {
       number = omega (arith, more, length-replicate count (get_or bs i (block 0 0)).pid, c.loop-block.invariant.number);
       scene = told;
-      moments = moments-block c.args.form.now c.args.whole s u bs i (block 0 0) _ _ _ within c.loop-block.invariant.scene
+      moments = json-block c.args.form.now c.args.whole s u bs i (block 0 0) _ _ _ within c.loop-block.invariant.scene
           c.loop-block.invariant.moments c.in_ok-add_block.ensures.moments;
+      lines = lines-block c.args.labels.now s u bs i (block 0 0) _ _ _ within c.loop-block.invariant.scene c.loop-block.invariant.lines c.in_ok-add_block.ensures.lines;
       kept = subst IsKept (sym told) (kept-after s (steps_of (take (i + 1) bs)) c.requires.kept);
       count = ap (λ (y : Scene). length y.world.processes) told ∙ length-scene s (steps_of (take (i + 1) bs));
     }

@@ -1,0 +1,101 @@
+-- Moments and what was done have no floats.
+use Rattle.std.proofs.Common.{◌≡◌, ℕ, ◌||◌, Bool, true, false, if◌then◌else◌, Option, Some, None, List, [], ◌∷◌, refl}
+use Rattle.std.specs.Option.{option_map}
+use Rattle.serde_json.specs.Data.{Data, null}
+use Rattle.serde_json.specs.View.{items_of}
+use Rattle.serde_json.specs.Written.{has_float, items_have_float}
+use Rattle.lab_sched.specs.Worlds.{WorldState}
+use Rattle.lab_trace.specs.Forms.{Form}
+use Rattle.lab_trace.specs.Tallies.{TallyState}
+use Rattle.lab_trace.specs.declared.answers.Outcome.{Outcome}
+use Rattle.lab_trace.specs.declared.answers.Outcome.TheVariants.{Waits, Refused, Gives}
+use Rattle.lab_trace.specs.declared.origins.Origin.{Origin}
+use Rattle.lab_trace.specs.declared.told.Act.{Act}
+use Rattle.lab_trace.specs.declared.told.Act.TheVariants.{Calls, Writes, Ends}
+use Rattle.lab_trace.specs.declared.told.Called.{Called}
+use Rattle.lab_trace.specs.declared.told.Event.{Event}
+use Rattle.lab_trace.specs.declared.told.Told.{Told}
+use Rattle.lab_trace.specs.declared.told.Told.TheVariants.{Nothing, Counted, Shown}
+use Rattle.lab_page.specs.Values.{natural, naturals, or_null}
+use Rattle.lab_page.specs.States.{state_in}
+use Rattle.lab_page.specs.Objects.{object_at, objects, open_data}
+use Rattle.lab_page.specs.Events.{outcome_data, words_of, called_data, act_data, tells_all, place_changed, object_in, objects_told, open_told, event_data}
+use Rattle.lab_page.specs.Moments.{counted_moment, shown_moment, moment_by}
+use Rattle.lab_page.proofs.PlainLemmas.{IsPlain, ArePlain, both, plain-one, plain-naturals, plain-if}
+use Rattle.lab_page.proofs.StateLemmas.{in-plain}
+use Rattle.lab_page.proofs.ObjectLemmas.{object-plain, objects-plain, open-plain}
+
+place-plain : (o : Option ℕ) → IsPlain (or_null (option_map natural o))
+place-plain None = refl
+place-plain (Some n) = refl
+
+words-plain : (o : Option (List ℕ)) → IsPlain (or_null (option_map naturals o))
+words-plain None = refl
+words-plain (Some ns) = plain-naturals ns
+
+sender-plain : (o : Option Origin) → IsPlain (or_null (option_map (λ x. natural x.step) o))
+sender-plain None = refl
+sender-plain (Some x) = refl
+
+outcome-plain : (o : Outcome) → IsPlain (outcome_data o)
+outcome-plain Waits = refl
+outcome-plain (Refused e) = refl
+outcome-plain (Gives result given) = refl
+
+called-plain : (c : Called) → IsPlain (called_data c)
+unfolding called_data
+called-plain c =
+    let place = has_float (or_null (option_map natural c.place)) in
+    let words = has_float (or_null (option_map naturals (words_of c.outcome c.sent))) in
+    let sender = has_float (or_null (option_map (λ o. natural o.step) c.origin)) in
+    let outcome = has_float (outcome_data c.outcome) in
+    both place (outcome || (words || (sender || false))) (place-plain c.place)
+    (both outcome (words || (sender || false)) (outcome-plain c.outcome)
+    (both words (sender || false) (words-plain (words_of c.outcome c.sent)) (both sender false (sender-plain c.origin) refl)))
+
+act-plain : (act : Act) → IsPlain (act_data act)
+act-plain (Calls c) = called-plain c
+act-plain (Writes bytes) = both (has_float (naturals bytes)) false (plain-naturals bytes) refl
+act-plain (Ends how) = refl
+
+object_in-plain : (w : WorldState) (t : TallyState) (o : Option ℕ) → ArePlain (object_in w t o)
+object_in-plain w t None = refl
+object_in-plain w t (Some place) = object-plain w t place
+
+told-plain : (w : WorldState) (t : TallyState) (act : Act) → ArePlain (objects_told w t act)
+unfolding objects_told
+told-plain w t act =
+    plain-if (tells_all act) (objects w t) (object_in w t (place_changed act)) (objects-plain w t) (object_in-plain w t (place_changed act))
+
+value-if : (b : Bool) (d : Data) → IsPlain d → IsPlain (if b then d else null)
+value-if true d h = h
+value-if false d h = refl
+
+opened-plain : (w : WorldState) (p : ℕ) (act : Act) → IsPlain (open_told w p act)
+unfolding open_told
+opened-plain w p act = value-if (tells_all act) (open_data w p) (open-plain w p)
+
+event-plain : (v : Form) (n p : ℕ) (e : Event) (w : WorldState) (t : TallyState) → IsPlain (event_data v n p e w t)
+unfolding event_data
+event-plain v n p e w t =
+    let act = has_float (act_data e.act) in
+    let objects = items_have_float (items_of (objects_told w t e.act)) in
+    let opened = has_float (open_told w p e.act) in
+    both act (objects || (opened || false)) (act-plain e.act)
+    (both objects (opened || false) (told-plain w t e.act) (both opened false (opened-plain w p e.act) refl))
+
+pub counted-plain : (n p : ℕ) (w : WorldState) → IsPlain (counted_moment n p w)
+unfolding counted_moment
+counted-plain n p w = both (has_float (state_in w p)) false (in-plain w p) refl
+
+pub shown-plain : (v : Form) (n p : ℕ) (e : Event) (w : WorldState) (t : TallyState) → IsPlain (shown_moment v n p e w t)
+unfolding shown_moment
+shown-plain v n p e w t =
+    both (has_float (state_in w p)) (has_float (event_data v n p e w t) || false) (in-plain w p)
+    (both (has_float (event_data v n p e w t)) false (event-plain v n p e w t) refl)
+
+-- the moment of a step
+pub moment-plain : (v : Form) (whole : Bool) (n p : ℕ) (told : Told) (w : WorldState) (t : TallyState) → ArePlain (moment_by v whole n p told w t)
+moment-plain v whole n p Nothing w t = refl
+moment-plain v whole n p Counted w t = plain-if whole (counted_moment n p w ∷ []) [] (plain-one (counted_moment n p w) (counted-plain n p w)) refl
+moment-plain v whole n p (Shown e) w t = plain-one (shown_moment v n p e w t) (shown-plain v n p e w t)

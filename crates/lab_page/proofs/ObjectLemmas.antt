@@ -1,0 +1,77 @@
+-- Objects, and what a process has open, have no floats.
+use Rattle.std.proofs.Common.{◌≡◌, ℕ, ◌==◌, ◌||◌, false, Option, Some, None, List, [], ◌∷◌, ◌++◌, length, slice_get, refl}
+use Rattle.std.specs.Option.{option_map, option_to_list}
+use Rattle.serde_json.specs.Data.{Data}
+use Rattle.serde_json.specs.View.{items_of}
+use Rattle.serde_json.specs.Written.{has_float, items_have_float}
+use Rattle.ipc_kernel.specs.Limits.{object_places, open_max}
+use Rattle.ipc_kernel.specs.Places.{place_at, queue_and_name, value_and_name}
+use Rattle.ipc_kernel.specs.Processes.{descriptor_of, slot_of}
+use Rattle.ipc_objects.specs.Queue.{QueueState}
+use Rattle.ipc_objects.specs.declared.queue.Message.{Message}
+use Rattle.lab_sched.specs.Worlds.{WorldState}
+use Rattle.lab_trace.specs.Tallies.{TallyState}
+use Rattle.lab_trace.specs.Units.{units_of, balance}
+use Rattle.lab_trace.specs.declared.origins.Origin.{Origin}
+use Rattle.lab_page.specs.Values.{list, natural, naturals, or_null, all_below}
+use Rattle.lab_page.specs.Objects.{name_data, taker, takers, semaphore_data, origin_data, message_data, origins_in, message_at, messages, queue_data, object_at, objects, descriptor_data, slot_data, descriptor_at, slot_at, open_data}
+use Rattle.lab_page.proofs.PlainLemmas.{IsPlain, ArePlain, both, plain-append, plain-below, plain-naturals, plain-some, plain-if}
+
+name-plain : (name : Option (List ℕ)) → IsPlain (name_data name)
+name-plain None = refl
+name-plain (Some n) = refl
+
+taker-plain : (p n : ℕ) → ArePlain (taker p n)
+taker-plain p n = plain-if (n == 0) [] (list (natural p ∷ natural n ∷ []) ∷ []) refl refl
+
+takers-plain : (w : WorldState) (t : TallyState) (place : ℕ) → ArePlain (takers w t place)
+takers-plain w t place =
+    plain-below (length w.processes) (λ p. taker p (balance (units_of place p t.units))) (λ p. taker-plain p (balance (units_of place p t.units)))
+
+semaphore-plain : (w : WorldState) (t : TallyState) (place : ℕ) (held : Option (List ℕ) × ℕ) → IsPlain (semaphore_data w t place held)
+unfolding semaphore_data
+semaphore-plain w t place held =
+    both (has_float (name_data held.0)) (items_have_float (items_of (takers w t place)) || false) (name-plain held.0)
+    (both (items_have_float (items_of (takers w t place))) false (takers-plain w t place) refl)
+
+origin-plain : (o : Option Origin) → IsPlain (or_null (option_map origin_data o))
+origin-plain None = refl
+origin-plain (Some o) = refl
+
+message-plain : (m : Message) (o : Option Origin) → IsPlain (message_data m o)
+unfolding message_data
+message-plain m o =
+    both (has_float (naturals m.words)) (has_float (or_null (option_map origin_data o)) || false) (plain-naturals m.words)
+    (both (has_float (or_null (option_map origin_data o))) false (origin-plain o) refl)
+
+messages-plain : (os : List Origin) (q : QueueState) → ArePlain (messages os q)
+messages-plain os q =
+    plain-below (length q.messages) (message_at os q)
+    (λ i. plain-some (λ m. message_data m (slice_get os i)) (slice_get q.messages i) (λ m. message-plain m (slice_get os i)))
+
+queue-plain : (t : TallyState) (place : ℕ) (held : Option (List ℕ) × QueueState) → IsPlain (queue_data t place held)
+unfolding queue_data
+queue-plain t place held =
+    let ms = messages (origins_in t place) held.1 in
+    both (has_float (name_data held.0)) (items_have_float (items_of ms) || false) (name-plain held.0)
+    (both (items_have_float (items_of ms)) false (messages-plain (origins_in t place) held.1) refl)
+
+pub object-plain : (w : WorldState) (t : TallyState) (place : ℕ) → ArePlain (object_at w t place)
+unfolding object_at
+object-plain w t place =
+    plain-append (option_to_list (option_map (queue_data t place) (queue_and_name (place_at w.kernel.places place))))
+    (option_to_list (option_map (semaphore_data w t place) (value_and_name (place_at w.kernel.places place))))
+    (plain-some (queue_data t place) (queue_and_name (place_at w.kernel.places place)) (queue-plain t place))
+    (plain-some (semaphore_data w t place) (value_and_name (place_at w.kernel.places place)) (semaphore-plain w t place))
+
+pub objects-plain : (w : WorldState) (t : TallyState) → ArePlain (objects w t)
+unfolding objects
+objects-plain w t = plain-below object_places (object_at w t) (object-plain w t)
+
+pub open-plain : (w : WorldState) (p : ℕ) → IsPlain (open_data w p)
+unfolding open_data
+open-plain w p =
+    plain-append (all_below open_max (descriptor_at w p)) (all_below open_max (slot_at w p))
+    (plain-below open_max (descriptor_at w p)
+    (λ d. plain-some (descriptor_data d) (descriptor_of w.kernel.processes p d) (λ x. refl)))
+    (plain-below open_max (slot_at w p) (λ s. plain-some (slot_data s) (slot_of w.kernel.processes p s) (λ x. refl)))

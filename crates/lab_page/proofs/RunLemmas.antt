@@ -1,0 +1,96 @@
+-- The JSON of a whole run.
+use Rattle.std.proofs.Common.{◌≡◌, ℕ, ◌||◌, Bool, false, Option, Some, None, List, [], ◌∷◌, ◌++◌, codes, length, slice_get, refl, sym, ap, subst, ◌∙◌}
+use Rattle.serde_json.specs.Data.{Data}
+use Rattle.serde_json.specs.Written.{compact_text, has_float}
+use Rattle.lab_sched.specs.Schedules.{steps_of}
+use Rattle.lab_sched.specs.Worlds.{Process, WorldState, machine_of}
+use Rattle.lab_sched.specs.declared.schedule.block.Block.{Block}
+use Rattle.lab_sched.specs.declared.verdict.Verdict.{Verdict}
+use Rattle.lab_sources.specs.declared.source.Source.{Source}
+use Rattle.lab_trace.specs.Scenes.{Scene, scene_at, first_scene, events, scene_after}
+use Rattle.lab_trace.specs.Tallies.{TallyState, new_tally}
+use Rattle.lab_trace.specs.Traces.{ending, trace_text}
+use Rattle.lab_trace.proofs.WrittenLemmas.{trace-whole}
+use Rattle.lab_trace.specs.Forms.{Form, form_for}
+use Rattle.lab_page.specs.Values.{more_json}
+use Rattle.lab_page.specs.States.{states}
+use Rattle.lab_page.specs.Moments.{moments, moments_of}
+use Rattle.lab_page.specs.Runs.{block_data, schedule_data, output_of, outputs, outcome_at, outcome_of, is_whole, run_data}
+use Rattle.lab_page.specs.Faults.{Explains}
+use Rattle.lab_page.specs.Private.Faults.{IsFault}
+use Rattle.lab_page.specs.Private.Json.{run_end}
+use Rattle.lab_page.specs.declared.fault.PageFault.{PageFault}
+use Rattle.lab_page.specs.declared.fault.PageFault.TheVariants.{NoProcess, TooLarge, NoMemory}
+use Rattle.lab_page.proofs.PlainLemmas.{IsPlain, both, plain-one, plain-below, plain-map, plain-naturals}
+use Rattle.lab_page.proofs.JsonLemmas.{run-json}
+use Rattle.lab_page.proofs.MomentLemmas.{moments-whole}
+use Rattle.lab_page.proofs.FaultLemmas.{fault-longer}
+
+pub schedule-plain : (s : List Block) → IsPlain (schedule_data s)
+schedule-plain s = plain-map block_data s (λ b. refl)
+
+output-plain : (o : Option Process) → IsPlain (output_of o)
+output-plain None = refl
+output-plain (Some s) = plain-naturals (machine_of s).output
+
+outputs-plain : (w : WorldState) → IsPlain (outputs w)
+outputs-plain w =
+    plain-below (length w.processes) (λ p. output_of (slice_get w.processes p) ∷ [])
+    (λ p. plain-one (output_of (slice_get w.processes p)) (output-plain (slice_get w.processes p)))
+
+pub outcome-plain : (v : Form) (s : Scene) → IsPlain (outcome_at v s)
+unfolding outcome_at
+outcome-plain v s = both (has_float (outputs s.world)) false (outputs-plain s.world) refl
+
+outcome-whole : (w : WorldState) (ps : List ℕ) (v : Form) (x u : Scene) → v ≡ form_for (length ps) (length w.processes) [] → x ≡ first_scene w
+    → u ≡ scene_after x ps → outcome_at v u ≡ outcome_of w ps
+unfolding outcome_of
+outcome-whole w ps v x u wide first led =
+    ap (outcome_at v) (led ∙ ap (λ y. scene_after y ps) first) ∙ ap (λ y. outcome_at y (scene_after (first_scene w) ps)) wide
+
+-- a run by what was made of its steps
+pub run-whole : (w : WorldState) (s : List Block) (b : Bool) (v : Form) (x u : Scene) → b ≡ is_whole s
+    → v ≡ form_for (length (steps_of s)) (length w.processes) [] → x ≡ first_scene w → u ≡ scene_after x (steps_of s)
+    → ((codes "{\"moments\":[" ++ compact_text (states w)) ++ more_json (moments v b x (steps_of s))) ++ run_end (outcome_at v u) (schedule_data s) b
+    ≡ compact_text (run_data w s)
+unfolding run_data
+run-whole w s b v x u whole wide first led =
+    let start : List ℕ = codes "{\"moments\":[" ++ compact_text (states w) in
+    ap (λ (l : List Data). (start ++ more_json l) ++ run_end (outcome_at v u) (schedule_data s) b) (moments-whole b w (steps_of s) v x wide first)
+    ∙ ap (λ (o : Data). (start ++ more_json (moments_of b w (steps_of s))) ++ run_end o (schedule_data s) b) (outcome-whole w (steps_of s) v x u wide first led)
+    ∙ ap (λ (y : Bool). (start ++ more_json (moments_of y w (steps_of s))) ++ run_end (outcome_of w (steps_of s)) (schedule_data s) y) whole
+    ∙ run-json (states w) (moments_of (is_whole s) w (steps_of s)) (outcome_of w (steps_of s)) (schedule_data s) (is_whole s)
+
+-- why there is no JSON, by that which is too long
+pub explained : (e : PageFault) (w : WorldState) (s : List Block) (json : List ℕ) → IsFault e json → Explains e w s json
+explained (NoProcess done) w s json fault = absurd fault
+explained TooLarge w s json fault = fault
+explained NoMemory w s json fault = tt
+
+pub run-fault : (e : PageFault) (w : WorldState) (s : List Block) (b : Bool) (v : Form) (x : Scene) → b ≡ is_whole s
+    → v ≡ form_for (length (steps_of s)) (length w.processes) [] → x ≡ first_scene w
+    → IsFault e ((codes "{\"moments\":[" ++ compact_text (states w)) ++ more_json (moments v b x (steps_of s))) → Explains e w s (compact_text (run_data w s))
+run-fault e w s b v x whole wide first fault =
+    let u : Scene = scene_after x (steps_of s) in
+    let json : List ℕ = (codes "{\"moments\":[" ++ compact_text (states w)) ++ more_json (moments v b x (steps_of s)) in
+    explained e w s (compact_text (run_data w s))
+    (subst (λ (l : List ℕ). IsFault e l) (run-whole w s b v x u whole wide first refl) (fault-longer e json (run_end (outcome_at v u) (schedule_data s) b) fault))
+
+-- the JSON of a run by what the parts of the code made
+pub run-made : (w : WorldState) (s : List Block) (b : Bool) (v : Form) (x u : Scene) (start added kept all : List ℕ) (o d : Data) → b ≡ is_whole s
+    → v ≡ form_for (length (steps_of s)) (length w.processes) [] → x ≡ first_scene w → u ≡ scene_after x (steps_of s)
+    → start ≡ codes "{\"moments\":[" ++ compact_text (states w) → added ≡ start ++ more_json (moments v b x (steps_of s)) → o ≡ outcome_at v u → d ≡ schedule_data s
+    → kept ≡ added → all ≡ kept ++ run_end o d b → all ≡ compact_text (run_data w s)
+run-made w s b v x u start added kept all o d whole wide first led start-is added-is o-is d-is kept-is all-is =
+    all-is ∙ ap (λ (l : List ℕ). l ++ run_end o d b) (kept-is ∙ added-is ∙ ap (λ (l : List ℕ). l ++ more_json (moments v b x (steps_of s))) start-is)
+    ∙ ap (λ (y : Data). ((codes "{\"moments\":[" ++ compact_text (states w)) ++ more_json (moments v b x (steps_of s))) ++ run_end y d b) o-is
+    ∙ ap (λ (y : Data). ((codes "{\"moments\":[" ++ compact_text (states w)) ++ more_json (moments v b x (steps_of s))) ++ run_end (outcome_at v u) y b) d-is
+    ∙ run-whole w s b v x u whole wide first led
+
+-- the trace of a run by what the parts of the code made
+pub trace-made : (w u : WorldState) (ss : List (Option Source)) (ps : List ℕ) (v : Form) (t r : TallyState) (n : ℕ) (start added kept text all : List ℕ)
+    → v ≡ form_for (length ps) (length w.processes) ss → t ≡ new_tally (length w.processes) → scene_at n u r ≡ scene_after (scene_at 1 w t) ps → start ≡ []
+    → added ≡ start ++ events v (scene_at 1 w t) ps → kept ≡ added → text ≡ ending v u r → all ≡ kept ++ text → all ≡ trace_text w ss ps
+trace-made w u ss ps v t r n start added kept text all wide first led none added-is kept-is text-is all-is =
+    all-is ∙ ap (λ (l : List ℕ). l ++ text) (kept-is ∙ added-is ∙ ap (λ (l : List ℕ). l ++ events v (scene_at 1 w t) ps) none)
+    ∙ ap (λ (l : List ℕ). events v (scene_at 1 w t) ps ++ l) text-is ∙ sym (trace-whole w u ss ps v t r n wide first led)

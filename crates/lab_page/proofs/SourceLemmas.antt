@@ -1,0 +1,33 @@
+-- Programs have no floats, and sources where they are kept.
+use Rattle.std.proofs.Common.{◌≡◌, ℕ, zero, suc, ◌||◌, false, Option, Some, None, List, [], ◌∷◌, map, slice_get, refl}
+use Rattle.std.specs.Option.{option_map, option_and_then}
+use Rattle.serde_json.specs.Data.{string}
+use Rattle.serde_json.specs.View.{items_of}
+use Rattle.serde_json.specs.Written.{has_float, items_have_float}
+use Rattle.lab_page.specs.Values.{naturals, or_null}
+use Rattle.lab_page.specs.Sources.{Source, row_data, source_data, name_at, source_at, program_at, programs}
+use Rattle.lab_page.proofs.PlainLemmas.{IsPlain, both, plain-one, plain-below, plain-map, plain-naturals}
+
+source-plain : (s : Source) → IsPlain (source_data s)
+unfolding source_data
+source-plain s =
+    both (items_have_float (items_of (map row_data s.rows))) (has_float (naturals s.words) || false) (plain-map row_data s.rows (λ r. refl))
+    (both (has_float (naturals s.words)) false (plain-naturals s.words) refl)
+
+name-plain : (o : Option (List ℕ)) → IsPlain (or_null (option_map string o))
+name-plain None = refl
+name-plain (Some n) = refl
+
+some-plain : (o : Option Source) → IsPlain (or_null (option_map source_data o))
+some-plain None = refl
+some-plain (Some s) = source-plain s
+
+program-plain : (names : List (List ℕ)) (sources : List (Option Source)) (p : ℕ) → IsPlain (program_at names sources p)
+program-plain names sources p =
+    both (has_float (name_at names p)) (has_float (source_at sources p) || false) (name-plain (slice_get names p))
+    (both (has_float (source_at sources p)) false (some-plain (option_and_then (λ s. s) (slice_get sources p))) refl)
+
+pub programs-plain : (count : ℕ) (names : List (List ℕ)) (sources : List (Option Source)) → IsPlain (programs count names sources)
+unfolding programs
+programs-plain count names sources =
+    plain-below count (λ p. program_at names sources p ∷ []) (λ p. plain-one (program_at names sources p) (program-plain names sources p))
