@@ -7,7 +7,7 @@ use Rattle.lab_page.specs.declared.template.TheConstants.{HEAD, TOP, SCRIPT, END
 use Rattle.lab_page.specs.declared.template.style.TheConstants.{STYLE}
 use Rattle.lab_page.specs.declared.template.body.TheConstants.{BODY}
 use Rattle.lab_page.specs.declared.template.records.TheConstants.{RECORDS}
-use Rattle.lab_page.specs.declared.template.state.TheConstants.{STATE}
+use Rattle.lab_page.specs.declared.template.texts.TheConstants.{TEXTS}
 use Rattle.lab_page.specs.declared.template.study.TheConstants.{STUDY}
 use Rattle.lab_page.specs.declared.template.layout.TheConstants.{LAYOUT}
 use Rattle.lab_page.specs.declared.template.boxes.TheConstants.{BOXES}
@@ -27,7 +27,7 @@ data_block json = codes "<script type=\"application/json\" id=\"data\">\n" ++ js
 
 -- the scripts that read the data
 unfoldable pub reading_scripts : List ℕ
-reading_scripts = RECORDS.now ++ STATE.now ++ STUDY.now
+reading_scripts = TEXTS.now ++ RECORDS.now ++ STUDY.now
 
 -- a limit that the scripts name so
 unfoldable pub limit : List ℕ → ℕ → List ℕ

@@ -12,9 +12,9 @@ mod panel;
 mod picture;
 mod records;
 mod setup;
-mod state;
 mod study;
 mod style;
+mod texts;
 
 use crate::safe::push_safe;
 use crate::template::body::BODY;
@@ -26,9 +26,9 @@ use crate::template::panel::PANEL;
 use crate::template::picture::PICTURE;
 use crate::template::records::RECORDS;
 use crate::template::setup::SETUP;
-use crate::template::state::STATE;
 use crate::template::study::STUDY;
 use crate::template::style::STYLE;
+use crate::template::texts::TEXTS;
 use crate::{MOST_END_BYTES, MOST_ENDS, MOST_WHOLE};
 use std::alloc::AllocError;
 
@@ -96,8 +96,8 @@ pub fn push_data(bytes: &mut Vec<u8>, json: &[u8]) -> Result<(), AllocError>
 fn push_reading_scripts(bytes: &mut Vec<u8>) -> Result<(), AllocError>
     ensures bytes { OnOk result (bytes.new.items ≡ bytes.old.items ++ reading_scripts) }
 {
+    push_part(bytes, TEXTS)?;
     push_part(bytes, RECORDS)?;
-    push_part(bytes, STATE)?;
     push_part(bytes, STUDY)?;
     Ok(())
 }

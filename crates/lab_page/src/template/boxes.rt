@@ -4,37 +4,31 @@ pub const BOXES: &str = r##"
 // ---- the texts of a box, from long to short
 
 function kindOf(e) {
-  if (e.call === undefined) return e.how ? 'ev end' : 'ev out';
+  if (e.call === undefined) return e.ends ? 'ev end' : 'ev out';
   const kind = /send|receive/.test(e.call) ? 'mq' : /wait|post/.test(e.call) ? 'sem' : 'obj';
-  return 'ev ' + (isRefused(e) ? 'bad' : kind) + (e.answer === 'waits' ? ' waits' : '');
+  return 'ev ' + (e.refused ? 'bad' : kind) + (e.waits ? ' waits' : '');
+}
+function callLabels({ call, name, words, refused }) {
+  const short = call.replace(/^(mq|sem)_/, '').replace('receive', 'recv').replace('trywait', 'try');
+  const on = cut(name, 40), letter = short === 'setattr' ? 'A' : short[0].toUpperCase();
+  if (refused) return [`${call} ${on} ${refused}`, `${short} ${on} ${refused}`, short + ' ' + refused, refused, '!'];
+  const list = [call + ' ' + name, short + ' ' + name, short, letter];
+  if (!words || words.length === 0) return list;
+  const body = quoted(words.slice(0, 16)) || numbers(words);
+  return [`${call} ${name} ${body}`, `${short} ${name} ${body}`, short + ' ' + body, ...list];
 }
 function outputLabels(e) {
   const text = '"' + shown(e.output) + '"', fits = Math.max(3, Math.floor((lay.box - 6) / CHAR));
-  return [e.text, text.length < 12 ? text : cut(text, fits), '"'];
-}
-function refusalLabels(e, short) {
-  const why = e.answer.slice(2);
-  return [`${e.call} ${e.name} ${why}`, `${short} ${e.name} ${why}`, short + ' ' + why, why, '!'];
-}
-function callLabels(e, short) {
-  const letter = short === 'setattr' ? 'A' : short[0].toUpperCase();
-  const list = [e.call + ' ' + e.name, short + ' ' + e.name, short, letter];
-  const text = e.call === 'mq_send' ? e.rest : e.call === 'mq_receive' ? e.answer : '';
-  const body = /\[[^\]"]*("[^]*")?\]/.exec(text);
-  if (!body || body[0].length <= 2) return list;
-  const words = body[1] || body[0].slice(1, -1);
-  return [`${e.call} ${e.name} ${words}`, `${short} ${e.name} ${words}`, short + ' ' + words, ...list];
+  return [e.what, text.length < 12 ? text : cut(text, fits), '"'];
 }
 function labels(e) {
-  if (e.how) return ['ends ' + e.how, e.how, 'X'];
-  if (e.call === undefined) return outputLabels(e);
-  const short = e.call.replace(/^(mq|sem)_/, '').replace('receive', 'recv').replace('trywait', 'try');
-  return isRefused(e) ? refusalLabels(e, short) : callLabels(e, short);
+  if (e.ends) return ['ends ' + e.ends, e.ends, 'X'];
+  return e.output ? outputLabels(e) : callLabels(e);
 }
 function labelFor(e, fits) {
   const list = labels(e), label = list.find(text => text.length <= fits) || list[list.length - 1];
   const isShort = list.indexOf(label) > list.length - 3;
-  return e.name && fits > 11 && isShort && !isRefused(e) ? cut(list[list.length - 3], fits) : label;
+  return e.name && fits > 11 && isShort && !e.refused ? cut(list[list.length - 3], fits) : label;
 }
 
 // ---- boxes, notes and arrows
@@ -43,7 +37,7 @@ function titled(title, inner, more) { return `<g${more || ''}><title>${esc(title
 function box(e, k, x, y, w) {
   const label = labelFor(e, Math.floor((w - (w > 60 ? 10 : 3)) / CHAR));
   const round = /sem_(wait|post|trywait)/.test(e.call) ? 10 : e.call && !/mq_(send|receive)/.test(e.call) ? 3 : 0;
-  return titled(`step ${e.step}, P${e.process}: ${e.text}`,
+  return titled(`step ${e.step}, P${e.process}: ${e.what}`,
     `<rect x="${x - w / 2}" y="${y - 10}" width="${w}" height="20" rx="${round}"/>` +
     `<text x="${x}" y="${y + 4}" text-anchor="middle">${esc(label)}</text>`, ` class="${kindOf(e)}" data-k="${k}"`);
 }
@@ -69,26 +63,22 @@ function link(a, kind, tip) {                     // from the box of a record to
 
 // ---- why a process waits for ever
 
-const named = (processes, none) => processes.map(p => 'P' + p.number).join(' ') || none;
-function openToo(who, use) {                      // of a stuck run: who has the object open waits for ever too
-  if (who === 'nobody') return [who, 'else has it open' + use];
-  return [who, (who.includes(' ') ? 'have' : 'has') + ` it open${use}, stuck too`];
+function openToo(open, use) {                     // of a stuck run: who has the object open waits for ever too
+  if (open.length === 0) return ['nobody', 'else has it open' + use];
+  return [listOf(open), (open.length > 1 ? 'have' : 'has') + ` it open${use}, stuck too`];
 }
-function lacking(w) {                             // who has taken a semaphore that was made above 0, or has the object open
-  const p = D.end.processes[w.p], object = D.end.objects.get(p.on), { call } = R[w.k];
-  const others = test => named(D.end.processes.filter(q => q !== p && test(q.held)), 'nobody');
-  const opened = (list, test) => others(held => [...held[list].values()].some(x => x.place === p.on && test(x)));
-  const queued = letter => opened('queues', x => x.mode.split(' ')[0].includes(letter));
-  if (call === 'mq_receive') return openToo(queued('w'), ' to send');
-  if (call === 'mq_send') return openToo(queued('r'), ' to receive');
-  if (object.made === 0) return openToo(opened('slots', () => true), '');
-  const who = takers(D.end, object);
-  return [who.join(' ') || 'nobody', who.length > 1 ? 'have it' : 'has it'];
+function lacking({ p, k }) {                      // who has taken a semaphore that was made above 0, or has the object open
+  const { call, on } = R[k], kind = call.startsWith('mq_') ? 'mq' : 'sem', object = objectAt(on, R.length);
+  const hasIt = letter => ([as, , place, mode]) => as === kind && place === on && (!letter || mode.includes(letter));
+  const opened = letter => PROCESSES.filter(q => q !== p && processAt(q, R.length).open.some(hasIt(letter)));
+  if (call === 'mq_receive') return openToo(opened('w'), ' to send');
+  if (call === 'mq_send') return openToo(opened('r'), ' to receive');
+  if (!isMade(object)) return openToo(opened(), '');
+  return [takers(object, R.length) || 'nobody', object.taken.length > 1 ? 'have it' : 'has it'];
 }
 function takersOf(p) {                            // the processes that have taken what a process waits for
-  const object = p.state === 'waiting' ? D.end.objects.get(p.on) : undefined;
-  if (!object || object.kind !== 'sem' || object.made === 0) return [];
-  return [...object.took].filter(([, count]) => count > 0).map(([q]) => D.end.processes[q]);
+  const { state, on } = processAt(p, R.length), object = state === 'waiting' ? objectAt(on, R.length) : null;
+  return isMade(object) ? object.taken.map(([q]) => q) : [];
 }
 function circle() {                               // processes of which each waits for what the next has taken
   const seen = new Set();
@@ -98,13 +88,13 @@ function circle() {                               // processes of which each wai
     seen.add(p);
     return takersOf(p).reduce((found, q) => found || follow(q, [...path, p]), null);
   };
-  return D.end.processes.reduce((found, p) => found || follow(p, []), null);
+  return PROCESSES.reduce((found, p) => found || follow(p, []), null);
 }
 function circleText() {
-  const found = D.verdict === 'stuck' ? circle() : null;
+  const found = VERDICT === 'stuck' ? circle() : null;
   if (!found) return '';
-  if (found.length === 1) return `P${found[0].number} waits for a semaphore that it has taken itself.`;
-  const list = [...found, found[0]].map(p => 'P' + p.number).join(' -> ');
+  if (found.length === 1) return `P${found[0]} waits for a semaphore that it has taken itself.`;
+  const list = [...found, found[0]].map(p => 'P' + p).join(' -> ');
   return 'In a circle: ' + list + '. Each waits for a semaphore that the next has taken.';
 }
 "##;

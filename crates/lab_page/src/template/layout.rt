@@ -14,7 +14,7 @@ function betweenBoxes(lane) {                     // arrows need more room betwe
 }
 function layout() {
   const seen = $('left').clientWidth, room = Math.max(320, seen - 2);
-  const num = Math.max(40, String(D.total).length * CHAR + 18);
+  const num = Math.max(40, String(STEPS).length * CHAR + 18);
   const colW = cols.map(c => Math.max(50, Math.min(c.name.length, 9) * CHAR + 10));
   const colsW = colW.reduce((a, b) => a + b, 0) + 12, isNarrow = N > 4 && (room - num - colsW) / N < 74;
   const text = isNarrow ? 236 : 0, lane = laneWidth(room - num - text - colsW), x0 = num + text, colX = [];
@@ -44,13 +44,6 @@ const midY = k => rows[rowOf[k]].y + EVENT / 2;
 const bottom = () => height + 30;
 const full = () => height + FOOT;
 
-function rowIndex(y) {
-  let low = 0, high = rows.length - 1;
-  while (low < high) {
-    const middle = (low + high + 1) >> 1;
-    if (rows[middle].y <= y) low = middle; else high = middle - 1;
-  }
-  return Math.max(low, 0);
-}
+const rowIndex = y => Math.max(0, lastIndex(rows, row => row.y <= y));
 const rowAt = y => rows[rowIndex(y)];
 "##;

@@ -25,27 +25,25 @@ function mark() {                                 // it comes into view
 
 // ---- going to a moment
 
-const linesUpTo = [0];                            // of each moment, how many lines of the trace are behind it
-R.forEach((e, k) => linesUpTo.push(linesUpTo[k] + (isEvent(e) ? 1 : 0)));
-
 function say(e, step) {
-  const what = e ? `${e.step} P${e.process} ${hex(e.from)} ${isEvent(e) ? e.text : e.did}` : 'nothing has been done yet';
+  const did = e && `${e.step} P${e.process} ${hex(e.from)} ${isEvent(e) ? e.what : didText(e)}`;
+  const what = did || 'nothing has been done yet';
   $('say').textContent = what;
-  $('count').textContent = `step ${step} of ${D.total}`;
+  $('count').textContent = `step ${step} of ${STEPS}`;
   $('slider').value = cur;
-  $('slider').setAttribute('aria-valuetext', `step ${step} of ${D.total}, ${what}`);
+  $('slider').setAttribute('aria-valuetext', `step ${step} of ${STEPS}, ${what}`);
 }
 function markLine() {                             // in the list of the trace, the last line so far
-  const old = document.querySelector('#lines [aria-current]');
+  const old = document.querySelector('#lines [aria-current]'), last = lastIndex(EVENTS, e => e.k < cur);
   if (old) old.removeAttribute('aria-current');
-  if (linesUpTo[cur] > 0) $('lines').children[linesUpTo[cur] - 1].setAttribute('aria-current', 'step');
+  if (last >= 0) $('lines').children[last].setAttribute('aria-current', 'step');
 }
 const addressOf = step => (NUMBER ? `#end=${NUMBER}&step=` : '#step=') + step;
 function go(k, isAddressed) {
   cur = limited(0, k, R.length);
-  const e = cur ? R[cur - 1] : null, step = cur === R.length && D.whole ? D.total : e ? e.step : 0;
+  const e = cur ? R[cur - 1] : null, step = cur === R.length && D.whole ? STEPS : e ? e.step : 0;
   say(e, step);
-  panel(stateAt(cur), e);
+  panel(e);
   mark(); markLine();
   if (isAddressed || isList) return;
   try { history.replaceState(null, '', addressOf(step)); } catch { /* no history there */ }

@@ -23,7 +23,7 @@ function fill(svg, tall, inner) {
 
 function drawHead() {
   const { num, lane, x0, colX, colW, width } = lay, parts = [], room = fits(lane - 4);
-  D.processes.forEach(({ name }, p) => {
+  NAMES.forEach((name, p) => {
     const number = label('b', midX(p), 16, room > 2 ? 'P' + p : p, 'middle');
     const named = room > 6 ? label('soft', midX(p), 31, cutName(name, room), 'middle') : '';
     parts.push(titled('P' + p + ' ' + name, number + named, ` class="who" data-p="${p}"`));
@@ -38,7 +38,7 @@ function drawHead() {
 }
 function drawLanes(parts) {
   for (let p = 0; p < N; p++) {
-    const to = D.ended.has(p) ? midY(D.ended.get(p)) : bottom();
+    const { k, state } = processAt(p, R.length), to = state === 'ended' ? midY(k) : bottom();
     parts.push(line('life', midX(p), midX(p), 0, to));
   }
 }
@@ -64,19 +64,16 @@ function drawColumn(parts, c, i) {
 
 // ---- the rows between events
 
-function drawGaps(parts, gaps) {
-  for (const r of gaps) {
-    const mark = (kind, x) => line(kind, x, x, r.y, r.y + GAP);
-    for (const [p, n] of r.ran) parts.push(titled(`P${p}: ${n} local steps`, mark('ran', midX(p))));
-    if (lay.lane > 90) continue;
-    for (const [p, n] of r.tried) parts.push(titled(`P${p}: ${n} steps without effect`, mark('tried', midX(p) + 4)));
-  }
-}
-function drawCounts(parts, gaps) {
-  for (const r of gaps) {
-    const y = r.y + GAP / 2, room = fits(lay.lane / 2 - 8);
-    if (lay.lane > 40) for (const [p, n] of r.ran) parts.push(label('soft', midX(p) + 7, y + 4, cut('+' + n, room)));
-    if (lay.lane > 90) for (const [p, n] of r.tried) parts.push(note(midX(p), y, n + ' idle', 'soft'));
+function drawGaps(parts, gaps) {                  // local steps, and steps without effect
+  const room = fits(lay.lane / 2 - 8);
+  for (const { y, between } of gaps) {
+    for (const [p, local, idle] of between) {
+      const x = midX(p), middle = y + GAP / 2, mark = (kind, at) => line(kind, at, at, y, y + GAP);
+      const count = lay.lane > 40 ? label('soft', x + 7, middle + 4, cut('+' + local, room)) : '';
+      const tried = lay.lane > 90 ? note(x, middle, idle + ' idle', 'soft') : mark('tried', x + 4);
+      if (local > 0) parts.push(titled(`P${p}: ${local} local steps`, mark('ran', x) + count));
+      if (idle > 0) parts.push(titled(`P${p}: ${idle} steps without effect`, tried));
+    }
   }
 }
 
@@ -92,7 +89,8 @@ function drawWaits(parts, list) {
   }
 }
 function isCounted(p, y) {                        // whether a number of steps without effect stands there
-  const isNear = r => r.tried && r.tried.has(p) && Math.abs(r.y + GAP / 2 - y) < 15;
+  const isIdle = ({ between }) => between && between.some(([q, , idle]) => q === p && idle > 0);
+  const isNear = r => isIdle(r) && Math.abs(r.y + GAP / 2 - y) < 15;
   return [y - 13, y, y + 13].some(at => isNear(rowAt(at)));
 }
 function drawReasons(parts, list) {               // what a process waits for, again and again along a long bar
@@ -137,7 +135,7 @@ function drawLinks(parts) {
 
 function drawStuck(parts) {
   const room = fits(lay.box - 44), y = bottom() + 12;
-  if (D.verdict !== 'stuck') return;
+  if (VERDICT !== 'stuck') return;
   for (const w of waits.filter(w => w.end === null)) {
     const x = midX(w.p), [who, does] = lacking(w), why = who + ' ' + does, at = room > 5 ? x - lay.box / 2 + 17 : x;
     const cross = `<path class="cross" d="M${at - 5},${y - 5} l10,10 m0,-10 l-10,10"/>`;
@@ -149,7 +147,7 @@ function drawStuck(parts) {
 function drawGutter(parts, events) {              // steps and, beside narrow lanes, calls in words
   const { num, text, x0 } = lay, gutter = [`<rect class="plain" x="0" y="0" width="${x0 - 2}" height="${full()}"/>`];
   for (const r of events) {
-    const e = R[r.k], y = r.y + EVENT / 2 + 4, words = e.call ? `${e.call} ${e.name} ${e.answer}` : e.text;
+    const e = R[r.k], y = r.y + EVENT / 2 + 4, words = e.call ? `${e.call} ${e.name} ${e.answer}` : e.what;
     gutter.push(label('soft', num - 8, y, e.step, 'end'));
     if (text) gutter.push(label('', num, y, cut(`P${e.process} ${words}`, fits(text - 12))));
   }
@@ -178,9 +176,9 @@ function paint(top, end) {                        // what lies between these hei
   for (const r of events) drawRule(parts, r.k);
   drawLanes(parts);
   cols.forEach((c, i) => drawColumn(parts, c, i));
-  drawGaps(parts, gaps); drawWaits(parts, bars); drawHeld(parts); drawLinks(parts);
+  drawWaits(parts, bars); drawHeld(parts); drawLinks(parts);
   for (const r of events) parts.push(box(R[r.k], r.k, midX(R[r.k].process), midY(r.k), lay.box));
-  drawCounts(parts, gaps); drawReasons(parts, bars); drawStuck(parts); drawGutter(parts, events);
+  drawGaps(parts, gaps); drawReasons(parts, bars); drawStuck(parts); drawGutter(parts, events);
   parts.push(nowMark());
   fill($('pic'), full(), parts.join(''));
   markNow(); keepGutter();
@@ -202,7 +200,7 @@ function draw() {
   layout();
   drawHead();
   paintWindow();
-  const what = `interleaving of ${N} processes, ${D.total} steps, verdict ${D.verdict}; the same as text below`;
+  const what = `interleaving of ${N} processes, ${STEPS} steps, verdict ${VERDICT}; the same as text below`;
   $('pic').setAttribute('aria-label', what);
   mark();
 }

@@ -3,23 +3,24 @@
 pub const SETUP: &str = r##"
 // ---- title and controls
 
-const programs = () => N === 1 ? D.processes[0].name : N + ' processes';
+const programs = () => N === 1 ? NAMES[0] : N + ' processes';
+const printed = blocks => blocks.map(([p, count]) => p + '*' + count).join(' ');
 function fillTitle() {
   const title = (NUMBER ? `lc3lab explore, end ${NUMBER}: ` : 'lc3lab trace: ') + programs();
-  document.title = title + ', ' + D.verdict;
+  document.title = title + ', ' + VERDICT;
   $('title').textContent = title;
-  $('verdict').textContent = 'verdict ' + D.verdict; $('verdict').className = D.verdict;
-  $('schedule').textContent = cut(D.schedule, 160);
+  $('verdict').textContent = 'verdict ' + VERDICT; $('verdict').className = VERDICT;
+  $('schedule').textContent = cut(printed(D.schedule.slice(0, 100)), 160);
   $('slider').max = R.length;
-  $('who').innerHTML = D.processes.map((_, p) => `<option value="${p}">P${p}</option>`).join('');
+  $('who').innerHTML = PROCESSES.map(p => `<option value="${p}">P${p}</option>`).join('');
   $('short').hidden = D.whole;
-  $('short').textContent = `Calls, output and ends only: the schedule has ${D.total} steps, and a page has every step of ` +
+  $('short').textContent = `Calls, output and ends only: the schedule has ${STEPS} steps, and a page has every step of ` +
     `${MOST_WHOLE.toLocaleString('en')} at most. What a process did between them is seen at its next one.`;
 }
 function fillCards() {
-  $('procs').innerHTML = D.processes.map((_, p) =>
+  $('procs').innerHTML = PROCESSES.map(p =>
     `<details class="card" id="card${p}"><summary></summary><div></div></details>`).join('');
-  D.processes.forEach((_, p) => $('card' + p).firstChild.addEventListener('click', () => {
+  PROCESSES.forEach(p => $('card' + p).firstChild.addEventListener('click', () => {
     pinned.set(p, !$('card' + p).open);
     setTimeout(() => go(cur), 0);
   }));
@@ -63,15 +64,12 @@ const VERDICTS = {
   open: 'open: the schedule is over, some process could go on',
 };
 function fillTexts() {
-  const ends = linesOf(D.ending).filter(text => /^ *end /.test(text));
-  const parts = ends.map(text => text.replace(/^ *end (P\d+) +x.... +\+\d+ /, '$1 '));
-  $('lines').innerHTML = [...D.moments.filter(m => m.event).map(m => m.event.line), ...D.ending.match(/.*\n/g)]
-    .map(text => `<li>${esc(text)}</li>`).join('');
-  $('plan').textContent = D.schedule;
-  $('ending').textContent = VERDICTS[D.verdict]; $('ending').className = D.verdict;
-  $('atend').textContent = [...(parts.length ? ['At the end:'] : []), ...parts, circleText()].join('\n').trim();
+  const lines = [...EVENTS.map(e => e.head + e.what + '\n'), ...(STANDS + REPORT).match(/.*\n/g) || []];
+  $('lines').innerHTML = lines.map(text => `<li>${esc(text)}</li>`).join('');
+  $('plan').textContent = printed(D.schedule);
+  $('ending').textContent = VERDICTS[VERDICT]; $('ending').className = VERDICT;
+  $('atend').textContent = STANDS + circleText();
 }
-D.ended = new Map(R.map((e, k) => [e, k]).filter(([e]) => e.how).map(([e, k]) => [e.process, k]));
 fillTitle(); fillCards(); fillLegend(); fillTexts();
 draw(); choose(0); goToAddress();
 if (DATA.ends) showEnds();

@@ -1,0 +1,56 @@
+//! The texts of what the data hold: names, outputs, words, and messages.
+
+pub const TEXTS: &str = r##"
+'use strict';
+const $ = id => document.getElementById(id);
+
+// ---- texts of the run, made visible
+
+function visible(text) {                          // control characters, and those that turn a text, as their numbers
+  const unseen = /[\u0000-\u0008\u000A-\u001F\u007F-\u009F\u061C\u200B-\u200F\u2028-\u202E\u2060-\u2069\uFEFF]/g;
+  const digits = c => c.charCodeAt(0).toString(16).toUpperCase().padStart(2, '0');
+  return text.replace(unseen, c => c < '\u0100' ? '\\x' + digits(c) : '\\u{' + digits(c) + '}');
+}
+function shown(bytes) {                           // as the trace and the debugger write an output
+  const isPlain = b => b >= 32 && b <= 126 && b !== 92, digits = b => b.toString(16).toUpperCase().padStart(2, '0');
+  return bytes.map(b => isPlain(b) ? String.fromCharCode(b) : '\\x' + digits(b)).join('');
+}
+
+// ---- words and names
+
+const esc = text => String(text).replace(/[&<>"]/g, c => '&#' + c.charCodeAt(0) + ';');
+const hex = w => 'x' + w.toString(16).toUpperCase().padStart(4, '0');
+const columns = c => c.codePointAt(0) < 0x1100 ? 1 : 2;  // the places that a character takes, at most
+const width = text => [...text].reduce((sum, c) => sum + columns(c), 0);
+function cut(text, most) {
+  if (width(text) <= most) return text;
+  let part = '', room = most < 2 ? most : most - 1;
+  for (const c of text) { room -= columns(c); if (room < 0) break; part += c; }
+  return most < 2 ? part : part + '\u2026';
+}
+function cutName(text, most) {                    // of a name with an input file the end stays
+  const at = text.indexOf('='), tail = at < 0 ? '' : text.slice(at);
+  if (!tail || width(text) <= most || width(tail) > most - 4) return cut(text, most);
+  return cut(text.slice(0, at), most - width(tail)) + tail;
+}
+const TRAPS = { 0x40: 'mq_open', 0x41: 'mq_close', 0x42: 'mq_unlink', 0x43: 'mq_send', 0x44: 'mq_receive',
+  0x45: 'mq_getattr', 0x46: 'mq_setattr', 0x50: 'sem_open', 0x51: 'sem_close', 0x52: 'sem_unlink', 0x53: 'sem_wait',
+  0x54: 'sem_trywait', 0x55: 'sem_post', 0x56: 'sem_getvalue' };
+const trapOf = w => w >> 8 === 0xF0 ? TRAPS[w & 255] : undefined;
+const nameOf = object => object.name === null ? '#' + object.place : object.name;
+const listOf = processes => processes.map(p => 'P' + p).join(' ');
+
+// ---- a message in words, in the form of the trace and short
+
+const isPrinted = w => w >= 32 && w <= 126;
+function quoted(words) {                          // the characters, where there are any, else nothing
+  const printed = w => isPrinted(w) && w !== 34 && w !== 92 ? String.fromCharCode(w) : '.';
+  return words.some(isPrinted) ? '"' + words.map(printed).join('') + '"' : '';
+}
+const numbers = words => words.slice(0, 16).map(hex).join(' ') + (words.length > 16 ? ' ...' : '');
+const message = ([, words]) => '[' + [numbers(words), quoted(words.slice(0, 16))].filter(text => text).join(' ') + ']';
+function bodyText([, words]) {
+  if (words.length === 0) return '[]';
+  return words.every(w => w > 32 && w < 127) ? '"' + String.fromCharCode(...words) + '"' : words.map(hex).join('.');
+}
+"##;
