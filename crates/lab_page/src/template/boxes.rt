@@ -17,16 +17,12 @@ function callLabels({ call, name, words, refused }) {
   const body = quoted(words.slice(0, 16)) || numbers(words);
   return [`${call} ${name} ${body}`, `${short} ${name} ${body}`, short + ' ' + body, ...list];
 }
-function outputLabels(e) {
-  const text = '"' + shown(e.output) + '"', fits = Math.max(3, Math.floor((lay.box - 6) / CHAR));
-  return [e.what, text.length < 12 ? text : cut(text, fits), '"'];
-}
-function labels(e) {
+function labels(e, fits) {
   if (e.ends) return ['ends ' + e.ends, e.ends, 'X'];
-  return e.output ? outputLabels(e) : callLabels(e);
+  return e.output ? [e.what, cut('"' + shown(e.output) + '"', Math.max(fits, 3)), '"'] : callLabels(e);
 }
 function labelFor(e, fits) {
-  const list = labels(e), label = list.find(text => text.length <= fits) || list[list.length - 1];
+  const list = labels(e, fits), label = list.find(text => text.length <= fits) || list[list.length - 1];
   const isShort = list.indexOf(label) > list.length - 3;
   return e.name && fits > 11 && isShort && !e.refused ? cut(list[list.length - 3], fits) : label;
 }
