@@ -59,12 +59,21 @@ const seen = (() => {
       const { middle, top, end } = place(bar), isThere = b => Math.abs(b.middle - middle) <= 1;
       return [titleOf(bar), stepOf(b => isThere(b) && b.end === top), stepOf(b => isThere(b) && b.top === end)];
     };
+    const steps = new Map(boxes.map(b => [b.top + 10, b.step])), stepAt = y => steps.has(y) ? steps.get(y) : null;
+    const taken = bar => [titleOf(bar), stepAt(place(bar).top), stepAt(place(bar).end)];
+    const level = dot => {                        // the kind and the name of an object, its level, and the step
+      const [name, what, value] = titleOf(dot).split(/ |,/), text = dot.parentElement.querySelector('text').textContent;
+      const isSem = dot.matches('.holds'), shown = isSem ? `${what} ${value}` : text.split(/[ \u2026]/)[0];
+      return [isSem ? 'sem' : 'mq', name, shown, stepAt(Number(dot.getAttribute('cy')))];
+    };
     const found = {
       boxes: boxes.map(b => b.title),
       waits: list(document, '#pic rect.waitbar').map(wait),
       arrows: list(document, '#pic path.arrow[data-from]').map(a =>
         [stepOf(b => b.k === a.dataset.from), stepOf(b => b.k === a.dataset.to)]),
       unreceived: list(document, '#pic circle.kept').length,
+      levels: list(document, '#pic circle:not(.kept)').map(level),
+      taken: list(document, '#pic rect.holds').map(taken),
       stuck: list(document, '#pic rect.stuckbar').map(titleOf),
       labels: list(document, '#pic g.ev').map(g => g.querySelector('text').textContent),
     };
