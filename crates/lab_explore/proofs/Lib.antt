@@ -20,3 +20,4 @@ mod KeptConditions
 mod KeptLosses
 mod LossesOfRows
 mod JudgedRows
+mod DrawnRows

@@ -6,4 +6,5 @@ pub mod Ends
 pub mod Rounds
 pub mod Fairness
 pub mod Reached
+pub mod Pictures
 pub mod Private

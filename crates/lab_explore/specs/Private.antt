@@ -7,3 +7,4 @@ pub mod Rising
 pub mod Ranked
 pub mod Passing
 pub mod Judged
+pub mod Drawn

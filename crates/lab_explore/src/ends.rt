@@ -101,7 +101,7 @@ fn sort_by_calls(ends: &mut Vec<End>) -> Result<(), AllocError>
 
 impl Search {
     /// Whether it may be that no process goes on from the world of a row, each of whose moves was made.
-    fn may_rest(&self, at: usize) -> Result<bool, ExploreFault>
+    pub(crate) fn may_rest(&self, at: usize) -> Result<bool, ExploreFault>
         requires known { AreKnown self.now.store self.now.moves }
         ensures no { IfOk result (λ rests. rests ≡ false → (w : WorldState)
             → IsAt self.now.store at w → NoneGoesOn w → ⊥) }
@@ -152,7 +152,7 @@ impl Search {
     }
 
     /// The end of a row of this depth, reached again.
-    fn row_end(
+    pub(crate) fn row_end(
         &self,
         alloc: Global,
         processes: &[Process],

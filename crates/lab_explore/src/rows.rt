@@ -68,6 +68,17 @@ impl Store {
         Ok(Some(at))
     }
 
+    /// Whether a row stands for the same world as the row with a number.
+    pub(crate) fn is_row_at(&self, at: u32, row: &Row) -> bool
+        ensures same { IsTrue result → (w : WorldState) → IsRow self.now row.now w
+            → IsAt self.now at w }
+    {
+        match self.rows.get(at as usize) {
+            Some(kept) => is_same_row(kept, row),
+            None => false,
+        }
+    }
+
     /// The places of the kernel and of the state of process `pid` in a row.
     pub(crate) fn places(&self, at: usize, pid: u32) -> Option<(u32, u32)>
         ensures places { IfSome result (λ x. (r : Row)

@@ -211,6 +211,7 @@ impl Search {
         requires store { IsStore self.old.store }
         requires none { self.old.moves.made.items ≡ [] }
         requires open { self.old.complete ≡ false }
+        ensures store { OnOk result (IsTrue self.new.complete → IsStore self.new.store) }
         ensures known { OnOk result (IsTrue self.new.complete
             → AreKnown self.new.store self.new.moves) }
         ensures grows { OnOk result (IsTrue self.new.complete
@@ -252,6 +253,7 @@ impl Search {
         requires none { self.old.moves.made.items ≡ [] }
         requires open { self.old.complete ≡ false }
         requires held { All IsHeld processes.now }
+        ensures store { OnOk result (IsTrue self.new.complete → IsStore self.new.store) }
         ensures known { OnOk result (IsTrue self.new.complete
             → AreKnown self.new.store self.new.moves) }
         ensures complete { OnOk result (IsTrue self.new.complete → IsSearched
@@ -276,6 +278,7 @@ pub(crate) fn search_all<O: Observer>(
     observer: &mut O,
 ) -> Result<Search, ExploreFault>
     requires held { All IsHeld processes.now }
+    ensures store { IfOk result (λ s. IsTrue s.complete → IsStore s.store) }
     ensures known { IfOk result (λ s. IsTrue s.complete → AreKnown s.store s.moves) }
     ensures complete { IfOk result (λ s. IsTrue s.complete → IsSearched
         (record { processes = map process_view processes.now; kernel = kernel }) s.store) }
