@@ -1,11 +1,11 @@
 -- Pictures: nodes of rows, and arrows of edges.
-use Rattle.std.proofs.Common.{ℕ, zero, suc, ◌≡◌, ◌<◌, ◌≤◌, ◌+◌, ◌++◌, All, IfSome, List, [], ◌∷◌, Option, Some, None, refl, sym, ap, subst, ◌∙◌, slice_get, set, get_or, length, map, arith}
+use Rattle.std.proofs.Common.{ℕ, zero, suc, ◌≡◌, ◌<◌, ◌+◌, ◌++◌, All, IfSome, List, [], ◌∷◌, Option, Some, None, refl, sym, ap, subst, ◌∙◌, slice_get, set, get_or, length, map, arith}
 use Rattle.std.specs.Option.{option_map}
 use Rattle.std.proofs.lemmas.List.{length-append}
 use Rattle.std.proofs.lemmas.Option.{slice_get-map, slice_get-get_or}
 use Rattle.ipc_kernel.specs.Alike.{IsConsistent}
 use Rattle.ipc_kernel.proofs.Alikes.{alike_then}
-use Rattle.lab_sched.specs.Worlds.{Process, WorldState, step_effect_in, step}
+use Rattle.lab_sched.specs.Worlds.{WorldState, step_effect_in, step}
 use Rattle.lab_sched.proofs.ListPlaces.{get_past}
 use Rattle.lab_explore.specs.declared.ends.End.{End}
 use Rattle.lab_explore.specs.declared.picture.Node.{Node}
@@ -21,10 +21,10 @@ use Rattle.lab_explore.specs.Calls.{IsAtCall, IsAhead, Both, Alongside, AreAlike
 use Rattle.lab_explore.specs.Closed.{HasAdvance}
 use Rattle.lab_explore.specs.Ends.{IsEnd}
 use Rattle.lab_explore.specs.Untried.{GoesOn, NoneGoesOn, untried}
-use Rattle.lab_explore.specs.Pictures.{AreAtCalls, IsNode, IsEndOfNode, HasEndAtRest, IsNodeAt, IsStep, HaveAllSteps, BeginsAt, IsNearer, HaveFewestNodeCalls}
+use Rattle.lab_explore.specs.Pictures.{AreAtCalls, IsNode, IsStep, HaveAllSteps, BeginsAt, IsNearer, HaveFewestNodeCalls}
 use Rattle.lab_explore.specs.Private.Depths.{depth_of, IsNear, AreDepths}
 use Rattle.lab_explore.specs.Private.Drawn.{IsNodeOfRow, AreNodesOfRows, arrow_of, IsRowStep, IsPictureOf}
-use Rattle.lab_explore.specs.Private.Stored.{IsState, IsRow, IsAt, IsLike, IsReady, IsStore, IsMove, AreReached, AreExpanded}
+use Rattle.lab_explore.specs.Private.Stored.{IsState, IsRow, IsAt, IsLike, IsReady, IsStore, IsMove, AreExpanded}
 use Rattle.lab_explore.specs.Private.Walked.{IsWalk}
 use Rattle.lab_explore.proofs.AlikeWorlds.{world_then, world_back, same_effect, step_alike, consistent_run}
 use Rattle.lab_explore.proofs.FirstWorlds.{at_unique, reached_advance}

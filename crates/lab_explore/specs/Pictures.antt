@@ -2,7 +2,6 @@
 use Rattle.std.specs.Prelude.{ℕ, ◌≡◌, ◌≤◌, ◌+◌, List, Some, None, All, IfSome, length, slice_get}
 use Rattle.lab_sched.specs.Worlds.{Process, WorldState, step_effect_in, step, run, entries}
 use Rattle.lab_sched.specs.Execution.{AreEffective}
-use Rattle.lab_explore.specs.declared.ends.End.{End}
 use Rattle.lab_explore.specs.declared.picture.Node.{Node}
 use Rattle.lab_explore.specs.declared.picture.Arrow.{Arrow}
 use Rattle.lab_explore.specs.Calls.{AreAlike, IsAtCall, IsAdvance}

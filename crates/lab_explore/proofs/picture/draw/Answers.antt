@@ -1,8 +1,6 @@
-use Rattle.std.proofs.Common.{All, IfSome, ap, arith, length, map, subst, sym, ◌≡◌, ◌∙◌}
+use Rattle.std.proofs.Common.{All, ap, arith, length, subst, sym, ◌≡◌, ◌∙◌}
 use Rattle.std.proofs.lemmas.Option.{IfSome_then}
-use Rattle.lab_sched.specs.Held.{process_view}
 use Rattle.lab_sched.specs.Starts.{AreStarts, initial_world}
-use Rattle.lab_sched.specs.Worlds.{WorldState}
 use Rattle.lab_explore.specs.Closed.{HasAdvance}
 use Rattle.lab_explore.specs.Pictures.{IsNode, IsEndOfNode}
 use Rattle.lab_explore.specs.Private.Stored.{IsAt}

@@ -1,7 +1,5 @@
-use Rattle.std.proofs.Common.{refl, subst}
-use Rattle.lab_explore.specs.declared.store.Next.TheVariants.{To}
-use Rattle.lab_explore.specs.Private.Stored.{IsRow, IsMove}
-use Rattle.lab_explore.proofs.Pushes.{all_at}
+use Rattle.std.proofs.Common.{subst}
+use Rattle.lab_explore.specs.Private.Stored.{IsMove}
 use Rattle.lab_explore.proofs.DrawnRows.{row_step}
 use Rattle.lab_explore.proofs.search.Search.arrow.Goals as goal
 
