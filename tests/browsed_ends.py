@@ -9,6 +9,7 @@ from browsed import HOSTILE, HOSTILE_NAMES, visible
 ROOT = Path(__file__).resolve().parent.parent
 EXAMPLES = ROOT / "examples"
 SECONDS = 300
+MOST_DRAWN = 500
 SIZES = {"wide": (1400, 900), "phone": (360, 640)}
 MEDIA = {"light": ("", "light"), "dark": ("", "dark"), "printed": ("print", "light")}
 
@@ -182,6 +183,70 @@ def try_ways(browser, ends, count):
             yield f"the way back from end {n} leads to {found['focus']!r}"
 
 
+SEEN_WORLDS = """(() => {
+  const list = selector => [...document.querySelectorAll(selector)], say = document.getElementById('worldsay');
+  return {
+    nodes: list('#map .world').map(e => e.getAttribute('aria-label')), edges: list('#map .call').length,
+    told: list('#worldlist > li').map(e => e.textContent), says: say ? say.textContent : '',
+    way: list('#map .call.way > title').map(e => e.textContent.match(/\\d+/g).map(Number)),
+    chosen: list('#map .world.chosen').map(e => e.id), focus: document.activeElement.id,
+  };
+})()"""
+
+
+def compare_worlds(ends, found):
+    """The picture beside the text: a shape for each world, where these are all and at most 500, and one for each end."""
+    kind, count, _ = ends.text.splitlines()[-1].split()
+    wanted = int(count) if kind == "complete" and int(count) <= MOST_DRAWN else 0
+    if len(found["nodes"]) != wanted or len(found["told"]) != wanted:
+        yield f"of {kind} {count} worlds it draws {len(found['nodes'])} and tells {len(found['told'])}"
+    if any(not told.startswith(name) for name, told in zip(found["nodes"], found["told"])):
+        yield "the worlds in words aren't those of the picture"
+    led = sum(len(re.findall(r"P\d+ to world \d+", it)) for it in found["told"])
+    if led != found["edges"]:
+        yield f"it draws {found['edges']} calls and tells {led}"
+    for n, (verdict, *_) in enumerate(ends.ends[:64] if wanted else [], 1):
+        if sum(f", end {n}: {verdict}." in it for it in found["nodes"]) != 1:
+            yield f"end {n} has no world of its own"
+
+
+def try_way(browser, n):
+    """Where the list is at an end, the calls stand out that lead from the first world to it."""
+    browser.evaluate(f"document.getElementById('end{n}').focus()")
+    found = browser.evaluate(SEEN_WORLDS)
+    at, after = next((k, int(re.search(r"after (\d+)", it)[1])) for k, it in enumerate(found["nodes"], 1) if f", end {n}:" in it)
+    follows = {start: end for _, start, end in found["way"]}
+    here = 1
+    for _ in range(after):
+        here = follows.get(here)
+    if len(found["way"]) != after or here != at or found["chosen"] != [f"world{at}"]:
+        yield f"the way to end {n}, world {at} after {after} calls, is {found['way']}, and {found['chosen']} is chosen"
+
+
+def try_worlds(browser, ends, count):
+    """The ways to ends, and the keys: Tab goes from the last end to the picture, and arrows go along its calls."""
+    for n in sorted({1, min(2, count), count}):
+        yield from try_way(browser, n)
+    browser.evaluate(f"document.getElementById('end{count}').focus()")
+    browser.press("Tab")
+    browser.press("Tab") if browser.evaluate("document.activeElement.id === 'map'") else None
+    found = browser.evaluate(SEEN_WORLDS)
+    if found["focus"] not in found["chosen"] or not browser.evaluate("seen.isMarked()"):
+        yield f"Tab goes from the last end to {found['focus']!r}"
+    for key, wanted in ("Home", 0), ("ArrowDown", 1), ("ArrowUp", 0):
+        browser.press(key)
+        found = browser.evaluate(SEEN_WORLDS)
+        number = int((re.fullmatch(r"world(\d+)", found["focus"]) or [0, 0])[1])
+        if not number or f"after {wanted} call" not in found["says"] or found["says"] != found["told"][number - 1]:
+            yield f"{key} goes to {found['focus']!r}, of which is told {found['says']!r}"
+    at = next(k for k, it in enumerate(found["nodes"], 1) if ", end 1:" in it)
+    browser.evaluate(f"document.getElementById('world{at}').focus()")
+    browser.press("Enter")
+    reloaded(browser)
+    if browser.evaluate("location.hash.split('&')[0]") != "#end=1":
+        yield f"Enter on the world of end 1 leads to {browser.evaluate('location.hash')}"
+
+
 def try_looks(browser, page):
     """In two sizes of the window nothing is cut, texts have contrast, and paper has the whole list."""
     for name, size in SIZES.items():
@@ -207,9 +272,14 @@ def try_ends(browser, seen, program, folder, given, page):
     found = browser.evaluate(SEEN_ENDS)
     if browser.faults or not found["isList"] or found["shown"]:
         return [f"the page's script: {it}" for it in browser.faults] or [f"the list isn't shown, but {found['shown']}"]
-    wrong = [*compare_list(ends, found), *browser.evaluate("seen.foreign()"), *try_looks(browser, page)]
+    worlds = browser.evaluate(SEEN_WORLDS)
+    wrong = [*compare_list(ends, found), *compare_worlds(ends, worlds), *browser.evaluate("seen.foreign()"), *try_looks(browser, page)]
     if name == "ends/hostile" and browser.evaluate("document.title.includes('ran')"):
         wrong.append("a text of the run was run")
     if found["buttons"]:
         wrong += try_ways(browser, ends, len(found["buttons"]))
+    if found["buttons"] and worlds["nodes"]:
+        browser.show(page, SIZES["wide"])
+        browser.evaluate(seen)
+        wrong += try_worlds(browser, ends, len(found["buttons"]))
     return wrong + [f"the page's script: {it}" for it in browser.faults]

@@ -134,6 +134,7 @@ const seen = (() => {
       ...overlaps('panel', list(document, '#objects, details.card'), document.getElementById('procs').scrollTop ? 1e9 : 1),
       ...overlaps('registers', list(document, '.regs > span'), 1),
       ...overlaps('boxes', list(document, '#pic g.ev > rect'), 1),
+      ...overlaps('worlds', list(document, '#map .shape'), 1),
       ...overlaps('texts', isStill ? texts : texts.filter(t => !t.closest('.gut')), 2),
       ...list(document, 'header, #objects, #procs, .bottom').flatMap(part => overlaps('words', leaves(part), 3)),
       ...list(document, 'header, details.card').flatMap(spills),
@@ -224,6 +225,8 @@ const seen = (() => {
     const drawn = '.life, .ran, .tried, .arrow, .wake, .nowline, .cross, .stuckbar, .waitbar, .ev > rect, .kept';
     const pic = document.getElementById('pic'), buttons = list(document, 'button, select');
     for (const e of list(pic, drawn)) check(e, getComputedStyle(e).stroke, 3, 'line', ground);
+    const map = document.getElementById('map');
+    for (const e of map ? list(map, '.call, .shape') : []) check(e, getComputedStyle(e).stroke, 3, 'line', behind(map));
     for (const e of list(pic, '.holds')) check(e, getComputedStyle(e).fill, 3, 'bar', ground);
     for (const e of buttons) check(e, getComputedStyle(e).borderTopColor, 3, 'border', behind(e.parentElement));
     return [...bad];

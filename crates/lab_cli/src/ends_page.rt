@@ -2,10 +2,11 @@
 ghost use Rattle.std.specs.Prelude.{◌≡◌, false};
 
 use crate::page::{names_of, of_page, page_sources, refuse_own_file};
+use crate::worlds_page::worlds_of;
 use lab_arguments::{Question, Setup};
 use lab_commands::{
     At, Complaint, Found, Inquiry, Programs, Progress, asked_of, explore_programs, find_ends,
-    inquiry_of, laboratory, read_programs, tell_ends, write_whole,
+    laboratory, read_programs, tell_ends, write_whole,
 };
 use lab_explore::Exploration;
 use lab_io::Output;
@@ -49,15 +50,14 @@ fn explore_on_page<'a, T: Files, W: Write, P: Progress>(
 {
     let words = setup.programs.as_slice();
     refuse_own_file(rt, page, words, &[])?;
-    let inquiry = inquiry_of(question);
-    let asked = asked_of(alloc, question, words.len())?;
+    asked_of(alloc, question, words.len())?;
     let Programs { programs, sources } = read_programs(rt, alloc, words, progress)?;
     let programs = programs.as_slice();
     let sources = page_sources(rt, alloc, &[], programs, sources.as_slice())?;
-    let fresh = laboratory(alloc, programs, setup.profile)?;
-    let found = find_ends(alloc, fresh, &inquiry, asked, progress)?;
+    let (found, inquiry) = find_ends(alloc, programs, setup.profile, question, progress)?;
     let told = tell_ends(alloc, &found, &inquiry, output, progress);
     let list = list_of(alloc, setup, programs, &found, page)?;
+    let worlds = worlds_of(alloc, setup, programs, &found, inquiry.limits)?;
     let names = names_of(alloc, words).at("run")?;
     let endless = endless_of(found.exploration());
     let extent = extent_of(found.exploration(), found.schedules().len(), &inquiry);
@@ -69,6 +69,7 @@ fn explore_on_page<'a, T: Files, W: Write, P: Progress>(
         &list,
         &endless,
         extent,
+        &worlds,
     );
     write_ends(rt, alloc, made, page)?;
     told

@@ -8,6 +8,7 @@ mod page;
 mod prompts;
 mod run_page;
 mod trace;
+mod worlds_page;
 
 use command::{FAULT, USAGE, command};
 use lab_commands::Progress;

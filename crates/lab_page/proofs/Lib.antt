@@ -10,3 +10,4 @@ pub mod RunLemmas
 pub mod SourceLemmas
 pub mod EndLemmas
 pub mod SafeLemmas
+pub mod WorldLemmas

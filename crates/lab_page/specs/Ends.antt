@@ -7,6 +7,7 @@ use Rattle.lab_page.specs.Limits.{most_ends, most_end_bytes}
 use Rattle.lab_page.specs.Runs.{schedule_data}
 use Rattle.lab_page.specs.Values.{list, natural, or_null}
 use Rattle.lab_page.specs.declared.ends.Endless.{Endless as HeldEndless}
+use Rattle.lab_page.specs.Worlds.{Worlds, worlds_json}
 use Rattle.lab_page.specs.declared.ends.Extent.{Extent}
 
 -- an end: how many calls lead to it, and the run
@@ -46,9 +47,9 @@ extent_data x =
     ∷ natural x.most_memory ∷ boolean x.refused ∷ [])
 
 -- what a page holds of ends, as JSON: an interleaving that never ends, where there is one, the runs, how far the exploration
--- went, and the processes
-abbrev pub ends_json : Data → EndList → Option Data → Extent → List ℕ
-ends_json processes l endless extent =
+-- went, the processes, and all worlds, where they are drawn
+abbrev pub ends_json : Data → EndList → Option Data → Extent → Option Worlds → List ℕ
+ends_json processes l endless extent worlds =
     codes "{\"endless\":" ++ compact_text (or_null endless) ++ codes ",\"ends\":[" ++ l.json
     ++ codes "],\"extent\":" ++ compact_text (extent_data extent) ++ codes ",\"format\":\"lc3lab-ends-2\",\"processes\":"
-    ++ compact_text processes ++ codes "}"
+    ++ compact_text processes ++ codes ",\"worlds\":" ++ worlds_json worlds ++ codes "}"

@@ -6,6 +6,7 @@ pub mod Events
 pub mod Moments
 pub mod Sources
 pub mod Runs
+pub mod Worlds
 pub mod Ends
 pub mod Faults
 pub mod Pages

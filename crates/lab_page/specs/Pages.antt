@@ -15,11 +15,12 @@ use Rattle.lab_page.specs.declared.template.picture.TheConstants.{PICTURE}
 use Rattle.lab_page.specs.declared.template.panel.TheConstants.{PANEL}
 use Rattle.lab_page.specs.declared.template.moving.TheConstants.{MOVING}
 use Rattle.lab_page.specs.declared.template.list.TheConstants.{LIST}
+use Rattle.lab_page.specs.declared.template.worlds.TheConstants.{WORLDS, WORLDS_STYLE}
 use Rattle.lab_page.specs.declared.template.setup.TheConstants.{SETUP}
 
 -- what every page has before its data
 unfoldable pub page_start : List ℕ
-page_start = HEAD.now ++ STYLE.now ++ TOP.now ++ BODY.now
+page_start = HEAD.now ++ STYLE.now ++ WORLDS_STYLE.now ++ TOP.now ++ BODY.now
 
 -- a data block that holds JSON, which a browser neither shows nor runs (HTML, 4.12.1)
 unfoldable pub data_block : List ℕ → List ℕ
@@ -45,7 +46,7 @@ drawing_scripts = LAYOUT.now ++ BOXES.now ++ PICTURE.now
 
 -- the scripts that show a moment, and the list of ends
 unfoldable pub showing_scripts : List ℕ
-showing_scripts = PANEL.now ++ MOVING.now ++ LIST.now ++ SETUP.now
+showing_scripts = PANEL.now ++ MOVING.now ++ WORLDS.now ++ LIST.now ++ SETUP.now
 
 -- what every page has behind its data
 unfoldable pub page_end : List ℕ

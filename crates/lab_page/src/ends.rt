@@ -14,6 +14,7 @@ ghost use Rattle.lab_page.specs.declared.fault.PageFault.TheVariants.{TooLarge};
 use crate::fault::PageFault;
 use crate::run::{schedule_value, written_run};
 use crate::values::push_behind;
+use crate::worlds::{Worlds, push_worlds};
 use crate::{MOST_END_BYTES, MOST_ENDS};
 use lab_sched::{Schedule, World};
 use serde_json::{Value, json};
@@ -179,10 +180,12 @@ pub fn ends_json(
     list: &EndList,
     endless: &Option<Endless<'_>>,
     extent: Extent,
+    worlds: &Option<Worlds>,
 ) -> Result<Vec<u8>, AllocError>
     requires plain { has_float (view processes.now) ≡ false }
     ensures json { IfOk result (λ v. v.items
-        ≡ ends_json (view processes.now) list.now (option_map endless_shown endless.now) extent) }
+        ≡ ends_json (view processes.now) list.now (option_map endless_shown endless.now) extent
+        worlds.now) }
 {
     let endless = endless_value(alloc, endless)?;
     let extent = extent_value(alloc, extent)?;
@@ -196,6 +199,8 @@ pub fn ends_json(
         ",\"format\":\"lc3lab-ends-2\",\"processes\":",
         processes,
     )?;
+    json.extend_from_slice(b",\"worlds\":")?;
+    push_worlds(&mut json, alloc, worlds)?;
     json.extend_from_slice(b"}")?;
     Ok(json)
 }

@@ -16,11 +16,13 @@ mod source;
 mod state;
 mod template;
 mod values;
+mod worlds;
 
 pub use ends::{EndList, Endless, Extent};
 pub use fault::PageFault;
 pub use paging::{Shown, ends_page, run_page};
 pub use source::{Source, source_of};
+pub use worlds::{WorldEdge, Worlds};
 
 /// The most steps of a schedule of which a page has the counted ones too.
 pub const MOST_WHOLE: u32 = 20_000;

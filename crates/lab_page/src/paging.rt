@@ -23,6 +23,7 @@ use crate::run::{Taken, written_run};
 use crate::source::{Source, programs};
 use crate::template::{push_data, push_page_end, push_page_start};
 use crate::values::push_value;
+use crate::worlds::Worlds;
 use lab_sched::{Schedule, World};
 use lab_sources::Source as Given;
 use serde_json::Value;
@@ -127,17 +128,21 @@ pub fn ends_page(
     list: &EndList,
     endless: &Option<Endless<'_>>,
     extent: Extent,
+    worlds: &Option<Worlds>,
 ) -> Result<Vec<u8>, PageFault>
     ensures page { IfOk result (λ v. v.items ≡ page_text (ends_json
         (programs count (map string_bytes names.now) (sources_shown sources.now)) list.now
-        (option_map endless_shown endless.now) extent)) }
+        (option_map endless_shown endless.now) extent worlds.now)) }
     ensures closed { OnOk result (HasNoTag (safe (ends_json
         (programs count (map string_bytes names.now) (sources_shown sources.now)) list.now
-        (option_map endless_shown endless.now) extent))) }
+        (option_map endless_shown endless.now) extent worlds.now))) }
     ensures fault { IfErr result (λ e. IsFault e (ends_json
         (programs count (map string_bytes names.now) (sources_shown sources.now)) list.now
-        (option_map endless_shown endless.now) extent)) }
+        (option_map endless_shown endless.now) extent worlds.now)) }
 {
     let processes = programs(alloc, count, names, sources)?;
-    page_of(alloc, &ends_json(alloc, &processes, list, endless, extent)?)
+    page_of(
+        alloc,
+        &ends_json(alloc, &processes, list, endless, extent, worlds)?,
+    )
 }

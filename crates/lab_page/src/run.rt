@@ -41,7 +41,7 @@ pub fn schedule_value(alloc: Global, schedule: &Schedule) -> Result<Value, Alloc
 }
 
 /// A verdict in a word.
-fn verdict_word(verdict: Verdict) -> &'static str
+pub(crate) fn verdict_word(verdict: Verdict) -> &'static str
     ensures word { result.now ≡ verdict_word verdict }
 {
     match verdict {

@@ -15,6 +15,7 @@ mod setup;
 mod study;
 mod style;
 mod texts;
+mod worlds;
 
 use crate::safe::push_safe;
 use crate::template::body::BODY;
@@ -29,6 +30,7 @@ use crate::template::setup::SETUP;
 use crate::template::study::STUDY;
 use crate::template::style::STYLE;
 use crate::template::texts::TEXTS;
+use crate::template::worlds::{WORLDS, WORLDS_STYLE};
 use crate::{MOST_END_BYTES, MOST_ENDS, MOST_WHOLE};
 use std::alloc::AllocError;
 
@@ -74,6 +76,7 @@ pub fn push_page_start(bytes: &mut Vec<u8>) -> Result<(), AllocError>
 {
     push_part(bytes, HEAD)?;
     push_part(bytes, STYLE)?;
+    push_part(bytes, WORLDS_STYLE)?;
     push_part(bytes, TOP)?;
     push_part(bytes, BODY)?;
     Ok(())
@@ -140,6 +143,7 @@ fn push_showing_scripts(bytes: &mut Vec<u8>) -> Result<(), AllocError>
 {
     push_part(bytes, PANEL)?;
     push_part(bytes, MOVING)?;
+    push_part(bytes, WORLDS)?;
     push_part(bytes, LIST)?;
     push_part(bytes, SETUP)?;
     Ok(())

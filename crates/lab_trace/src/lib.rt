@@ -27,12 +27,13 @@ mod units;
 mod words;
 
 pub use answers::{Given, Outcome, error_name, push_outcome};
+pub use arguments::{arguments_of, push_call};
 pub use fault::TraceFault;
 pub use form::Form;
 pub use handles::Level;
 pub use lines::{columns_text, event_text, step_line};
 pub use origins::Origin;
-pub use service::Service;
+pub use service::{Service, service_at};
 pub use step::trace_step;
 pub use tally::{Account, Tally};
 pub use text::{Bytes, Text};

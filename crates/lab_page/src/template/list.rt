@@ -34,6 +34,7 @@ function fillEnds() {
   $('rest').hidden = rest === 0; $('rest').textContent = restText(rest) + '.';
   $('endless').hidden = !endless;
   if (endless) { [$('before').textContent, $('round').textContent] = endless.map(printed); }
+  if (WORLD_MAP) fillWorlds();
   ends.forEach((_, k) => on('end' + (k + 1), 'click', () => { location.hash = 'end=' + (k + 1); }));
 }
 function showEnds() {                             // the list, or the way back to it

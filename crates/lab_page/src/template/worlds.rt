@@ -1,0 +1,173 @@
+//! The picture of all worlds, below the list of ends: its styles, and the script that draws it.
+
+pub const WORLDS_STYLE: &str = r##"
+/* the picture of all worlds */
+#worlds { margin: 18px 0 0; }
+#map { overflow: auto; max-height: 75vh; border: 1px solid var(--line); background: var(--card); border-radius: 8px; }
+#map svg { display: block; margin: 0 auto; }
+#map:focus-visible { outline-offset: -3px; }
+#worldsay { margin: 6px 0; min-height: 3em; overflow-wrap: anywhere; }
+#worldkinds { display: flex; flex-wrap: wrap; gap: 6px 18px; padding: 0; margin: 6px 0; list-style: none; }
+#worldkinds li { display: flex; align-items: center; gap: 6px; }
+#worldlist { list-style: none; margin: 6px 0; padding: 0; overflow-wrap: anywhere; }
+#worldlist li { margin: 0 0 4px; padding-left: 2ch; text-indent: -2ch; }
+.call { fill: none; stroke: var(--lane); stroke-width: 1.2; }
+.call.back { stroke-dasharray: 5 3; }
+.call.leads { stroke: var(--ink); stroke-width: 2.2; }
+.call.way { stroke: var(--now); stroke-width: 3.2; }
+.world { cursor: pointer; }
+.world .shape { fill: var(--objfill); stroke: var(--lane); stroke-width: 1.4; }
+.world.ended .shape { fill: var(--outfill); stroke: var(--out); stroke-width: 2; }
+.world.ended text { fill: var(--out); }
+.world.stuck .shape { fill: var(--badfill); stroke: var(--bad); stroke-width: 2; }
+.world.stuck text { fill: var(--bad); font-weight: 700; }
+.world.way .shape { stroke: var(--now); stroke-width: 3.2; }
+.world .ring { fill: none; stroke: none; pointer-events: all; }
+.world:hover .ring, .world.chosen .ring { stroke: var(--soft); stroke-width: 1.4; stroke-dasharray: 2 2; }
+.tipc { fill: var(--lane); } .tipl { fill: var(--ink); } .tipx { fill: var(--now); }
+@media print {
+  #map { overflow: visible; max-height: none; border: 0; }
+  #map svg { width: 100%; height: auto; }
+  #worldsay { display: none; }
+}
+"##;
+
+pub const WORLDS: &str = r##"
+// ---- the picture of all worlds
+
+const WORLD_X = 36, WORLD_Y = 52, WORLD_R = 10;   // between worlds, and the half of one
+const WORLD_MAP = DATA.worlds && {                // by names what stands in arrays
+  nodes: DATA.worlds[0].map(([after, processes, before, verdict, end]) => ({ after, processes, before, verdict, end })),
+  edges: DATA.worlds[1].map(([from, to, process]) => ({ from, to, process })),
+};
+
+function inLayers(nodes, edges) {                 // for each number of calls the worlds, near to those that lead there
+  const layers = [], place = nodes.map(() => 0), before = nodes.map(() => []);
+  for (const { from, to } of edges) if (nodes[from].after < nodes[to].after) before[to].push(from);
+  nodes.forEach((node, n) => (layers[node.after] ??= []).push(n));
+  const mean = n => before[n].reduce((sum, m) => sum + place[m], 0) / Math.max(1, before[n].length);
+  for (const layer of layers) {
+    const wanted = new Map(layer.map(n => [n, mean(n)]));
+    layer.sort((m, n) => wanted.get(m) - wanted.get(n) || m - n);
+    layer.forEach((n, i) => { place[n] = i - (layer.length - 1) / 2; });
+  }
+  return { layers, place };
+}
+function mapOf({ nodes, edges }) {                // where each world stands, and each way between them
+  const { layers, place } = inLayers(nodes, edges), most = Math.max(...layers.map(layer => layer.length));
+  const width = most * WORLD_X + 80, height = layers.length * WORLD_Y + 10;
+  const spots = nodes.map((node, n) => [width / 2 + place[n] * WORLD_X, WORLD_Y / 2 + 5 + node.after * WORLD_Y]);
+  return { layers, width, height, spots };
+}
+function wayBetween([x, y], [u, v]) {             // down to the next layer; else around the side
+  const gap = WORLD_R + 4;
+  if (v > y) return `M${x},${y + WORLD_R} C${x},${y + 28} ${u},${v - 30} ${u},${v - gap}`;
+  if (u === x && v === y) return `M${x + WORLD_R},${y - 4} c24,-16 24,24 3,10`;
+  const side = Math.max(x, u) + 26;
+  return `M${x + WORLD_R},${y} C${side},${y} ${side},${v} ${u + gap},${v}`;
+}
+const endOfWorld = ({ end }) => end !== null && end < DATA.ends.length ? end : -1;
+const shapeOf = verdict => verdict === 'stuck' ? '<path class="shape" d="M0,-12 L12,0 L0,12 L-12,0 Z"/>'
+  : verdict ? '<rect class="shape" x="-10" y="-10" width="20" height="20" rx="2"/>' : `<circle class="shape" r="${WORLD_R - 3}"/>`;
+const standingText = ([address, state, text], p) => `P${p} ${state} at ${hex(address)}, ${visible(text)}`;
+function worldText(node, n) {                     // in words
+  const after = `World ${n + 1}, after ${several(node.after, 'call', 'calls')}`, end = endOfWorld(node);
+  const rests = node.verdict ? `, ${end < 0 ? 'an end' : 'end ' + (end + 1)}: ${node.verdict}` : '';
+  return `${after}${rests}. ${node.processes.map(standingText).join('; ')}.`;
+}
+function callsText(edges, n) {                    // where its calls lead, in words
+  const led = edges.filter(({ from }) => from === n).map(({ to, process }) => `P${process} to world ${to + 1}`);
+  return led.length ? ` Calls: ${led.join(', ')}.` : '';
+}
+function worldShape(node, n, [x, y]) {
+  const end = endOfWorld(node), name = esc(worldText(node, n)), text = end < 0 ? '' : label('', 0, 4, end + 1, 'middle');
+  return `<g class="world ${node.verdict || ''}" id="world${n + 1}" data-n="${n}" tabindex="-1" role="img" aria-label="${name}" ` +
+    `transform="translate(${x},${y})"><title>${name}</title><circle class="ring" r="${WORLD_R + 5}"/>${shapeOf(node.verdict)}${text}</g>`;
+}
+function callShape({ from, to, process }, k, spots) {
+  const way = wayBetween(spots[from], spots[to]), isBack = spots[to][1] <= spots[from][1];
+  return `<path class="call${isBack ? ' back' : ''}" data-k="${k}" d="${way}" marker-end="url(#tipc)">` +
+    `<title>P${process}, from world ${from + 1} to world ${to + 1}</title></path>`;
+}
+const tipShape = id => `<marker id="${id}" viewBox="0 0 8 8" refX="6" refY="4" markerWidth="8" markerHeight="8" ` +
+  `markerUnits="userSpaceOnUse" orient="auto"><path class="${id}" d="M0,0 L8,4 L0,8 z"/></marker>`;
+const kindShape = (verdict, text) => `<li><svg width="28" height="28" viewBox="-14 -14 28 28" aria-hidden="true">` +
+  `<g class="world ${verdict}">${shapeOf(verdict)}</g></svg>${text}</li>`;
+const WORLD_PART = `<div id="worlds"><h2 id="worldstitle"></h2>
+  <p id="worldsay" aria-live="polite">Each shape is a world in which every process stands before a call or has ended; each
+    arrow is a call. Point at a world, or go to one by the keys, and what its processes stand at is told here.</p>
+  <div id="map" role="group" aria-labelledby="worldstitle" aria-describedby="worldkeys"></div>
+  <ul id="worldkinds"></ul>
+  <p id="worldkeys" class="keys"><kbd>Up</kbd> <kbd>Down</kbd> along a call, <kbd>Left</kbd> <kbd>Right</kbd> among the
+    worlds with as many calls, <kbd>Home</kbd> the first world, <kbd>Enter</kbd> the run to an end.</p>
+  <details id="worldwords"><summary>The worlds in words</summary><ol id="worldlist" role="list"></ol></details></div>`;
+function paintWay(n) {                            // the way by which calls lead to a world stands out
+  const { nodes, edges } = WORLD_MAP, seen = new Set([n]), ways = new Set();
+  for (let k = nodes[n].before; k !== null && !seen.has(edges[k].from); k = nodes[edges[k].from].before) {
+    ways.add(k); seen.add(edges[k].from);
+  }
+  for (const path of document.querySelectorAll('#map .call')) {
+    const isWay = ways.has(Number(path.dataset.k)), leads = edges[path.dataset.k].from === n;
+    path.classList.toggle('way', isWay); path.classList.toggle('leads', leads);
+    path.setAttribute('marker-end', `url(#${isWay ? 'tipx' : leads ? 'tipl' : 'tipc'})`);
+    if (isWay) path.parentNode.append(path);
+  }
+  for (const g of document.querySelectorAll('#map .world')) g.classList.toggle('way', seen.has(Number(g.dataset.n)));
+}
+function tellWorld(n) {
+  $('worldsay').textContent = worldText(WORLD_MAP.nodes[n], n) + callsText(WORLD_MAP.edges, n);
+}
+function chooseWorld(n) {                         // the one that Tab reaches, and the way to it
+  const old = document.querySelector('#map [tabindex="0"]'), now = $('world' + (n + 1));
+  if (old) { old.setAttribute('tabindex', -1); old.classList.remove('chosen'); }
+  now.setAttribute('tabindex', 0); now.classList.add('chosen');
+  paintWay(n);
+}
+function nextWorld(key, n, layers) {              // where a key leads
+  const { nodes, edges } = WORLD_MAP, layer = layers[nodes[n].after], at = layer.indexOf(n);
+  const down = edges.find(({ from, to }) => from === n && nodes[to].after > nodes[n].after), back = nodes[n].before;
+  const led = { ArrowLeft: layer[at - 1], ArrowRight: layer[at + 1], Home: 0, ArrowDown: down && down.to };
+  return key === 'ArrowUp' ? (back === null ? undefined : edges[back].from) : led[key];
+}
+function openEnd(n) {
+  const end = endOfWorld(WORLD_MAP.nodes[n]);
+  if (end >= 0) location.hash = 'end=' + (end + 1);
+}
+const worldOf = event => { const g = event.target.closest('.world'); return g ? Number(g.dataset.n) : -1; };
+function followMap(layers) {                      // pointer and keys
+  const shows = event => { const n = worldOf(event); if (n >= 0) tellWorld(n); };
+  on('map', 'mouseover', shows);
+  on('map', 'focusin', event => { const n = worldOf(event); if (n >= 0) { chooseWorld(n); tellWorld(n); } });
+  on('map', 'click', event => {
+    const n = worldOf(event);
+    if (n >= 0) { chooseWorld(n); tellWorld(n); openEnd(n); }
+  });
+  on('map', 'keydown', event => {
+    const n = worldOf(event), next = n < 0 ? undefined : nextWorld(event.key, n, layers);
+    if (event.key === 'Enter' && n >= 0) openEnd(n);
+    if (next !== undefined) { $('world' + (next + 1)).focus(); event.preventDefault(); }
+  });
+}
+function followEnds() {                           // the way to an end stands out while the list is at it
+  const { nodes } = WORLD_MAP, worldAt = k => nodes.findIndex(node => node.end === k);
+  DATA.ends.forEach((_, k) => {
+    if (worldAt(k) < 0) return;
+    for (const kind of ['mouseenter', 'focus']) on('end' + (k + 1), kind, () => chooseWorld(worldAt(k)));
+  });
+  chooseWorld(Math.max(0, worldAt(0)));
+}
+function fillWorlds() {
+  const { nodes, edges } = WORLD_MAP;
+  $('ends').insertAdjacentHTML('beforeend', WORLD_PART);
+  const { layers, width, height, spots } = mapOf(WORLD_MAP), tips = ['tipc', 'tipl', 'tipx'].map(tipShape).join('');
+  $('worldstitle').textContent = `All ${several(nodes.length, 'world', 'worlds')}, and ${several(edges.length, 'call', 'calls')}`;
+  const ways = edges.map((edge, k) => callShape(edge, k, spots)).join('');
+  const worlds = nodes.map((node, n) => worldShape(node, n, spots[n])).join('');
+  $('map').innerHTML = `<svg width="${width}" height="${height}" viewBox="0 0 ${width} ${height}"><defs>${tips}</defs>` +
+    `<g>${ways}</g>${worlds}</svg>`;
+  $('worldkinds').innerHTML = kindShape('', 'some process goes on') + kindShape('ended', 'an end: all have ended') +
+    kindShape('stuck', 'an end: stuck');
+  $('worldlist').innerHTML = nodes.map((node, n) => `<li>${esc(worldText(node, n) + callsText(edges, n))}</li>`).join('');
+  followMap(layers); followEnds();
+}
+"##;
