@@ -25,6 +25,10 @@ _lc3lab() {
         COMPREPLY=($(compgen -W 'wraps unknown-trap misspelt unused-label starts-in-data runs-into-data runs-past-end r7 after-end' -- "$word"))
         return
         ;;
+    --show)
+        COMPREPLY=($(compgen -W 'out left' -- "$word"))
+        return
+        ;;
     --schedule)
         COMPREPLY=($(compgen -W 'bad' -- "$word"))
         return
@@ -41,7 +45,7 @@ _lc3lab() {
     step | debug) options='--profile --help -h' ;;
     trace) options='--profile --page --source --help -h' ;;
     run) options='--profile --limit --mix --page --help -h' ;;
-    explore) options='--profile --limit --worlds --memory --random --seed --require --may-wait --never --fair --schedule --json --page --help -h' ;;
+    explore) options='--profile --limit --worlds --memory --random --seed --require --may-wait --never --fair --show --schedule --json --page --help -h' ;;
     help) options=$commands ;;
     esac
     case $command:$word in

@@ -1,9 +1,11 @@
 //! Ends as JSON.
 
+use crate::left::push_left;
 use crate::values::{push_comma, push_schedule, push_text};
 use lab_explore::End;
+use lab_findings::{Show, shown_text};
 use lab_sched::{Process, Verdict, World};
-use lab_texts::{how_name, report_text};
+use lab_texts::how_name;
 use lc3_table::WordText;
 use lc3_word::{FIRST_DEVICE, Hex};
 use std::alloc::{AllocError, Global};
@@ -43,38 +45,44 @@ fn push_place(text: &mut String, process: &Process) -> Result<(), AllocError> {
     text.push_str("\"")
 }
 
-/// Adds the status of a process and its program counter.
+/// Adds the status of a process, its program counter and what stands there.
 fn push_standing(text: &mut String, process: &Process) -> Result<(), AllocError> {
     let status = status_name(process);
     let pc = Hex(process.machine().pc());
-    match write!(text, "{{\"status\":\"{status}\",\"pc\":\"{pc}\",") {
-        Ok(()) => Ok(()),
-        Err(error) => Err(error),
-    }
+    write!(text, "\"status\":\"{status}\",\"pc\":\"{pc}\",")?;
+    push_place(text, process)?;
+    text.push_str(",")
 }
 
-/// Adds a process.
-fn push_process(text: &mut String, process: &Process) -> Result<(), AllocError> {
-    push_standing(text, process)?;
-    push_place(text, process)?;
-    text.push_str(",\"out\":")?;
+/// Adds a process, or what it has written alone.
+fn push_process(text: &mut String, process: &Process, out: bool) -> Result<(), AllocError> {
+    text.push_str("{")?;
+    if !out {
+        push_standing(text, process)?;
+    }
+    text.push_str("\"out\":")?;
     push_text(text, process.machine().output())?;
     text.push_str("}")
 }
 
 /// Adds process `pid` of a world, if it is there, behind a comma unless it is the first.
-fn push_process_at(text: &mut String, world: &World, pid: usize) -> Result<(), AllocError> {
+fn push_process_at(
+    text: &mut String,
+    world: &World,
+    pid: usize,
+    out: bool,
+) -> Result<(), AllocError> {
     push_comma(text, pid)?;
     match world.process(pid) {
-        Some(process) => push_process(text, process),
+        Some(process) => push_process(text, process, out),
         None => Ok(()),
     }
 }
 
 /// Adds the processes of a world, with commas between them.
-fn push_processes(text: &mut String, world: &World) -> Result<(), AllocError> {
+fn push_processes(text: &mut String, world: &World, out: bool) -> Result<(), AllocError> {
     for pid in 0..world.count() {
-        push_process_at(text, world, pid)?;
+        push_process_at(text, world, pid, out)?;
     }
     Ok(())
 }
@@ -88,46 +96,74 @@ fn verdict_name(verdict: Verdict) -> &'static str {
     }
 }
 
+/// Adds the messages that are left in a world, if these are told.
+fn push_rest(
+    alloc: Global,
+    text: &mut String,
+    world: &World,
+    left: bool,
+) -> Result<(), AllocError> {
+    if !left {
+        return Ok(());
+    }
+    text.push_str("\"left\":[")?;
+    push_left(alloc, text, world.kernel())?;
+    text.push_str("],")
+}
+
 /// Adds end number `number`.
-fn push_end(alloc: Global, text: &mut String, number: usize, end: &End) -> Result<(), AllocError> {
+fn push_end(
+    alloc: Global,
+    text: &mut String,
+    show: Show,
+    number: usize,
+    end: &End,
+) -> Result<(), AllocError> {
     write!(text, "{{\"end\":{number},\"processes\":[")?;
-    push_processes(text, &end.world)?;
+    push_processes(text, &end.world, show.out)?;
     let verdict = verdict_name(end.verdict);
-    write!(text, "],\"verdict\":\"{verdict}\",\"schedule\":")?;
+    write!(text, "],\"verdict\":\"{verdict}\",")?;
+    push_rest(alloc, text, &end.world, show.left)?;
+    text.push_str("\"schedule\":")?;
     push_schedule(alloc, text, &end.schedule)?;
     text.push_str("}")
 }
 
-/// Whether a report is among others.
-fn is_among(report: &str, reports: &[String]) -> bool {
-    for other in reports {
-        if other.as_str() == report {
+/// Whether a text is among others.
+fn is_among(text: &str, texts: &[String]) -> bool {
+    for other in texts {
+        if other.as_str() == text {
             return true;
         }
     }
     false
 }
 
-/// The ends that are told: of each report the first end that has it.
-fn told_ends(alloc: Global, ends: &[End]) -> Result<Vec<&End>, AllocError> {
+/// The ends that are told: of each text the first end that has it.
+fn told_ends(alloc: Global, show: Show, ends: &[End]) -> Result<Vec<&End>, AllocError> {
     let mut told = Vec::new(alloc);
-    let mut reports = Vec::new(alloc);
+    let mut texts = Vec::new(alloc);
     for end in ends {
-        let report = report_text(alloc, &end.world)?;
-        if !is_among(&report, &reports) {
+        let text = shown_text(alloc, &end.world, show)?;
+        if !is_among(&text, &texts) {
             told.push(end)?;
-            reports.push(report)?;
+            texts.push(text)?;
         }
     }
     Ok(told)
 }
 
 /// Adds the ends that are told, with commas between them.
-pub(crate) fn push_ends(alloc: Global, text: &mut String, ends: &[End]) -> Result<(), AllocError> {
-    let told = told_ends(alloc, ends)?;
+pub(crate) fn push_ends(
+    alloc: Global,
+    text: &mut String,
+    show: Show,
+    ends: &[End],
+) -> Result<(), AllocError> {
+    let told = told_ends(alloc, show, ends)?;
     for (at, end) in told.iter().enumerate() {
         push_comma(text, at)?;
-        push_end(alloc, text, at + 1, end)?;
+        push_end(alloc, text, show, at + 1, end)?;
     }
     Ok(())
 }

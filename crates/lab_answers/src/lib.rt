@@ -2,6 +2,7 @@
 #![tactic(auto)]
 
 mod ends;
+mod left;
 mod object;
 mod reasons;
 mod values;

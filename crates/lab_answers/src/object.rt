@@ -5,6 +5,7 @@ use crate::reasons::{Extent, push_limits};
 use crate::values::{push_comma, push_schedule, push_text};
 use lab_conditions::Never;
 use lab_explore::{End, Exploration, Round};
+use lab_findings::Show;
 use lab_questions::{Answer, Answers, Failure, Object, Word};
 use lab_sched::Schedule;
 use std::alloc::{AllocError, Global};
@@ -174,10 +175,12 @@ fn holds_name(judged: bool, failure: Option<Failure>) -> &'static str {
     }
 }
 
-/// The answers as one line, with how far the exploration was to go, and whether something had to be so.
+/// The answers as one line, with what is told of each end, how far the exploration was to go, and whether
+/// something had to be so.
 pub fn answers_json(
     alloc: Global,
     answers: &Answers,
+    show: Show,
     extent: Extent,
     judged: bool,
 ) -> Result<String, AllocError> {
@@ -186,7 +189,7 @@ pub fn answers_json(
     text.push_str("{")?;
     push_extent(alloc, &mut text, found, extent)?;
     text.push_str(",\"ends\":[")?;
-    push_ends(alloc, &mut text, &found.ends)?;
+    push_ends(alloc, &mut text, show, &found.ends)?;
     text.push_str("],\"not\":[")?;
     push_faults(alloc, &mut text, &found.ends, &answers.answers)?;
     text.push_str("],\"reached\":[")?;

@@ -3,6 +3,7 @@ ghost use Rattle.std.specs.Prelude.{◌≡◌, ℕ, List, None, Some, IfOk, code
 ghost use Rattle.clap.specs.Words.{first_value, found_of, one_text};
 ghost use Rattle.lab_arguments.specs.Private.Options.{IsNumber};
 ghost use Rattle.lab_arguments.specs.Private.Requirements.{nothing, words_of, AreRequired};
+ghost use Rattle.lab_arguments.specs.Private.Showing.{report, AreShown};
 ghost use Rattle.lab_arguments.specs.declared.question.Choice.TheVariants.{End};
 
 use crate::misuse::Misuse;
@@ -12,6 +13,7 @@ use crate::options::{
 use crate::question::{Choice, Question};
 use crate::request::{Refusal, Request};
 use crate::requirements::{Requirements, requirements_of};
+use crate::showing::{Show, show_of};
 use crate::walks::{walks_of, with_walks, worlds_of};
 use crate::{MOST_LOCAL_STEPS, MOST_MEMORY, MOST_WORLDS, examples};
 use clap::{ArgMatches, Command};
@@ -41,6 +43,9 @@ fn with_questions<'a>(alloc: Global, command: Command<'a>) -> Result<Command<'a>
         'P at A' or 'P at A-B' where its program counter is there";
     let never = "Fails unless the search is complete and this condition never holds, \
         or, with lost, no message is lost with its queue";
+    let show =
+        "What is told of each end: out, what the processes have written, in place of the report; \
+        left, the messages that are left, too; or both, with a comma between them";
     let fair = "Tells only rounds in which each process that can go on takes a step";
     let schedule =
         "Prints the schedule of end K alone, or of the first thing that is not as it has to be";
@@ -50,6 +55,7 @@ fn with_questions<'a>(alloc: Global, command: Command<'a>) -> Result<Command<'a>
         .arg(values(alloc, "may-wait", "P", may_wait))?
         .arg(values(alloc, "never", "CONDITION", never))?
         .arg(flag(alloc, "fair", fair))?
+        .arg(value(alloc, "show", "WORDS", show))?
         .arg(value(alloc, "schedule", "K|bad", schedule))?
         .arg(flag(alloc, "json", "Prints the answers as JSON"))?
         .arg(value(alloc, "page", "FILE", page))
@@ -69,6 +75,23 @@ fn required_of<'a>(alloc: Global, words: &ArgMatches<'a>) -> Result<Requirements
     match requirements_of(alloc, text)? {
         Some(requirements) => Ok(requirements),
         None => Err(Misuse::NoRequirement(text).refusal(alloc)),
+    }
+}
+
+/// What is told of each end, as the words say.
+fn shown_of<'a>(alloc: Global, words: &ArgMatches<'a>) -> Result<Show, Refusal>
+    ensures report { IfOk result (λ show.
+        first_value (found_of words.now) (codes "show") ≡ None → show ≡ report) }
+    ensures shown { IfOk result (λ show. (text : List ℕ)
+        → first_value (found_of words.now) (codes "show") ≡ Some text
+        → AreShown (words_of text) show) }
+{
+    let Some(text) = words.get_str("show") else {
+        return Ok(Show::REPORT);
+    };
+    match show_of(alloc, text)? {
+        Some(show) => Ok(show),
+        None => Err(Misuse::NoShow(text).refusal(alloc)),
     }
 }
 
@@ -105,8 +128,14 @@ fn question_of<'a>(alloc: Global, words: &ArgMatches<'a>) -> Result<Question<'a>
     ensures required { IfOk result (λ q. (text : List ℕ)
         → first_value (found_of words.now) (codes "require") ≡ Some text
         → AreRequired (words_of text) q.required) }
+    ensures report { IfOk result (λ q.
+        first_value (found_of words.now) (codes "show") ≡ None → q.show ≡ report) }
+    ensures shown { IfOk result (λ q. (text : List ℕ)
+        → first_value (found_of words.now) (codes "show") ≡ Some text
+        → AreShown (words_of text) q.show) }
 {
     let required = required_of(alloc, words)?;
+    let show = shown_of(alloc, words)?;
     let random = walks_of(words);
     let schedule = choice_of(words).map_err(|misuse| misuse.refusal(alloc))?;
     Ok(Question {
@@ -117,6 +146,7 @@ fn question_of<'a>(alloc: Global, words: &ArgMatches<'a>) -> Result<Question<'a>
         waiters: values_of(alloc, words, "may-wait")?,
         never: values_of(alloc, words, "never")?,
         fair: words.get_flag("fair"),
+        show,
         random,
         schedule,
         json: words.get_flag("json"),

@@ -10,6 +10,7 @@ mod parser;
 mod question;
 mod request;
 mod requirements;
+mod showing;
 mod shown;
 mod walks;
 
@@ -17,6 +18,7 @@ pub use parser::read_words;
 pub use question::{Choice, Question, Walks};
 pub use request::{Page, Refusal, Request, Setup};
 pub use requirements::{Requirements, Rest};
+pub use showing::Show;
 pub use shown::Shown;
 
 /// The most steps of each process that can be asked for.

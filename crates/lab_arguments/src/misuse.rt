@@ -9,6 +9,8 @@ use std::fmt;
 pub(crate) enum Misuse<'a> {
     /// The value of `--require` isn't made of its words.
     NoRequirement(&'a str),
+    /// The value of `--show` isn't made of its words.
+    NoShow(&'a str),
     /// The value of `--schedule` is neither the number of an end nor `bad`.
     NoSchedule(&'a str),
     /// Processes may wait, but no end is judged by that.
@@ -43,6 +45,10 @@ impl fmt::Display for Misuse<'_> {
             Misuse::NoRequirement(text) => {
                 let text = Shown(text);
                 write!(f, "invalid value '{text}' for '--require <WORDS>'")
+            }
+            Misuse::NoShow(text) => {
+                let text = Shown(text);
+                write!(f, "invalid value '{text}' for '--show <WORDS>'")
             }
             Misuse::NoSchedule(text) => {
                 let text = Shown(text);

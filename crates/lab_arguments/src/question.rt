@@ -1,5 +1,6 @@
 //! What is asked of an exploration.
 use crate::requirements::Requirements;
+use crate::showing::Show;
 
 /// What is asked of an exploration.
 #[derive(Drop)]
@@ -18,6 +19,8 @@ pub struct Question<'a> {
     pub never: Vec<&'a str>,
     /// Whether only rounds that are fair are told.
     pub fair: bool,
+    /// What is told of each end.
+    pub show: Show,
     /// The walks that are taken in place of every interleaving.
     pub random: Option<Walks>,
     /// Which schedule is printed alone.
@@ -56,6 +59,7 @@ impl Question<'_> {
             || !self.waiters.is_empty()
             || !self.never.is_empty()
             || self.fair
+            || self.show.is_chosen()
             || self.random.is_some()
             || self.json
             || matches!(self.schedule, Some(Choice::Bad))

@@ -51,7 +51,7 @@ impl Requirements {
 }
 
 /// The words of a text, between commas.
-fn words_of(alloc: Global, text: &str) -> Result<Vec<&str>, AllocError>
+pub(crate) fn words_of(alloc: Global, text: &str) -> Result<Vec<&str>, AllocError>
     ensures words { IfOk result (λ found. map (λ word. word.now) found.items
         ≡ words_of text.now) }
 {
@@ -79,7 +79,7 @@ fn how_often(word: &str, words: &[&str]) -> usize
 }
 
 /// Whether a word stands among words, if it isn't there more than once.
-fn stands(word: &str, words: &[&str]) -> Option<bool>
+pub(crate) fn stands(word: &str, words: &[&str]) -> Option<bool>
     ensures some { IfSome result (λ there.
         how_often word.now (map (λ w. w.now) words.now) ≡ once_if there) }
     ensures none { result ≡ None

@@ -8,7 +8,7 @@ use crate::programs::{Programs, laboratory, read_programs};
 use crate::progress::{Progress, WalkCount, WorldCount};
 use crate::telling::tell_answers;
 use lab_arguments::{Choice, Question, Setup};
-use lab_explore::{Exploration, ExploreFault, Limits, Walks};
+use lab_explore::{Exploration, ExploreFault, Walks};
 use lab_findings::{Findings, Shortfall, find};
 use lab_io::Output;
 use lab_questions::{Answers, Waiter, Word, ask, ask_walks};
@@ -75,10 +75,9 @@ pub fn find_ends<P: Progress>(
     asked: Asked,
     progress: &P,
 ) -> Result<Found, Complaint<'static>> {
-    let limits = inquiry.limits;
     let outcome = match inquiry.walks {
-        Some(walks) => take_walks(alloc, fresh, limits, &asked, walks, progress),
-        None => visit_all(alloc, fresh, limits, asked, progress),
+        Some(walks) => take_walks(alloc, fresh, inquiry, &asked, walks, progress),
+        None => visit_all(alloc, fresh, inquiry, asked, progress),
     };
     outcome.at("run")
 }
@@ -87,7 +86,7 @@ pub fn find_ends<P: Progress>(
 fn take_walks<P: Progress>(
     alloc: Global,
     fresh: Fresh,
-    limits: Limits,
+    inquiry: &Inquiry,
     asked: &Asked,
     walks: Walks,
     progress: &P,
@@ -97,7 +96,16 @@ fn take_walks<P: Progress>(
         Asked::Verdict(_) => (&[], &[]),
         Asked::More { words, waiters, .. } => (words, waiters),
     };
-    let outcome = ask_walks(alloc, fresh, limits, walks, words, waiters, &mut count);
+    let outcome = ask_walks(
+        alloc,
+        fresh,
+        inquiry.limits,
+        walks,
+        words,
+        waiters,
+        inquiry.show,
+        &mut count,
+    );
     count.clear();
     outcome.map(Found::Answers)
 }
@@ -106,11 +114,12 @@ fn take_walks<P: Progress>(
 fn visit_all<P: Progress>(
     alloc: Global,
     fresh: Fresh,
-    limits: Limits,
+    inquiry: &Inquiry,
     asked: Asked,
     progress: &P,
 ) -> Result<Found, ExploreFault> {
     let mut count = WorldCount::new(alloc, progress);
+    let limits = inquiry.limits;
     let outcome = match asked {
         Asked::Verdict(required) => {
             find(alloc, fresh, limits, required, &mut count).map(Found::Ends)
@@ -121,7 +130,15 @@ fn visit_all<P: Progress>(
             never,
             fair,
         } => ask(
-            alloc, fresh, limits, &words, &waiters, never, fair, &mut count,
+            alloc,
+            fresh,
+            limits,
+            &words,
+            &waiters,
+            never,
+            fair,
+            inquiry.show,
+            &mut count,
         )
         .map(Found::Answers),
     };

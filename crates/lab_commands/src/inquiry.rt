@@ -3,6 +3,7 @@ use crate::complaint::{At, Complaint, Reason};
 use lab_arguments::{Choice, Question, Requirements, Rest};
 use lab_conditions::{Condition, Never, Part, ReadFault, State};
 use lab_explore::{Limits, Walks};
+use lab_findings::Show;
 use lab_questions::{Waiter, Word};
 use lab_sched::Verdict;
 use lc3_word::unsigned;
@@ -17,6 +18,8 @@ pub struct Inquiry {
     pub limits: Limits,
     /// The walks that are taken in place of every interleaving.
     pub walks: Option<Walks>,
+    /// What is told of each end.
+    pub show: Show,
     /// Whether something has to be so.
     pub judges: bool,
     /// Which schedule is printed alone.
@@ -53,6 +56,10 @@ pub fn inquiry_of(question: &Question<'_>) -> Inquiry {
             count: walks.count,
             seed: walks.seed,
         }),
+        show: Show {
+            out: question.show.out,
+            left: question.show.left,
+        },
         judges: question.judges(),
         choice: question.schedule,
         json: question.json,

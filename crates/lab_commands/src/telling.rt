@@ -69,7 +69,14 @@ fn write_answers<W: Write>(
     if !inquiry.json {
         return write_text(&found.text, output);
     }
-    let json = answers_json(alloc, found, extent_of(inquiry), inquiry.judges).at("run")?;
+    let json = answers_json(
+        alloc,
+        found,
+        inquiry.show,
+        extent_of(inquiry),
+        inquiry.judges,
+    )
+    .at("run")?;
     write_text(&json, output)
 }
 

@@ -18,7 +18,8 @@ use Rattle.lab_explore.specs.Ends.{IsEnd, AreEnds, HaveAllEnds, NoneStuck, HaveF
 use Rattle.lab_explore.specs.Rounds.{AreBounded}
 use Rattle.lab_findings.specs.declared.shortfall.Shortfall.{Shortfall}
 use Rattle.lab_findings.specs.Lines.{AreLines, StandIn}
-use Rattle.lab_findings.specs.Texts.{report_of, told_ends, schedule_line, end_lines, ends_text, endless_line, round_text, extent_line, findings_text}
+use Rattle.lab_findings.specs.Texts.{text_of, told_ends, schedule_line, end_lines, ends_text, endless_line, round_text, extent_line, findings_text}
+use Rattle.lab_findings.specs.Shown.{whole_report}
 use Rattle.lab_findings.specs.Shortfalls.{ShowsRequired}
 use Rattle.lab_findings.specs.Programs.{SaysComplete, SaysEndless, SaysStuck, TellsEveryEnd, ComeTo}
 use Rattle.lab_findings.proofs.LineLemmas.{lines-append, lines-feed, same_last}
@@ -31,12 +32,12 @@ all_has P es e all has = subst P (get_or_from_slice_get es has.0 e e has.1) (all
 
 -- above the last line
 body : Exploration → List ℕ
-body found = ends_text 1 (told_ends found.ends.items) ++ round_text found.round
+body found = ends_text whole_report 1 (told_ends whole_report found.ends.items) ++ round_text found.round
 
 body_whole : (found : Exploration) → AreLines (body found)
 unfolding body
 body_whole found =
-    lines-append (ends_text 1 (told_ends found.ends.items)) (round_text found.round) (ends_whole 1 (told_ends found.ends.items)) (round_whole found.round)
+    lines-append (ends_text whole_report 1 (told_ends whole_report found.ends.items)) (round_text found.round) (ends_whole whole_report 1 (told_ends whole_report found.ends.items)) (round_whole found.round)
 
 -- a text that says `complete` tells an exploration that is
 pub is_complete : (found : Exploration) (text : List ℕ) → text ≡ findings_text found → SaysComplete text → found.complete ≡ true
@@ -47,9 +48,9 @@ is_complete found text is says =
     (extent_is_line found.complete found.worlds) (extent_is_line true says.0) (sym is ∙ says.1.ends))
 
 -- what stands among the ends stands in the text
-in_text : (found : Exploration) (these text : List ℕ) → text ≡ findings_text found → StandIn these (ends_text 1 (told_ends found.ends.items)) → StandIn these text
+in_text : (found : Exploration) (these text : List ℕ) → text ≡ findings_text found → StandIn these (ends_text whole_report 1 (told_ends whole_report found.ends.items)) → StandIn these text
 in_text found these text is stands =
-    let ends = ends_text 1 (told_ends found.ends.items) in
+    let ends = ends_text whole_report 1 (told_ends whole_report found.ends.items) in
     subst (StandIn these) (sym is)
     (stand_before these (ends ++ round_text found.round) (extent_line found.complete found.worlds) (stand_before these ends (round_text found.round) stands))
 
@@ -60,11 +61,11 @@ has_no_round found text is quiet = by found.round refl
     by : (r : Option Round) → found.round ≡ r → found.round ≡ None
     by None at = at
     by (Some r) at =
-        let ends = ends_text 1 (told_ends found.ends.items) in
+        let ends = ends_text whole_report 1 (told_ends whole_report found.ends.items) in
         let stands = subst (StandIn endless_line) (ap round_text (sym at)) (endless_stands r) in
         absurd (quiet (subst (StandIn endless_line) (sym is)
         (stand_before endless_line (ends ++ round_text found.round) (extent_line found.complete found.worlds)
-        (stand_behind ends endless_line (round_text found.round) (ends_whole 1 (told_ends found.ends.items)) stands))))
+        (stand_behind ends endless_line (round_text found.round) (ends_whole whole_report 1 (told_ends whole_report found.ends.items)) stands))))
 
 -- where all ends were found, by the fewest calls, the text tells each
 pub tells_every_end : (start : WorldState) (found : Exploration) (text : List ℕ) → text ≡ findings_text found → AreEnds start found.ends.items
@@ -78,11 +79,11 @@ tells_every_end start found text is each sorted all fewest ps rest =
     let end = all_has (IsEnd start) ends has.1 each (has.0, has.2) in
     let verdict = same_verdict w has.1.world one.1.verdict has.1.verdict has.3.processes one.4 first.closed end.verdict end.closed in
     let stands = subst (IsVerdict w) verdict one.4 in
-    let some = told_some (λ s t. s.calls ≤ t.calls) (λ e. let h : e.calls ≤ e.calls = omega arith in h) ends has.1 (λ i j d h k. sorted i j d (omega arith) k) (has.0, has.2) in
-    let told = all_has (IsEnd start) (told_ends ends) some.0 (told_all (IsEnd start) ends each) some.1 in
-    let report : report_of some.0 ≡ report_text w = some.2 ∙ report_from_verdict w has.1.world has.1.verdict has.3.processes stands end.verdict in
+    let some = told_some whole_report (λ s t. s.calls ≤ t.calls) (λ e. let h : e.calls ≤ e.calls = omega arith in h) ends has.1 (λ i j d h k. sorted i j d (omega arith) k) (has.0, has.2) in
+    let told = all_has (IsEnd start) (told_ends whole_report ends) some.0 (told_all whole_report (IsEnd start) ends each) some.1 in
+    let report : text_of whole_report some.0 ≡ report_text w = some.2 ∙ report_from_verdict w has.1.world has.1.verdict has.3.processes stands end.verdict in
     let number = 1 + some.1.0 in
-    let lines = in_text found (end_lines number (report_of some.0) some.0.schedule) text is (end_stands 1 (told_ends ends) some.1.0 some.0 some.1.1) in
+    let lines = in_text found (end_lines number (text_of whole_report some.0) some.0.schedule) text is (end_stands whole_report 1 (told_ends whole_report ends) some.1.0 some.0 some.1.1) in
     record {
       number = number;
       schedule = some.0.schedule;
@@ -114,9 +115,9 @@ none_stuck start found text is each quiet i d within stuck =
     let ends = found.ends.items in
     let e = get_or ends i d in
     let end = each i d within in
-    let some = told_some (λ s t. Unit {0}) (λ x. tt) ends e (λ j k x h l. tt) (i, has_at ends i d within) in
+    let some = told_some whole_report (λ s t. Unit {0}) (λ x. tt) ends e (λ j k x h l. tt) (i, has_at ends i d within) in
     let number = 1 + some.1.0 in
-    let stands = in_text found (end_lines number (report_of some.0) some.0.schedule) text is (end_stands 1 (told_ends ends) some.1.0 some.0 some.1.1) in
+    let stands = in_text found (end_lines number (text_of whole_report some.0) some.0.schedule) text is (end_stands whole_report 1 (told_ends whole_report ends) some.1.0 some.0 some.1.1) in
     quiet (stuck_stands e.world number some.0.schedule text (sym (verdict_from e.world e.verdict end.verdict) ∙ stuck)
     (subst (λ r. StandIn (end_lines number r some.0.schedule) text) some.2 stands))
 

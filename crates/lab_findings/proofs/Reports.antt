@@ -4,14 +4,12 @@ use Rattle.lab_sched.specs.Worlds.{Process, Running, Waiting, Ended, WorldState,
 use Rattle.lab_sched.specs.Verdicts.{IsVerdict, verdict_of, IsWaiting, HasEnded, HaveEnded, AreStuck}
 use Rattle.lab_sched.specs.declared.verdict.Verdict.{Verdict}
 use Rattle.lab_sched.specs.declared.verdict.Verdict.TheVariants as verdict
-use Rattle.lab_sched.proofs.VerdictLemmas.{verdict_from, verdict_worked_out}
+use Rattle.lab_sched.proofs.VerdictLemmas.{verdict_from}
 use Rattle.lab_texts.specs.Rows.{texts_below}
 use Rattle.lab_texts.specs.Texts.{text_of, state_text, status_line, status_text, out_text, output_part, out_line}
 use Rattle.lab_texts.specs.Verdicts.{verdict_line}
 use Rattle.lab_texts.specs.Reports.{report_text, process_report, process_reports}
-use Rattle.lab_explore.specs.Alikes.{OneVerdict}
 use Rattle.lab_findings.specs.Lines.{AreLines}
-use Rattle.lab_findings.specs.Laws.{OneReport}
 use Rattle.lab_findings.proofs.LineLemmas.{lines-append, lines-feed, lines-below}
 
 -- the lines of processes, without their world
@@ -28,11 +26,6 @@ same_report w v processes verdict =
 -- so worlds with one verdict have one report
 pub report_from_verdict : (w v : WorldState) (x : Verdict) → v.processes ≡ w.processes → IsVerdict w x → IsVerdict v x → report_text v ≡ report_text w
 report_from_verdict w v x processes one other = same_report w v processes (sym (verdict_from v x other) ∙ verdict_from w x one)
-
-pub one_report : OneVerdict → OneReport
-one_report one_verdict w v consistent alike =
-    let stands = verdict_worked_out w in
-    report_from_verdict w v (verdict_of w) alike.processes stands (one_verdict w v (verdict_of w) consistent alike stands)
 
 lines_of : (text : Process → List ℕ) → ((s : Process) → AreLines (text s)) → (o : Option Process) → AreLines (text_of text o)
 lines_of text each None = tt

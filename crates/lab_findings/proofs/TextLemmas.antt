@@ -4,8 +4,9 @@ use Rattle.lab_sched.specs.declared.schedule.block.Block.{Block}
 use Rattle.lab_sched.specs.ScheduleTexts.{schedule_text}
 use Rattle.lab_explore.specs.declared.ends.End.{End}
 use Rattle.lab_explore.specs.declared.rounds.Round.{Round}
+use Rattle.lab_findings.specs.declared.show.Show.{Show}
 use Rattle.lab_findings.specs.Lines.{AreLines, StandIn}
-use Rattle.lab_findings.specs.Texts.{report_of, schedule_line, end_lines, ends_text, endless_line, round_line, round_text, extent_text, extent_line}
+use Rattle.lab_findings.specs.Texts.{text_of, schedule_line, end_lines, ends_text, endless_line, round_line, round_text, extent_text, extent_line}
 use Rattle.lab_findings.proofs.LineLemmas.{HasNoFeed, IsLine, lines-append, lines-onto, line-onto, no_feed_from, no_feed-append, decimal_no_feed}
 
 -- lines that stand in a text do so where whole lines are put before it
@@ -37,42 +38,42 @@ stand_within front these back text h s = record {
 }
 
 -- one end more
-pub ends-push : (n : ℕ) (es : List End) (e : End) → ends_text n (es ++ e ∷ []) ≡ ends_text n es ++ end_lines (n + length es) (report_of e) e.schedule
+pub ends-push : (show : Show) (n : ℕ) (es : List End) (e : End) → ends_text show n (es ++ e ∷ []) ≡ ends_text show n es ++ end_lines (n + length es) (text_of show e) e.schedule
 unfolding ends_text
-ends-push n [] e = let first : n ≡ n + 0 = omega arith in append-nil (end_lines n (report_of e) e.schedule) ∙ ap (λ k. end_lines k (report_of e) e.schedule) first
-ends-push n (x ∷ xs) e =
-    let lines = end_lines n (report_of x) x.schedule in
+ends-push show n [] e = let first : n ≡ n + 0 = omega arith in append-nil (end_lines n (text_of show e) e.schedule) ∙ ap (λ k. end_lines k (text_of show e) e.schedule) first
+ends-push show n (x ∷ xs) e =
+    let lines = end_lines n (text_of show x) x.schedule in
     let next : (n + 1) + length xs ≡ n + suc (length xs) = omega arith in
-    ap (λ l. lines ++ l) (ends-push (n + 1) xs e ∙ ap (λ k. ends_text (n + 1) xs ++ end_lines k (report_of e) e.schedule) next)
-    ∙ sym (append_assoc lines (ends_text (n + 1) xs) (end_lines (n + suc (length xs)) (report_of e) e.schedule))
+    ap (λ l. lines ++ l) (ends-push show (n + 1) xs e ∙ ap (λ k. ends_text show (n + 1) xs ++ end_lines k (text_of show e) e.schedule) next)
+    ∙ sym (append_assoc lines (ends_text show (n + 1) xs) (end_lines (n + suc (length xs)) (text_of show e) e.schedule))
 
-end_whole : (n : ℕ) (report : List ℕ) (blocks : List Block) → AreLines (end_lines n report blocks)
+end_whole : (n : ℕ) (text : List ℕ) (blocks : List Block) → AreLines (end_lines n text blocks)
 unfolding end_lines schedule_line
-end_whole n report blocks = lines-onto (codes "end " ++ decimal n ++ codes "\n" ++ report) (codes "schedule " ++ schedule_text blocks)
+end_whole n text blocks = lines-onto (codes "end " ++ decimal n ++ codes "\n" ++ text) (codes "schedule " ++ schedule_text blocks)
 
-pub ends_whole : (n : ℕ) (es : List End) → AreLines (ends_text n es)
+pub ends_whole : (show : Show) (n : ℕ) (es : List End) → AreLines (ends_text show n es)
 unfolding ends_text
-ends_whole n [] = tt
-ends_whole n (e ∷ es) =
-    lines-append (end_lines n (report_of e) e.schedule) (ends_text (n + 1) es) (end_whole n (report_of e) e.schedule) (ends_whole (n + 1) es)
+ends_whole show n [] = tt
+ends_whole show n (e ∷ es) =
+    lines-append (end_lines n (text_of show e) e.schedule) (ends_text show (n + 1) es) (end_whole n (text_of show e) e.schedule) (ends_whole show (n + 1) es)
 
 -- the lines of an end stand in the text
-pub end_stands : (n : ℕ) (es : List End) (i : ℕ) (t : End) → slice_get es i ≡ Some t → StandIn (end_lines (n + i) (report_of t) t.schedule) (ends_text n es)
+pub end_stands : (show : Show) (n : ℕ) (es : List End) (i : ℕ) (t : End) → slice_get es i ≡ Some t → StandIn (end_lines (n + i) (text_of show t) t.schedule) (ends_text show n es)
 unfolding ends_text
-end_stands n [] i t at = absurd (cc)
-end_stands n (e ∷ es) zero t at =
+end_stands show n [] i t at = absurd (cc)
+end_stands show n (e ∷ es) zero t at =
     let is : e ≡ t = cc in
     let first : n ≡ n + 0 = omega arith in
     record {
       above = [];
-      below = ends_text (n + 1) es;
+      below = ends_text show (n + 1) es;
       whole = tt;
-      stand = ap (λ x. end_lines n (report_of x) x.schedule ++ ends_text (n + 1) es) is ∙ ap (λ k. end_lines k (report_of t) t.schedule ++ ends_text (n + 1) es) first;
+      stand = ap (λ x. end_lines n (text_of show x) x.schedule ++ ends_text show (n + 1) es) is ∙ ap (λ k. end_lines k (text_of show t) t.schedule ++ ends_text show (n + 1) es) first;
     }
-end_stands n (e ∷ es) (suc i) t at =
+end_stands show n (e ∷ es) (suc i) t at =
     let number : (n + 1) + i ≡ n + suc i = omega arith in
-    let later = subst (λ k. StandIn (end_lines k (report_of t) t.schedule) (ends_text (n + 1) es)) number (end_stands (n + 1) es i t at) in
-    stand_behind (end_lines n (report_of e) e.schedule) (end_lines (n + suc i) (report_of t) t.schedule) (ends_text (n + 1) es) (end_whole n (report_of e) e.schedule) later
+    let later = subst (λ k. StandIn (end_lines k (text_of show t) t.schedule) (ends_text show (n + 1) es)) number (end_stands show (n + 1) es i t at) in
+    stand_behind (end_lines n (text_of show e) e.schedule) (end_lines (n + suc i) (text_of show t) t.schedule) (ends_text show (n + 1) es) (end_whole n (text_of show e) e.schedule) later
 
 pub round_whole : (r : Option Round) → AreLines (round_text r)
 unfolding round_line

@@ -1,4 +1,7 @@
 pub mod Lines
+pub mod Orders
+pub mod Left
+pub mod Shown
 pub mod Texts
 pub mod Shortfalls
 pub mod Programs

@@ -3,36 +3,37 @@ use Rattle.std.specs.Prelude.{ℕ, ◌+◌, Bool, true, false, not, Option, Some
 use Rattle.std.specs.Fmt.{decimal}
 use Rattle.lab_sched.specs.declared.schedule.block.Block.{Block}
 use Rattle.lab_sched.specs.ScheduleTexts.{schedule_text}
-use Rattle.lab_texts.specs.Reports.{report_text}
 use Rattle.lab_explore.specs.declared.ends.End.{End}
 use Rattle.lab_explore.specs.declared.rounds.Round.{Round}
 use Rattle.lab_explore.specs.declared.exploring.Exploration.{Exploration}
+use Rattle.lab_findings.specs.declared.show.Show.{Show}
+use Rattle.lab_findings.specs.Shown.{shown_text, whole_report}
 
--- the report on the world of an end
-abbrev pub report_of : End → List ℕ
-report_of e = report_text e.world
+-- what is told of the world of an end
+abbrev pub text_of : Show → End → List ℕ
+text_of show e = shown_text show e.world
 
--- whether the second end has another report than the first
-abbrev pub has_other_report : End → End → Bool
-has_other_report e f = not (bytes_eq (report_of e) (report_of f))
+-- whether the second end has another text than the first
+abbrev pub has_other_text : Show → End → End → Bool
+has_other_text show e f = not (bytes_eq (text_of show e) (text_of show f))
 
--- the ends that are told: each without the later ones that have its report
-unfoldable pub told_ends : List End → List End
-told_ends [] = []
-told_ends (e ∷ es) = e ∷ filter (has_other_report e) (told_ends es)
+-- the ends that are told: each without the later ones that have its text
+unfoldable pub told_ends : Show → List End → List End
+told_ends show [] = []
+told_ends show (e ∷ es) = e ∷ filter (has_other_text show e) (told_ends show es)
 
 -- the line of a schedule
 unfoldable pub schedule_line : List Block → List ℕ
 schedule_line blocks = codes "schedule " ++ schedule_text blocks ++ codes "\n"
 
--- the lines of end number n: its report, and then a schedule
+-- the lines of end number n: its text, and then a schedule
 unfoldable pub end_lines : ℕ → List ℕ → List Block → List ℕ
-end_lines n report blocks = codes "end " ++ decimal n ++ codes "\n" ++ report ++ schedule_line blocks
+end_lines n text blocks = codes "end " ++ decimal n ++ codes "\n" ++ text ++ schedule_line blocks
 
 -- the lines of ends, numbered from n on
-unfoldable pub ends_text : ℕ → List End → List ℕ
-ends_text n [] = []
-ends_text n (e ∷ es) = end_lines n (report_of e) e.schedule ++ ends_text (n + 1) es
+unfoldable pub ends_text : Show → ℕ → List End → List ℕ
+ends_text show n [] = []
+ends_text show n (e ∷ es) = end_lines n (text_of show e) e.schedule ++ ends_text show (n + 1) es
 
 -- the line above a round
 abbrev pub endless_line : List ℕ
@@ -56,8 +57,8 @@ extent_text false = codes "incomplete"
 unfoldable pub extent_line : Bool → ℕ → List ℕ
 extent_line complete worlds = extent_text complete ++ codes " " ++ decimal worlds ++ codes " worlds\n"
 
--- the ends that are told, a round, if there is one, and whether these are all ends
+-- the ends that are told by their reports, a round, if there is one, and whether these are all ends
 abbrev pub findings_text : Exploration → List ℕ
 findings_text found =
-    ends_text 1 (told_ends found.ends.items) ++ round_text found.round
+    ends_text whole_report 1 (told_ends whole_report found.ends.items) ++ round_text found.round
     ++ extent_line found.complete found.worlds

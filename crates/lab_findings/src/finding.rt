@@ -3,14 +3,15 @@ ghost use Rattle.std.specs.Prelude.{◌≡◌, ◌↔◌, None, map, string_byte
 ghost use Rattle.lab_sched.specs.ScheduleTexts.{schedule_text};
 ghost use Rattle.lab_explore.specs.Ends.{AreEnds, NeverStuck};
 ghost use Rattle.lab_explore.specs.Rounds.{IsRound, CanBeRepeated, AreBounded};
+ghost use Rattle.lab_findings.specs.Shown.{whole_report};
 ghost use Rattle.lab_findings.specs.Texts.{told_ends, findings_text};
 ghost use Rattle.lab_findings.specs.Shortfalls.{ShowsRequired, IsShortfallOf};
 ghost use Rattle.lab_findings.specs.Programs.{SaysComplete, SaysEndless, SaysStuck, TellsEveryEnd, ComeTo};
 
-use crate::Shortfall;
 use crate::shortfall::shortfall_of;
 use crate::texts::{push_extent, push_round};
 use crate::told::{Told, told_of};
+use crate::{Shortfall, Show};
 use lab_explore::{Exploration, ExploreFault, Limits, Observer, explore};
 use lab_sched::{Fresh, Verdict};
 use std::alloc::{AllocError, Global};
@@ -30,9 +31,9 @@ pub struct Findings {
 fn tell(alloc: Global, found: &Exploration) -> Result<Told, AllocError>
     ensures text { IfOk result (λ told. string_bytes told.text ≡ findings_text found.now) }
     ensures schedules { IfOk result (λ told. map string_bytes told.schedules.items
-        ≡ map (λ e. schedule_text e.schedule) (told_ends found.now.ends.items)) }
+        ≡ map (λ e. schedule_text e.schedule) (told_ends whole_report found.now.ends.items)) }
 {
-    let mut told = told_of(alloc, &found.ends)?;
+    let mut told = told_of(alloc, Show::REPORT, &found.ends)?;
     push_round(alloc, &mut told.text, &found.round)?;
     push_extent(&mut told.text, found.complete, found.worlds)?;
     Ok(told)
@@ -52,7 +53,7 @@ pub fn find<O: Observer>(
 ) -> Result<Findings, ExploreFault>
     ensures text { IfOk result (λ f. string_bytes f.text ≡ findings_text f.exploration) }
     ensures schedules { IfOk result (λ f. map string_bytes f.schedules.items
-        ≡ map (λ e. schedule_text e.schedule) (told_ends f.exploration.ends.items)) }
+        ≡ map (λ e. schedule_text e.schedule) (told_ends whole_report f.exploration.ends.items)) }
     ensures sound { IfOk result (λ f. AreEnds fresh f.exploration.ends.items) }
     ensures round { IfOk result (λ f. IfSome f.exploration.round (λ r. IsRound fresh r)) }
     ensures repeats { IfOk result (λ f.

@@ -1,18 +1,19 @@
 //! Laws over the definitions alone.
-ghost use Rattle.lab_findings.specs.Laws.{OneReport, EachToldOnce};
+ghost use Rattle.lab_findings.specs.Laws.{OneText, EachToldOnce};
 
 use lab_explore::laws::alike_worlds_have_one_verdict;
 
-/// Worlds with the same processes over kernels that are alike have one report.
-#[tactic(auto, using(crate::proofs::Reports::one_report))]
-pub fn alike_worlds_have_one_report()
-    ensures law { OneReport }
+/// Of worlds with the same processes over kernels that are alike the same is told: the report, what the
+/// processes have written, and the messages that are left.
+#[tactic(auto, using(crate::proofs::OneText::one_text))]
+pub fn alike_worlds_have_one_text()
+    ensures law { OneText }
 {
     alike_worlds_have_one_verdict();
 }
 
-/// Each report of some ends is told, no report is told twice, and nothing else is told.
+/// Each text of some ends is told, no text is told twice, and nothing else is told.
 #[tactic(auto, using(crate::proofs::ToldEnds::each_told_once))]
-pub fn each_report_is_told_once()
+pub fn each_text_is_told_once()
     ensures law { EachToldOnce }
 {}

@@ -24,19 +24,19 @@ pub fn push_schedule(
     }
 }
 
-/// Adds the lines of end number `number`: its report, and then a schedule.
+/// Adds the lines of end number `number`: what is told of it, and then a schedule.
 #[tactic(auto, unfolding(crate::specs::Texts::end_lines))]
 pub(crate) fn push_end(
     alloc: Global,
     text: &mut String,
     number: usize,
-    report: &str,
+    told: &str,
     schedule: &Schedule,
 ) -> Result<(), AllocError>
     ensures text { OnOk result (string_bytes text.new
-        ≡ string_bytes text.old ++ end_lines number report.now schedule.now) }
+        ≡ string_bytes text.old ++ end_lines number told.now schedule.now) }
 {
-    write!(text, "end {number}\n{report}")?;
+    write!(text, "end {number}\n{told}")?;
     push_schedule(alloc, text, schedule)
 }
 

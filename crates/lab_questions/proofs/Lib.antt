@@ -1,3 +1,4 @@
 mod Watched
 pub mod ListLemmas
 pub mod AnswerLemmas
+pub mod ToldLemmas

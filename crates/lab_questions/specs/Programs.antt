@@ -5,7 +5,11 @@ use Rattle.lab_sched.specs.Schedules.{steps_of}
 use Rattle.lab_sched.specs.Worlds.{WorldState, run}
 use Rattle.lab_sched.specs.Execution.{AreEffective}
 use Rattle.lab_explore.specs.declared.exploring.Exploration.{Exploration}
+use Rattle.lab_explore.specs.declared.ends.End.{End}
 use Rattle.lab_explore.specs.Closed.{AreAtRest}
+use Rattle.lab_findings.specs.declared.show.Show.{Show}
+use Rattle.lab_findings.specs.Shown.{shown_text}
+use Rattle.lab_findings.specs.Texts.{text_of}
 use Rattle.lab_questions.specs.declared.word.Waiter.{Waiter}
 use Rattle.lab_questions.specs.declared.word.Word.{Word}
 use Rattle.lab_questions.specs.declared.word.Word.TheVariants.{Ended, Stuck, Halted, Empty, Same}
@@ -13,6 +17,12 @@ use Rattle.lab_questions.specs.declared.answers.Answer.{Answer}
 use Rattle.lab_questions.specs.declared.failure.Failure.{Failure}
 use Rattle.lab_questions.specs.declared.failure.Failure.TheVariants.{Not, Reached, Endless, Incomplete}
 use Rattle.lab_questions.specs.Judgments.{Meets}
+
+-- whatever steps are taken from the start, effective or not: if the world after them is at rest, what is told of it is told of one of
+-- the ends
+abbrev pub TellEveryEnd : Show → WorldState → List End → Type 0
+TellEveryEnd show start told = (ps : List ℕ) → AreAtRest (run start ps)
+    → Any (λ e. text_of show e ≡ shown_text show (run start ps)) told
 
 -- whatever steps are taken from the start, effective or not, and whatever others: if the worlds after
 -- them are at rest, the second is as the word requires, beside the first

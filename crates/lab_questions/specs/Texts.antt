@@ -9,6 +9,7 @@ use Rattle.lab_explore.specs.declared.rounds.Round.{Round}
 use Rattle.lab_sched.specs.declared.schedule.block.Block.{Block}
 use Rattle.lab_explore.specs.declared.ends.End.{End}
 use Rattle.lab_explore.specs.declared.exploring.Exploration.{Exploration}
+use Rattle.lab_findings.specs.declared.show.Show.{Show}
 use Rattle.lab_findings.specs.Texts.{told_ends, ends_text, schedule_line, round_text, extent_line}
 use Rattle.lab_questions.specs.declared.word.Word.{Word}
 use Rattle.lab_questions.specs.declared.word.Word.TheVariants.{Ended, Stuck, Halted, Empty, Same}
@@ -60,9 +61,9 @@ reached_lines conditions reached =
     texts_below (min (length conditions) (length reached)) (λ i. condition_lines (slice_get conditions i) (slice_get reached i))
 
 -- the ends that are told, the answers, what was reached, a round, if there is one, and whether these are all ends
-abbrev pub answers_text : List Never → Exploration → List Answer → List ℕ
-answers_text conditions found answers =
-    ends_text 1 (told_ends found.ends.items) ++ flat_map (answer_lines found.ends.items) answers
+abbrev pub answers_text : Show → List Never → Exploration → List Answer → List ℕ
+answers_text show conditions found answers =
+    ends_text show 1 (told_ends show found.ends.items) ++ flat_map (answer_lines found.ends.items) answers
     ++ reached_lines conditions found.reached.items ++ round_text found.round ++ extent_line found.complete found.worlds
 
 -- the last line where walks were taken
@@ -70,9 +71,9 @@ unfoldable pub walks_line : ℕ → List ℕ
 walks_line walks = codes "incomplete " ++ decimal walks ++ codes " walks\n"
 
 -- the ends that are told, the answers, and how many walks were taken
-abbrev pub walks_text : Exploration → List Answer → List ℕ
-walks_text found answers =
-    ends_text 1 (told_ends found.ends.items) ++ flat_map (answer_lines found.ends.items) answers
+abbrev pub walks_text : Show → Exploration → List Answer → List ℕ
+walks_text show found answers =
+    ends_text show 1 (told_ends show found.ends.items) ++ flat_map (answer_lines found.ends.items) answers
     ++ walks_line found.worlds
 
 -- the text of the schedule of an end that an answer names

@@ -8,7 +8,7 @@ ghost use Rattle.lab_explore.specs.Fairness.{IsFairRound, AreFairlyEndless, AreF
 ghost use Rattle.lab_findings.specs.Texts.{told_ends};
 ghost use Rattle.lab_questions.specs.Judgments.{IsAnswer};
 ghost use Rattle.lab_questions.specs.Objects.{AreUnopened};
-ghost use Rattle.lab_questions.specs.Programs.{AlwaysMeet, IsRefuted, AsksRest, Passes, IsFailure};
+ghost use Rattle.lab_questions.specs.Programs.{TellEveryEnd, AlwaysMeet, IsRefuted, AsksRest, Passes, IsFailure};
 ghost use Rattle.lab_questions.specs.Texts.{schedule_at, answers_text};
 
 use crate::answers::answers_on;
@@ -19,6 +19,7 @@ use crate::texts::tell;
 use crate::{Answer, Failure, Object, Waiter, Word};
 use lab_conditions::Never;
 use lab_explore::{Exploration, ExploreFault, Limits, Observer, explore};
+use lab_findings::Show;
 use lab_sched::Fresh;
 use std::alloc::Global;
 
@@ -54,12 +55,13 @@ pub fn ask<O: Observer>(
     waiters: &[Waiter],
     conditions: Vec<Never>,
     fair: bool,
+    show: Show,
     observer: &mut O,
 ) -> Result<Answers, ExploreFault>
     ensures text { IfOk result (λ a.
-        string_bytes a.text ≡ answers_text conditions.items a.exploration a.answers.items) }
+        string_bytes a.text ≡ answers_text show conditions.items a.exploration a.answers.items) }
     ensures schedules { IfOk result (λ a. map string_bytes a.schedules.items
-        ≡ map (λ e. schedule_text e.schedule) (told_ends a.exploration.ends.items)) }
+        ≡ map (λ e. schedule_text e.schedule) (told_ends show a.exploration.ends.items)) }
     ensures words { IfOk result (λ a. map (λ x. x.word) a.answers.items ≡ words.now) }
     ensures answers { IfOk result (λ a.
         All (IsAnswer waiters.now a.exploration.ends.items) a.answers.items) }
@@ -69,6 +71,8 @@ pub fn ask<O: Observer>(
         IfSome a.exploration.round (λ r. CanBeRepeated fresh r)) }
     ensures complete { IfOk result (λ a. IsTrue a.exploration.complete
         → HaveAllEnds fresh a.exploration.ends.items) }
+    ensures told { IfOk result (λ a. IsTrue a.exploration.complete
+        → TellEveryEnd show fresh (told_ends show a.exploration.ends.items)) }
     ensures bounded { IfOk result (λ a. fair ≡ false → IsTrue a.exploration.complete
         → a.exploration.round ≡ None → AreBounded fresh) }
     ensures fair { IfOk result (λ a. a.exploration.fair ≡ fair) }
@@ -107,7 +111,7 @@ pub fn ask<O: Observer>(
     let seen = exploration.reached.split_off(asked)?;
     let unopened = unopened_in(alloc, exploration.complete, &objects, &seen)?;
     let answers = answers_on(alloc, words, waiters, &exploration.ends)?;
-    let told = tell(alloc, &exploration, &answers, &conditions)?;
+    let told = tell(alloc, show, &exploration, &answers, &conditions)?;
     let failure = failure_of(&exploration, &answers);
     Ok(Answers {
         exploration,

@@ -7,7 +7,7 @@ ghost use Rattle.lab_questions.specs.Texts.{word_text, schedule_at, first_lines,
 use crate::{Answer, Word};
 use lab_conditions::Never;
 use lab_explore::{End, Exploration};
-use lab_findings::{Told, push_extent, push_round, push_schedule, told_of};
+use lab_findings::{Show, Told, push_extent, push_round, push_schedule, told_of};
 use lab_sched::Schedule;
 use std::alloc::{AllocError, Global};
 use std::fmt::Write;
@@ -170,17 +170,18 @@ fn push_walks(text: &mut String, walks: u32) -> Result<(), AllocError>
 /// Tells an exploration and answers.
 pub(crate) fn tell(
     alloc: Global,
+    show: Show,
     found: &Exploration,
     answers: &[Answer],
     conditions: &[Never],
 ) -> Result<Told, AllocError>
     requires there { All (λ a. IfSome a.fault (λ i. i < length found.now.ends.items)) answers.now }
     ensures text { IfOk result (λ told.
-        string_bytes told.text ≡ answers_text conditions.now found.now answers.now) }
+        string_bytes told.text ≡ answers_text show conditions.now found.now answers.now) }
     ensures schedules { IfOk result (λ told. map string_bytes told.schedules.items
-        ≡ map (λ e. schedule_text e.schedule) (told_ends found.now.ends.items)) }
+        ≡ map (λ e. schedule_text e.schedule) (told_ends show found.now.ends.items)) }
 {
-    let mut told = told_of(alloc, &found.ends)?;
+    let mut told = told_of(alloc, show, &found.ends)?;
     push_answers(alloc, &mut told.text, &found.ends, answers)?;
     push_conditions(alloc, &mut told.text, conditions, &found.reached)?;
     push_round(alloc, &mut told.text, &found.round)?;
@@ -191,16 +192,17 @@ pub(crate) fn tell(
 /// Tells what walks found, and answers.
 pub(crate) fn tell_walks(
     alloc: Global,
+    show: Show,
     found: &Exploration,
     answers: &[Answer],
 ) -> Result<Told, AllocError>
     requires there { All (λ a. IfSome a.fault (λ i. i < length found.now.ends.items)) answers.now }
     ensures text { IfOk result (λ told.
-        string_bytes told.text ≡ walks_text found.now answers.now) }
+        string_bytes told.text ≡ walks_text show found.now answers.now) }
     ensures schedules { IfOk result (λ told. map string_bytes told.schedules.items
-        ≡ map (λ e. schedule_text e.schedule) (told_ends found.now.ends.items)) }
+        ≡ map (λ e. schedule_text e.schedule) (told_ends show found.now.ends.items)) }
 {
-    let mut told = told_of(alloc, &found.ends)?;
+    let mut told = told_of(alloc, show, &found.ends)?;
     push_answers(alloc, &mut told.text, &found.ends, answers)?;
     push_walks(&mut told.text, found.worlds)?;
     Ok(told)

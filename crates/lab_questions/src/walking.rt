@@ -12,6 +12,7 @@ use crate::failure::failure_of;
 use crate::texts::tell_walks;
 use crate::{Answers, Waiter, Word};
 use lab_explore::{ExploreFault, Limits, Observer, Walks, walk_randomly};
+use lab_findings::Show;
 use lab_sched::Fresh;
 use std::alloc::Global;
 
@@ -25,12 +26,13 @@ pub fn ask_walks<O: Observer>(
     walks: Walks,
     words: &[Word],
     waiters: &[Waiter],
+    show: Show,
     observer: &mut O,
 ) -> Result<Answers, ExploreFault>
     ensures text { IfOk result (λ a.
-        string_bytes a.text ≡ walks_text a.exploration a.answers.items) }
+        string_bytes a.text ≡ walks_text show a.exploration a.answers.items) }
     ensures schedules { IfOk result (λ a. map string_bytes a.schedules.items
-        ≡ map (λ e. schedule_text e.schedule) (told_ends a.exploration.ends.items)) }
+        ≡ map (λ e. schedule_text e.schedule) (told_ends show a.exploration.ends.items)) }
     ensures words { IfOk result (λ a. map (λ x. x.word) a.answers.items ≡ words.now) }
     ensures answers { IfOk result (λ a.
         All (IsAnswer waiters.now a.exploration.ends.items) a.answers.items) }
@@ -48,7 +50,7 @@ pub fn ask_walks<O: Observer>(
 {
     let exploration = walk_randomly(alloc, fresh, limits, walks, observer)?;
     let answers = answers_on(alloc, words, waiters, &exploration.ends)?;
-    let told = tell_walks(alloc, &exploration, &answers)?;
+    let told = tell_walks(alloc, show, &exploration, &answers)?;
     let failure = failure_of(&exploration, &answers);
     Ok(Answers {
         exploration,

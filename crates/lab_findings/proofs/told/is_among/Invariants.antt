@@ -2,6 +2,6 @@ use Rattle.std.proofs.Common.{◌≡◌, false, map, take, bytes_eq, string_byte
 use Rattle.std.specs.List.{list_any}
 use Rattle.lab_findings.proofs.told.is_among.Given as goal
 
--- the reports so far are others
+-- the texts so far are others
 abbrev pub invariant-loop-other : goal.invariant-loop-other
-invariant-loop-other l = list_any (λ other. bytes_eq other l.report) (take l.other-index (map string_bytes l.reports)) ≡ false
+invariant-loop-other l = list_any (λ other. bytes_eq other l.text) (take l.other-index (map string_bytes l.texts)) ≡ false

@@ -6,6 +6,7 @@ use Rattle.lab_questions.specs.Judgments.{IsAnswer}
 use Rattle.lab_questions.specs.Objects.{named}
 use Rattle.lab_questions.specs.Private.Presences.{AsksFor, IsUnseen}
 use Rattle.lab_questions.proofs.AnswerLemmas.{all_there, all_refuted, all_met}
+use Rattle.lab_questions.proofs.ToldLemmas.{tell_every_end}
 use Rattle.lab_questions.proofs.Watched.{enough, first_ones, last_ones, are_unopened}
 use Rattle.lab_questions.proofs.asking.ask.Goals as goal
 
@@ -83,3 +84,7 @@ returns-clause-met g c complete =
     let each = subst (λ es. All (IsAnswer c.args.waiters.now es) answers) c.deref-6.ensures.value c.in_ok-answers.ensures.each in
     all_met c.args.waiters.now c.args.fresh c.in_ok-exploration.exploration.ends.items answers c.in_ok-exploration.ensures.sound
     (c.in_ok-exploration.ensures.complete complete) each
+
+pub returns-clause-told : goal.returns-clause-told
+returns-clause-told g c complete =
+    tell_every_end c.args.show c.args.fresh c.in_ok-exploration.exploration.ends.items c.in_ok-exploration.ensures.sound (c.in_ok-exploration.ensures.complete complete)
