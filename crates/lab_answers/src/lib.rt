@@ -8,4 +8,4 @@ mod reasons;
 mod values;
 
 pub use object::answers_json;
-pub use reasons::Extent;
+pub use reasons::{Extent, Manner};

@@ -1,11 +1,10 @@
 //! The answers as one object.
 
 use crate::ends::push_ends;
-use crate::reasons::{Extent, push_limits};
+use crate::reasons::{Extent, Manner, push_limits};
 use crate::values::{push_comma, push_schedule, push_text};
 use lab_conditions::Never;
 use lab_explore::{End, Exploration, Round};
-use lab_findings::Show;
 use lab_questions::{Answer, Answers, Failure, Object, Word};
 use lab_sched::Schedule;
 use std::alloc::{AllocError, Global};
@@ -29,12 +28,12 @@ fn push_extent(
     alloc: Global,
     text: &mut String,
     found: &Exploration,
-    extent: Extent,
+    manner: Manner,
 ) -> Result<(), AllocError> {
     let search = extent_name(found.complete);
     write!(text, "\"search\":\"{search}\",\"limits\":[")?;
-    push_limits(alloc, text, found, extent)?;
-    let unit = unit_name(extent);
+    push_limits(alloc, text, found, manner)?;
+    let unit = unit_name(manner.extent);
     let count = found.worlds;
     write!(text, "],\"{unit}\":{count}")?;
     Ok(())
@@ -175,21 +174,18 @@ fn holds_name(judged: bool, failure: Option<Failure>) -> &'static str {
     }
 }
 
-/// The answers as one line, with what is told of each end, how far the exploration was to go, and whether
-/// something had to be so.
+/// The answers as one line, by what was asked and how it is told.
 pub fn answers_json(
     alloc: Global,
     answers: &Answers,
-    show: Show,
-    extent: Extent,
-    judged: bool,
+    manner: Manner,
 ) -> Result<String, AllocError> {
     let found = &answers.exploration;
     let mut text = String::new(alloc);
     text.push_str("{")?;
-    push_extent(alloc, &mut text, found, extent)?;
+    push_extent(alloc, &mut text, found, manner)?;
     text.push_str(",\"ends\":[")?;
-    push_ends(alloc, &mut text, show, &found.ends)?;
+    push_ends(alloc, &mut text, manner.show, &found.ends)?;
     text.push_str("],\"not\":[")?;
     push_faults(alloc, &mut text, &found.ends, &answers.answers)?;
     text.push_str("],\"reached\":[")?;
@@ -199,7 +195,7 @@ pub fn answers_json(
     let fair = found.fair;
     write!(text, "],\"fair\":{fair},\"endless\":")?;
     push_round(alloc, &mut text, &found.round)?;
-    let holds = holds_name(judged, answers.failure);
+    let holds = holds_name(manner.judged, answers.failure);
     write!(text, ",\"holds\":{holds}}}\n")?;
     Ok(text)
 }

@@ -1,6 +1,7 @@
 //! Why an exploration isn't complete.
 use crate::values::push_comma;
 use lab_explore::{Exploration, Limits};
+use lab_findings::Show;
 use std::alloc::{AllocError, Global};
 
 /// How far an exploration was to go.
@@ -12,37 +13,58 @@ pub enum Extent {
     Walks(u32),
 }
 
-/// The names of the limits that walks met: so many were to be taken.
+/// What was asked of an exploration, and how it is told.
+#[derive(Clone, Copy, Debug, PartialEq, Eq)]
+pub struct Manner {
+    /// What is told of each end.
+    pub show: Show,
+    pub extent: Extent,
+    /// Whether it went no further than its extent because something was found.
+    pub first: bool,
+    /// Whether something has to be so.
+    pub judged: bool,
+}
+
+/// The names of the limits that walks met: so many were to be taken, or, where something was found, no more.
 fn limits_of_walks(
     alloc: Global,
     found: &Exploration,
     count: u32,
+    first: bool,
 ) -> Result<Vec<&'static str>, AllocError> {
     let mut met = Vec::new(alloc);
     if found.refused {
         met.push("memory")?;
     } else if found.worlds < count {
         met.push("limit")?;
+    } else if first {
+        met.push("first")?;
     }
     met.push("random")?;
     Ok(met)
 }
 
-/// The names of the limits that a search met, if it didn't visit everything.
+/// The names of the limits that a search met, if it didn't visit everything: where something was found it was to visit no more
+/// worlds than so many.
 fn limits_of_worlds(
     alloc: Global,
     found: &Exploration,
     limits: Limits,
+    first: bool,
 ) -> Result<Vec<&'static str>, AllocError> {
     let mut met = Vec::new(alloc);
     if found.complete {
         return Ok(met);
     }
-    if found.worlds >= limits.worlds {
+    let is_full = found.worlds >= limits.worlds;
+    if is_full && !first {
         met.push("worlds")?;
     }
     if found.refused {
         met.push("memory")?;
+    }
+    if is_full && first {
+        met.push("first")?;
     }
     if met.is_empty() {
         met.push("limit")?;
@@ -55,10 +77,11 @@ fn limits_met(
     alloc: Global,
     found: &Exploration,
     extent: Extent,
+    first: bool,
 ) -> Result<Vec<&'static str>, AllocError> {
     match extent {
-        Extent::Worlds(limits) => limits_of_worlds(alloc, found, limits),
-        Extent::Walks(count) => limits_of_walks(alloc, found, count),
+        Extent::Worlds(limits) => limits_of_worlds(alloc, found, limits, first),
+        Extent::Walks(count) => limits_of_walks(alloc, found, count, first),
     }
 }
 
@@ -67,9 +90,9 @@ pub(crate) fn push_limits(
     alloc: Global,
     text: &mut String,
     found: &Exploration,
-    extent: Extent,
+    manner: Manner,
 ) -> Result<(), AllocError> {
-    let names = limits_met(alloc, found, extent)?;
+    let names = limits_met(alloc, found, manner.extent, manner.first)?;
     for (at, name) in names.iter().enumerate() {
         push_comma(text, at)?;
         text.push_str("\"")?;

@@ -47,6 +47,7 @@ fn with_questions<'a>(alloc: Global, command: Command<'a>) -> Result<Command<'a>
         "What is told of each end: out, what the processes have written, in place of the report; \
         left, the messages that are left, too; or both, with a comma between them";
     let fair = "Tells only rounds in which each process that can go on takes a step";
+    let first = "Ends the search where something is found that is not as it has to be";
     let schedule =
         "Prints the schedule of end K alone, or of the first thing that is not as it has to be";
     let page = "Also writes FILE, a page that shows the ends and the run of each in a browser";
@@ -56,6 +57,7 @@ fn with_questions<'a>(alloc: Global, command: Command<'a>) -> Result<Command<'a>
         .arg(values(alloc, "never", "CONDITION", never))?
         .arg(flag(alloc, "fair", fair))?
         .arg(value(alloc, "show", "WORDS", show))?
+        .arg(flag(alloc, "first", first))?
         .arg(value(alloc, "schedule", "K|bad", schedule))?
         .arg(flag(alloc, "json", "Prints the answers as JSON"))?
         .arg(value(alloc, "page", "FILE", page))
@@ -147,6 +149,7 @@ fn question_of<'a>(alloc: Global, words: &ArgMatches<'a>) -> Result<Question<'a>
         never: values_of(alloc, words, "never")?,
         fair: words.get_flag("fair"),
         show,
+        first: words.get_flag("first"),
         random,
         schedule,
         json: words.get_flag("json"),
@@ -183,6 +186,9 @@ fn misuse_of(question: &Question<'_>) -> Option<Misuse<'static>> {
     }
     if matches!(question.schedule, Some(Choice::Bad)) && !question.judges() {
         return Some(Misuse::NothingJudged);
+    }
+    if question.first && !question.judges() {
+        return Some(Misuse::NothingEnds);
     }
     if !question.never.is_empty() && question.random.is_some() {
         return Some(Misuse::NeverAndRandom);

@@ -17,6 +17,8 @@ pub(crate) enum Misuse<'a> {
     NobodyWaits,
     /// What isn't as it has to be is asked for, but nothing has to be so.
     NothingJudged,
+    /// The first thing that isn't as it has to be ends the search, but nothing has to be so.
+    NothingEnds,
     /// A seed of random numbers by which nothing is taken.
     NothingSeeded,
     /// Conditions of the worlds on the way, and walks, of which ends alone are judged.
@@ -58,6 +60,7 @@ impl fmt::Display for Misuse<'_> {
                 write!(f, "--may-wait needs --require ended or --require halted")
             }
             Misuse::NothingJudged => write!(f, "--schedule bad needs --require or --never"),
+            Misuse::NothingEnds => write!(f, "--first needs --require or --never"),
             Misuse::NothingSeeded => write!(f, "--seed needs --random"),
             Misuse::NeverAndRandom => write!(f, "--never and --random exclude each other"),
             Misuse::FairAndRandom => write!(f, "--fair and --random exclude each other"),

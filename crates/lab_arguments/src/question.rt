@@ -21,6 +21,8 @@ pub struct Question<'a> {
     pub fair: bool,
     /// What is told of each end.
     pub show: Show,
+    /// Whether the search ends where something is found that isn't as it has to be.
+    pub first: bool,
     /// The walks that are taken in place of every interleaving.
     pub random: Option<Walks>,
     /// Which schedule is printed alone.
@@ -60,6 +62,7 @@ impl Question<'_> {
             || !self.never.is_empty()
             || self.fair
             || self.show.is_chosen()
+            || self.first
             || self.random.is_some()
             || self.json
             || matches!(self.schedule, Some(Choice::Bad))

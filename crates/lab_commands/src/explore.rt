@@ -6,13 +6,15 @@ use crate::files::write_text;
 use crate::inquiry::{Asked, Inquiry, asked_of, inquiry_of};
 use crate::programs::{Programs, laboratory, read_programs};
 use crate::progress::{Progress, WalkCount, WorldCount};
+use crate::stages::{has_more, stages_of};
 use crate::telling::tell_answers;
 use lab_arguments::{Choice, Question, Setup};
 use lab_explore::{Exploration, ExploreFault, Walks};
 use lab_findings::{Findings, Shortfall, find};
 use lab_io::Output;
 use lab_questions::{Answers, Waiter, Word, ask, ask_walks};
-use lab_sched::Fresh;
+use lab_sched::{Fresh, Program};
+use lc3_table::Profile;
 use std::alloc::Global;
 use std::io::Write;
 use std::rt::Files;
@@ -58,23 +60,54 @@ pub fn explore_programs<'a, T: Files, W: Write, P: Progress>(
     requires output_healthy { output.old.failed ≡ false }
 {
     let words = setup.programs.as_slice();
-    let inquiry = inquiry_of(question);
-    let asked = asked_of(alloc, question, words.len())?;
+    asked_of(alloc, question, words.len())?;
     let Programs { programs, .. } = read_programs(rt, alloc, words, progress)?;
-    let fresh = laboratory(alloc, programs.as_slice(), setup.profile)?;
-    let found = find_ends(alloc, fresh, &inquiry, asked, progress)?;
+    let (found, inquiry) = find_ends(
+        alloc,
+        programs.as_slice(),
+        setup.profile,
+        question,
+        progress,
+    )?;
     tell_ends(alloc, &found, &inquiry, output, progress)
 }
 
-/// Visits every interleaving of the programs of a laboratory, as far as the limits allow, or takes walks, if these are
-/// asked for, and judges what is asked.
-pub fn find_ends<P: Progress>(
+/// Visits every interleaving of programs, as far as the limits allow, or takes walks, if these are asked for, and judges what
+/// is asked. Where the search is to end with what is found, it begins with fewer worlds, or walks, and goes further as long as
+/// nothing is found. Told with it is how far it was to go.
+pub fn find_ends<'a, P: Progress>(
     alloc: Global,
-    fresh: Fresh,
-    inquiry: &Inquiry,
-    asked: Asked,
+    programs: &[Program],
+    profile: Profile,
+    question: &Question<'a>,
     progress: &P,
-) -> Result<Found, Complaint<'static>> {
+) -> Result<(Found, Inquiry), Complaint<'a>> {
+    let inquiry = inquiry_of(question);
+    if !question.first {
+        let found = search(alloc, programs, profile, question, &inquiry, progress)?;
+        return Ok((found, inquiry));
+    }
+    for stage in &stages_of(alloc, &inquiry).at("run")? {
+        let found = search(alloc, programs, profile, question, stage, progress)?;
+        if !has_more(&found, stage) {
+            return Ok((found, *stage));
+        }
+    }
+    let found = search(alloc, programs, profile, question, &inquiry, progress)?;
+    Ok((found, inquiry))
+}
+
+/// Visits every interleaving of programs, as far as an inquiry goes, or takes its walks, and judges what a question asks.
+fn search<'a, P: Progress>(
+    alloc: Global,
+    programs: &[Program],
+    profile: Profile,
+    question: &Question<'a>,
+    inquiry: &Inquiry,
+    progress: &P,
+) -> Result<Found, Complaint<'a>> {
+    let asked = asked_of(alloc, question, programs.len())?;
+    let fresh = laboratory(alloc, programs, profile)?;
     let outcome = match inquiry.walks {
         Some(walks) => take_walks(alloc, fresh, inquiry, &asked, walks, progress),
         None => visit_all(alloc, fresh, inquiry, asked, progress),

@@ -26,6 +26,8 @@ pub struct Inquiry {
     pub choice: Option<Choice>,
     /// Whether the answers are printed as JSON.
     pub json: bool,
+    /// Whether it goes further where nothing is found that isn't as it has to be.
+    pub is_stage: bool,
 }
 
 /// What the answers are about.
@@ -63,6 +65,7 @@ pub fn inquiry_of(question: &Question<'_>) -> Inquiry {
         judges: question.judges(),
         choice: question.schedule,
         json: question.json,
+        is_stage: false,
     }
 }
 

@@ -12,6 +12,7 @@ mod inquiry;
 mod programs;
 mod progress;
 mod run;
+mod stages;
 mod step;
 mod telling;
 

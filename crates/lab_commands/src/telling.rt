@@ -4,7 +4,7 @@ use crate::explore::write_schedule;
 use crate::files::write_text;
 use crate::inquiry::Inquiry;
 use crate::progress::Progress;
-use lab_answers::{Extent, answers_json};
+use lab_answers::{Extent, Manner, answers_json};
 use lab_arguments::Choice;
 use lab_conditions::Never;
 use lab_io::Output;
@@ -69,15 +69,18 @@ fn write_answers<W: Write>(
     if !inquiry.json {
         return write_text(&found.text, output);
     }
-    let json = answers_json(
-        alloc,
-        found,
-        inquiry.show,
-        extent_of(inquiry),
-        inquiry.judges,
-    )
-    .at("run")?;
+    let json = answers_json(alloc, found, manner_of(inquiry)).at("run")?;
     write_text(&json, output)
+}
+
+/// What was asked, and how it is told.
+fn manner_of(inquiry: &Inquiry) -> Manner {
+    Manner {
+        show: inquiry.show,
+        extent: extent_of(inquiry),
+        first: inquiry.is_stage,
+        judged: inquiry.judges,
+    }
 }
 
 /// How far an exploration was to go.
