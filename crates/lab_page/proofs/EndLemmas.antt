@@ -26,25 +26,20 @@ pub end-long : (calls : ℕ) (r : Data) → length (compact_text r) ≤ length (
 unfolding end_json
 end-long calls r =
     subst (λ (l : List ℕ). length (compact_text r) ≤ length l) (end-json calls r)
-    (let inner = within (codes ",") (compact_text r) (codes "]") in
-    omega (
+    (omega (
       arith,
-      length-append (codes "[") (decimal calls ++ (codes "," ++ (compact_text r ++ codes "]"))),
-      length-append (decimal calls) (codes "," ++ (compact_text r ++ codes "]")),
-      inner,
+      length-append (decimal calls ++ codes "," ++ compact_text r) (codes "]"),
+      length-append (decimal calls ++ codes ",") (compact_text r),
     ))
 
 pub page-long : (p r : Data) → length (compact_text r) ≤ length (compact_text (page_data p r))
 unfolding page_json
 page-long p r =
     subst (λ (l : List ℕ). length (compact_text r) ≤ length l) (page-json p r)
-    (let start : List ℕ = codes "{\"format\":\"lc3lab-page-2\",\"processes\":" in
-    let inner = within (codes ",\"run\":") (compact_text r) (codes "}") in
-    omega (
+    (omega (
       arith,
-      length-append start (compact_text p ++ (codes ",\"run\":" ++ (compact_text r ++ codes "}"))),
-      length-append (compact_text p) (codes ",\"run\":" ++ (compact_text r ++ codes "}")),
-      inner,
+      length-append (compact_text p ++ codes ",\"run\":" ++ compact_text r) (codes "}"),
+      length-append (compact_text p ++ codes ",\"run\":") (compact_text r),
     ))
 
 -- so what explains that there is no JSON of a run explains that there is no page

@@ -8,8 +8,8 @@ use Rattle.lab_sched.proofs.ScheduleRuns.{steps-split}
 use Rattle.lab_trace.specs.Scenes.{Scene, next, scene_after}
 use Rattle.lab_trace.specs.Forms.{Form}
 use Rattle.lab_page.specs.Moments.{moment, moments}
-use Rattle.lab_page.specs.Values.{more_json}
-use Rattle.lab_page.specs.Private.Faults.{IsFault}
+use Rattle.lab_page.specs.Private.Json.{more_json}
+use Rattle.lab_page.specs.Faults.{IsFault}
 use Rattle.lab_page.specs.declared.fault.PageFault.{PageFault}
 use Rattle.lab_page.specs.declared.fault.PageFault.TheVariants.{NoProcess, TooLarge, NoMemory}
 use Rattle.lab_page.proofs.JsonLemmas.{more-append}

@@ -5,7 +5,7 @@ use Rattle.serde_json.specs.Data.{Data, boolean, member, no_members}
 use Rattle.serde_json.specs.View.{items_of}
 use Rattle.serde_json.specs.Written.{compact_text, items_text, members_text}
 use Rattle.serde_json.proofs.OnLiterals.{serde_json_on_literals}
-use Rattle.lab_page.specs.Values.{more_json}
+use Rattle.lab_page.specs.Private.Json.{more_json}
 use Rattle.lab_page.specs.Ends.{end_data}
 use Rattle.lab_page.specs.Runs.{run_with, page_data}
 use Rattle.lab_page.specs.Private.Json.{run_end, end_json, page_json}

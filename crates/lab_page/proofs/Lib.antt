@@ -8,6 +8,9 @@ pub mod MomentLemmas
 pub mod FaultLemmas
 pub mod RunLemmas
 pub mod SourceLemmas
+pub mod GetLemmas
 pub mod EndLemmas
 pub mod SafeLemmas
 pub mod WorldLemmas
+pub mod EndsMadeLemmas
+pub mod PageLemmas

@@ -13,7 +13,7 @@ use Rattle.lab_trace.specs.Forms.{Form, form_for}
 use Rattle.lab_trace.specs.declared.told.Told.{Told}
 use Rattle.lab_trace.specs.declared.told.Told.TheVariants.{Nothing}
 use Rattle.lab_trace.proofs.SceneLemmas.{Stands, renumbered, next-still, told-still, told-some, events-append, events-more}
-use Rattle.lab_page.specs.Values.{more_json}
+use Rattle.lab_page.specs.Private.Json.{more_json}
 use Rattle.lab_page.specs.Moments.{moment_by, moment, moments, moments_of}
 use Rattle.lab_page.proofs.JsonLemmas.{more-append}
 

@@ -12,12 +12,12 @@ use Rattle.lab_trace.specs.Tallies.{TallyState, new_tally}
 use Rattle.lab_trace.specs.Traces.{ending, trace_text}
 use Rattle.lab_trace.proofs.WrittenLemmas.{trace-whole}
 use Rattle.lab_trace.specs.Forms.{Form, form_for}
-use Rattle.lab_page.specs.Values.{more_json}
+use Rattle.lab_page.specs.Private.Json.{more_json}
 use Rattle.lab_page.specs.States.{states}
 use Rattle.lab_page.specs.Moments.{moments, moments_of}
 use Rattle.lab_page.specs.Runs.{block_data, schedule_data, output_of, outputs, outcome_at, outcome_of, is_whole, run_data}
 use Rattle.lab_page.specs.Faults.{Explains}
-use Rattle.lab_page.specs.Private.Faults.{IsFault}
+use Rattle.lab_page.specs.Faults.{IsFault}
 use Rattle.lab_page.specs.Private.Json.{run_end}
 use Rattle.lab_page.specs.declared.fault.PageFault.{PageFault}
 use Rattle.lab_page.specs.declared.fault.PageFault.TheVariants.{NoProcess, TooLarge, NoMemory}

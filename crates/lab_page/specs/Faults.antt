@@ -14,3 +14,9 @@ abbrev pub Explains : PageFault → WorldState → List Block → List ℕ → T
 Explains (NoProcess done) w s json = missing_after w (steps_of s) ≡ Some done
 Explains TooLarge w s json = most_bytes < length json
 Explains NoMemory w s json = ⊤
+
+-- why there is no page with this JSON: it has too many bytes, or memory was refused
+abbrev pub IsFault : PageFault → List ℕ → Type 0
+IsFault (NoProcess done) json = ⊥
+IsFault TooLarge json = most_bytes < length json
+IsFault NoMemory json = ⊤

@@ -1,8 +1,7 @@
 -- What the data of a page are made of.
-use Rattle.std.specs.Prelude.{ℕ, zero, suc, Option, Some, None, List, [], ◌∷◌, ◌++◌, map, flat_map}
+use Rattle.std.specs.Prelude.{ℕ, zero, suc, Option, Some, None, List, [], ◌++◌, map}
 use Rattle.serde_json.specs.Data.{Data, null, number, unsigned, array}
 use Rattle.serde_json.specs.View.{items_of}
-use Rattle.serde_json.specs.Written.{compact_text}
 
 -- a list of values
 abbrev pub list : List Data → Data
@@ -25,7 +24,3 @@ or_null (Some d) = d
 unfoldable pub all_below : ℕ → (ℕ → List Data) → List Data
 all_below zero f = []
 all_below (suc n) f = all_below n f ++ f n
-
--- values behind others in a list, as JSON: each with a comma before it
-abbrev pub more_json : List Data → List ℕ
-more_json ds = flat_map (λ d. 44 ∷ compact_text d) ds

@@ -8,11 +8,11 @@ ghost use Rattle.lab_sched.specs.Worlds.{step};
 ghost use Rattle.lab_trace.specs.Scenes.{scene_at, scene_after, told, line, events, next_tally, IsKept};
 ghost use Rattle.lab_trace.specs.Traces.{AreThere};
 ghost use Rattle.lab_trace.specs.declared.told.Told.TheVariants.{Nothing};
-ghost use Rattle.lab_page.specs.Private.Faults.{IsFault};
+ghost use Rattle.lab_page.specs.Faults.{IsFault};
 ghost use Rattle.lab_page.specs.Limits.{most_bytes};
 ghost use Rattle.lab_page.specs.Moments.{moment, moments};
 ghost use Rattle.lab_page.specs.States.{states};
-ghost use Rattle.lab_page.specs.Values.{more_json};
+ghost use Rattle.lab_page.specs.Private.Json.{more_json};
 
 use crate::MOST_BYTES;
 use crate::fault::PageFault;

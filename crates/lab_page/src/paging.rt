@@ -10,7 +10,7 @@ ghost use Rattle.lab_page.specs.Pages.{page_text, safe, HasNoTag};
 ghost use Rattle.lab_page.specs.Ends.{endless_shown, ends_json};
 ghost use Rattle.lab_page.specs.Faults.{Explains};
 ghost use Rattle.lab_page.specs.Limits.{most_bytes};
-ghost use Rattle.lab_page.specs.Private.Faults.{IsFault};
+ghost use Rattle.lab_page.specs.Faults.{IsFault};
 ghost use Rattle.lab_page.specs.Private.Json.{page_json};
 ghost use Rattle.lab_page.specs.Runs.{run_json};
 ghost use Rattle.lab_page.specs.declared.fault.PageFault.TheVariants.{NoProcess};

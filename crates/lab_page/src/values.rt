@@ -3,7 +3,8 @@ ghost use Rattle.std.specs.Prelude.{◌≡◌, ◌++◌, ◌∷◌, [], false, I
 ghost use Rattle.std.specs.Option.{option_map};
 ghost use Rattle.serde_json.specs.View.{view};
 ghost use Rattle.serde_json.specs.Written.{compact_text, has_float};
-ghost use Rattle.lab_page.specs.Values.{naturals, more_json};
+ghost use Rattle.lab_page.specs.Values.{naturals};
+ghost use Rattle.lab_page.specs.Private.Json.{more_json};
 
 use serde_json::Value;
 use std::alloc::{AllocError, Global};

@@ -1,5 +1,5 @@
 -- The JSON of a run, by its parts.
-use Rattle.std.specs.Prelude.{ℕ, Bool, List, ◌++◌, codes, decimal}
+use Rattle.std.specs.Prelude.{ℕ, Bool, List, ◌∷◌, ◌++◌, codes, decimal, flat_map}
 use Rattle.serde_json.specs.Data.{Data, boolean}
 use Rattle.serde_json.specs.Written.{compact_text}
 
@@ -22,3 +22,7 @@ end_json calls run = codes "[" ++ decimal calls ++ codes "," ++ run ++ codes "]"
 unfoldable pub page_json : Data → List ℕ → List ℕ
 page_json processes run =
     codes "{\"format\":\"lc3lab-page-2\",\"processes\":" ++ compact_text processes ++ codes ",\"run\":" ++ run ++ codes "}"
+
+-- values behind others in a list, as JSON: each with a comma before it
+abbrev pub more_json : List Data → List ℕ
+more_json ds = flat_map (λ d. 44 ∷ compact_text d) ds

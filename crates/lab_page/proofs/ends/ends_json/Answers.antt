@@ -1,9 +1,25 @@
-use Rattle.std.proofs.Common.{◌≡◌, refl}
+use Rattle.std.proofs.Common.{◌≡◌, ℕ, List, ◌++◌, refl, ap, ◌∙◌}
+use Rattle.std.specs.Option.{option_map}
+use Rattle.serde_json.specs.View.{view}
+use Rattle.lab_page.specs.Ends.{EndList, endless_shown}
 use Rattle.lab_page.proofs.EndLemmas.{endless-plain}
+use Rattle.lab_page.proofs.EndsMadeLemmas.{ends-written}
 use Rattle.lab_page.proofs.ends.ends_json.Goals as goal
 
 pub push_behind-requires : goal.push_behind-requires
-push_behind-requires c = record { plain = rw c.in_ok-endless.ensures.value (endless-plain _) }
+push_behind-requires c = record { plain = rw c.in_ok-endless.ensures.value (endless-plain c.args.endless.now) }
 
 pub push_behind-requires-2 : goal.push_behind-requires-2
 push_behind-requires-2 c = record { plain = rw c.in_ok-extent.ensures.value refl }
+
+pub returns : goal.returns
+returns c = record {
+  json = ends-written (view c.args.processes.now) (view c.in_ok-endless.endless) (view c.in_ok-extent.extent) c.args.list.now
+      (option_map endless_shown c.args.endless.now) c.args.extent c.args.worlds.now _ _ _ _ _ _ _ _ _
+      c.in_ok-endless.ensures.value c.in_ok-extent.ensures.value c.new-json.ensures.items c.in_ok-push_behind.ensures.added
+      c.in_ok-extend_from_slice.ensures.items
+      (c.in_ok-extend_from_slice-2.ensures.items
+      ∙ ap (λ (t : List ℕ). c.extend_from_slice.new.self.items ++ t) (c.deref.ensures.value ∙ ap (λ (l : EndList). l.json) c.list.view_is))
+      c.in_ok-push_behind-2.ensures.added c.in_ok-push_behind-3.ensures.added c.in_ok-extend_from_slice-3.ensures.items
+      c.in_ok-push_worlds.ensures.added c.in_ok-extend_from_slice-4.ensures.items;
+}

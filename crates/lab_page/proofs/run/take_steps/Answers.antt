@@ -52,7 +52,7 @@ returns-clause-trace c =
     let led = rw c.blocks-2.ensures.value at c.in_ok-add_blocks.ensures.scene in
     let added = rw c.blocks-2.ensures.value at c.in_ok-add_blocks.ensures.lines in
     trace-made w c.add_blocks.new.world ss ps v t c.add_blocks.new.tally led.0 _ _ _ _ _ wide first led.1 (ap (λ m. m.lines) c.in_ok-moments.ensures.first) added
-    (ap (λ m. m.lines) c.into_parts-json.ensures.parts) c.in_ok-ending.ensures.text c.in_ok-extend_from_slice.ensures.ok
+    (ap (λ m. m.lines) c.into_parts-json.ensures.parts) (c.as_bytes.ensures.value ∙ c.in_ok-ending.ensures.text) c.in_ok-extend_from_slice.ensures.items
 
 pub returns-in_err-add_blocks-clause-fault : goal.returns-in_err-add_blocks-clause-fault
 returns-in_err-add_blocks-clause-fault c =

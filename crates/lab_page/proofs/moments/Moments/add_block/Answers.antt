@@ -5,7 +5,7 @@ use Rattle.lab_trace.specs.Scenes.{scene_at, IsKept}
 use Rattle.lab_trace.proofs.SceneLemmas.{scene-none, events-none, stands, kept-after, length-step}
 use Rattle.lab_trace.proofs.WrittenLemmas.{scene-told}
 use Rattle.serde_json.specs.Data.{Data}
-use Rattle.lab_page.specs.Values.{more_json}
+use Rattle.lab_page.specs.Private.Json.{more_json}
 use Rattle.lab_page.proofs.MomentLemmas.{moments-none, moments-told, json-more, lines-more}
 use Rattle.lab_page.proofs.FaultLemmas.{fault-step}
 use Rattle.lab_page.proofs.moments.Moments.add_block.Goals as goal

@@ -1,0 +1,27 @@
+-- The JSON of a page by the parts that the code makes.
+use Rattle.std.proofs.Common.{◌≡◌, ℕ, Option, List, length, ap, ◌∙◌}
+use Rattle.serde_json.specs.Data.{Data}
+use Rattle.serde_json.specs.Written.{compact_text}
+use Rattle.lab_sched.specs.Worlds.{WorldState}
+use Rattle.lab_sched.specs.declared.schedule.block.Block.{Block}
+use Rattle.lab_page.specs.Faults.{Explains}
+use Rattle.lab_page.specs.Faults.{IsFault}
+use Rattle.lab_page.specs.Runs.{run_data, run_json, page_data}
+use Rattle.lab_page.specs.declared.fault.PageFault.{PageFault}
+use Rattle.lab_page.specs.declared.fault.PageFault.TheVariants.{NoProcess, TooLarge, NoMemory}
+use Rattle.lab_page.specs.Sources.{Source, programs}
+use Rattle.lab_page.specs.Private.Json.{page_json}
+use Rattle.lab_page.proofs.JsonLemmas.{page-json}
+
+pub page-made : (w : WorldState) (s : List Block) (names : List (List ℕ)) (sources : List (Option Source)) (n : ℕ) (p : Data) (r all : List ℕ)
+    → n ≡ length w.processes → p ≡ programs n names sources → r ≡ compact_text (run_data w s) → all ≡ page_json p r
+    → all ≡ run_json w s names sources
+page-made w s names sources n p r all count named run made =
+    made ∙ ap (page_json p) run ∙ page-json p (run_data w s)
+    ∙ ap (λ (d : Data). compact_text (page_data d (run_data w s))) (named ∙ ap (λ (k : ℕ). programs k names sources) count)
+
+-- why there is no page of this JSON is why there is none of the run
+pub fault-explains : (e : PageFault) (w : WorldState) (s : List Block) (json : List ℕ) → IsFault e json → Explains e w s json
+fault-explains (NoProcess done) w s json h = absurd h
+fault-explains TooLarge w s json h = h
+fault-explains NoMemory w s json h = tt
