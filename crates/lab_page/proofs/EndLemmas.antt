@@ -1,5 +1,5 @@
 -- Parts of JSON, and the whole.
-use Rattle.std.proofs.Common.{◌≡◌, ℕ, ◌+◌, ◌≤◌, ◌<◌, ◌||◌, false, Option, Some, None, List, ◌++◌, codes, length, decimal, refl, sym, ap, subst, ◌∙◌, arith, length-append}
+use Rattle.std.proofs.Common.{ℕ, ◌≤◌, ◌||◌, false, Option, Some, None, List, ◌++◌, codes, length, decimal, refl, subst, arith, length-append}
 use Rattle.serde_json.specs.Data.{Data}
 use Rattle.std.specs.Option.{option_map}
 use Rattle.serde_json.specs.Written.{compact_text, has_float}

@@ -1,5 +1,5 @@
 -- Moments and what was done have no floats.
-use Rattle.std.proofs.Common.{◌≡◌, ℕ, ◌||◌, Bool, true, false, if◌then◌else◌, Option, Some, None, List, [], ◌∷◌, refl}
+use Rattle.std.proofs.Common.{ℕ, ◌||◌, Bool, true, false, if◌then◌else◌, Option, Some, None, List, [], ◌∷◌, refl}
 use Rattle.std.specs.Option.{option_map}
 use Rattle.serde_json.specs.Data.{Data, null}
 use Rattle.serde_json.specs.View.{items_of}
@@ -18,7 +18,7 @@ use Rattle.lab_trace.specs.declared.told.Told.{Told}
 use Rattle.lab_trace.specs.declared.told.Told.TheVariants.{Nothing, Counted, Shown}
 use Rattle.lab_page.specs.Values.{natural, naturals, or_null}
 use Rattle.lab_page.specs.States.{state_in}
-use Rattle.lab_page.specs.Objects.{object_at, objects, open_data}
+use Rattle.lab_page.specs.Objects.{objects, open_data}
 use Rattle.lab_page.specs.Events.{outcome_data, words_of, called_data, act_data, tells_all, place_changed, object_in, objects_told, open_told, event_data}
 use Rattle.lab_page.specs.Moments.{counted_moment, shown_moment, moment_by}
 use Rattle.lab_page.proofs.PlainLemmas.{IsPlain, ArePlain, both, plain-one, plain-naturals, plain-if}

@@ -1,11 +1,10 @@
 -- The JSON of a whole run.
-use Rattle.std.proofs.Common.{◌≡◌, ℕ, ◌||◌, Bool, false, Option, Some, None, List, [], ◌∷◌, ◌++◌, codes, length, slice_get, refl, sym, ap, subst, ◌∙◌}
+use Rattle.std.proofs.Common.{◌≡◌, ℕ, Bool, false, Option, Some, None, List, [], ◌∷◌, ◌++◌, codes, length, slice_get, refl, sym, ap, subst, ◌∙◌}
 use Rattle.serde_json.specs.Data.{Data}
 use Rattle.serde_json.specs.Written.{compact_text, has_float}
 use Rattle.lab_sched.specs.Schedules.{steps_of}
 use Rattle.lab_sched.specs.Worlds.{Process, WorldState, machine_of}
 use Rattle.lab_sched.specs.declared.schedule.block.Block.{Block}
-use Rattle.lab_sched.specs.declared.verdict.Verdict.{Verdict}
 use Rattle.lab_sources.specs.declared.source.Source.{Source}
 use Rattle.lab_trace.specs.Scenes.{Scene, scene_at, first_scene, events, scene_after}
 use Rattle.lab_trace.specs.Tallies.{TallyState, new_tally}

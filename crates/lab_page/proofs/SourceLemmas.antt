@@ -1,5 +1,5 @@
 -- Programs have no floats, and sources where they are kept.
-use Rattle.std.proofs.Common.{◌≡◌, ℕ, zero, suc, ◌||◌, false, Option, Some, None, List, [], ◌∷◌, map, slice_get, refl}
+use Rattle.std.proofs.Common.{ℕ, ◌||◌, false, Option, Some, None, List, [], ◌∷◌, map, slice_get, refl}
 use Rattle.std.specs.Option.{option_map, option_and_then}
 use Rattle.serde_json.specs.Data.{string}
 use Rattle.serde_json.specs.View.{items_of}

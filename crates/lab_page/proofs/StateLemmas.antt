@@ -1,5 +1,5 @@
 -- The states of processes have no floats.
-use Rattle.std.proofs.Common.{◌≡◌, ℕ, ◌+◌, ◌-◌, ◌||◌, false, Option, Some, None, [], ◌∷◌, length, slice_get, refl}
+use Rattle.std.proofs.Common.{ℕ, ◌+◌, ◌-◌, ◌||◌, false, Option, Some, None, [], ◌∷◌, length, slice_get, refl}
 use Rattle.std.specs.Prelude.{slice_index}
 use Rattle.serde_json.specs.View.{items_of}
 use Rattle.serde_json.specs.Written.{items_have_float}

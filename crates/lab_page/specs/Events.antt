@@ -9,7 +9,6 @@ use Rattle.lab_trace.specs.Forms.{Form}
 use Rattle.lab_trace.specs.Lines.{columns, act_text}
 use Rattle.lab_trace.specs.Services.{service_name, is_on_level}
 use Rattle.lab_trace.specs.Tallies.{TallyState}
-use Rattle.lab_trace.specs.declared.answers.Given.{Given}
 use Rattle.lab_trace.specs.declared.answers.Given.TheVariants.{Received}
 use Rattle.lab_trace.specs.declared.answers.Outcome.{Outcome}
 use Rattle.lab_trace.specs.declared.answers.Outcome.TheVariants.{Waits, Refused, Gives}

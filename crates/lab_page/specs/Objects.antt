@@ -1,13 +1,12 @@
 -- Message queues, semaphores, and what a process has open of them.
-use Rattle.std.specs.Prelude.{ℕ, ◌==◌, Option, Some, None, List, [], ◌∷◌, ◌++◌, length, codes, filter, slice_get, if◌then◌else◌}
+use Rattle.std.specs.Prelude.{ℕ, ◌==◌, Option, List, [], ◌∷◌, ◌++◌, length, codes, filter, slice_get, if◌then◌else◌}
 use Rattle.std.specs.Option.{option_map, option_to_list}
-use Rattle.serde_json.specs.Data.{Data, null, string, boolean}
+use Rattle.serde_json.specs.Data.{Data, string, boolean}
 use Rattle.ipc_objects.specs.Queue.{QueueState}
 use Rattle.ipc_objects.specs.declared.queue.Message.{Message}
 use Rattle.ipc_kernel.specs.Limits.{object_places, open_max}
 use Rattle.ipc_kernel.specs.Places.{place_at, queue_and_name, value_and_name}
 use Rattle.ipc_kernel.specs.Processes.{descriptor_of, slot_of}
-use Rattle.ipc_kernel.specs.declared.place.Place.{Place}
 use Rattle.ipc_kernel.specs.declared.process.Descriptor.{Descriptor}
 use Rattle.ipc_kernel.specs.declared.process.Slot.{Slot}
 use Rattle.lab_sched.specs.Worlds.{WorldState}

@@ -1,6 +1,5 @@
 -- What a page holds of a run by a schedule.
 use Rattle.std.specs.Prelude.{ℕ, nat_le, Bool, Option, Some, None, List, [], ◌∷◌, map, length, codes, slice_get}
-use Rattle.std.specs.Option.{option_map}
 use Rattle.serde_json.specs.Data.{Data, null, string, boolean, object, member, no_members}
 use Rattle.serde_json.specs.Written.{compact_text}
 use Rattle.lab_sched.specs.Schedules.{steps_of}
@@ -17,7 +16,7 @@ use Rattle.lab_page.specs.Limits.{most_whole}
 use Rattle.lab_page.specs.Moments.{moments_of}
 use Rattle.lab_page.specs.Sources.{Source, programs}
 use Rattle.lab_page.specs.States.{states}
-use Rattle.lab_page.specs.Values.{list, natural, naturals, or_null, all_below}
+use Rattle.lab_page.specs.Values.{list, natural, naturals, all_below}
 
 -- so many steps of a process in a row
 abbrev pub block_data : Block → Data

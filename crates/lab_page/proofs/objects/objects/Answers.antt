@@ -1,4 +1,4 @@
-use Rattle.std.proofs.Common.{◌≡◌, []}
+use Rattle.std.proofs.Common.{[]}
 use Rattle.lab_page.specs.Objects.{object_at}
 use Rattle.lab_page.proofs.ValueLemmas.{values-added}
 use Rattle.lab_page.proofs.objects.objects.Goals as goal

@@ -1,6 +1,4 @@
-use Rattle.std.proofs.Common.{◌≡◌, ℕ, List, []}
-use Rattle.serde_json.specs.Data.{Data}
-use Rattle.serde_json.specs.View.{view}
+use Rattle.std.proofs.Common.{ℕ, []}
 use Rattle.lab_trace.specs.Units.{units_of, balance}
 use Rattle.lab_page.specs.Objects.{taker}
 use Rattle.lab_page.proofs.ValueLemmas.{values-added}

@@ -1,4 +1,4 @@
-use Rattle.std.proofs.Common.{◌≡◌, ap, ◌∙◌, map}
+use Rattle.std.proofs.Common.{ap, ◌∙◌, map}
 use Rattle.std.specs.Prelude.{option_map, option_to_list}
 use Rattle.serde_json.specs.View.{view}
 use Rattle.lab_page.specs.Objects.{slot_data, slot_at}

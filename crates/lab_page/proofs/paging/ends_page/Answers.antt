@@ -1,4 +1,3 @@
-use Rattle.std.proofs.Common.{◌≡◌, ap, subst, sym, ◌∙◌}
 use Rattle.lab_page.proofs.SourceLemmas.{programs-plain}
 use Rattle.lab_page.proofs.paging.ends_page.Goals as goal
 

@@ -1,4 +1,4 @@
-use Rattle.std.proofs.Common.{◌≡◌, List, [], ◌++◌, codes, refl, sym, ap, subst, ◌∙◌, nat_le}
+use Rattle.std.proofs.Common.{[], sym, ap, subst, ◌∙◌, nat_le}
 use Rattle.std.proofs.lemmas.Result.{err_from_is_err_and}
 use Rattle.lab_sched.specs.Schedules.{steps_of}
 use Rattle.lab_trace.specs.Scenes.{Scene, scene_at, IsKept}

@@ -1,4 +1,4 @@
-use Rattle.std.proofs.Common.{◌≡◌, ℕ, List, [], ◌∷◌, ap}
+use Rattle.std.proofs.Common.{ℕ, [], ◌∷◌, ap}
 use Rattle.serde_json.specs.Data.{Data}
 use Rattle.serde_json.specs.View.{view}
 use Rattle.lc3_machine.specs.Process.{reg}

@@ -1,4 +1,4 @@
-use Rattle.std.proofs.Common.{◌≡◌, ap, ◌∙◌}
+use Rattle.std.proofs.Common.{ap, ◌∙◌}
 use Rattle.lab_page.specs.Ends.{with_end}
 use Rattle.lab_page.specs.Private.Json.{end_json}
 use Rattle.lab_page.specs.Runs.{run_data}

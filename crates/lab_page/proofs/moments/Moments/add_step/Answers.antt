@@ -1,4 +1,3 @@
-use Rattle.std.proofs.Common.{◌≡◌}
 use Rattle.serde_json.specs.View.{view}
 use Rattle.lab_page.proofs.PlainLemmas.{plain-back}
 use Rattle.lab_page.proofs.EventLemmas.{moment-plain}

@@ -1,4 +1,3 @@
-use Rattle.std.proofs.Common.{◌≡◌}
 use Rattle.lab_page.proofs.StateLemmas.{states-plain}
 use Rattle.lab_page.proofs.moments.Moments.new.Goals as goal
 
