@@ -151,7 +151,8 @@ fn objects_told(
     tally: &Tally,
     act: &Act,
 ) -> Result<Vec<Value>, AllocError>
-    ensures objects { IfOk result (λ v. map view v.items ≡ objects_told world.now tally.now act.now) }
+    ensures objects { IfOk result (λ v. map view v.items
+        ≡ objects_told world.now tally.now act.now) }
 {
     if tells_all(act) {
         objects(alloc, world, tally)

@@ -99,7 +99,8 @@ fn message_value(
     origin: Option<&Origin>,
 ) -> Result<Value, AllocError>
     ensures value { IfOk result (λ v. view v
-        ≡ message_data (record { priority = priority; words = words.now }) (option_copied origin.entry)) }
+        ≡ message_data (record { priority = priority; words = words.now })
+        (option_copied origin.entry)) }
 {
     let words = words_value(alloc, words)?;
     let origin = origin_value(alloc, origin)?;
