@@ -73,6 +73,8 @@ class Browser:
         """Opens a page, and tells in how many seconds."""
         self.resize(window)
         self.ask("Page.navigate", url="about:blank")
+        # an element gets the focus also where the window hasn't it
+        self.ask("Emulation.setFocusEmulationEnabled", enabled=True)
         self.faults, self.loaded = [], []
         self.ask("Page.navigate", url=Path(file).resolve().as_uri())
         self.evaluate("new Promise(d => document.readyState === 'complete' ? d() : addEventListener('load', () => d()))")
