@@ -8,4 +8,5 @@ pub mod Semaphores
 pub mod Answer
 pub mod Replies
 pub mod Alike
+pub mod Operands
 pub mod Private

@@ -7,6 +7,13 @@ use ipc_names::Name;
 use ipc_objects::Words;
 use std::alloc::AllocError;
 
+/// What a call on an open object names: a descriptor or a slot of its process.
+#[derive(Clone, Copy, Drop)]
+pub enum Handle {
+    Mqd(u16),
+    Slot(u16),
+}
+
 /// A call of a process, with its arguments as they were asked: only a name has been tested.
 #[derive(Drop)]
 pub enum Call {

@@ -11,7 +11,7 @@ mod process;
 mod processes;
 mod renaming;
 
-pub use call::{Answer, Call, Reply};
+pub use call::{Answer, Call, Handle, Reply};
 pub use kernel::Kernel;
 pub use limits::{OBJECT_PLACES, OPEN_MAX, OPENS_MAX, PROCESS_MAX, limits_are_defined};
 pub use place::Place;

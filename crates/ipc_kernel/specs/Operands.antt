@@ -1,0 +1,55 @@
+-- Calls on open objects: what they depend on, and what they change.
+use Rattle.std.specs.Prelude.{ℕ, ◌≡◌, List, Option, Some, None, slice_get, slice_set, unwrap_or}
+use Rattle.std.specs.Option.{option_map, option_and_then}
+use Rattle.ipc_kernel.specs.declared.call.Call.{Call}
+use Rattle.ipc_kernel.specs.declared.call.Call.TheVariants.{MqSend, MqReceive, MqGetattr, MqSetattr, SemWait, SemTrywait, SemPost, SemGetvalue}
+use Rattle.ipc_kernel.specs.declared.call.Handle.{Handle}
+use Rattle.ipc_kernel.specs.declared.call.Handle.TheVariants.{Mqd, Slot as Sem}
+use Rattle.ipc_kernel.specs.declared.place.Place.{Place}
+use Rattle.ipc_kernel.specs.declared.process.OpenTables.{OpenTables}
+use Rattle.ipc_kernel.specs.Kernel.{KernelState, IsSettled}
+use Rattle.ipc_kernel.specs.Answer.{answer}
+
+-- the descriptor or slot that a call on an open object names
+abbrev pub handle_of : Call → Option Handle
+handle_of (MqSend d words prio) = Some (Mqd d)
+handle_of (MqReceive d len) = Some (Mqd d)
+handle_of (MqGetattr d) = Some (Mqd d)
+handle_of (MqSetattr d flags) = Some (Mqd d)
+handle_of (SemWait s) = Some (Sem s)
+handle_of (SemTrywait s) = Some (Sem s)
+handle_of (SemPost s) = Some (Sem s)
+handle_of (SemGetvalue s) = Some (Sem s)
+handle_of other = None
+
+-- the object place that an open descriptor or slot refers to
+abbrev pub place_of : OpenTables → Handle → Option ℕ
+place_of t (Mqd d) = option_map (λ held. held.place) (unwrap_or (slice_get t.descriptors d) None)
+place_of t (Sem s) = option_map (λ held. held.place) (unwrap_or (slice_get t.slots s) None)
+
+-- the object place that a call of a process with these tables works on
+abbrev pub operand_of : OpenTables → Call → Option ℕ
+operand_of t c = option_and_then (place_of t) (handle_of c)
+
+-- process p has these tables, and this object is in place i
+pub record HasOperand (k : KernelState) (p i : ℕ) (t : OpenTables) (o : Place) : Type 0 where
+  pub tables : slice_get k.processes p ≡ Some t
+  pub object : slice_get k.places i ≡ Some o
+
+-- the kernel with another object in place i, and other tables of process p
+abbrev pub with_operand : KernelState → ℕ → ℕ → Place → OpenTables → KernelState
+with_operand k p i o t = record { places = slice_set k.places i o; processes = slice_set k.processes p t }
+
+-- the call of process p over the one kernel and of process q over the other: the same answer, and of the first kernel the same is changed
+pub record IsAnsweredAlike (k j : KernelState) (p q : ℕ) (c : Call) (i : ℕ) : Type 0 where
+  pub answers : (answer k p c).0 ≡ (answer j q c).0
+  pub kernels : (t : OpenTables) (o : Place) → HasOperand (answer j q c).1 q i t o → (answer k p c).1 ≡ with_operand k p i o t
+
+-- a call on an open object depends on the tables of its process and on that object alone, and changes nothing else
+abbrev pub AnswersByOperand : Type 0
+AnswersByOperand = (k j : KernelState) (p q : ℕ) (c : Call) (i : ℕ) (t : OpenTables) (o : Place) → IsSettled k → IsSettled j
+    → operand_of t c ≡ Some i → HasOperand k p i t o → HasOperand j q i t o → IsAnsweredAlike k j p q c i
+
+-- each call leaves a kernel settled
+abbrev pub StaysSettled : Type 0
+StaysSettled = (k : KernelState) (p : ℕ) (c : Call) → IsSettled k → IsSettled (answer k p c).1
