@@ -1,6 +1,7 @@
 //! Calls, replies and answers.
 ghost use Rattle.std.specs.Prelude.{◌≡◌, ◌↔◌, IfOk, IsErr, IsTrue};
 ghost use Rattle.ipc_kernel.specs.Replies.{is_message};
+ghost use Rattle.ipc_kernel.specs.Operands.{handle_of};
 ghost use Rattle.ipc_kernel.specs.declared.call.Call.TheVariants.{MqOpen, MqSend, MqReceive, MqSetattr, SemOpen};
 
 use ipc_names::Name;
@@ -146,6 +147,23 @@ impl Call {
             Call::SemGetvalue { slot } => Call::SemGetvalue { slot: *slot },
             Call::Exit => Call::Exit,
         })
+    }
+
+    /// The descriptor or slot that a call on an open object names.
+    pub fn handle(&self) -> Option<Handle>
+        ensures handle { result ≡ handle_of self.now }
+    {
+        match self {
+            Call::MqSend { mqd, .. }
+            | Call::MqReceive { mqd, .. }
+            | Call::MqGetattr { mqd }
+            | Call::MqSetattr { mqd, .. } => Some(Handle::Mqd(*mqd)),
+            Call::SemWait { slot }
+            | Call::SemTrywait { slot }
+            | Call::SemPost { slot }
+            | Call::SemGetvalue { slot } => Some(Handle::Slot(*slot)),
+            _ => None,
+        }
     }
 
     /// Whether the call is mq_open with these arguments.

@@ -3,6 +3,7 @@ ghost use Rattle.std.specs.Prelude.{◌≡◌, ℕ, IsTrue, length};
 ghost use Rattle.ipc_kernel.specs.Kernel.{KernelState};
 ghost use Rattle.ipc_kernel.specs.Answer.{answer, may_wait};
 ghost use Rattle.ipc_kernel.specs.Alike.{AnswersAlike, StartsConsistent, StaysConsistent};
+ghost use Rattle.ipc_kernel.specs.Operands.{AnswersByOperand, StaysSettled};
 ghost use Rattle.ipc_kernel.specs.declared.call.Call.{Call};
 ghost use Rattle.ipc_kernel.specs.declared.call.Answer.TheVariants.{Wait};
 
@@ -41,4 +42,17 @@ pub fn empty_law()
 /// A kernel in which each reference is to an object, and each name to one, stays so.
 pub fn consistent_law()
     ensures consistent { StaysConsistent }
+{}
+
+/// A call on an open object depends on the tables of its process and on that object alone, and
+/// changes nothing else.
+#[tactic(auto, using(crate::proofs::OperandAnswers::answers_by_operand))]
+pub fn operand_law()
+    ensures answers { AnswersByOperand }
+{}
+
+/// After each call, each place without a name that nothing refers to is empty, if it was so before.
+#[tactic(auto, using(crate::proofs::OperandAnswers::stays_settled))]
+pub fn settled_law()
+    ensures settled { StaysSettled }
 {}

@@ -2,7 +2,9 @@
 ghost use Rattle.std.specs.Prelude.{◌≡◌, ◌<◌, IfSome, length, position, is_none, slice_get, unwrap_or};
 ghost use Rattle.ipc_kernel.specs.Limits.{open_max};
 ghost use Rattle.ipc_kernel.specs.Processes.{slot_refers, with_descriptor, with_slot};
+ghost use Rattle.ipc_kernel.specs.Operands.{place_of};
 
+use crate::call::Handle;
 use crate::limits::OPEN_MAX;
 
 /// An open message queue: the object place of the queue, and how this descriptor opened it.
@@ -30,6 +32,18 @@ pub struct Slot {
 pub struct OpenTables {
     pub descriptors: [Option<Descriptor>; OPEN_MAX],
     pub slots: [Option<Slot>; OPEN_MAX],
+}
+
+impl OpenTables {
+    /// The object place that an open descriptor or slot refers to.
+    pub fn place_of(&self, handle: Handle) -> Option<u8>
+        ensures place { result ≡ place_of self.now handle }
+    {
+        match handle {
+            Handle::Mqd(mqd) => Some(descriptor_at(&self.descriptors, mqd)?.place),
+            Handle::Slot(slot) => Some(slot_at(&self.slots, slot)?.place),
+        }
+    }
 }
 
 pub(crate) fn slot_refers(slot: &Option<Slot>, place: u8) -> bool

@@ -46,6 +46,12 @@ call_of (Running m) = call_next (next_action m)
 call_of (Waiting m c) = Some c
 call_of (Ended e) = None
 
+-- a process is about to make this call, or waits for it
+abbrev pub StandsAt : Process → Call → Type 0
+StandsAt (Running m) c = next_action m ≡ calls c
+StandsAt (Waiting m d) c = d ≡ c
+StandsAt (Ended e) c = ⊥
+
 -- whether process p stands at a call that must wait, whether or not it has tried it
 abbrev pub is_blocked : KernelState → ℕ → Process → Bool
 is_blocked k p s = option_any (must_wait k p) (call_of s)

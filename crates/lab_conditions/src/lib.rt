@@ -13,3 +13,4 @@ pub use condition::{Condition, Part, Relation, State};
 pub use losses::{is_receiving, messages_in};
 pub use never::Never;
 pub use reading::ReadFault;
+pub use standing::call_of;

@@ -1,10 +1,10 @@
 //! How processes stand.
-ghost use Rattle.std.specs.Prelude.{◌≡◌, IfOk, is_some, not};
+ghost use Rattle.std.specs.Prelude.{◌≡◌, IfOk, IfSome, is_some, not};
 ghost use Rattle.ipc_kernel.specs.Answer.{answer, is_done};
 ghost use Rattle.lab_sched.specs.Worlds.{next_action};
 ghost use Rattle.lab_sched.specs.Verdicts.{is_ended};
 ghost use Rattle.lab_sched.specs.Held.{process_view};
-ghost use Rattle.lab_conditions.specs.Conditions.{must_wait, call_next, call_of, is_blocked, has_crashed, stands_from, is_so};
+ghost use Rattle.lab_conditions.specs.Conditions.{must_wait, call_next, call_of, StandsAt, is_blocked, has_crashed, stands_from, is_so};
 
 use crate::State;
 use ipc_kernel::{Call, Kernel};
@@ -21,6 +21,18 @@ pub(crate) fn call_next(alloc: Global, running: &Running) -> Result<Option<Call>
         Next::Asks(call) => Ok(Some(call)),
         Next::Moved(_) | Next::Ended => Ok(None),
         Next::Short => Err(AllocError),
+    }
+}
+
+/// The call that a process is about to make, or waits for.
+pub fn call_of(alloc: Global, process: &Process) -> Result<Option<Call>, AllocError>
+    ensures value { IfOk result (λ found. found ≡ call_of (process_view process.now)) }
+    ensures call { IfOk result (λ found. IfSome found (λ c. StandsAt (process_view process.now) c)) }
+{
+    match process {
+        Process::Running(running) => call_next(alloc, running),
+        Process::Waiting(_, call) => Ok(Some(call.copy()?)),
+        Process::Ended(_) => Ok(None),
     }
 }
 

@@ -21,3 +21,4 @@ mod KeptLosses
 mod LossesOfRows
 mod JudgedRows
 mod DrawnRows
+mod StepsOnObjects

@@ -7,4 +7,5 @@ pub mod Rounds
 pub mod Fairness
 pub mod Reached
 pub mod Pictures
+pub mod Operands
 pub mod Private

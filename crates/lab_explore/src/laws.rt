@@ -2,6 +2,7 @@
 ghost use Rattle.lab_explore.specs.Closed.{RestsAlike, HoldsEveryEnd};
 ghost use Rattle.lab_explore.specs.Alikes.{StepsAlike, OneVerdict};
 ghost use Rattle.lab_explore.specs.Untried.{UntriedStep};
+ghost use Rattle.lab_explore.specs.Operands.{StepsByOperand, StepsSettled};
 
 /// A process that waits does next what it would do if it stood before its call.
 #[tactic(auto, using(crate::proofs::UntriedWorlds::untried_step))]
@@ -33,4 +34,12 @@ pub fn alike_worlds_step_alike()
 #[tactic(auto, using(crate::proofs::AlikeWorlds::one_verdict))]
 pub fn alike_worlds_have_one_verdict()
     ensures law { OneVerdict }
+{}
+
+/// A step at a call on an open object depends on the tables of its process and on that object alone,
+/// and changes nothing else; and each step leaves a kernel settled.
+#[tactic(auto, using(crate::proofs::StepsOnObjects::steps_by_operand, crate::proofs::StepsOnObjects::steps_settled))]
+pub fn calls_on_objects_step_alike()
+    ensures law { StepsByOperand }
+    ensures settled { StepsSettled }
 {}

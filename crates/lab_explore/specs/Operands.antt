@@ -1,0 +1,30 @@
+-- Steps at calls on open objects: what they depend on, and what they change.
+use Rattle.std.specs.Prelude.{ℕ, ◌≡◌, Some}
+use Rattle.ipc_kernel.specs.declared.place.Place.{Place}
+use Rattle.ipc_kernel.specs.declared.process.OpenTables.{OpenTables}
+use Rattle.ipc_kernel.specs.declared.call.Call.{Call}
+use Rattle.ipc_kernel.specs.Kernel.{KernelState, IsSettled}
+use Rattle.ipc_kernel.specs.Operands.{operand_of, with_operand, HasOperand}
+use Rattle.lab_sched.specs.Worlds.{Process, step_effect}
+use Rattle.lab_sched.specs.Held.{step_of}
+use Rattle.lab_conditions.specs.Conditions.{StandsAt}
+use Rattle.lab_explore.specs.Untried.{GoesOn}
+
+-- process s takes its step as p over the one kernel and as q over the other: it goes on over the
+-- first where it does over the second, becomes the same, and of the first kernel the same is changed
+pub record IsStepAlike (k j : KernelState) (p q : ℕ) (s : Process) (i : ℕ) : Type 0 where
+  pub goes_on : GoesOn (step_effect j q (Some s)) → GoesOn (step_effect k p (Some s))
+  pub process : (step_of k p s).process ≡ (step_of j q s).process
+  pub kernel : (t : OpenTables) (o : Place) → HasOperand (step_of j q s).kernel q i t o
+      → (step_of k p s).kernel ≡ with_operand k p i o t
+
+-- a step at a call on an open object depends on the tables of its process and on that object alone,
+-- and changes nothing else
+abbrev pub StepsByOperand : Type 0
+StepsByOperand = (k j : KernelState) (p q : ℕ) (s : Process) (c : Call) (i : ℕ) (t : OpenTables) (o : Place)
+    → IsSettled k → IsSettled j → StandsAt s c → operand_of t c ≡ Some i
+    → HasOperand k p i t o → HasOperand j q i t o → IsStepAlike k j p q s i
+
+-- a step leaves a kernel settled
+abbrev pub StepsSettled : Type 0
+StepsSettled = (k : KernelState) (p : ℕ) (s : Process) → IsSettled k → IsSettled (step_of k p s).kernel
