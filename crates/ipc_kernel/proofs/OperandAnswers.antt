@@ -1,9 +1,8 @@
 -- Calls on open objects: what they depend on, and what they change.
-use Rattle.std.proofs.Common.{◌≡◌, ℕ, ◌<◌, ◌-◌, ◌+◌, ◌==◌, Bool, true, false, cond, ◌||◌, nat_lt, nat_le, List, [], ◌∷◌, zero, suc, length, length-set, get_or, set, arith, Option, Some, None, unwrap_or, slice_get, IsSomeAnd, option_and_then, refl, sym, ap, subst, ◌∙◌}
+use Rattle.std.proofs.Common.{◌≡◌, ℕ, ◌<◌, ◌-◌, ◌+◌, ◌==◌, Bool, true, false, cond, ◌||◌, nat_lt, nat_le, List, [], ◌∷◌, zero, suc, length, set, arith, Option, Some, None, unwrap_or, slice_get, IsSomeAnd, option_and_then, refl, sym, ap, subst, ◌∙◌}
 use Rattle.std.specs.Option.{option_map}
 use Rattle.std.specs.List.{list_any}
 use Rattle.std.proofs.lemmas.List.{ext_get_or}
-use Rattle.std.proofs.lemmas.Option.{slice_get_within}
 use Rattle.ipc_names.specs.declared.errno.Errno.{Errno}
 use Rattle.ipc_names.specs.Flags.{has_flag}
 use Rattle.ipc_objects.specs.declared.queue.Message.{Message}
@@ -18,10 +17,10 @@ use Rattle.ipc_kernel.specs.declared.call.Call.TheVariants.{MqOpen, MqClose, MqU
 use Rattle.ipc_kernel.specs.declared.call.Reply.{Reply}
 use Rattle.ipc_kernel.specs.declared.call.Answer.{Answer}
 use Rattle.ipc_kernel.specs.declared.call.Answer.TheVariants.{Done, Wait}
-use Rattle.ipc_kernel.specs.Processes.{process_at, descriptor_of, slot_of, descriptor_refers, slot_refers, process_refers, is_referred, with_descriptor}
-use Rattle.ipc_kernel.specs.Places.{place_at, queue_in, semaphore_value, with_queue, with_value, place_or_empty, places_or_empty}
+use Rattle.ipc_kernel.specs.Processes.{process_at, descriptor_refers, slot_refers, process_refers, is_referred, with_descriptor}
+use Rattle.ipc_kernel.specs.Places.{place_at, queue_in, semaphore_value, with_queue, with_value, places_or_empty}
 use Rattle.ipc_kernel.specs.Kernel.{KernelState, IsSettled}
-use Rattle.ipc_kernel.specs.Outcomes.{Outcome, refusal, waiting, completion, wait_or_again, open_queue, open_semaphore, with_queue_at, with_value_at}
+use Rattle.ipc_kernel.specs.Outcomes.{Outcome, refusal, completion, wait_or_again, open_queue, open_semaphore, with_queue_at, with_value_at}
 use Rattle.ipc_kernel.specs.Queues.{mq_send, mq_receive, take_first, mq_getattr, mq_setattr}
 use Rattle.ipc_kernel.specs.Semaphores.{sem_wait, sem_trywait, sem_post, sem_getvalue}
 use Rattle.ipc_kernel.specs.Answer.{answer}
@@ -32,7 +31,7 @@ use Rattle.ipc_names.specs.Errno.{number_of}
 use Rattle.ipc_names.specs.Flags.{o_nonblock}
 use Rattle.ipc_objects.specs.Limits.{mq_prio_max, sem_value_max}
 use Rattle.ipc_kernel.specs.Queues.{attributes}
-use Rattle.ipc_kernel.specs.Operands.{StaysSettled, place_of, operand_of, with_operand, HasOperand, IsAnsweredAlike, AnswersByOperand}
+use Rattle.ipc_kernel.specs.Operands.{place_of, operand_of, with_operand, HasOperand, AnswersByOperand}
 use Rattle.ipc_kernel.proofs.PlaceLemmas.{get_or-emptied, length-emptied}
 use Rattle.ipc_kernel.proofs.KernelLemmas.{done_settled, settled_with_queue, settled_with_value}
 
@@ -91,11 +90,11 @@ local_queue i t o q new r is = record {
   object = with_queue new o;
   tables = t;
   same = λ k p s has.
-    let at = place_of_operand k p i t o has in
-    let found : IsSomeAnd (queue_in (place_at k.places i)) (λ x. x ≡ x) = rw (at, is) refl in
-    done_settled (with_queue_at k i new) r (settled_with_queue k i new (λ x. x ≡ x) found s)
-    ∙ ap (λ x. (Done r, record { places = set k.places i (with_queue new x); processes = k.processes })) at
-    ∙ ap (λ ps. (Done r, record { places = set k.places i (with_queue new o); processes = ps })) (sym (set_back k.processes p t has.tables));
+      let at = place_of_operand k p i t o has in
+      let found : IsSomeAnd (queue_in (place_at k.places i)) (λ x. x ≡ x) = rw (at, is) refl in
+      done_settled (with_queue_at k i new) r (settled_with_queue k i new (λ x. x ≡ x) found s)
+      ∙ ap (λ x. (Done r, record { places = set k.places i (with_queue new x); processes = k.processes })) at
+      ∙ ap (λ ps. (Done r, record { places = set k.places i (with_queue new o); processes = ps })) (sym (set_back k.processes p t has.tables));
 }
 
 -- another value of the semaphore
@@ -105,11 +104,11 @@ local_value i t o v new r is = record {
   object = with_value new o;
   tables = t;
   same = λ k p s has.
-    let at = place_of_operand k p i t o has in
-    let found : semaphore_value (place_at k.places i) ≡ Some v = ap semaphore_value at ∙ is in
-    done_settled (with_value_at k i new) r (settled_with_value k i v new found s)
-    ∙ ap (λ x. (Done r, record { places = set k.places i (with_value new x); processes = k.processes })) at
-    ∙ ap (λ ps. (Done r, record { places = set k.places i (with_value new o); processes = ps })) (sym (set_back k.processes p t has.tables));
+      let at = place_of_operand k p i t o has in
+      let found : semaphore_value (place_at k.places i) ≡ Some v = ap semaphore_value at ∙ is in
+      done_settled (with_value_at k i new) r (settled_with_value k i v new found s)
+      ∙ ap (λ x. (Done r, record { places = set k.places i (with_value new x); processes = k.processes })) at
+      ∙ ap (λ ps. (Done r, record { places = set k.places i (with_value new o); processes = ps })) (sym (set_back k.processes p t has.tables));
 }
 
 -- kernels whose processes refer to the same places have the same places emptied
@@ -152,13 +151,13 @@ local_flag i t o d h b r e = record {
   object = o;
   tables = with_flag t d h b;
   same = λ k p s has.
-    let new : KernelState = record { places = k.places; processes = set k.processes p (with_flag t d h b) } in
-    let settled : places_or_empty (set k.processes p (with_flag t d h b)) k.places ≡ k.places =
-        emptied_alike (set k.processes p (with_flag t d h b)) k.processes k.places
-        (λ n. any_set (process_refers n) k.processes p t (with_flag t d h b) has.tables (same_refers t d h b n e)) ∙ s in
-    ap (λ x. completion (record { places = k.places; processes = set k.processes p (with_flag x d h b) }) r) (tables_of_operand k p i t o has)
-    ∙ done_settled new r settled
-    ∙ ap (λ ps. (Done r, record { places = ps; processes = set k.processes p (with_flag t d h b) })) (sym (set_back k.places i o has.object));
+      let new : KernelState = record { places = k.places; processes = set k.processes p (with_flag t d h b) } in
+      let settled : places_or_empty (set k.processes p (with_flag t d h b)) k.places ≡ k.places =
+      emptied_alike (set k.processes p (with_flag t d h b)) k.processes k.places
+      (λ n. any_set (process_refers n) k.processes p t (with_flag t d h b) has.tables (same_refers t d h b n e)) ∙ s in
+      ap (λ x. completion (record { places = k.places; processes = set k.processes p (with_flag x d h b) }) r) (tables_of_operand k p i t o has)
+      ∙ done_settled new r settled
+      ∙ ap (λ ps. (Done r, record { places = ps; processes = set k.processes p (with_flag t d h b) })) (sym (set_back k.places i o has.object));
 }
 
 -- a call on what an open descriptor or slot refers to
@@ -178,9 +177,9 @@ local_call {H} {V} place read held call i t o at none some = by (held t) refl
         let yes : Some (place h) ≡ Some i = sym (ap (option_map place) e) ∙ at in
         let same : place h ≡ i = cc in
         local_same i t o _ (λ k p. call k p (option_map (λ v. (h, v)) (read o))) (λ k p s has.
-          ap (λ x. call k p (option_and_then (λ y. option_map (λ v. (y, v)) (read (place_at k.places (place y)))) x)) (ap held (tables_of_operand k p i t o has) ∙ e)
-          ∙ ap (λ n. call k p (option_map (λ v. (h, v)) (read (place_at k.places n)))) same
-          ∙ ap (λ x. call k p (option_map (λ v. (h, v)) (read x))) (place_of_operand k p i t o has))
+        ap (λ x. call k p (option_and_then (λ y. option_map (λ v. (y, v)) (read (place_at k.places (place y)))) x)) (ap held (tables_of_operand k p i t o has) ∙ e)
+        ∙ ap (λ n. call k p (option_map (λ v. (h, v)) (read (place_at k.places n)))) same
+        ∙ ap (λ x. call k p (option_map (λ v. (h, v)) (read x))) (place_of_operand k p i t o has))
         (found h e same (read o) refl)
 
 abbrev QueueCall : Type 0
@@ -277,9 +276,6 @@ answers_by_operand k j p q c i t o sk sj at hk hj =
     record {
       answers = ap (λ (x : Outcome). x.0) (here.same k p sk hk) ∙ sym (ap (λ (x : Outcome). x.0) (here.same j q sj hj));
       kernels = λ u y new.
-        let is = written j q i t here.tables u o here.object y hj (subst (λ (x : Outcome). HasOperand x.1 q i u y) (here.same j q sj hj) new) in
-        ap (λ (x : Outcome). x.1) (here.same k p sk hk) ∙ sym (ap (λ x. with_operand k p i x u) is.1 ∙ ap (λ x. with_operand k p i here.object x) is.0);
+          let is = written j q i t here.tables u o here.object y hj (subst (λ (x : Outcome). HasOperand x.1 q i u y) (here.same j q sj hj) new) in
+          ap (λ (x : Outcome). x.1) (here.same k p sk hk) ∙ sym (ap (λ x. with_operand k p i x u) is.1 ∙ ap (λ x. with_operand k p i here.object x) is.0);
     }
-
-pub stays_settled : StaysSettled
-stays_settled k p c s = ?

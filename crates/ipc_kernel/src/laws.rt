@@ -52,7 +52,7 @@ pub fn operand_law()
 {}
 
 /// After each call, each place without a name that nothing refers to is empty, if it was so before.
-#[tactic(auto, using(crate::proofs::OperandAnswers::stays_settled))]
+#[tactic(auto, using(crate::proofs::SettledAnswers::stays_settled))]
 pub fn settled_law()
     ensures settled { StaysSettled }
 {}
