@@ -61,7 +61,7 @@ record IsLocal (i : ℕ) (t : OpenTables) (o : Place) (call : KernelState → �
   same : (k : KernelState) (p : ℕ) → IsSettled k → HasOperand k p i t o → call k p ≡ (reply, with_operand k p i object tables)
 
 -- the kernel as it was
-kept : (k : KernelState) (p i : ℕ) (t : OpenTables) (o : Place) → HasOperand k p i t o → with_operand k p i o t ≡ k
+pub kept : (k : KernelState) (p i : ℕ) (t : OpenTables) (o : Place) → HasOperand k p i t o → with_operand k p i o t ≡ k
 kept k p i t o has =
     ap (λ ps. record { places = ps; processes = set k.processes p t }) (set_back k.places i o has.object)
     ∙ ap (λ ps. record { places = k.places; processes = ps }) (set_back k.processes p t has.tables)
