@@ -279,3 +279,14 @@ answers_by_operand k j p q c i t o sk sj at hk hj =
           let is = written j q i t here.tables u o here.object y hj (subst (λ (x : Outcome). HasOperand x.1 q i u y) (here.same j q sj hj) new) in
           ap (λ (x : Outcome). x.1) (here.same k p sk hk) ∙ sym (ap (λ x. with_operand k p i x u) is.1 ∙ ap (λ x. with_operand k p i here.object x) is.0);
     }
+
+-- there is an object in place i, and tables of the process, after the call too
+pub operand_left : (j : KernelState) (q : ℕ) (c : Call) (i : ℕ) (t : OpenTables) (o : Place) → IsSettled j → operand_of t c ≡ Some i → HasOperand j q i t o
+    → (u : OpenTables) × (y : Place) × HasOperand (answer j q c).1 q i u y
+operand_left j q c i t o s at has =
+    let here = local_answer c i t o at in
+    let left : HasOperand (with_operand j q i here.object here.tables) q i here.tables here.object = record {
+      tables = get_set j.processes q t here.tables has.tables;
+      object = get_set j.places i o here.object has.object;
+    } in
+    (here.tables, here.object, subst (λ (x : Outcome). HasOperand x.1 q i here.tables here.object) (sym (here.same j q s has)) left)

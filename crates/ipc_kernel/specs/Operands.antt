@@ -40,12 +40,14 @@ pub record HasOperand (k : KernelState) (p i : ℕ) (t : OpenTables) (o : Place)
 abbrev pub with_operand : KernelState → ℕ → ℕ → Place → OpenTables → KernelState
 with_operand k p i o t = record { places = slice_set k.places i o; processes = slice_set k.processes p t }
 
--- the call of process p over the one kernel and of process q over the other: the same answer, and of the first kernel the same is changed
+-- a call of process p over kernel k and of process q over kernel j: it has the same answer, and what it leaves in place i and in
+-- the tables of q over j it leaves in place i and in the tables of p over k, of which it changes nothing else
 pub record IsAnsweredAlike (k j : KernelState) (p q : ℕ) (c : Call) (i : ℕ) : Type 0 where
   pub answers : (answer k p c).0 ≡ (answer j q c).0
   pub kernels : (t : OpenTables) (o : Place) → HasOperand (answer j q c).1 q i t o → (answer k p c).1 ≡ with_operand k p i o t
 
--- a call on an open object depends on the tables of its process and on that object alone, and changes nothing else
+-- a call on an open object depends on the tables of its process and on that object alone, and changes nothing else, where the
+-- kernels are settled
 abbrev pub AnswersByOperand : Type 0
 AnswersByOperand = (k j : KernelState) (p q : ℕ) (c : Call) (i : ℕ) (t : OpenTables) (o : Place) → IsSettled k → IsSettled j
     → operand_of t c ≡ Some i → HasOperand k p i t o → HasOperand j q i t o → IsAnsweredAlike k j p q c i
