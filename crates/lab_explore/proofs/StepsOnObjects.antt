@@ -8,10 +8,11 @@ use Rattle.ipc_kernel.specs.declared.call.Answer.{Answer}
 use Rattle.ipc_kernel.specs.declared.call.Answer.TheVariants.{Done, Wait}
 use Rattle.ipc_kernel.specs.Kernel.{KernelState, IsSettled}
 use Rattle.ipc_kernel.specs.Answer.{answer}
-use Rattle.ipc_kernel.specs.Operands.{with_operand, HasOperand, IsAnsweredAlike}
+use Rattle.ipc_kernel.specs.Operands.{operand_of, with_operand, HasOperand, IsAnsweredAlike}
 use Rattle.ipc_kernel.proofs.OperandAnswers.{answers_by_operand, kept, operand_left}
 use Rattle.ipc_kernel.proofs.SettledAnswers.{stays_settled}
 use Rattle.lab_sched.specs.Worlds.{Process, Running, Waiting, Ended, calls, next_action, StepEffect, nothing, local_step, kernel_step, step_effect, first_try, retry, process_after, kernel_after}
+use Rattle.lab_sched.specs.Held.{step_of}
 use Rattle.lab_conditions.specs.Conditions.{StandsAt}
 use Rattle.lab_explore.specs.Untried.{GoesOn}
 use Rattle.lab_explore.specs.Operands.{IsStepAlike, StepsByOperand, StepsSettled}
