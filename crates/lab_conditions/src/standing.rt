@@ -27,7 +27,8 @@ pub(crate) fn call_next(alloc: Global, running: &Running) -> Result<Option<Call>
 /// The call that a process is about to make, or waits for.
 pub fn call_of(alloc: Global, process: &Process) -> Result<Option<Call>, AllocError>
     ensures value { IfOk result (λ found. found ≡ call_of (process_view process.now)) }
-    ensures call { IfOk result (λ found. IfSome found (λ c. StandsAt (process_view process.now) c)) }
+    ensures call { IfOk result
+        (λ found. IfSome found (λ c. StandsAt (process_view process.now) c)) }
 {
     match process {
         Process::Running(running) => call_next(alloc, running),

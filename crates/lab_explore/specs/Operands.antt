@@ -10,8 +10,9 @@ use Rattle.lab_sched.specs.Held.{step_of}
 use Rattle.lab_conditions.specs.Conditions.{StandsAt}
 use Rattle.lab_explore.specs.Untried.{GoesOn}
 
--- process s takes its step as p over the one kernel and as q over the other: it goes on over the
--- first where it does over the second, becomes the same, and of the first kernel the same is changed
+-- process s takes its step as p over kernel k and as q over kernel j: it goes on over k where it does
+-- over j, becomes the same, and what it leaves in place i and in the tables of q over j it leaves in
+-- place i and in the tables of p over k, of which it changes nothing else
 pub record IsStepAlike (k j : KernelState) (p q : ℕ) (s : Process) (i : ℕ) : Type 0 where
   pub goes_on : GoesOn (step_effect j q (Some s)) → GoesOn (step_effect k p (Some s))
   pub process : (step_of k p s).process ≡ (step_of j q s).process
@@ -19,12 +20,13 @@ pub record IsStepAlike (k j : KernelState) (p q : ℕ) (s : Process) (i : ℕ) :
       → (step_of k p s).kernel ≡ with_operand k p i o t
 
 -- a step at a call on an open object depends on the tables of its process and on that object alone,
--- and changes nothing else
+-- and changes nothing else, where the kernels are settled
 abbrev pub StepsByOperand : Type 0
-StepsByOperand = (k j : KernelState) (p q : ℕ) (s : Process) (c : Call) (i : ℕ) (t : OpenTables) (o : Place)
-    → IsSettled k → IsSettled j → StandsAt s c → operand_of t c ≡ Some i
+StepsByOperand = (k j : KernelState) (p q : ℕ) (s : Process) (c : Call) (i : ℕ)
+    (t : OpenTables) (o : Place) → IsSettled k → IsSettled j → StandsAt s c → operand_of t c ≡ Some i
     → HasOperand k p i t o → HasOperand j q i t o → IsStepAlike k j p q s i
 
 -- a step leaves a kernel settled
 abbrev pub StepsSettled : Type 0
-StepsSettled = (k : KernelState) (p : ℕ) (s : Process) → IsSettled k → IsSettled (step_of k p s).kernel
+StepsSettled = (k : KernelState) (p : ℕ) (s : Process) → IsSettled k
+    → IsSettled (step_of k p s).kernel
