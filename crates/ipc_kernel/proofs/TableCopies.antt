@@ -52,3 +52,7 @@ process_decides a b =
 -- two lists of tables are compared
 pub tables_decides : (ps qs : List OpenTables) (r : Bool) → r ≡ pointwise process_eq.eq-value.it ps qs → Decides r (ps ≡ qs)
 tables_decides ps qs r is = slice_eq-Decides process_decides ps qs r is
+
+-- two tables are compared
+pub process_read : (a b : OpenTables) (r : Bool) → r ≡ process_eq.eq-value.it a b → Decides r (a ≡ b)
+process_read a b r is = rw is (process_decides a b)

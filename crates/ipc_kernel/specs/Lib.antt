@@ -9,4 +9,6 @@ pub mod Answer
 pub mod Replies
 pub mod Alike
 pub mod Operands
+pub mod Kept
+pub mod Rows
 pub mod Private

@@ -20,6 +20,8 @@ use std::alloc::{AllocError, Global};
 use std::marker::Model;
 
 mod alike;
+mod arranged;
+mod assembly;
 mod changes;
 mod copies;
 mod decision;

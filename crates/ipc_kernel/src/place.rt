@@ -1,6 +1,6 @@
 //! One object place.
 ghost use Rattle.std.specs.Prelude.{◌≡◌, ◌+◌, ◌-◌, ◌<◌, ◌≤◌, ◌||◌, if◌then◌else◌, length, IfSome, OnOk, OnErr};
-ghost use Rattle.std.specs.Prelude.{◌∷◌, IsSomeAnd, drop};
+ghost use Rattle.std.specs.Prelude.{◌∷◌, IsTrue, IsSomeAnd, drop};
 ghost use Rattle.std.specs.Option.{option_map, option_copied};
 ghost use Rattle.ipc_objects.specs.Queue.{QueueState, with_message, without_first};
 ghost use Rattle.ipc_objects.specs.declared.queue.Message.{Message};
@@ -27,8 +27,16 @@ pub enum Place {
     },
 }
 
+/// The text of a name, if there is one.
+fn text_of(name: &Option<Name>) -> &str {
+    match name {
+        Some(name) => name.text(),
+        None => "",
+    }
+}
+
 impl Place {
-    ghost use Rattle.ipc_kernel.specs.Places.{is_empty, has_name, semaphore_value, with_value, without_name, queue_in, with_queue, queue_and_name, value_and_name};
+    ghost use Rattle.ipc_kernel.specs.Places.{is_empty, has_name, queue_name, semaphore_name, semaphore_value, with_value, without_name, queue_in, with_queue, queue_and_name, value_and_name};
     ghost use Rattle.ipc_kernel.specs.Private.Messages.{HasRoomFor, HasMessage};
 
     pub(crate) fn is_empty(&self) -> bool
@@ -44,6 +52,26 @@ impl Place {
             Place::Empty => false,
             Place::Mq { name, .. } => name.is_some(),
             Place::Sem { name, .. } => name.is_some(),
+        }
+    }
+
+    /// The name of the queue, if it is one that has a name.
+    pub(crate) fn queue_name(&self) -> Option<&Name>
+        ensures name { option_copied result ≡ queue_name self.now }
+    {
+        match self {
+            Place::Mq { name, .. } => name.as_ref(),
+            _ => None,
+        }
+    }
+
+    /// The name of the semaphore, if it is one that has a name.
+    pub(crate) fn semaphore_name(&self) -> Option<&Name>
+        ensures name { option_copied result ≡ semaphore_name self.now }
+    {
+        match self {
+            Place::Sem { name, .. } => name.as_ref(),
+            _ => None,
         }
     }
 
@@ -155,6 +183,30 @@ impl Place {
             Place::Mq { name, .. } => *name = None,
             Place::Sem { name, .. } => *name = None,
         }
+    }
+
+    /// The kind of the object, and its name.
+    fn kind_and_name(&self) -> (u8, &str) {
+        match self {
+            Place::Empty => (0, ""),
+            Place::Mq { name, .. } => (1, text_of(name)),
+            Place::Sem { name, .. } => (2, text_of(name)),
+        }
+    }
+
+    /// Whether the object is before another by its kind and its name.
+    pub(crate) fn is_before(&self, other: &Place) -> bool {
+        let (kind, name) = self.kind_and_name();
+        let (other_kind, other_name) = other.kind_and_name();
+        kind < other_kind || (kind == other_kind && name < other_name)
+    }
+
+    /// Whether a place is empty, or has a name, or something refers to it.
+    pub(crate) fn stays(&self, referred: bool) -> bool
+        ensures stays { IsTrue result → (if has_name self.now || referred then self.now else Empty)
+            ≡ self.now }
+    {
+        self.has_name() || referred || self.is_empty()
     }
 
     /// Empties a place without a name to which nothing refers.

@@ -13,6 +13,8 @@ ghost use Rattle.ipc_kernel.specs.Places.{is_empty, semaphore_value, with_queue_
 ghost use Rattle.ipc_kernel.specs.declared.place.Place.TheVariants.{Empty, Mq, Sem};
 
 mod alike;
+mod arranged;
+mod assembly;
 mod copies;
 
 use crate::limits::OBJECT_PLACES;

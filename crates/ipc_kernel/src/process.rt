@@ -1,11 +1,12 @@
 //! The descriptors and slots of one process.
-ghost use Rattle.std.specs.Prelude.{◌≡◌, ◌<◌, IfSome, length, position, is_none, slice_get, unwrap_or};
+ghost use Rattle.std.specs.Prelude.{◌≡◌, ◌↔◌, ◌<◌, IsTrue, IfSome, length, position, is_none, slice_get, unwrap_or};
 ghost use Rattle.ipc_kernel.specs.Limits.{open_max};
 ghost use Rattle.ipc_kernel.specs.Processes.{slot_refers, with_descriptor, with_slot};
 ghost use Rattle.ipc_kernel.specs.Operands.{place_of};
 
 use crate::call::Handle;
 use crate::limits::OPEN_MAX;
+use std::hash::{FoldHasher, Hasher};
 
 /// An open message queue: the object place of the queue, and how this descriptor opened it.
 #[derive(Clone, Copy, PartialEq, Eq)]
@@ -35,6 +36,28 @@ pub struct OpenTables {
 }
 
 impl OpenTables {
+    /// Whether the tables are the same.
+    pub(crate) fn is_same(&self, other: &OpenTables) -> bool
+        ensures same { IsTrue result ↔ (self.now ≡ other.now) }
+    {
+        *self == *other
+    }
+
+    /// A number for the tables.
+    pub(crate) fn digest(&self) -> u64 {
+        let mut hasher = FoldHasher::default();
+        for (i, descriptor) in self.descriptors.iter().enumerate() {
+            if let Some(held) = descriptor {
+                hasher.write_usize(i);
+                hasher.write_u8(held.place);
+                hasher.write_u8(held.access);
+                hasher.write_u8(held.nonblock as u8);
+            }
+        }
+        feed_slots(&self.slots, &mut hasher);
+        hasher.finish()
+    }
+
     /// The object place that an open descriptor or slot refers to.
     pub fn place_of(&self, handle: Handle) -> Option<u8>
         ensures place { result ≡ place_of self.now handle }
@@ -42,6 +65,17 @@ impl OpenTables {
         match handle {
             Handle::Mqd(mqd) => Some(descriptor_at(&self.descriptors, mqd)?.place),
             Handle::Slot(slot) => Some(slot_at(&self.slots, slot)?.place),
+        }
+    }
+}
+
+/// Adds the open slots to a digest.
+fn feed_slots(slots: &[Option<Slot>], hasher: &mut FoldHasher) {
+    for (i, slot) in slots.iter().enumerate() {
+        if let Some(held) = slot {
+            hasher.write_usize(OPEN_MAX.saturating_add(i));
+            hasher.write_u8(held.place);
+            hasher.write_u8(held.opens);
         }
     }
 }

@@ -5,6 +5,8 @@ ghost use Rattle.ipc_kernel.specs.Limits.{object_places, open_max, process_max};
 ghost use Rattle.ipc_kernel.specs.Processes.{slot_refers, descriptor_refers, is_referred, with_descriptor, with_slot};
 
 mod alike;
+mod arranged;
+mod assembly;
 mod copies;
 
 use crate::limits::{OBJECT_PLACES, OPEN_MAX};

@@ -8,6 +8,8 @@ mod alike;
 #[cfg(test)]
 mod copies;
 #[cfg(test)]
+mod kept;
+#[cfg(test)]
 mod memory;
 #[cfg(test)]
 mod objects;

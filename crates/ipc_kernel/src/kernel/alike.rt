@@ -21,7 +21,7 @@ impl Kernel {
     }
 
     /// Whether another kernel is this one with its places renamed so.
-    fn is_renamed(&self, other: &Kernel, renaming: &Renaming) -> bool
+    pub(crate) fn is_renamed(&self, other: &Kernel, renaming: &Renaming) -> bool
         requires permutation { Permutes renaming.now }
         ensures renamed { IsTrue result ↔ IsRenaming (renamed_by renaming.now.to)
             (renamed_by renaming.now.from) self.now other.now }

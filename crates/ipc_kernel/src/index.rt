@@ -1,0 +1,114 @@
+//! Numbers by digests. Nothing that is proved rests on what stands here.
+ghost use Rattle.std.specs.Prelude.{◌<◌};
+
+use std::alloc::{AllocError, Global};
+
+/// How many chains there are at first.
+const CHAINS: usize = 1 << 10;
+
+/// Chains of numbers, from 1 in the order in which they were added: those of one hash are in one
+/// chain, the newest first. There are at least as many chains as numbers.
+#[derive(Drop)]
+pub struct Index {
+    newest: Vec<u32>,
+    older: Vec<u32>,
+    hashes: Vec<u32>,
+}
+
+/// The half of a hash that is kept.
+fn half(hash: u64) -> u32 {
+    ((hash ^ (hash >> 32)) % 4_294_967_296) as u32
+}
+
+impl Index {
+    /// About how many bytes each number takes.
+    pub const ENTRY: usize = 16;
+
+    /// No number.
+    pub fn new(alloc: Global) -> Result<Index, AllocError> {
+        Ok(Index {
+            newest: vec![in alloc; 0; CHAINS]?,
+            older: Vec::new(alloc),
+            hashes: Vec::new(alloc),
+        })
+    }
+
+    /// No number, and no room for any.
+    pub fn none(alloc: Global) -> Index {
+        Index {
+            newest: Vec::new(alloc),
+            older: Vec::new(alloc),
+            hashes: Vec::new(alloc),
+        }
+    }
+
+    /// The newest number of a hash, or 0.
+    pub fn newest(&self, hash: u64) -> usize {
+        match self.newest.get(self.chain(half(hash))) {
+            Some(number) => *number as usize,
+            None => 0,
+        }
+    }
+
+    /// The next older number of the same chain, or 0.
+    pub fn older(&self, number: usize) -> usize
+        ensures less { 0 < number → result < number }
+    {
+        if number == 0 {
+            return 0;
+        }
+        match self.older.get(number - 1) {
+            Some(older) if (*older as usize) < number => *older as usize,
+            _ => 0,
+        }
+    }
+
+    /// Adds the next number for a hash. Where memory is refused none is added.
+    pub fn add(&mut self, hash: u64) -> Result<(), AllocError> {
+        self.hashes.reserve(1)?;
+        self.older.reserve(1)?;
+        let count = self.hashes.len();
+        if count >= self.newest.len() {
+            self.widen()?;
+        }
+        self.hashes.push(half(hash))?;
+        self.older.push(0)?;
+        self.link(count);
+        Ok(())
+    }
+
+    /// The chain of a hash.
+    fn chain(&self, hash: u32) -> usize {
+        match self.newest.len() {
+            0 => 0,
+            count => hash as usize % count,
+        }
+    }
+
+    /// Makes twice as many chains.
+    fn widen(&mut self) -> Result<(), AllocError> {
+        let count = self.newest.len().saturating_mul(2);
+        self.newest.resize(count, 0)?;
+        self.newest.fill(0);
+        let numbers = self.hashes.len();
+        for at in 0..numbers {
+            self.link(at);
+        }
+        Ok(())
+    }
+
+    /// Puts the number after `at` at the head of its chain.
+    fn link(&mut self, at: usize) {
+        if at >= self.hashes.len() || at >= self.older.len() {
+            return;
+        }
+        let Ok(number) = u32::try_from(at + 1) else {
+            return;
+        };
+        let chain = self.chain(self.hashes[at]);
+        if chain < self.newest.len() {
+            self.older[at] = self.newest[chain];
+            self.newest[chain] = number;
+        }
+    }
+}

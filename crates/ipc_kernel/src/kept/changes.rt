@@ -1,0 +1,85 @@
+//! Numbers of rows.
+ghost use Rattle.std.specs.Prelude.{◌≡◌, ◌<◌, length, slice_get, slice_set, IfOk, IfSome, IsTrue, IfNone, None};
+
+use std::alloc::{AllocError, Global};
+
+/// The number at a place, if there is one.
+pub(crate) fn number_at(numbers: &[u32], at: usize) -> Option<u32>
+    ensures number { result ≡ slice_get numbers.now at }
+{
+    numbers.get(at).copied()
+}
+
+/// The numbers with another one at a place, if there is that place.
+pub(crate) fn with_number(
+    alloc: Global,
+    numbers: &[u32],
+    at: usize,
+    number: u32,
+) -> Result<Option<Vec<u32>>, AllocError>
+    ensures changed { IfOk result (λ found. IfSome found
+        (λ changed. changed.items ≡ slice_set numbers.now at number)) }
+    ensures none { IfOk result (λ found. IfNone found (slice_get numbers.now at ≡ None)) }
+    ensures range { IfOk result (λ found. IfSome found (λ _. at < length numbers.now)) }
+{
+    if at >= numbers.len() {
+        return Ok(None);
+    }
+    let mut changed = Vec::from_slice(alloc, numbers)?;
+    changed[at] = number;
+    Ok(Some(changed))
+}
+
+/// Whether these are the same numbers.
+fn are_same(numbers: &[u32], others: &[u32]) -> bool
+    ensures same { IsTrue result → numbers.now ≡ others.now }
+{
+    numbers == others
+}
+
+/// Numbers with another one at a place.
+#[derive(Drop)]
+pub(crate) struct Change<'a> {
+    pub numbers: &'a [u32],
+    pub at: usize,
+    pub number: u32,
+}
+
+impl Change<'_> {
+    /// Whether these are the numbers then, and there is that place.
+    pub(crate) fn makes(&self, numbers: &[u32]) -> bool
+        ensures changed { IsTrue result
+            → numbers.now ≡ slice_set self.now.numbers.now self.now.at self.now.number }
+        ensures range { IsTrue result → self.now.at < length self.now.numbers.now }
+    {
+        let at = self.at;
+        if numbers.len() != self.numbers.len() || at >= numbers.len() {
+            return false;
+        }
+        if numbers[at] != self.number || !are_same(&numbers[..at], &self.numbers[..at]) {
+            return false;
+        }
+        are_same(&numbers[at + 1..], &self.numbers[at + 1..])
+    }
+
+    /// A number for the numbers then, behind others.
+    pub(crate) fn digest_after(&self, digest: u64) -> u64 {
+        let mut hash = begun(digest);
+        for (at, number) in self.numbers.iter().enumerate() {
+            let number = if at == self.at { self.number } else { *number };
+            hash = joined(hash, number);
+        }
+        hash
+    }
+}
+
+/// A digest before the first of some numbers.
+pub(crate) fn begun(digest: u64) -> u64 {
+    digest.wrapping_mul(0x9E37_79B9_7F4A_7C15)
+}
+
+/// A digest with one number more.
+pub(crate) fn joined(digest: u64, number: u32) -> u64 {
+    let hash = (digest ^ (number as u64)).wrapping_mul(0x0000_0100_0000_01B3);
+    hash ^ (hash >> 29)
+}

@@ -1,0 +1,135 @@
+//! Objects, each once.
+ghost use Rattle.std.specs.Prelude.{◌≡◌, ℕ, [], Some, map, slice_get, IfOk, IfSome};
+ghost use Rattle.std.specs.Option.{option_copied};
+ghost use Rattle.ipc_kernel.specs.declared.place.Place.{Place};
+
+use super::rows::number_of;
+use crate::index::Index;
+use crate::place::Place;
+use std::alloc::{AllocError, Global};
+use std::marker::Model;
+
+/// Objects, each with a number, from 0.
+#[derive(Drop)]
+pub(crate) struct Objects {
+    objects: Vec<Place>,
+    index: Index,
+    /// About how many bytes the objects take.
+    held: usize,
+}
+
+impl Model for Objects {
+    ghost use Rattle.std.specs.Prelude.{List};
+    ghost use Rattle.ipc_kernel.specs.declared.place.Place.{Place};
+
+    ghost Value = { List Place };
+
+    ghost view = { λ a. a.objects.items };
+}
+
+impl Objects {
+    /// No object.
+    pub(crate) fn new(alloc: Global) -> Result<Objects, AllocError>
+        ensures none { IfOk result (λ objects. objects ≡ []) }
+    {
+        Ok(Objects {
+            objects: Vec::new(alloc),
+            index: Index::new(alloc)?,
+            held: 0,
+        })
+    }
+
+    /// The object with a number, if there is one.
+    pub(crate) fn get(&self, number: u32) -> Option<&Place>
+        ensures object { option_copied result ≡ slice_get self.now number }
+    {
+        self.objects.get(number as usize)
+    }
+
+    /// The number of an equal object, if one is kept.
+    fn find(&self, object: &Place, digest: u64) -> Option<u32>
+        ensures found { IfSome result (λ i. slice_get self.now i ≡ Some object.now) }
+    {
+        let mut number = self.index.newest(digest);
+        while number > 0 {
+            if let Ok(at) = u32::try_from(number - 1) {
+                if let Some(kept) = self.get(at) {
+                    if kept.is_same(object) {
+                        return Some(at);
+                    }
+                }
+            }
+            number = self.index.older(number);
+        }
+        None
+    }
+
+    /// Keeps an object; with its number.
+    pub(crate) fn keep(&mut self, alloc: Global, object: &Place) -> Result<u32, AllocError>
+        ensures kept { IfOk result (λ i. slice_get self.new i ≡ Some object.now) }
+        ensures grows { (i : ℕ) (x : Place)
+            → slice_get self.old i ≡ Some x → slice_get self.new i ≡ Some x }
+    {
+        let digest = object.digest();
+        if let Some(number) = self.find(object, digest) {
+            return Ok(number);
+        }
+        let number = number_of(self.objects.len())?;
+        let copy = object.copy(alloc)?;
+        self.objects.reserve(1)?;
+        self.index.add(digest)?;
+        self.objects.push(copy)?;
+        self.held = self.held.saturating_add(object.size());
+        Ok(number)
+    }
+
+    /// Keeps objects; with their numbers.
+    pub(crate) fn keep_all(
+        &mut self,
+        alloc: Global,
+        objects: &[Place],
+    ) -> Result<Vec<u32>, AllocError>
+        ensures kept { IfOk result (λ numbers.
+            map (slice_get self.new) numbers.items ≡ map Some objects.now) }
+        ensures grows { (i : ℕ) (x : Place)
+            → slice_get self.old i ≡ Some x → slice_get self.new i ≡ Some x }
+    {
+        let mut numbers = Vec::with_capacity(alloc, objects.len())?;
+        for object in objects {
+            numbers.push(self.keep(alloc, object)?)?;
+        }
+        Ok(numbers)
+    }
+
+    /// Copies of the objects with these numbers, if there are all.
+    pub(crate) fn copies(
+        &self,
+        alloc: Global,
+        numbers: &[u32],
+    ) -> Result<Option<Vec<Place>>, AllocError>
+        ensures equal { IfOk result (λ found. IfSome found (λ copies.
+            map (slice_get self.now) numbers.now ≡ map Some copies.items)) }
+    {
+        let mut copies = Vec::with_capacity(alloc, numbers.len())?;
+        for number in numbers {
+            let Some(object) = self.get(*number) else {
+                return Ok(None);
+            };
+            copies.push(object.copy(alloc)?)?;
+        }
+        Ok(Some(copies))
+    }
+
+    /// About how many bytes the objects take.
+    pub(crate) fn size(&self) -> usize {
+        self.held
+            .saturating_add(Index::ENTRY.saturating_mul(self.objects.len()))
+    }
+
+    /// Lets go of the index.
+    pub(crate) fn forget(&mut self, alloc: Global)
+        ensures same { self.new ≡ self.old }
+    {
+        self.index = Index::none(alloc);
+    }
+}

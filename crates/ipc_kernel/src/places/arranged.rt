@@ -1,0 +1,87 @@
+//! Places in the order of their names, and places that are renamed.
+ghost use Rattle.std.specs.Prelude.{◌<◌, length, IfSome};
+ghost use Rattle.ipc_kernel.specs.Private.Renamings.{Permutes};
+
+use super::Places;
+use crate::arrangement::Arrangement;
+use crate::place::Place;
+use std::alloc::{AllocError, Global};
+
+/// The first by kind and name of the objects that aren't taken.
+fn first_left(places: &[Place], arrangement: &Arrangement) -> Option<u8> {
+    let mut first: Option<u8> = None;
+    for (at, place) in places.iter().enumerate() {
+        let Ok(number) = u8::try_from(at) else {
+            return first;
+        };
+        if !place.is_empty() && !arrangement.has(number) {
+            let is_first = match first {
+                Some(other) => match places.get(other as usize) {
+                    Some(other) => place.is_before(other),
+                    None => true,
+                },
+                None => true,
+            };
+            if is_first {
+                first = Some(number);
+            }
+        }
+    }
+    first
+}
+
+/// Takes each object that isn't taken, in the order of their kinds and names.
+fn arrange(places: &[Place], arrangement: &mut Arrangement)
+    requires permutation { Permutes arrangement.old.renaming }
+    ensures permutation { Permutes arrangement.new.renaming }
+{
+    for _ in 0..places.len() {
+        let Some(place) = first_left(places, arrangement) else {
+            return;
+        };
+        arrangement.take(place);
+    }
+}
+
+/// The objects of so many places, each from where a list has it.
+fn renamed(
+    alloc: Global,
+    places: &[Place],
+    from: &[u8],
+    count: u8,
+) -> Result<Vec<Place>, AllocError> {
+    let mut objects = Vec::with_capacity(alloc, count as usize)?;
+    for at in 0..count {
+        let object = match from.get(at as usize) {
+            Some(place) => places.get(*place as usize),
+            None => None,
+        };
+        match object {
+            Some(object) => objects.push(object.copy(alloc)?)?,
+            None => objects.push(Place::Empty)?,
+        }
+    }
+    Ok(objects)
+}
+
+impl Places {
+    /// Takes each object that isn't taken, first the queues and then the semaphores, each in the order
+    /// of their names.
+    pub(crate) fn arrange(&self, arrangement: &mut Arrangement)
+        requires permutation { Permutes arrangement.old.renaming }
+        ensures permutation { Permutes arrangement.new.renaming }
+    {
+        arrange(self.used(), arrangement);
+    }
+
+    /// The objects in the order of an arrangement.
+    pub(crate) fn renamed(
+        &self,
+        alloc: Global,
+        arrangement: &Arrangement,
+    ) -> Result<Vec<Place>, AllocError> {
+        let from = &arrangement.renaming.from;
+        let objects = renamed(alloc, self.places.as_slice(), from, arrangement.count)?;
+        Ok(objects)
+    }
+}

@@ -1,0 +1,158 @@
+//! Kernels that are kept as their parts. That each part is kept once is in no contract, nor that kernels that are alike
+//! become equal.
+use crate::support::{kernel_of, mq_open, sem_open, succeeds};
+use ipc_kernel::{Call, Kernel, Kernels};
+use std::alloc::Global;
+use std::process::Abort;
+
+/// The places of the queue and of the semaphore of `made`.
+const QUEUE: u8 = 0;
+
+const SEMAPHORE: u8 = 1;
+
+/// A kernel of two processes, of which process 0 has made the queue `/q`, and process 1 the semaphore `/s`.
+fn made(rt: &impl Abort, alloc: Global) -> Kernel {
+    let mut kernel = kernel_of(rt, alloc, 2);
+    succeeds(rt, alloc, &mut kernel, 0, mq_open(rt, alloc, 0x42));
+    succeeds(rt, alloc, &mut kernel, 1, sem_open(rt, alloc));
+    kernel
+}
+
+/// The same, after a post by process 1.
+fn posted(rt: &impl Abort, alloc: Global) -> Kernel {
+    let mut kernel = made(rt, alloc);
+    succeeds(rt, alloc, &mut kernel, 1, Call::SemPost { slot: 0 });
+    kernel
+}
+
+fn no_kernels(rt: &impl Abort, alloc: Global) -> Kernels {
+    match Kernels::new(alloc) {
+        Ok(kernels) => kernels,
+        Err(_) => Kernels::new(alloc).expect(rt, "memory"),
+    }
+}
+
+/// The number of a kernel that is kept.
+fn keep(rt: &impl Abort, alloc: Global, kernels: &mut Kernels, kernel: &Kernel) -> u32 {
+    match kernels.keep(alloc, kernel) {
+        Ok(number) => number,
+        Err(_) => kernels.keep(alloc, kernel).expect(rt, "memory"),
+    }
+}
+
+fn keep_with(rt: &impl Abort, kernels: &mut Kernels, kernel: u32, after: u32) -> Option<u32> {
+    let object = kernels.object_at(after, SEMAPHORE)?;
+    let tables = kernels.tables_at(after, 1)?;
+    match kernels.keep_with(kernel, 1, SEMAPHORE, object, tables) {
+        Ok(number) => number,
+        Err(_) => {
+            let again = kernels.keep_with(kernel, 1, SEMAPHORE, object, tables);
+            again.expect(rt, "memory")
+        }
+    }
+}
+
+fn get(rt: &impl Abort, alloc: Global, kernels: &Kernels, number: u32) -> Kernel {
+    let found = match kernels.get(alloc, number) {
+        Ok(found) => found,
+        Err(_) => kernels.get(alloc, number).expect(rt, "memory"),
+    };
+    found.expect(rt, "a kernel")
+}
+
+fn arranged(rt: &impl Abort, alloc: Global, kernel: &Kernel) -> Kernel {
+    match kernel.arranged(alloc) {
+        Ok(arranged) => arranged,
+        Err(_) => kernel.arranged(alloc).expect(rt, "memory"),
+    }
+}
+
+/// Two kernels that differ in one object have the other parts in common.
+fn keeps_each_part_once(rt: &impl Abort, alloc: Global) {
+    let mut kernels = no_kernels(rt, alloc);
+    let before = keep(rt, alloc, &mut kernels, &made(rt, alloc));
+    let after = keep(rt, alloc, &mut kernels, &posted(rt, alloc));
+    assert!(rt; before != after, "two kernels");
+    let queue = kernels.object_at(before, QUEUE);
+    assert!(rt;
+        queue.is_some() && kernels.object_at(after, QUEUE) == queue,
+        "the queue"
+    );
+    let semaphore = kernels.object_at(before, SEMAPHORE);
+    assert!(rt;
+        kernels.object_at(after, SEMAPHORE) != semaphore,
+        "the semaphores"
+    );
+    let tables = kernels.tables_at(before, 1);
+    assert!(rt;
+        tables.is_some() && kernels.tables_at(after, 1) == tables,
+        "the tables"
+    );
+    let again = keep(rt, alloc, &mut kernels, &made(rt, alloc));
+    assert!(rt; again == before, "the kernel that is kept");
+}
+
+/// The kernel after a call is the one before it with another object.
+fn knows_the_kernel_after(rt: &impl Abort, alloc: Global) {
+    let mut kernels = no_kernels(rt, alloc);
+    let before = keep(rt, alloc, &mut kernels, &made(rt, alloc));
+    let after = keep(rt, alloc, &mut kernels, &posted(rt, alloc));
+    let made = keep_with(rt, &mut kernels, before, after);
+    assert!(rt; made == Some(after), "the kernel after the post");
+}
+
+/// The kernels before and after a call are given back.
+fn gives_back(rt: &impl Abort, alloc: Global) {
+    let mut kernels = no_kernels(rt, alloc);
+    let before = made(rt, alloc);
+    let after = posted(rt, alloc);
+    let first = keep(rt, alloc, &mut kernels, &before);
+    let second = keep(rt, alloc, &mut kernels, &after);
+    assert!(rt;
+        get(rt, alloc, &kernels, first).is_same(&before),
+        "the first kernel"
+    );
+    assert!(rt;
+        get(rt, alloc, &kernels, second).is_same(&after),
+        "the second kernel"
+    );
+}
+
+/// Both kernels become equal.
+fn become_equal(rt: &impl Abort, alloc: Global, one: &Kernel, other: &Kernel) {
+    assert!(rt; !one.is_same(other), "not the same");
+    let first = arranged(rt, alloc, one);
+    let second = arranged(rt, alloc, other);
+    assert!(rt; first.is_same(&second), "the same");
+}
+
+#[test]
+fn each_part_is_kept_once(rt: HostRuntime) {
+    keeps_each_part_once(&rt, rt.alloc());
+}
+
+#[test]
+fn a_call_makes_a_kernel_with_other_parts(rt: HostRuntime) {
+    knows_the_kernel_after(&rt, rt.alloc());
+}
+
+#[test]
+fn a_kernel_is_given_back(rt: HostRuntime) {
+    gives_back(&rt, rt.alloc());
+}
+
+#[test]
+fn kernels_that_are_alike_become_equal(rt: HostRuntime) {
+    let alloc = rt.alloc();
+    let mut one = made(&rt, alloc);
+    let mut other = kernel_of(&rt, alloc, 2);
+    succeeds(&rt, alloc, &mut other, 1, sem_open(&rt, alloc));
+    succeeds(&rt, alloc, &mut other, 0, mq_open(&rt, alloc, 0x42));
+    become_equal(&rt, alloc, &one, &other);
+    succeeds(&rt, alloc, &mut one, 0, Call::Exit);
+    succeeds(&rt, alloc, &mut other, 0, Call::Exit);
+    become_equal(&rt, alloc, &one, &other);
+    succeeds(&rt, alloc, &mut one, 1, Call::Exit);
+    succeeds(&rt, alloc, &mut other, 1, Call::Exit);
+    become_equal(&rt, alloc, &one, &other);
+}
