@@ -12,8 +12,9 @@ use Rattle.lab_explore.specs.declared.picture.Node.{Node}
 use Rattle.lab_explore.specs.declared.picture.Arrow.{Arrow}
 use Rattle.lab_explore.specs.declared.picture.Picture.{Picture}
 use Rattle.lab_explore.specs.declared.store.Edge.{Edge}
-use Rattle.lab_explore.specs.declared.store.Next.TheVariants.{To}
-use Rattle.lab_explore.specs.declared.store.Row.{Row}
+use Rattle.lab_explore.specs.declared.store.Next.{Next}
+use Rattle.lab_explore.specs.declared.store.Next.TheVariants.{Nothing, To}
+use Rattle.lab_explore.specs.Private.Rows.{Row}
 use Rattle.lab_explore.specs.declared.store.Store.{Store}
 use Rattle.lab_explore.specs.declared.walking.Walk.{Walk}
 use Rattle.lab_sched.specs.Schedules.{steps_of}
@@ -24,13 +25,13 @@ use Rattle.lab_explore.specs.Untried.{GoesOn, NoneGoesOn, untried}
 use Rattle.lab_explore.specs.Pictures.{AreAtCalls, IsNode, IsStep, HaveAllSteps, BeginsAt, IsNearer, HaveFewestNodeCalls}
 use Rattle.lab_explore.specs.Private.Depths.{depth_of, IsNear, AreDepths}
 use Rattle.lab_explore.specs.Private.Drawn.{IsNodeOfRow, AreNodesOfRows, arrow_of, IsRowStep, IsPictureOf}
-use Rattle.lab_explore.specs.Private.Stored.{IsState, IsRow, IsAt, IsLike, IsReady, IsStore, IsMove, AreExpanded}
+use Rattle.lab_explore.specs.Private.Stored.{IsState, IsRow, IsAt, IsLike, IsReady, IsStore, IsNextAt, AreExpanded}
 use Rattle.lab_explore.specs.Private.Walked.{IsWalk}
 use Rattle.lab_explore.proofs.AlikeWorlds.{world_then, world_back, same_effect, step_alike, consistent_run}
 use Rattle.lab_explore.proofs.FirstWorlds.{at_unique, reached_advance}
 use Rattle.lab_explore.proofs.Growths.{state_kept}
 use Rattle.lab_explore.proofs.Pushes.{all_at}
-use Rattle.lab_explore.proofs.StepsOfRows.{IsPlaced, moved_at, goes_at}
+use Rattle.lab_explore.proofs.StepsOfRows.{moved_at, goes_on}
 
 some_at : {A : Type 0} (xs : List A) (i : ℕ) → i < length xs → (x : A) × (slice_get xs i ≡ Some x)
 some_at [] i within = absurd (omega (arith, within))
@@ -47,7 +48,7 @@ each_more P (z ∷ zs) x h last (suc i) y e = each_more (λ n. P (suc n)) zs x (
 
 -- the processes of the world of a row are at calls
 row_at_calls : (t : Store) (r : Row) (w : WorldState) → IsStore t → IsRow t r w → AreAtCalls w
-row_at_calls t r w is row p s at = by (slice_get r.states.items p) (subst (λ o. Both (IsState t) (slice_get r.states.items p) o) at (row.states p))
+row_at_calls t r w is row p s at = by (slice_get r.states p) (subst (λ o. Both (IsState t) (slice_get r.states p) o) at (row.states p))
   where
     by : (o : Option ℕ) → Both (IsState t) o (Some s) → IsAtCall s
     by None h = absurd h
@@ -109,7 +110,7 @@ nodes_more start t depths at depth old new n count each is deep pushed = (
 node_at : (start : WorldState) (t : Store) (depths : List ℕ) (ns : List Node) (i : ℕ) (w : WorldState) → AreNodesOfRows start t depths ns → IsAt t i w
     → (n : Node) × (slice_get ns i ≡ Some n) × IsNodeOfRow start t (depth_of depths i) i n × AreAlike w n.world
 node_at start t depths ns i w nodes here =
-    let below = get_past t.rows.items i here.0 here.1 in
+    let below = get_past t.rows i here.0 here.1 in
     let count = nodes.count in
     let found = some_at ns i (omega (arith, below, count)) in
     let is = nodes.each i found.0 found.1 in
@@ -128,18 +129,18 @@ advance_from w v x a h = record {
 }
 
 -- the step of an edge that is a move, which leads to the row that it names
-pub row_step : (t : Store) (e : Edge) (old i kernel state taken : ℕ) (r : Row) → IsStore t → IsPlaced t e.from e.pid old i → IsMove t old e.pid i (To kernel state taken) → r.kernel ≡ kernel
-    → ((x : Row) × (slice_get t.rows.items e.from ≡ Some x) × (r.states.items ≡ set x.states.items e.pid state)) → ((w : WorldState) → IsRow t r w → IsAt t e.to w) → IsRowStep t (arrow_of e)
-row_step t e old i kernel state taken r is placed move kernel-is states to =
-    let w = all_at (λ x. (w : WorldState) × IsRow t x w) t.rows.items e.from placed.0 is.rows placed.1 in
-    let here : IsAt t e.from w.0 = (placed.0, placed.1, w.1) in
-    let m = moved_at t w.0 e.from e.pid i old kernel state taken (To kernel state taken) r is here placed move refl kernel-is states in
+pub row_step : (t : Store) (e : Edge) (n : Next) (kernel state taken : ℕ) (r : Row) → IsStore t → IsNextAt t e.from e.pid n → n ≡ To kernel state taken → r.kernel ≡ kernel
+    → ((x : Row) × (slice_get t.rows e.from ≡ Some x) × (r.states ≡ set x.states e.pid state)) → slice_get t.rows e.to ≡ Some r → IsRowStep t (arrow_of e)
+row_step t e n kernel state taken r is next next-is kernel-is states to =
+    let w = all_at (λ x. (w : WorldState) × IsRow t x w) t.rows e.from states.0 is.rows states.1 in
+    let here : IsAt t e.from w.0 = (states.0, states.1, w.1) in
+    let m = moved_at t w.0 e.from e.pid kernel state taken n r is here next next-is kernel-is states in
     record {
       before = w.0;
       after = m.0;
       from = here;
-      to = to m.0 m.1;
-      goes_on = goes_at t w.0 e.from e.pid i old kernel state taken (To kernel state taken) here placed move refl;
+      to = (r, to, m.1);
+      goes_on = goes_on t w.0 e.from e.pid n here next (λ none. let clash : To kernel state taken ≡ Nothing = sym next-is ∙ none in absurd (cc));
       leads = m.2;
     }
 
@@ -168,7 +169,7 @@ all_steps start t depths ns arrows consistent nodes same expanded i p w here goe
     let is = nodes.each i n here.1 in
     let v = is.row.0 in
     let held = node_consistent start n consistent is.node in
-    let done = expanded i (get_past t.rows.items i is.row.1.0 is.row.1.1) in
+    let done = expanded i (get_past t.rows i is.row.1.0 is.row.1.1) in
     let world : v ≡ done.0 = at_unique t i v done.0 is.row.1 done.1 in
     let first : GoesOn (step_effect_in n.world p) = subst (λ x. GoesOn (step_effect_in x p)) (sym here.2) goes in
     let second : GoesOn (step_effect_in v p) = subst GoesOn (sym (same_effect n.world v p held (world_back v n.world is.row.2))) first in

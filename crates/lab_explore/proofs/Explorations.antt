@@ -2,6 +2,8 @@
 use Rattle.std.proofs.Common.{ℕ, All, arith, count_by, ◌≡◌, ◌≤◌, ◌+◌, ◌++◌, [], ◌∷◌, slice_get, List, Option, Some, None, refl, sym, ap, subst, ◌∙◌, length, map, inl, inr}
 use Rattle.ipc_kernel.specs.Kernel.{KernelState, empty_kernel}
 use Rattle.lab_sched.specs.declared.process.Process.{Process as Kept}
+use Rattle.lab_sched.specs.declared.process.Process.TheVariants as kept
+use Rattle.std.proofs.lemmas.List.Elements.{All-weaker}
 use Rattle.ipc_kernel.specs.Alike.{IsConsistent}
 use Rattle.ipc_kernel.proofs.Consistents.{consistent_empty}
 use Rattle.lab_explore.specs.Calls.{AreAlike}
@@ -14,7 +16,7 @@ use Rattle.lab_sched.specs.declared.verdict.Verdict.{Verdict}
 use Rattle.lab_sched.specs.declared.verdict.Verdict.TheVariants as verdict
 use Rattle.lab_sched.proofs.WorldLemmas.{fresh_world}
 use Rattle.lab_sched.proofs.IneffectiveProcesses.{at_rest}
-use Rattle.lab_sched.specs.Held.{process_view, IsWorld}
+use Rattle.lab_sched.specs.Held.{process_view, IsHeld, IsWorld}
 use Rattle.lab_sched.specs.Starts.{AreStarts, initial_world}
 use Rattle.lab_explore.specs.declared.store.Store.{Store}
 use Rattle.lab_explore.specs.declared.ends.End.{End}
@@ -150,3 +152,12 @@ starts_ask ps qs k same starts = running_ask (record { processes = map process_v
 -- the kernel of a laboratory before its first step is consistent
 pub fresh_consistent : (w : WorldState) (n : ℕ) → w.kernel ≡ empty_kernel n → IsConsistent w.kernel
 fresh_consistent w n is = subst IsConsistent (sym is) (consistent_empty n)
+
+runs_held : (k : Kept) → Runs k → IsHeld k
+runs_held (kept.Running m) h = tt
+runs_held (kept.Waiting m c) h = absurd h
+runs_held (kept.Ended e) h = absurd h
+
+-- and asks for nothing else than what it waits for
+pub starts_held : (ps qs : List Kept) → qs ≡ ps → AreStarts ps → All IsHeld qs
+starts_held ps qs same starts = subst (All IsHeld) (sym same) (All-weaker Runs IsHeld runs_held ps starts.running)

@@ -10,21 +10,18 @@ use Rattle.ipc_kernel.specs.Alike.{IsConsistent}
 use Rattle.lab_sched.specs.Worlds.{WorldState, StepEffect, nothing, local_step, kernel_step, step_effect_in, step, after, run, entries, IsEffective}
 use Rattle.lab_sched.specs.Execution.{AreEffective}
 use Rattle.lab_sched.specs.Schedules.{steps_of}
-use Rattle.lab_sched.specs.declared.stepped.Stepped.{Stepped}
 use Rattle.lab_sched.specs.declared.stepped.Stepped.TheVariants as stepped
 use Rattle.lab_sched.specs.Held.{stepped_of}
-use Rattle.lab_sched.proofs.ListPlaces.{get-set_same, get-set_other, get_past}
+use Rattle.lab_sched.proofs.ListPlaces.{get-set_other, get_past}
 use Rattle.ipc_kernel.specs.declared.call.Answer.TheVariants.{Done, Wait}
 use Rattle.lab_explore.specs.declared.walking.Walk.{Walk}
 use Rattle.lab_explore.specs.declared.passing.Pass.{Pass}
 use Rattle.lab_explore.specs.declared.rounds.Round.{Round}
 use Rattle.lab_explore.specs.Calls.{AreAlike}
-use Rattle.lab_explore.specs.Rounds.{IsRound}
-use Rattle.lab_explore.specs.Fairness.{HasPause, IsServed, IsPass, ArePasses, IsFairRound, AreFairlyEndless}
+use Rattle.lab_explore.specs.Fairness.{IsServed, IsPass, ArePasses, IsFairRound, AreFairlyEndless}
 use Rattle.lab_explore.specs.Private.Walked.{IsWalk}
 use Rattle.lab_explore.specs.Private.Passing.{IsPassing}
 use Rattle.lab_explore.proofs.Pushes.{all_at}
-use Rattle.lab_explore.proofs.AfterLocalSteps.{same_some}
 use Rattle.lab_explore.proofs.AlikeWorlds.{world_itself, world_then, world_back, same_effect, run_alike, effective_alike, consistent_run}
 
 -- a step that is told as none has no effect, and changes nothing

@@ -7,7 +7,7 @@ use Rattle.lab_sched.specs.declared.process.Process.{Process as Kept}
 use Rattle.lab_sched.specs.Worlds.{Process, WorldState, step_effect_in, step}
 use Rattle.lab_sched.specs.Held.{process_view}
 use Rattle.lab_sched.proofs.ListPlaces.{get_past}
-use Rattle.lab_explore.specs.declared.store.Row.{Row}
+use Rattle.lab_explore.specs.Private.Rows.{Row}
 use Rattle.lab_explore.specs.declared.store.Store.{Store}
 use Rattle.lab_explore.specs.Calls.{IsAhead, Both, Alongside, IsAdvance}
 use Rattle.lab_explore.specs.Closed.{HasAdvance}
@@ -45,11 +45,17 @@ chosen t (i ∷ is) (s ∷ ss) h =
     (first.0 ∷ rest.0, alongside_cons (IsState t) i first.0 is rest.0 first.1 rest.1, alongside_cons IsAhead s first.0 ss rest.0 first.2 rest.2)
 
 -- the world at its first calls, by its row
-pub begins : (t : Store) (r : Row) (k : KernelState) (ss : List Process) → IsKernel t r.kernel k → IsBegun t r.states.items ss
+pub begins : (t : Store) (r : Row) (k : KernelState) (ss : List Process) → IsKernel t r.kernel k → IsBegun t r.states ss
     → (v : WorldState) × IsRow t r v × IsAdvance (record { processes = ss; kernel = k }) v
 begins t r k ss kernel begun =
-    let us = chosen t r.states.items ss begun in
-    (record { processes = us.0; kernel = kernel.0 }, record { kernel = kernel.1; states = us.1 }, record { kernel = kernel.2; processes = us.2 })
+    let us = chosen t r.states ss begun in
+    (record { processes = us.0; kernel = kernel.0 }, record { kernel = kernel.1; settled = kernel.3; states = us.1 }, record { kernel = kernel.2; processes = us.2 })
+
+-- the same by the parts of the row
+pub begins_row : (t : Store) (r : Row) (kernel : ℕ) (states : List ℕ) (k : KernelState) (ss : List Process) → r.kernel ≡ kernel → r.states ≡ states → IsKernel t kernel k → IsBegun t states ss
+    → (v : WorldState) × IsRow t r v × IsAdvance (record { processes = ss; kernel = k }) v
+begins_row t r kernel states k ss kernel-is states-is here begun =
+    begins t r k ss (subst (λ n. IsKernel t n k) (sym kernel-is) here) (subst (λ ns. IsBegun t ns ss) (sym states-is) begun)
 
 same_state : (t : Store) (o : Option ℕ) (a b : Option Process) → Both (IsState t) o a → Both (IsState t) o b → a ≡ b
 same_state t None None None h k = refl
@@ -62,13 +68,13 @@ same_state t (Some i) (Some x) (Some y) h k = ap (λ z. Some z) (same_some x y (
 -- a row stands for one world
 pub row_unique : (t : Store) (r : Row) (w v : WorldState) → IsRow t r w → IsRow t r v → w ≡ v
 row_unique t r w v h k =
-    let processes : w.processes ≡ v.processes = same_by_gets w.processes v.processes (λ p. same_state t (slice_get r.states.items p) (slice_get w.processes p) (slice_get v.processes p) (h.states p) (k.states p)) in
-    let kernel : w.kernel ≡ v.kernel = same_some w.kernel v.kernel (slice_get t.kernels.items r.kernel) h.kernel k.kernel in
+    let processes : w.processes ≡ v.processes = same_by_gets w.processes v.processes (λ p. same_state t (slice_get r.states p) (slice_get w.processes p) (slice_get v.processes p) (h.states p) (k.states p)) in
+    let kernel : w.kernel ≡ v.kernel = same_some w.kernel v.kernel (slice_get t.kernels.kernels r.kernel) h.kernel k.kernel in
     ap (λ ps. record { processes = ps; kernel = w.kernel }) processes ∙ ap (λ x. record { processes = v.processes; kernel = x }) kernel
 
 pub at_unique : (t : Store) (i : ℕ) (w v : WorldState) → IsAt t i w → IsAt t i v → w ≡ v
 at_unique t i w v h k =
-    let same : h.0 ≡ k.0 = same_some h.0 k.0 (slice_get t.rows.items i) h.1 k.1 in
+    let same : h.0 ≡ k.0 = same_some h.0 k.0 (slice_get t.rows i) h.1 k.1 in
     row_unique t k.0 w v (subst (λ r. IsRow t r w) same h.2) k.2
 
 -- what is reached is an advance
@@ -91,7 +97,7 @@ all_levels t start depths same searched deep = record {
       subst (HasAdvance (AreAtDepth t depths 0)) (sym same) (first.0, (0, first.1, omega arith), first.2);
   goes_on = λ n v p held effective.
       let i = held.0 in
-      let done = searched.expanded i (get_past t.rows.items i held.1.0 held.1.1) in
+      let done = searched.expanded i (get_past t.rows i held.1.0 held.1.1) in
       let same : v ≡ done.0 = at_unique t i v done.0 held.1 done.1 in
       let edge = done.2 p (subst (λ w. GoesOn (step_effect_in w p)) same effective) in
       let near : depth_of depths edge.1.to ≤ depth_of depths edge.1.from + 1 = all_at (IsNear depths) t.edges.items edge.0 edge.1 deep.near edge.3 in

@@ -2,29 +2,49 @@
 use Rattle.std.proofs.Common.{All, ℕ, ◌≡◌, List, [], ◌∷◌, ◌++◌, Option, Some, None, refl, sym, ap, subst, ◌∙◌, slice_get, length}
 use Rattle.std.specs.Option.{option_map}
 use Rattle.ipc_kernel.specs.Kernel.{KernelState}
-use Rattle.ipc_kernel.specs.Alike.{IsAlike}
-use Rattle.ipc_kernel.proofs.Alikes.{alike_itself}
 use Rattle.lab_sched.specs.declared.process.Process.{Process as Kept}
 use Rattle.lab_sched.specs.Worlds.{Process, WorldState}
 use Rattle.lab_sched.specs.Held.{process_view}
-use Rattle.lab_explore.specs.declared.store.Row.{Row}
+use Rattle.lab_explore.specs.Private.Rows.{Row}
 use Rattle.lab_explore.specs.declared.store.Edge.{Edge}
 use Rattle.lab_explore.specs.declared.store.Store.{Store}
 use Rattle.lab_explore.specs.declared.store.Next.{Next}
 use Rattle.lab_explore.specs.declared.store.Next.TheVariants.{Nothing, Limit, To}
 use Rattle.lab_explore.specs.declared.known.Moves.{Moves}
-use Rattle.lab_explore.specs.Private.Known.{AreKnown}
-use Rattle.lab_explore.specs.Calls.{Alongside}
+use Rattle.lab_explore.specs.Private.Known.{AreMoves, AreKnown}
+use Rattle.lab_explore.specs.Private.Touched.{AreParts, IsEffect, IsTouched, AreTouched}
+use Rattle.lab_explore.specs.declared.touches.Touch.{Touch}
+use Rattle.lab_explore.specs.declared.touches.Touched.{Touched}
+use Rattle.lab_explore.specs.declared.touches.Touches.{Touches}
+use Rattle.lab_explore.specs.declared.touches.Effect.{Effect}
+use Rattle.lab_explore.specs.declared.touches.Effect.TheVariants as effect
+use Rattle.lab_explore.specs.declared.known.Move.{Move}
+use Rattle.ipc_kernel.specs.Kept.{GrowsKept}
+use Rattle.ipc_kernel.specs.declared.place.Place.{Place}
+use Rattle.ipc_kernel.specs.declared.process.OpenTables.{OpenTables}
 use Rattle.lab_explore.specs.Private.Stored.{IsState, IsKernel, IsRow, IsAt, IsReady, IsStore, Grows, IsNext, IsMove, HasEdge, IsTried, IsExpanded}
 use Rattle.std.proofs.lemmas.List.Elements.{All-push, All-weaker}
 use Rattle.lab_explore.proofs.Pushes.{both_weaker, keeps_push, get_pushed}
 
 pub grows_more : (t u v : Store) → Grows t u → Grows u v → Grows t v
 grows_more t u v g h = record {
-  kernels = λ i x e. h.kernels i x (g.kernels i x e);
+  kernels = record {
+    objects = λ i x e. h.kernels.objects i x (g.kernels.objects i x e);
+    tables = λ i x e. h.kernels.tables i x (g.kernels.tables i x e);
+    kernels = λ i x e. h.kernels.kernels i x (g.kernels.kernels i x e);
+  };
   states = λ i x e. h.states i x (g.states i x e);
   rows = λ i x e. h.rows i x (g.rows i x e);
   edges = λ i x e. h.edges i x (g.edges i x e);
+}
+
+-- a store is what it was where nothing was added
+pub grows_same : (t : Store) → Grows t t
+grows_same t = record {
+  kernels = record { objects = λ i x e. e; tables = λ i x e. e; kernels = λ i x e. e };
+  states = λ i x e. e;
+  rows = λ i x e. e;
+  edges = λ i x e. e;
 }
 
 kept_at : (o : Option Kept) (s : Process) → option_map process_view o ≡ Some s → (k : Kept) × (o ≡ Some k) × (process_view k ≡ s)
@@ -42,15 +62,16 @@ state_grows t u i s g h =
 
 pub row_grows : (t u : Store) (r : Row) (w : WorldState) → Grows t u → IsRow t r w → IsRow u r w
 row_grows t u r w g h = record {
-  kernel = g.kernels r.kernel w.kernel h.kernel;
-  states = λ p. both_weaker (IsState t) (IsState u) (λ i s. state_grows t u i s g) (slice_get r.states.items p) (slice_get w.processes p) (h.states p);
+  kernel = g.kernels.kernels r.kernel w.kernel h.kernel;
+  settled = h.settled;
+  states = λ p. both_weaker (IsState t) (IsState u) (λ i s. state_grows t u i s g) (slice_get r.states p) (slice_get w.processes p) (h.states p);
 }
 
 pub at_grows : (t u : Store) (i : ℕ) (w : WorldState) → Grows t u → IsAt t i w → IsAt u i w
 at_grows t u i w g h = (h.0, g.rows i h.0 h.1, row_grows t u h.0 w g h.2)
 
 pub kernel_grows : (t u : Store) (i : ℕ) (k : KernelState) → Grows t u → IsKernel t i k → IsKernel u i k
-kernel_grows t u i k g h = (h.0, g.kernels i h.0 h.1, h.2)
+kernel_grows t u i k g h = (h.0, g.kernels.kernels i h.0 h.1, h.2, h.3)
 
 pub next_grows : (t u : Store) (k : KernelState) (p : ℕ) (s : Process) (n : Next) → Grows t u → IsNext t k p s n → IsNext u k p s n
 next_grows t u k p s Nothing g h = h
@@ -58,7 +79,7 @@ next_grows t u k p s Limit g h = h
 next_grows t u k p s (To kernel state taken) g h = (h.0, kernel_grows t u kernel _ g h.1, state_grows t u state h.0 g h.2, h.3, h.4)
 
 pub move_grows : (t u : Store) (kernel p state : ℕ) (n : Next) → Grows t u → IsMove t kernel p state n → IsMove u kernel p state n
-move_grows t u kernel p state n g h = (h.0, h.1, g.kernels kernel h.0 h.2, state_grows t u state h.1 g h.3, next_grows t u h.0 p h.1 n g h.4)
+move_grows t u kernel p state n g h = (h.0, h.1, g.kernels.kernels kernel h.0 h.2, state_grows t u state h.1 g h.3, next_grows t u h.0 p h.1 n g h.4)
 
 edge_grows : (t u : Store) (i : ℕ) (w : WorldState) (p : ℕ) → Grows t u → HasEdge t i w p → HasEdge u i w p
 edge_grows t u i w p g h = (h.0, h.1, h.2, g.edges h.0 h.1 h.3, h.4, at_grows t u h.1.to h.2 g h.5, h.6, h.7)
@@ -70,23 +91,27 @@ pub expanded_grows : (t u : Store) (i : ℕ) → Grows t u → IsExpanded t i �
 expanded_grows t u i g h = (h.0, at_grows t u i h.0 g h.1, λ p. tried_grows t u i h.0 p g (h.2 p))
 
 -- each row of a store stands for the world that it stood for
-rows_grow : (t u : Store) → IsStore t → Grows t u → All (λ r. (w : WorldState) × IsRow u r w) t.rows.items
+rows_grow : (t u : Store) → IsStore t → Grows t u → All (λ r. (w : WorldState) × IsRow u r w) t.rows
 rows_grow t u s g =
-    All-weaker (λ r. (w : WorldState) × IsRow t r w) (λ r. (w : WorldState) × IsRow u r w) (λ r h. (h.0, row_grows t u r h.0 g h.1)) t.rows.items s.rows
+    All-weaker (λ r. (w : WorldState) × IsRow t r w) (λ r. (w : WorldState) × IsRow u r w) (λ r h. (h.0, row_grows t u r h.0 g h.1)) t.rows s.rows
 
 -- a store that has more kernels, or more states
-pub store_grows : (t u : Store) → IsStore t → Grows t u → All IsReady u.states.items → u.rows.items ≡ t.rows.items → IsStore u
+pub store_grows : (t u : Store) → IsStore t → Grows t u → All IsReady u.states.items → u.rows ≡ t.rows → IsStore u
 store_grows t u s g ready same = record {
   states = ready;
   rows = subst (λ xs. All (λ r. (w : WorldState) × IsRow u r w) xs) (sym same) (rows_grow t u s g);
 }
 
+-- the same kernels
+same_kernels : (t u : Store) → u.kernels ≡ t.kernels → GrowsKept t.kernels u.kernels
+same_kernels t u same = subst (λ ks. GrowsKept t.kernels ks) (sym same) (record { objects = λ i x e. e; tables = λ i x e. e; kernels = λ i x e. e })
+
 -- one state more
-pub states_pushed : (t u : Store) (k : Kept) → IsStore t → IsReady k → u.states.items ≡ t.states.items ++ k ∷ [] → u.kernels.items ≡ t.kernels.items → u.rows.items ≡ t.rows.items
+pub states_pushed : (t u : Store) (k : Kept) → IsStore t → IsReady k → u.states.items ≡ t.states.items ++ k ∷ [] → u.kernels ≡ t.kernels → u.rows ≡ t.rows
     → u.edges.items ≡ t.edges.items → Grows t u × IsStore u
 states_pushed t u k s ready states kernels rows edges =
     let g : Grows t u = record {
-      kernels = λ i x e. subst (λ xs. slice_get xs i ≡ Some x) (sym kernels) e;
+      kernels = same_kernels t u kernels;
       states = λ i x e. subst (λ xs. slice_get xs i ≡ Some x) (sym states) (keeps_push t.states.items k i x e);
       rows = λ i x e. subst (λ xs. slice_get xs i ≡ Some x) (sym rows) e;
       edges = λ i x e. subst (λ xs. slice_get xs i ≡ Some x) (sym edges) e;
@@ -98,33 +123,29 @@ state_pushed xs ys k i states is =
     ap (λ zs. option_map process_view (slice_get zs i)) states ∙ ap (λ n. option_map process_view (slice_get (xs ++ k ∷ []) n)) is
     ∙ ap (λ o. option_map process_view o) (get_pushed xs k)
 
--- one kernel more
-pub kernels_pushed : (t u : Store) (k : KernelState) → IsStore t → u.kernels.items ≡ t.kernels.items ++ k ∷ [] → u.states.items ≡ t.states.items → u.rows.items ≡ t.rows.items
-    → u.edges.items ≡ t.edges.items → Grows t u × IsStore u
-kernels_pushed t u k s kernels states rows edges =
+-- more kernels
+pub kernels_grown : (t u : Store) → IsStore t → GrowsKept t.kernels u.kernels → u.states.items ≡ t.states.items → u.rows ≡ t.rows → u.edges.items ≡ t.edges.items → Grows t u × IsStore u
+kernels_grown t u s kernels states rows edges =
     let g : Grows t u = record {
-      kernels = λ i x e. subst (λ xs. slice_get xs i ≡ Some x) (sym kernels) (keeps_push t.kernels.items k i x e);
+      kernels = kernels;
       states = λ i x e. subst (λ xs. slice_get xs i ≡ Some x) (sym states) e;
       rows = λ i x e. subst (λ xs. slice_get xs i ≡ Some x) (sym rows) e;
       edges = λ i x e. subst (λ xs. slice_get xs i ≡ Some x) (sym edges) e;
     } in
     (g, store_grows t u s g (subst (λ xs. All IsReady xs) (sym states) s.states) rows)
 
-pub kernel_pushed : (xs ys : List KernelState) (k : KernelState) (i : ℕ) → ys ≡ xs ++ k ∷ [] → i ≡ length xs → (j : KernelState) × (slice_get ys i ≡ Some j) × IsAlike k j
-kernel_pushed xs ys k i kernels is =
-    (k, at_end, alike_itself k)
-  where
-    at_end : slice_get ys i ≡ Some k
-    at_end = ap (λ zs. slice_get zs i) kernels ∙ ap (λ n. slice_get (xs ++ k ∷ []) n) is ∙ get_pushed xs k
+-- the same rows
+pub rows_same : (t u : Store) → IsStore t → u.rows ≡ t.rows → u.kernels ≡ t.kernels → u.states.items ≡ t.states.items → u.edges.items ≡ t.edges.items → Grows t u × IsStore u
+rows_same t u s rows kernels states edges = kernels_grown t u s (same_kernels t u kernels) states rows edges
 
 -- one row more
-pub rows_pushed : (t u : Store) (r : Row) → IsStore t → ((w : WorldState) × IsRow t r w) → u.rows.items ≡ t.rows.items ++ r ∷ [] → u.kernels.items ≡ t.kernels.items → u.states.items ≡ t.states.items
+pub rows_pushed : (t u : Store) (r : Row) → IsStore t → ((w : WorldState) × IsRow t r w) → u.rows ≡ t.rows ++ r ∷ [] → u.kernels ≡ t.kernels → u.states.items ≡ t.states.items
     → u.edges.items ≡ t.edges.items → Grows t u × IsStore u
 rows_pushed t u r s stands rows kernels states edges =
     let g : Grows t u = record {
-      kernels = λ i x e. subst (λ xs. slice_get xs i ≡ Some x) (sym kernels) e;
+      kernels = same_kernels t u kernels;
       states = λ i x e. subst (λ xs. slice_get xs i ≡ Some x) (sym states) e;
-      rows = λ i x e. subst (λ xs. slice_get xs i ≡ Some x) (sym rows) (keeps_push t.rows.items r i x e);
+      rows = λ i x e. subst (λ xs. slice_get xs i ≡ Some x) (sym rows) (keeps_push t.rows r i x e);
       edges = λ i x e. subst (λ xs. slice_get xs i ≡ Some x) (sym edges) e;
     } in
     let here : (w : WorldState) × IsRow u r w = (stands.0, row_grows t u r stands.0 g stands.1) in
@@ -132,35 +153,50 @@ rows_pushed t u r s stands rows kernels states edges =
       g,
       record {
         states = subst (λ xs. All IsReady xs) (sym states) s.states;
-        rows = subst (λ xs. All (λ q. (w : WorldState) × IsRow u q w) xs) (sym rows) (All-push (λ q. (w : WorldState) × IsRow u q w) t.rows.items r old here);
+        rows = subst (λ xs. All (λ q. (w : WorldState) × IsRow u q w) xs) (sym rows) (All-push (λ q. (w : WorldState) × IsRow u q w) t.rows r old here);
       },
     )
 
-pub row_pushed : (t u : Store) (r : Row) (w : WorldState) (n : ℕ) → Grows t u → u.rows.items ≡ t.rows.items ++ r ∷ [] → n ≡ length t.rows.items → IsRow t r w → IsAt u n w
+pub row_pushed : (t u : Store) (r : Row) (w : WorldState) (n : ℕ) → Grows t u → u.rows ≡ t.rows ++ r ∷ [] → n ≡ length t.rows → IsRow t r w → IsAt u n w
 row_pushed t u r w n g rows is h =
-    (r, ap (λ xs. slice_get xs n) rows ∙ ap (λ m. slice_get (t.rows.items ++ r ∷ []) m) is ∙ get_pushed t.rows.items r, row_grows t u r w g h)
+    (r, ap (λ xs. slice_get xs n) rows ∙ ap (λ m. slice_get (t.rows ++ r ∷ []) m) is ∙ get_pushed t.rows r, row_grows t u r w g h)
 
 -- one edge more
-pub edges_pushed : (t u : Store) (e : Edge) → IsStore t → u.edges.items ≡ t.edges.items ++ e ∷ [] → u.kernels.items ≡ t.kernels.items → u.states.items ≡ t.states.items → u.rows.items ≡ t.rows.items
+pub edges_pushed : (t u : Store) (e : Edge) → IsStore t → u.edges.items ≡ t.edges.items ++ e ∷ [] → u.kernels ≡ t.kernels → u.states.items ≡ t.states.items → u.rows ≡ t.rows
     → Grows t u × IsStore u
 edges_pushed t u e s edges kernels states rows =
     let g : Grows t u = record {
-      kernels = λ i x h. subst (λ xs. slice_get xs i ≡ Some x) (sym kernels) h;
+      kernels = same_kernels t u kernels;
       states = λ i x h. subst (λ xs. slice_get xs i ≡ Some x) (sym states) h;
       rows = λ i x h. subst (λ xs. slice_get xs i ≡ Some x) (sym rows) h;
       edges = λ i x h. subst (λ xs. slice_get xs i ≡ Some x) (sym edges) (keeps_push t.edges.items e i x h);
     } in
     (g, store_grows t u s g (subst (λ xs. All IsReady xs) (sym states) s.states) rows)
 
--- rows of the same places stand for the same world
-pub same_row : (t : Store) (a b : Row) (w : WorldState) → a.kernel ≡ b.kernel → a.states.items ≡ b.states.items → IsRow t b w → IsRow t a w
-same_row t a b w kernel states h = record {
-  kernel = ap (λ n. slice_get t.kernels.items n) kernel ∙ h.kernel;
-  states = subst (λ xs. Alongside (IsState t) xs w.processes) (sym states) h.states;
-}
+-- tables and an object stay what they are
+parts_grow : (t u : Store) (tables object : ℕ) (x : OpenTables) (o : Place) → Grows t u → AreParts t tables object x o → AreParts u tables object x o
+parts_grow t u tables object x o g h = (g.kernels.tables tables x h.0, g.kernels.objects object o h.1)
 
--- moves that are known stay so
-pub known_grows : (t u : Store) (ms : Moves) → Grows t u → AreKnown t ms → AreKnown u ms
-known_grows t u ms g h =
-    All-weaker (λ m. IsMove t m.kernel m.pid m.state m.next) (λ m. IsMove u m.kernel m.pid m.state m.next)
+pub effect_grows : (t u : Store) (k : KernelState) (p : ℕ) (s : Process) (i : ℕ) (e : Effect) → Grows t u → IsEffect t k p s i e → IsEffect u k p s i e
+effect_grows t u k p s i effect.Nothing g h = h
+effect_grows t u k p s i effect.Limit g h = h
+effect_grows t u k p s i (effect.To tables object state taken) g h =
+    (h.0, h.1, h.2, parts_grow t u tables object h.0 h.1 g h.3, state_grows t u state h.2 g h.4, h.5, h.6, h.7)
+
+pub touched_grows : (t u : Store) (x : Touch) (e : Effect) → Grows t u → IsTouched t x e → IsTouched u x e
+touched_grows t u x e g h =
+    (h.0, h.1, h.2, state_grows t u x.state h.0 g h.3, parts_grow t u x.tables x.object h.1 h.2 g h.4, λ k p settled at. effect_grows t u k p h.0 x.place e g (h.5 k p settled at))
+
+pub touches_grow : (t u : Store) (ts : Touches) → Grows t u → AreTouched t ts → AreTouched u ts
+touches_grow t u ts g h =
+    All-weaker (λ (m : Touched). IsTouched t m.touch m.effect) (λ (m : Touched). IsTouched u m.touch m.effect) (λ m old. touched_grows t u m.touch m.effect g old) ts.made.items h
+
+-- moves that were made stay so
+pub moves_grow : (t u : Store) (ms : Moves) → Grows t u → AreMoves t ms → AreMoves u ms
+moves_grow t u ms g h =
+    All-weaker (λ (m : Move). IsMove t m.kernel m.pid m.state m.next) (λ (m : Move). IsMove u m.kernel m.pid m.state m.next)
     (λ m old. move_grows t u m.kernel m.pid m.state m.next g old) ms.made.items h
+
+-- what is known stays so
+pub known_grows : (t u : Store) (ms : Moves) → Grows t u → AreKnown t ms → AreKnown u ms
+known_grows t u ms g h = record { moves = moves_grow t u ms g h.moves; touches = touches_grow t u ms.touches g h.touches }

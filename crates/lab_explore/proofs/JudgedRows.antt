@@ -18,7 +18,7 @@ use Rattle.lab_conditions.specs.declared.never.Never.TheVariants as never
 use Rattle.lab_conditions.specs.Losses.{Loses}
 use Rattle.lab_conditions.specs.Conditions.{Holds, world_of}
 use Rattle.ipc_kernel.specs.Alike.{IsConsistent}
-use Rattle.lab_explore.specs.declared.store.Row.{Row}
+use Rattle.lab_explore.specs.Private.Rows.{Row}
 use Rattle.lab_explore.specs.declared.store.Store.{Store}
 use Rattle.lab_explore.specs.Calls.{Both, Alongside}
 use Rattle.lab_explore.specs.Untried.{untried, AskAgain}
@@ -54,11 +54,11 @@ take_next (y ∷ ys) (suc n) x at =
 pub place_in : (xs ys : List ℕ) (n : ℕ) → xs ≡ ys → n < length xs → slice_get ys n ≡ Some (get_or xs n 0)
 place_in xs ys n same within = subst (λ zs. slice_get zs n ≡ Some (get_or xs n 0)) same (slice_get-get_or xs n 0 within)
 
-pub row_more : (t : Store) (r : Row) (w : WorldState) (seen more : List Process) (n state : ℕ) (k : Kept) → IsRow t r w → slice_get r.states.items n ≡ Some state → slice_get t.states.items state ≡ Some k
-    → seen ≡ take n w.processes → more ≡ seen ++ process_view k ∷ [] → more ≡ take (n + 1) w.processes
-row_more t r w seen more n state k row place at so pushed =
-    let here = row_process t state k (slice_get r.states.items n) (slice_get w.processes n) place at (row.states n) in
-    pushed ∙ ap (λ xs. xs ++ process_view k ∷ []) so ∙ sym (take_next w.processes n (process_view k) here)
+pub states_more : (t : Store) (states : List ℕ) (ss seen more : List Process) (n state : ℕ) (k : Kept) → Alongside (IsState t) states ss → slice_get states n ≡ Some state → slice_get t.states.items state ≡ Some k
+    → seen ≡ take n ss → more ≡ seen ++ process_view k ∷ [] → more ≡ take (n + 1) ss
+states_more t states ss seen more n state k row place at so pushed =
+    let here = row_process t state k (slice_get states n) (slice_get ss n) place at (row n) in
+    pushed ∙ ap (λ xs. xs ++ process_view k ∷ []) so ∙ sym (take_next ss n (process_view k) here)
 
 -- as many as the row has places
 same_length : {A B : Type 0} (R : A → B → Type 0) (xs : List A) (ys : List B) → Alongside R xs ys → length ys ≤ length xs
@@ -67,19 +67,19 @@ same_length R [] (y ∷ ys) h = absurd (h 0)
 same_length R (x ∷ xs) [] h = omega arith
 same_length R (x ∷ xs) (y ∷ ys) h = let rest = same_length R xs ys (λ p. h (suc p)) in omega (arith, rest)
 
-pub row_all : (t : Store) (r : Row) (w : WorldState) (seen : List Process) (n : ℕ) → IsRow t r w → length r.states.items ≤ n → seen ≡ take n w.processes → seen ≡ w.processes
-row_all t r w seen n row past so =
-    let few = same_length (IsState t) r.states.items w.processes row.states in
-    so ∙ take_all n w.processes (omega (arith, few, past))
+pub states_all : (t : Store) (states : List ℕ) (ss seen : List Process) (n : ℕ) → Alongside (IsState t) states ss → length states ≤ n → seen ≡ take n ss → seen ≡ ss
+states_all t states ss seen n row past so =
+    let few = same_length (IsState t) states ss row in
+    so ∙ take_all n ss (omega (arith, few, past))
 
 -- what is judged of a row's parts is judged of its world
-pub row_judged : (t : Store) (r : Row) (at : ℕ) (c : Condition) (k : KernelState) (ps : List Process) (holds : Bool) → slice_get t.rows.items at ≡ Some r → slice_get t.kernels.items r.kernel ≡ Some k
-    → ((w : WorldState) → IsRow t r w → ps ≡ w.processes) → (IsTrue holds ↔ Holds c (world_of k ps)) → (w : WorldState) → IsAt t at w → (IsTrue holds ↔ Holds c w)
+pub row_judged : (t : Store) (r : Row) (at : ℕ) (c : Condition) (k : KernelState) (ps : List Process) (holds : Bool) → slice_get t.rows at ≡ Some r → slice_get t.kernels.kernels r.kernel ≡ Some k
+    → ((ss : List Process) → Alongside (IsState t) r.states ss → ps ≡ ss) → (IsTrue holds ↔ Holds c (world_of k ps)) → (w : WorldState) → IsAt t at w → (IsTrue holds ↔ Holds c w)
 row_judged t r at c k ps holds there kernel processes judged w row =
-    let same : row.0 ≡ r = same_some row.0 r (slice_get t.rows.items at) row.1 there in
+    let same : row.0 ≡ r = same_some row.0 r (slice_get t.rows at) row.1 there in
     let is : IsRow t r w = subst (λ r. IsRow t r w) same row.2 in
-    let first : k ≡ w.kernel = same_some k w.kernel (slice_get t.kernels.items r.kernel) kernel is.kernel in
-    let world : world_of k ps ≡ w = ap (λ j. world_of j ps) first ∙ ap (λ ss. world_of w.kernel ss) (processes w is) in
+    let first : k ≡ w.kernel = same_some k w.kernel (slice_get t.kernels.kernels r.kernel) kernel is.kernel in
+    let world : world_of k ps ≡ w = ap (λ j. world_of j ps) first ∙ ap (λ ss. world_of w.kernel ss) (processes w.processes is.states) in
     subst (λ v. IsTrue holds ↔ Holds c v) world judged
 
 -- one condition more

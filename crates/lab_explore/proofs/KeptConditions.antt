@@ -106,7 +106,7 @@ row_levels t start same searched = record {
   begins = let first = searched.begins in subst (HasAdvance (IsSomeRow t 0)) (sym same) (first.0, (0, first.1), first.2);
   goes_on = λ n v p held effective.
       let i = held.0 in
-      let done = searched.expanded i (get_past t.rows.items i held.1.0 held.1.1) in
+      let done = searched.expanded i (get_past t.rows i held.1.0 held.1.1) in
       let same : v ≡ done.0 = at_unique t i v done.0 held.1 done.1 in
       let edge = done.2 p (subst (λ w. GoesOn (step_effect_in w p)) same effective) in
       let there : HasAdvance (IsSomeRow t (n + 1)) (step done.0 p) = (edge.2, (edge.1.to, edge.5), reached_advance (step done.0 p) edge.2 edge.6) in

@@ -1,5 +1,5 @@
 -- What loses a message after any steps loses one along an edge.
-use Rattle.std.proofs.Common.{ℕ, ◌≡◌, ◌<◌, false, Option, Some, None, refl, sym, ap, subst, ◌∙◌, slice_get, inl, inr, arith}
+use Rattle.std.proofs.Common.{ℕ, ◌≡◌, ◌<◌, Option, Some, None, refl, sym, ap, subst, ◌∙◌, slice_get, inl, inr, arith}
 use Rattle.lc3_machine.specs.Process.{Process as Machine}
 use Rattle.ipc_kernel.specs.declared.call.Call.{Call}
 use Rattle.ipc_kernel.specs.declared.call.Answer.{Answer}
@@ -7,7 +7,7 @@ use Rattle.ipc_kernel.specs.declared.call.Answer.TheVariants.{Done, Wait}
 use Rattle.ipc_kernel.specs.Answer.{answer, is_receive}
 use Rattle.ipc_kernel.specs.Alike.{IsAlike, IsConsistent}
 use Rattle.ipc_kernel.proofs.Alikes.{alike_then}
-use Rattle.lab_sched.specs.Worlds.{Process, Running, Waiting, Ended, WorldState, NextAction, moves, calls, next_action, StepEffect, nothing, local_step, kernel_step, step_effect, step_effect_in, first_try, retry, kernel_after, after, step, run}
+use Rattle.lab_sched.specs.Worlds.{Process, Running, Waiting, Ended, WorldState, NextAction, moves, calls, next_action, StepEffect, nothing, step_effect, step_effect_in, first_try, retry, kernel_after, after, step, run}
 use Rattle.lab_sched.proofs.ListPlaces.{get_past}
 use Rattle.lab_sched.proofs.Executions.{effect_local}
 use Rattle.lab_conditions.specs.Conditions.{option_any, call_next}
@@ -124,7 +124,7 @@ edge_loses start w t p consistent searched i v row advance h = (
 
     edge : HasEdge t i v p
     edge =
-        let done = searched.expanded i (get_past t.rows.items i row.0 row.1) in
+        let done = searched.expanded i (get_past t.rows i row.0 row.1) in
         let is : v ≡ done.0 = at_unique t i v done.0 row done.1 in
         subst (λ x. HasEdge t i x p) (sym is) (done.2 p (subst (λ x. GoesOn (step_effect_in x p)) is (subst GoesOn (sym same_effect) goes)))
 

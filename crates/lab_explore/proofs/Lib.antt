@@ -7,6 +7,8 @@ mod StepsToCalls
 mod Pushes
 mod Growths
 mod StepsOfRows
+mod TouchLemmas
+mod RowTables
 mod FirstWorlds
 mod WalkLemmas
 mod KeptEnds

@@ -1,28 +1,24 @@
 -- How many passes can follow each other, where no edge raises the rank of a row, and the process of each
 -- rank goes on there and never does.
-use Rattle.std.proofs.Common.{ℕ, zero, suc, ◌+◌, ◌*◌, ◌<◌, ◌≤◌, ◌≡◌, ◌≢◌, ◌++◌, ◌==◌, Bool, true, false, List, [], ◌∷◌, Option, Some, None, refl, sym, ap, subst, ◌∙◌, arith, length, slice_get, get_or, set, unwrap_or, inl, inr, ◌⊎◌, cond}
-use Rattle.std.specs.Prelude.{Contains}
+use Rattle.std.proofs.Common.{ℕ, zero, suc, ◌+◌, ◌*◌, ◌<◌, ◌≤◌, ◌≡◌, ◌≢◌, ◌++◌, ◌==◌, true, false, List, [], ◌∷◌, Option, Some, None, refl, sym, ap, subst, ◌∙◌, arith, length, slice_get, get_or, set, unwrap_or, inl, inr, ◌⊎◌, cond}
 use Rattle.std.proofs.lemmas.Bool.Decides.{eqb_tells}
 use Rattle.std.proofs.lemmas.Bool.{cases_lt}
 use Rattle.std.proofs.Math.Nat.{mul-le-mul_left}
 use Rattle.std.proofs.lemmas.List.{length-set}
 use Rattle.std.proofs.lemmas.List.Sums.{count_by-le-length}
 use Rattle.ipc_kernel.specs.Alike.{IsConsistent}
-use Rattle.lc3_machine.specs.Process.{Process as Machine}
-use Rattle.lab_sched.specs.Worlds.{Process, Running, Waiting, Ended, WorldState, moves, next_action, StepEffect, nothing, local_step, kernel_step, step_effect, step_effect_in, first_try, step, run, IsEffective}
+use Rattle.lab_sched.specs.Worlds.{Process, Running, Waiting, Ended, WorldState, StepEffect, nothing, local_step, kernel_step, step_effect, step_effect_in, first_try, step, run, IsEffective}
 use Rattle.ipc_kernel.specs.declared.call.Answer.TheVariants.{Done, Wait}
 use Rattle.lab_sched.specs.Execution.{AreEffective, count}
-use Rattle.lab_sched.specs.LocalRun.{AreLocal}
 use Rattle.lab_sched.specs.Verdicts.{is_running}
 use Rattle.lab_sched.proofs.ListPlaces.{get-set_same, get-set_other, get_past}
 use Rattle.lab_sched.proofs.Runs.{run-one, length-run}
 use Rattle.lab_sched.proofs.OwnSteps.{first_local}
 use Rattle.lab_explore.specs.declared.store.Store.{Store}
-use Rattle.lab_explore.specs.Calls.{IsAtCall}
 use Rattle.lab_explore.specs.Untried.{GoesOn, untried, AskAgain}
-use Rattle.lab_explore.specs.Fairness.{HasPause, IsServed, IsPass, ArePasses, AreFairlyBounded}
-use Rattle.lab_explore.specs.Private.Stored.{IsAt, IsSearched}
-use Rattle.lab_explore.specs.Private.Ranked.{rank_of, keeper_of, IsFalling, IsKept, AreRanked, HaveRanks}
+use Rattle.lab_explore.specs.Fairness.{IsServed, IsPass, ArePasses, AreFairlyBounded}
+use Rattle.lab_explore.specs.Private.Stored.{IsSearched}
+use Rattle.lab_explore.specs.Private.Ranked.{rank_of, keeper_of, IsFalling, AreRanked, HaveRanks}
 use Rattle.lab_explore.proofs.Pushes.{all_at}
 use Rattle.lab_explore.proofs.AfterLocalSteps.{same_some}
 use Rattle.lab_explore.proofs.AlikeWorlds.{effect_alike}
@@ -177,7 +173,7 @@ module _ (t : Store) (start : WorldState) (ranks : List ℕ) (keepers : List (Op
       v = s.advance
 
       ahead : GoesOn (step_effect_in v p)
-      ahead = ranked.kept s.at (get_past t.rows.items s.at is.stands.here.0 is.stands.here.1) p keeper v is.stands.here
+      ahead = ranked.kept s.at (get_past t.rows s.at is.stands.here.0 is.stands.here.1) p keeper v is.stands.here
 
       same : step_effect v.kernel p (slice_get v.processes p) ≡ step_effect x.kernel p (slice_get v.processes p)
       same = effect_alike x.kernel v.kernel p (slice_get v.processes p) is.stands.consistent is.stands.kernel
@@ -276,7 +272,7 @@ module _ (t : Store) (start : WorldState) (ranks : List ℕ) (keepers : List (Op
       there p keeper = by (slice_get s.taken p) (slice_get (untried x).processes p) (slice_get s.advance.processes p) refl refl (is.stands.processes p)
         where
           goes : GoesOn (step_effect_in s.advance p)
-          goes = ranked.kept s.at (get_past t.rows.items s.at is.stands.here.0 is.stands.here.1) p keeper s.advance is.stands.here
+          goes = ranked.kept s.at (get_past t.rows s.at is.stands.here.0 is.stands.here.1) p keeper s.advance is.stands.here
 
           by : (a : Option ℕ) (c d : Option Process) → slice_get s.taken p ≡ a → slice_get s.advance.processes p ≡ d → TakesAt a c d → (k : ℕ) × (slice_get s.taken p ≡ Some k)
           by None None None e f takes = absurd (subst (λ o. GoesOn (step_effect s.advance.kernel p o)) f goes)

@@ -248,7 +248,7 @@ module _ (t : Store) (start : WorldState) (searched : IsSearched start t) where
 
       edge : HasEdge t s.at v p
       edge =
-          let done = searched.expanded s.at (get_past t.rows.items s.at stands.here.0 stands.here.1) in
+          let done = searched.expanded s.at (get_past t.rows s.at stands.here.0 stands.here.1) in
           let is : v ≡ done.0 = at_unique t s.at v done.0 stands.here done.1 in
           subst (λ y. HasEdge t s.at y p) (sym is) (done.2 p (subst (λ y. GoesOn (step_effect_in y p)) is (subst GoesOn (sym same_effect) effective)))
 

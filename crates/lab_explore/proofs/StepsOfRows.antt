@@ -4,30 +4,35 @@ use Rattle.std.specs.Option.{option_map}
 use Rattle.std.proofs.lemmas.Bool.{cases_lt}
 use Rattle.std.proofs.lemmas.Option.{slice_get_past}
 use Rattle.ipc_kernel.specs.Kernel.{KernelState}
-use Rattle.lab_sched.specs.Worlds.{Process, WorldState, StepEffect, step_effect, process_after, kernel_after, after, step}
+use Rattle.lab_sched.specs.Worlds.{Process, WorldState, StepEffect, step_effect, step_effect_in, process_after, kernel_after, after, step}
 use Rattle.lab_sched.specs.Held.{process_view, StepResult, HasStepped}
 use Rattle.lab_sched.specs.declared.stepped.Stepped.{Stepped}
 use Rattle.lab_explore.specs.declared.trying.Made.{Made}
 use Rattle.lab_sched.proofs.WorldLemmas.{after_effect}
-use Rattle.lab_explore.specs.declared.store.Row.{Row}
+use Rattle.lab_explore.specs.Private.Rows.{Row}
 use Rattle.lab_explore.specs.declared.store.Store.{Store}
 use Rattle.lab_explore.specs.declared.store.Edge.{Edge}
 use Rattle.lab_explore.specs.declared.store.Next.{Next}
-use Rattle.lab_explore.specs.declared.store.Next.TheVariants.{To}
+use Rattle.lab_explore.specs.declared.store.Next.TheVariants.{Nothing, Limit, To}
 use Rattle.lab_sched.specs.Held.{stepped_of}
 use Rattle.lab_explore.specs.Calls.{IsAtCall, IsAhead, Both, Alongside}
 use Rattle.lab_explore.specs.Untried.{GoesOn}
-use Rattle.lab_explore.specs.Private.Stored.{IsReady, IsState, IsRow, IsAt, IsStore, Grows, IsNext, IsMove, IsReached, AreReached, HasEdge, IsTried, IsExpanded, IsRun}
+use Rattle.lab_explore.specs.Private.Stored.{IsReady, IsState, IsRow, IsAt, IsStore, Grows, IsExactly, IsNext, IsMove, IsMoveFrom, IsNextAt, IsReached, AreReached, HasEdge, IsTried, IsExpanded, IsRun}
 use Rattle.lab_explore.proofs.Pushes.{alongside_set, get_pushed, all_at}
 use Rattle.lab_explore.proofs.AfterLocalSteps.{same_some}
-use Rattle.lab_explore.proofs.Growths.{state_kept, at_grows, row_grows}
+use Rattle.lab_explore.proofs.FirstWorlds.{at_unique}
+use Rattle.lab_explore.proofs.Growths.{state_kept, at_grows, row_grows, next_grows}
 
 pub both_left : {A B : Type 0} (R : A → B → Type 0) (x : A) (o : Option B) → Both R (Some x) o → (y : B) × (o ≡ Some y) × R x y
 both_left R x None h = absurd h
 both_left R x (Some y) h = (y, refl, h)
 
+both_right : {A B : Type 0} (R : A → B → Type 0) (y : B) (o : Option A) → Both R o (Some y) → (x : A) × (o ≡ Some x)
+both_right R y None h = absurd h
+both_right R y (Some x) h = (x, refl)
+
 -- the state of a process of a world that a row stands for
-pub process_at : (t : Store) (r : Row) (w : WorldState) (p i : ℕ) → IsRow t r w → slice_get r.states.items p ≡ Some i
+pub process_at : (t : Store) (r : Row) (w : WorldState) (p i : ℕ) → IsRow t r w → slice_get r.states p ≡ Some i
     → (s : Process) × (slice_get w.processes p ≡ Some s) × IsState t i s
 process_at t r w p i row e = both_left (IsState t) i (slice_get w.processes p) (subst (λ o. Both (IsState t) o (slice_get w.processes p)) e (row.states p))
 
@@ -42,39 +47,43 @@ own_at t is (Some i) (Some s) h =
 
 -- a world that a row stands for is its own advance
 pub own_advance : (t : Store) (r : Row) (w : WorldState) → IsStore t → IsRow t r w → Alongside IsReached w.processes w.processes
-own_advance t r w is row p = own_at t is (slice_get r.states.items p) (slice_get w.processes p) (row.states p)
+own_advance t r w is row p = own_at t is (slice_get r.states p) (slice_get w.processes p) (row.states p)
 
 -- what a move says, for a world
-next_of : (t : Store) (r : Row) (w : WorldState) (p i : ℕ) (n : Next) (s : Process) → IsRow t r w → IsState t i s → IsMove t r.kernel p i n → IsNext t w.kernel p s n
-next_of t r w p i n s row state m =
-    let k-is : m.0 ≡ w.kernel = same_some m.0 w.kernel (slice_get t.kernels.items r.kernel) m.2 row.kernel in
-    let s-is : m.1 ≡ s = same_some m.1 s (option_map process_view (slice_get t.states.items i)) m.3 state in
-    subst (λ k. IsNext t k p s n) k-is (subst (λ x. IsNext t m.0 p x n) s-is m.4)
+pub next_of : (t : Store) (i p kernel state : ℕ) (n : Next) → (r : Row) × (slice_get t.rows i ≡ Some r) × (r.kernel ≡ kernel) × (slice_get r.states p ≡ Some state) → IsMoveFrom t kernel p state n → IsNextAt t i p n
+next_of t i p kernel state n placed move w here =
+    let row : here.0 ≡ placed.0 = same_some here.0 placed.0 (slice_get t.rows i) here.1 placed.1 in
+    let is : IsRow t placed.0 w = subst (λ r. IsRow t r w) row here.2 in
+    let s = process_at t placed.0 w p state is placed.3 in
+    (s.0, s.1, move w.kernel s.0 (subst (λ k. IsExactly t k w.kernel) placed.2 is.kernel) is.settled s.2)
 
-pub moved : (t : Store) (r r' : Row) (w : WorldState) (p i kernel state taken : ℕ) → IsStore t → IsRow t r w → slice_get r.states.items p ≡ Some i
-    → IsMove t r.kernel p i (To kernel state taken) → r'.kernel ≡ kernel → r'.states.items ≡ set r.states.items p state
+-- a move over a kernel and in a state that are kept is the move from there
+pub move_from : (t : Store) (kernel p state : ℕ) (n : Next) → IsMove t kernel p state n → IsMoveFrom t kernel p state n
+move_from t kernel p state n m k s at settled here =
+    let k-is : m.0 ≡ k = same_some m.0 k (slice_get t.kernels.kernels kernel) m.2 at in
+    let s-is : m.1 ≡ s = same_some m.1 s (option_map process_view (slice_get t.states.items state)) m.3 here in
+    subst (λ j. IsNext t j p s n) k-is (subst (λ x. IsNext t m.0 p x n) s-is m.4)
+
+-- the world after a step, by its row
+pub moved : (t : Store) (r r' : Row) (w : WorldState) (p kernel state taken : ℕ) (s : Process) → IsStore t → IsRow t r w → slice_get w.processes p ≡ Some s
+    → IsNext t w.kernel p s (To kernel state taken) → r'.kernel ≡ kernel → r'.states ≡ set r.states p state
     → (v : WorldState) × IsRow t r' v × AreReached (step w p) v
-moved t r r' w p i kernel state taken is row e m kernel-is states-is = (v, to, ahead)
+moved t r r' w p kernel state taken s is row here next kernel-is states-is = (v, to, ahead)
   where
-    s : Process
-    s = (process_at t r w p i row e).0
-
-    here : slice_get w.processes p ≡ Some s
-    here = (process_at t r w p i row e).1
+    i : (i : ℕ) × (slice_get r.states p ≡ Some i)
+    i = both_right (IsState t) s (slice_get r.states p) (subst (λ o. Both (IsState t) (slice_get r.states p) o) here (row.states p))
 
     effect : StepEffect
     effect = step_effect w.kernel p (Some s)
-
-    next : IsNext t w.kernel p s (To kernel state taken)
-    next = next_of t r w p i (To kernel state taken) s row (process_at t r w p i row e).2 m
 
     v : WorldState
     v = record { processes = set w.processes p next.0; kernel = next.1.0 }
 
     to : IsRow t r' v
     to = record {
-      kernel = ap (λ n. slice_get t.kernels.items n) kernel-is ∙ next.1.1;
-      states = subst (λ xs. Alongside (IsState t) xs v.processes) (sym states-is) (alongside_set (IsState t) r.states.items w.processes p i state s next.0 e here row.states next.2);
+      kernel = ap (λ n. slice_get t.kernels.kernels n) kernel-is ∙ next.1.1;
+      settled = next.1.3;
+      states = subst (λ xs. Alongside (IsState t) xs v.processes) (sym states-is) (alongside_set (IsState t) r.states w.processes p i.0 state s next.0 i.1 here row.states next.2);
     }
 
     stepped_is : step w p ≡ record { processes = set w.processes p (process_after s effect); kernel = kernel_after w.kernel p effect }
@@ -87,7 +96,7 @@ moved t r r' w p i kernel state taken is row e m kernel-is states-is = (v, to, a
     })
 
 -- a process that isn't there does nothing
-pub absent : (t : Store) (r : Row) (w : WorldState) (at p : ℕ) → IsRow t r w → slice_get r.states.items p ≡ None → IsTried t at w p
+pub absent : (t : Store) (r : Row) (w : WorldState) (at p : ℕ) → IsRow t r w → slice_get r.states p ≡ None → IsTried t at w p
 absent t r w at p row e effective =
     let gone : slice_get w.processes p ≡ None = left (slice_get w.processes p) (subst (λ o. Both (IsState t) o (slice_get w.processes p)) e (row.states p)) in
     absurd (subst (λ o. GoesOn (step_effect w.kernel p o)) gone effective)
@@ -108,31 +117,30 @@ run_stepped k j p s u told made is h =
     let process-is : u ≡ process_after s (step_effect k p (Some s)) = ap (λ (x : StepResult). x.process) is in
     subst (λ x. IsRun x (process_after s (step_effect k p (Some s))) made) kernel-is (subst (λ x. IsRun j x made) process-is h)
 
--- the kernel and the state of process p in row number `at`
-abbrev pub IsPlaced : Store → ℕ → ℕ → ℕ → ℕ → Type 0
-IsPlaced t at p kernel i = (r : Row) × (slice_get t.rows.items at ≡ Some r) × (r.kernel ≡ kernel) × (slice_get r.states.items p ≡ Some i)
-
-pub placed_grows : (t u : Store) (at p kernel i : ℕ) → Grows t u → IsPlaced t at p kernel i → IsPlaced u at p kernel i
-placed_grows t u at p kernel i g h = (h.0, g.rows at h.0 h.1, h.2, h.3)
-
--- the world after a step, by its row
-pub moved_at : (t : Store) (w : WorldState) (at p i old kernel state taken : ℕ) (next : Next) (r' : Row) → IsStore t → IsAt t at w → IsPlaced t at p old i → IsMove t old p i next
-    → next ≡ To kernel state taken → r'.kernel ≡ kernel → ((r : Row) × (slice_get t.rows.items at ≡ Some r) × (r'.states.items ≡ set r.states.items p state))
+-- the world after a step, by the row that it makes of another
+pub moved_at : (t : Store) (w : WorldState) (at p kernel state taken : ℕ) (next : Next) (r' : Row) → IsStore t → IsAt t at w → IsNextAt t at p next
+    → next ≡ To kernel state taken → r'.kernel ≡ kernel → ((r : Row) × (slice_get t.rows at ≡ Some r) × (r'.states ≡ set r.states p state))
     → (v : WorldState) × IsRow t r' v × AreReached (step w p) v
-moved_at t w at p i old kernel state taken next r' is here placed m next-is kernel-is states =
+moved_at t w at p kernel state taken next r' is here m next-is kernel-is states =
     let r = here.0 in
-    let first : placed.0 ≡ r = same_some placed.0 r (slice_get t.rows.items at) placed.1 here.1 in
-    let second : states.0 ≡ r = same_some states.0 r (slice_get t.rows.items at) states.1 here.1 in
-    let old-is : old ≡ r.kernel = sym placed.2 ∙ ap (λ (x : Row). x.kernel) first in
-    let state-is : slice_get r.states.items p ≡ Some i = subst (λ (x : Row). slice_get x.states.items p ≡ Some i) first placed.3 in
-    let move : IsMove t r.kernel p i (To kernel state taken) = subst (λ k. IsMove t k p i (To kernel state taken)) old-is (subst (λ n. IsMove t old p i n) next-is m) in
-    moved t r r' w p i kernel state taken is here.2 state-is move kernel-is (states.2 ∙ ap (λ (x : Row). set x.states.items p state) second)
+    let row : states.0 ≡ r = same_some states.0 r (slice_get t.rows at) states.1 here.1 in
+    let n = m w here in
+    moved t r r' w p kernel state taken n.0 is here.2 n.1 (subst (λ n'. IsNext t w.kernel p n.0 n') next-is n.2) kernel-is (states.2 ∙ ap (λ (x : Row). set x.states p state) row)
+
+-- what a process does next stays so
+pub next_at_grows : (t u : Store) (at p : ℕ) (n : Next) → IsStore t → Grows t u → (r : Row) × (slice_get t.rows at ≡ Some r) → IsNextAt t at p n → IsNextAt u at p n
+next_at_grows t u at p n is g row m w here =
+    let v = all_at (λ r. (v : WorldState) × IsRow t r v) t.rows at row.0 is.rows row.1 in
+    let old : IsAt t at v.0 = (row.0, row.1, v.1) in
+    let same : v.0 ≡ w = at_unique u at v.0 w (at_grows t u at v.0 g old) here in
+    let next = subst (λ x. (s : Process) × (slice_get x.processes p ≡ Some s) × IsNext t x.kernel p s n) same (m v.0 old) in
+    (next.0, next.1, next_grows t u w.kernel p next.0 n g next.2)
 
 -- each process of a world was tried
-pub all_tried : (t u : Store) (at count pid : ℕ) → IsStore t → Grows t u → ((r : Row) × (slice_get t.rows.items at ≡ Some r) × (count ≡ length r.states.items)) → count ≤ pid
+pub all_tried : (t u : Store) (at count pid : ℕ) → IsStore t → Grows t u → ((r : Row) × (slice_get t.rows at ≡ Some r) × (count ≡ length r.states)) → count ≤ pid
     → ((w : WorldState) → IsAt t at w → (p : ℕ) → p < pid → IsTried u at w p) → IsExpanded u at
 all_tried t u at count pid is g row all tried =
-    let w = all_at (λ r. (v : WorldState) × IsRow t r v) t.rows.items at row.0 is.rows row.1 in
+    let w = all_at (λ r. (v : WorldState) × IsRow t r v) t.rows at row.0 is.rows row.1 in
     let here : IsAt t at w.0 = (row.0, row.1, w.1) in
     let there = at_grows t u at w.0 g here in (
       w.0,
@@ -140,8 +148,8 @@ all_tried t u at count pid is g row all tried =
       λ p. elim (cases_lt p pid) [
         | inl below ↦ tried w.0 here p below
         | inr above ↦
-            let past : length row.0.states.items ≤ p = let count-is = row.2 in omega arith in
-            absent u row.0 w.0 at p (row_grows t u row.0 w.0 g w.1) (slice_get_past row.0.states.items p past)
+            let past : length row.0.states ≤ p = let count-is = row.2 in omega arith in
+            absent u row.0 w.0 at p (row_grows t u row.0 w.0 g w.1) (slice_get_past row.0.states p past)
       ],
     )
 
@@ -151,14 +159,11 @@ edge_made t u w v at p e g edges from by there reached =
     (length t.edges.items, e, v, ap (λ xs. slice_get xs (length t.edges.items)) edges ∙ get_pushed t.edges.items e, from, at_grows t u e.to v g there, reached, by)
 
 -- a process that makes a step of the kernel goes on
-pub goes_at : (t : Store) (w : WorldState) (at p i old kernel state taken : ℕ) (next : Next) → IsAt t at w → IsPlaced t at p old i → IsMove t old p i next → next ≡ To kernel state taken
-    → GoesOn (step_effect w.kernel p (slice_get w.processes p))
-goes_at t w at p i old kernel state taken next here placed m next-is =
-    let r = here.0 in
-    let row-is : placed.0 ≡ r = same_some placed.0 r (slice_get t.rows.items at) placed.1 here.1 in
-    let old-is : old ≡ r.kernel = sym placed.2 ∙ ap (λ (x : Row). x.kernel) row-is in
-    let state-is : slice_get r.states.items p ≡ Some i = subst (λ (x : Row). slice_get x.states.items p ≡ Some i) row-is placed.3 in
-    let move : IsMove t r.kernel p i (To kernel state taken) = subst (λ k. IsMove t k p i (To kernel state taken)) old-is (subst (λ n. IsMove t old p i n) next-is m) in
-    let s = process_at t r w p i here.2 state-is in
-    let goes = (next_of t r w p i (To kernel state taken) s.0 here.2 s.2 move).4 in
-    subst (λ o. GoesOn (step_effect w.kernel p o)) (sym s.1) goes
+pub goes_on : (t : Store) (w : WorldState) (at p : ℕ) (next : Next) → IsAt t at w → IsNextAt t at p next → (next ≡ Nothing → ⊥) → GoesOn (step_effect_in w p)
+goes_on t w at p Nothing here m some = absurd (some refl)
+goes_on t w at p Limit here m some = let n = m w here in subst (λ o. GoesOn (step_effect w.kernel p o)) (sym n.1) n.2
+goes_on t w at p (To kernel state taken) here m some = let n = m w here in subst (λ o. GoesOn (step_effect w.kernel p o)) (sym n.1) n.2.4
+
+-- one that makes none doesn't
+pub stays : (t : Store) (w : WorldState) (at p : ℕ) → IsAt t at w → IsNextAt t at p Nothing → GoesOn (step_effect_in w p) → ⊥
+stays t w at p here m goes = let n = m w here in n.2 (subst (λ o. GoesOn (step_effect w.kernel p o)) n.1 goes)

@@ -1,5 +1,7 @@
 -- Definitions that only contracts inside the crate cite.
+pub mod Rows
 pub mod Stored
+pub mod Touched
 pub mod Known
 pub mod Depths
 pub mod Walked

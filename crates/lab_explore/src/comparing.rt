@@ -1,13 +1,16 @@
 //! Rows that are compared with worlds.
 ghost use Rattle.std.specs.Prelude.{◌≡◌, IsTrue, IfOk, slice_get};
+ghost use Rattle.ipc_kernel.specs.Alike.{IsAlike};
+ghost use Rattle.ipc_kernel.specs.Kernel.{KernelState, IsSettled};
 ghost use Rattle.lab_sched.specs.Held.{process_view};
 ghost use Rattle.lab_sched.specs.Stepping.{before_wait};
 ghost use Rattle.lab_sched.specs.Verdicts.{is_waiting};
 ghost use Rattle.lab_explore.specs.Calls.{AreAlike};
 ghost use Rattle.lab_explore.specs.Untried.{untried};
-ghost use Rattle.lab_explore.specs.Private.Stored.{IsState, IsLike};
+ghost use Rattle.lab_explore.specs.Private.Stored.{IsExactly, IsState, IsLike};
 
 use crate::store::Store;
+use ipc_kernel::Kernel;
 use lab_sched::{Process, World};
 use std::alloc::{AllocError, Global};
 
@@ -87,6 +90,17 @@ impl Store {
         Ok(kept.is_same(&process))
     }
 
+    /// Whether a kernel is alike the one with a number.
+    fn is_kernel(&self, alloc: Global, number: u32, kernel: &Kernel) -> Result<bool, AllocError>
+        ensures alike { IfOk result (λ alike. IsTrue alike → (k : KernelState)
+            × IsExactly self.now number k × IsAlike k kernel.now × IsSettled k) }
+    {
+        let Some(kept) = self.kernels.get(alloc, number)? else {
+            return Ok(false);
+        };
+        Ok(kept.is_alike(kernel))
+    }
+
     /// Whether a row stands for a world that is alike this one, with each process that waits before
     /// its call.
     pub(crate) fn is_untried_row(
@@ -98,16 +112,14 @@ impl Store {
         ensures alike { IfOk result (λ alike. IsTrue alike
             → IsLike self.now at (untried world.now)) }
     {
-        let Some(row) = self.rows.get(at) else {
+        let Some((kernel, states)) = self.rows.get(at) else {
             return Ok(false);
         };
-        let Some(kernel) = self.kernels.get(row.kernel as usize) else {
-            return Ok(false);
-        };
-        if row.states.len() != world.count() || !kernel.is_alike(world.kernel()) {
+        let alike = self.is_kernel(alloc, kernel, world.kernel())?;
+        if !alike || states.len() != world.count() {
             return Ok(false);
         }
-        for (pid, state) in row.states.iter().enumerate() {
+        for (pid, state) in states.iter().enumerate() {
             let Some(process) = world.process(pid) else {
                 return Ok(false);
             };

@@ -67,8 +67,8 @@ impl Store {
     /// For each row the number of calls on the way to it.
     fn count_calls(&self, alloc: Global) -> Result<Vec<u32>, AllocError> {
         let mut depths = vec![in alloc; 0]?;
-        for row in self.rows.iter().skip(1) {
-            let before = depth_of(depths.as_slice(), row.before as usize);
+        for parent in self.parents.iter().skip(1) {
+            let before = depth_of(depths.as_slice(), parent.row as usize);
             depths.push(before.saturating_add(1))?;
         }
         Ok(depths)

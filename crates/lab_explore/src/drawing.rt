@@ -141,29 +141,21 @@ impl Search {
         ensures step { IfOk result (λ a. IsRowStep self.now.store a) }
     {
         let from = edge.from as usize;
-        let Some((kernel, state)) = self.store.places(from, edge.pid) else {
+        let process = edge.pid as u32;
+        let Some(next) = self.store.known_next(&self.moves, from, process) else {
             return Err(ExploreFault::Unvouched);
         };
-        let Some(
-            Next::To {
-                kernel,
-                state,
-                taken,
-            },
-        ) = self.moves.find(kernel, edge.pid, state)
-        else {
+        let Next::To { kernel, state, .. } = next else {
             return Err(ExploreFault::Unvouched);
         };
-        let row = self
-            .store
-            .row_after(alloc, from, edge.pid, kernel, state, taken)?;
-        if !self.store.is_row_at(edge.to, &row) {
+        let row = self.store.row_after(alloc, from, process, kernel, state)?;
+        if !self.store.is_row_at(edge.to as usize, row.as_slice()) {
             return Err(ExploreFault::Unvouched);
         }
         Ok(Arrow {
             from: edge.from,
             to: edge.to,
-            process: edge.pid,
+            process,
         })
     }
 

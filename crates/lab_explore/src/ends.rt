@@ -106,15 +106,15 @@ impl Search {
         ensures no { IfOk result (λ rests. rests ≡ false → (w : WorldState)
             → IsAt self.now.store at w → NoneGoesOn w → ⊥) }
     {
-        let Some(row) = self.store.rows.get(at) else {
+        let Some(count) = self.store.width(at) else {
             return Err(ExploreFault::Unvouched);
         };
-        for (pid, state) in row.states.iter().enumerate() {
-            let pid = place_of(pid)?;
-            match self.moves.find(row.kernel, pid, *state) {
-                Some(Next::Nothing) => {}
-                Some(Next::Limit) | Some(Next::To { .. }) => return Ok(false),
-                None => return Err(ExploreFault::Unvouched),
+        for pid in 0..count {
+            let Some(next) = self.store.known_next(&self.moves, at, pid) else {
+                return Err(ExploreFault::Unvouched);
+            };
+            if !next.is_nothing() {
+                return Ok(false);
             }
         }
         Ok(true)
@@ -122,19 +122,13 @@ impl Search {
 
     /// Whether each move from the world of a row was made, and is none.
     fn is_still(&self, at: usize) -> bool {
-        let Some(row) = self.store.rows.get(at) else {
+        let Some(count) = self.store.width(at) else {
             return false;
         };
-        for (pid, state) in row.states.iter().enumerate() {
-            let Ok(pid) = place_of(pid) else {
-                return false;
-            };
-            let next = self.moves.find(row.kernel, pid, *state);
-            if !matches!(next, Some(Next::Nothing)) {
-                return false;
-            }
-        }
-        true
+        (0..count).all(|pid| {
+            let next = self.store.known_next(&self.moves, at, pid);
+            next.is_some_and(Next::is_nothing)
+        })
     }
 
     /// Whether the world of a row may be an end. In a search that isn't complete not each move was

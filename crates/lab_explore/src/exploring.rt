@@ -94,7 +94,7 @@ pub fn explore<O: Observer>(
 {
     let processes = fresh.processes();
     let kernel = Kernel::new(alloc, processes.len())?;
-    let search = search_all(alloc, &processes, kernel, limits, observer)?;
+    let search = search_all(alloc, &processes, &kernel, limits, observer)?;
     let room = room_for_ends(limits, search.size());
     match search.report(alloc, &processes, room, nevers, fair) {
         Ok(found) => {

@@ -35,9 +35,9 @@ impl Walk {
         ensures walk { OnOk result (KeepsStart self.old self.new) }
     {
         match leg {
-            Leg::Edge(edge) => {
-                self.go(edge.pid as usize)?;
-                self.go_on(edge.pid as usize, edge.taken)
+            Leg::Step { pid, taken } => {
+                self.go(pid as usize)?;
+                self.go_on(pid as usize, taken)
             }
             Leg::Rest(pid) => self.wait(pid as usize),
         }
@@ -217,7 +217,7 @@ impl Search {
             IfSome round (λ r. IsFairRound (initial_world processes.now) r)) }
     {
         let count = place_of(processes.len())?;
-        let Some(tour) = sets.tour(alloc, self.store.edges.as_slice(), at, count)? else {
+        let Some(tour) = sets.tour(alloc, self, at, count)? else {
             return Ok(None);
         };
         match self.round_along(alloc, processes, &tour) {

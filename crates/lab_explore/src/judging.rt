@@ -1,24 +1,26 @@
 //! Conditions that are judged of the worlds that a search keeps.
-ghost use Rattle.std.specs.Prelude.{◌≡◌, ◌↔◌, ℕ, None, IsTrue, map, IfOk, IfSome};
-ghost use Rattle.lab_sched.specs.Worlds.{WorldState};
+ghost use Rattle.std.specs.Prelude.{◌≡◌, ◌↔◌, ℕ, List, None, IsTrue, map, IfOk, IfSome};
+ghost use Rattle.lab_sched.specs.Worlds.{Process as Seen, WorldState};
 ghost use Rattle.lab_sched.specs.Held.{process_view};
 ghost use Rattle.lab_conditions.specs.Conditions.{Holds};
-ghost use Rattle.lab_explore.specs.Private.Stored.{IsRow, IsAt};
+ghost use Rattle.lab_explore.specs.Calls.{Alongside};
+ghost use Rattle.lab_explore.specs.Private.Stored.{IsState, IsAt};
 
 use crate::ExploreFault;
-use crate::store::{Row, Store};
+use crate::store::Store;
 use lab_conditions::Condition;
 use lab_sched::Process;
 use std::alloc::Global;
 
 impl Store {
-    /// The processes of the world of a row, in order.
-    fn processes_of(&self, alloc: Global, row: &Row) -> Result<Vec<&Process>, ExploreFault>
-        ensures processes { IfOk result (λ processes. (w : WorldState) → IsRow self.now row.now w
-            → map (λ s. process_view s.now) processes.items ≡ w.processes) }
+    /// The processes in states that are kept, in order.
+    fn processes_in(&self, alloc: Global, states: &[u32]) -> Result<Vec<&Process>, ExploreFault>
+        ensures processes { IfOk result (λ processes. (ss : List Seen)
+            → Alongside (IsState self.now) states.now ss
+            → map (λ s. process_view s.now) processes.items ≡ ss) }
     {
         let mut processes = Vec::new(alloc);
-        for state in &row.states {
+        for state in states {
             let Some(process) = self.states.get(*state as usize) else {
                 return Err(ExploreFault::Unvouched);
             };
@@ -37,14 +39,15 @@ impl Store {
         ensures holds { IfOk result (λ holds. (w : WorldState) → IsAt self.now at w
             → IsTrue holds ↔ Holds condition.now w) }
     {
-        let Some(row) = self.rows.get(at) else {
+        let Some((kernel, states)) = self.rows.get(at) else {
             return Err(ExploreFault::Unvouched);
         };
-        let Some(kernel) = self.kernels.get(row.kernel as usize) else {
+        let processes = self.processes_in(alloc, states)?;
+        let found = self.kernels.get(alloc, kernel)?;
+        let Some(kernel) = found else {
             return Err(ExploreFault::Unvouched);
         };
-        let processes = self.processes_of(alloc, row)?;
-        let holds = condition.holds_in(alloc, kernel, processes.as_slice())?;
+        let holds = condition.holds_in(alloc, &kernel, processes.as_slice())?;
         Ok(holds)
     }
 

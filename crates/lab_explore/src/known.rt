@@ -2,11 +2,13 @@
 ghost use Rattle.std.specs.Prelude.{◌≡◌, [], IfOk, IfSome, OnOk};
 ghost use Rattle.lab_explore.specs.declared.store.Store.{Store as Kept};
 ghost use Rattle.lab_explore.specs.Private.Stored.{IsMove};
-ghost use Rattle.lab_explore.specs.Private.Known.{AreKnown};
+ghost use Rattle.lab_explore.specs.Private.Known.{AreMoves, HasNone};
 
-use crate::index::Index;
 use crate::store::Next;
+use crate::touches::Touches;
+use ipc_kernel::Index;
 use std::alloc::{AllocError, Global};
+use std::mem::size_of;
 
 /// What process `pid` does next in this state, over this kernel.
 #[derive(Clone, Copy, Drop)]
@@ -17,10 +19,12 @@ pub(crate) struct Move {
     pub next: Next,
 }
 
-/// Moves, each of which is made once.
+/// Moves, each of which is made once, and the steps at calls on open objects, which aren't made again
+/// for each kernel.
 #[derive(Drop)]
 pub(crate) struct Moves {
     pub made: Vec<Move>,
+    pub touches: Touches,
     index: Index,
 }
 
@@ -36,17 +40,18 @@ fn move_digest(kernel: u32, pid: u32, state: u32) -> u64 {
 impl Moves {
     /// No move.
     pub(crate) fn new(alloc: Global) -> Result<Moves, AllocError>
-        ensures none { IfOk result (λ moves. moves.made.items ≡ []) }
+        ensures none { IfOk result HasNone }
     {
         Ok(Moves {
             made: Vec::new(alloc),
+            touches: Touches::new(alloc)?,
             index: Index::new(alloc)?,
         })
     }
 
     /// The move from these places, if it was made.
     pub(crate) fn find(&self, kernel: u32, pid: u32, state: u32) -> Option<Next>
-        ensures known { (t : Kept) → AreKnown t self.now
+        ensures known { (t : Kept) → AreMoves t self.now
             → IfSome result (λ next. IsMove t kernel pid state next) }
     {
         let mut number = self.index.newest(move_digest(kernel, pid, state));
@@ -70,8 +75,9 @@ impl Moves {
         state: u32,
         next: Next,
     ) -> Result<(), AllocError>
-        ensures known { OnOk result ((t : Kept) → AreKnown t self.old
-            → IsMove t kernel pid state next → AreKnown t self.new) }
+        ensures touches { OnOk result (self.new.touches ≡ self.old.touches) }
+        ensures known { OnOk result ((t : Kept) → AreMoves t self.old
+            → IsMove t kernel pid state next → AreMoves t self.new) }
     {
         self.index.add(move_digest(kernel, pid, state))?;
         self.made.push(Move {
@@ -81,5 +87,13 @@ impl Moves {
             next,
         })?;
         Ok(())
+    }
+
+    /// About how many bytes they take.
+    pub(crate) fn size(&self) -> usize {
+        size_of::<Move>()
+            .saturating_add(3 * size_of::<u32>())
+            .saturating_mul(self.made.len())
+            .saturating_add(self.touches.size())
     }
 }

@@ -7,18 +7,22 @@ ghost use Rattle.lab_explore.specs.Private.Stored.{IsAt};
 ghost use Rattle.lab_explore.specs.Private.Judged.{IsLoss, NoEdgeLoses};
 
 use crate::ExploreFault;
-use crate::store::{Edge, Store};
+use crate::store::{Edge, Store, place_of};
 use lab_conditions::{is_receiving, messages_in};
 use std::alloc::{AllocError, Global};
 
 impl Store {
     /// How many messages are in the queues of each kernel.
-    fn messages(&self, alloc: Global) -> Result<Vec<usize>, AllocError>
-        ensures counts { IfOk result (λ counts. counts.items ≡ map messages self.now.kernels.items) }
+    fn messages(&self, alloc: Global) -> Result<Vec<usize>, ExploreFault>
+        ensures counts { IfOk result (λ counts. counts.items ≡ map messages self.now.kernels.kernels) }
     {
-        let mut counts = Vec::with_capacity(alloc, self.kernels.len())?;
-        for kernel in &self.kernels {
-            let count = messages_in(kernel);
+        let mut counts = Vec::new(alloc);
+        for number in 0..self.kernels.len() {
+            let found = self.kernels.get(alloc, place_of(number)?)?;
+            let Some(kernel) = found else {
+                return Err(ExploreFault::Unvouched);
+            };
+            let count = messages_in(&kernel);
             counts.push(count)?;
         }
         Ok(counts)
@@ -39,14 +43,14 @@ impl Store {
 
     /// How many messages are in the queues of the world of a row.
     fn messages_at(&self, counts: &[usize], at: u32) -> Result<usize, ExploreFault>
-        requires counts { counts.now ≡ map messages self.now.kernels.items }
+        requires counts { counts.now ≡ map messages self.now.kernels.kernels }
         ensures count { IfOk result (λ count. (w : WorldState) → IsAt self.now at w
             → count ≡ messages w.kernel) }
     {
-        let Some(row) = self.rows.get(at as usize) else {
+        let Some((kernel, _)) = self.rows.get(at as usize) else {
             return Err(ExploreFault::Unvouched);
         };
-        let Some(count) = counts.get(row.kernel as usize) else {
+        let Some(count) = counts.get(kernel as usize) else {
             return Err(ExploreFault::Unvouched);
         };
         Ok(*count)
@@ -76,7 +80,7 @@ impl Store {
         receiving: &[bool],
         edge: &Edge,
     ) -> Result<bool, ExploreFault>
-        requires counts { counts.now ≡ map messages self.now.kernels.items }
+        requires counts { counts.now ≡ map messages self.now.kernels.kernels }
         requires receiving { receiving.now
             ≡ map (λ s. is_receiving (process_view s)) self.now.states.items }
         ensures no { IfOk result (λ loses. loses ≡ false → IsLoss self.now edge.now → ⊥) }
@@ -86,7 +90,7 @@ impl Store {
         if after >= before {
             return Ok(false);
         }
-        let receives = self.receives_at(receiving, edge.from, edge.pid)?;
+        let receives = self.receives_at(receiving, edge.from, edge.pid as u32)?;
         Ok(!receives)
     }
 

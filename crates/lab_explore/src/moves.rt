@@ -1,14 +1,12 @@
 //! What each process does next.
 ghost use Rattle.std.specs.Prelude.{◌≡◌, ℕ, IsTrue, IfOk, IfSome, OnOk};
-ghost use Rattle.ipc_kernel.specs.Kernel.{KernelState};
-ghost use Rattle.lab_sched.specs.Worlds.{Process as Seen, WorldState, step};
-ghost use Rattle.lab_explore.specs.declared.trying.Tried.TheVariants.{Came};
+ghost use Rattle.lab_sched.specs.Worlds.{WorldState, step};
 ghost use Rattle.lab_explore.specs.Private.Known.{AreKnown};
-ghost use Rattle.lab_explore.specs.Private.Stored.{IsReady, IsRow, IsStore, Grows, AreReached, HasEdge, IsNext, IsMove, IsStepped, IsKeptStep, IsAt, IsTried, IsExpanded};
+ghost use Rattle.lab_explore.specs.Private.Rows.{row_of};
+ghost use Rattle.lab_explore.specs.Private.Stored.{IsRow, IsStore, Grows, AreReached, HasEdge, IsNextAt, IsAt, IsTried, IsExpanded};
 
 use crate::known::Moves;
-use crate::store::{Edge, Next, Row, Store};
-use crate::trying::{Made, Tried, discard, try_step};
+use crate::store::{Edge, Next, Parent, Store};
 use crate::{ExploreFault, Limits};
 use std::alloc::{AllocError, Global};
 
@@ -21,109 +19,60 @@ pub(crate) fn both(first: bool, second: bool) -> bool
 }
 
 /// The edge between two rows of these numbers, if they are small enough.
-fn edge_of(from: usize, to: usize, pid: u32, taken: u32) -> Option<Edge>
+fn edge_of(from: usize, to: usize, pid: u32) -> Option<Edge>
     ensures from { IfSome result (λ e. e.from ≡ from) }
     ensures to { IfSome result (λ e. e.to ≡ to) }
     ensures pid { IfSome result (λ e. e.pid ≡ pid) }
 {
     let from = u32::try_from(from).ok()?;
     let to = u32::try_from(to).ok()?;
-    Some(Edge {
-        from,
-        to,
-        pid,
-        taken,
-    })
+    let pid = u8::try_from(pid).ok()?;
+    Some(Edge { from, to, pid })
+}
+
+/// The parent that is a row of this number, if it is small enough.
+fn parent_of(at: usize, pid: u32) -> Option<Parent> {
+    let row = u32::try_from(at).ok()?;
+    let pid = u8::try_from(pid).ok()?;
+    Some(Parent { row, pid })
 }
 
 impl Store {
-    /// What comes of a step of process `pid` in a state that is kept, over a kernel that is kept.
-    fn try_next(
-        &self,
-        alloc: Global,
-        kernel: u32,
-        pid: u32,
-        state: u32,
-        most: u32,
-    ) -> Result<Tried, ExploreFault>
-        requires store { IsStore self.now }
-        ensures tried { IfOk result (λ tried. IsKeptStep self.now kernel pid state tried) }
+    /// What process `pid` does next in the world of a row, if it is known.
+    pub(crate) fn known_next(&self, moves: &Moves, at: usize, pid: u32) -> Option<Next>
+        ensures next { AreKnown self.now moves.now
+            → IfSome result (λ next. IsNextAt self.now at pid next) }
     {
-        let Some(kernel) = self.kernels.get(kernel as usize) else {
-            return Err(ExploreFault::Unvouched);
-        };
-        let Some(process) = self.states.get(state as usize) else {
-            return Err(ExploreFault::Unvouched);
-        };
-        try_step(alloc, kernel, process, pid as usize, most)
+        let (kernel, state) = self.places(at, pid)?;
+        if let Some(next) = self.touched_next(&moves.touches, kernel, pid, state) {
+            return Some(next);
+        }
+        let next = moves.find(kernel, pid, state)?;
+        Some(next)
     }
 
-    /// Keeps the kernel and the state that came of a step.
-    fn keep_made(&mut self, made: Made) -> Result<Next, ExploreFault>
-        requires store { IsStore self.old }
-        requires ready { IsReady made.process }
-        ensures store { OnOk result (IsStore self.new) }
-        ensures grows { OnOk result (Grows self.old self.new) }
-        ensures next { IfOk result (λ next. (k : KernelState) (p : ℕ) (s : Seen)
-            → IsStepped k p s (Came made) → IsNext self.new k p s next) }
-    {
-        let Made {
-            kernel,
-            process,
-            taken,
-        } = made;
-        match self.keep_kernel(kernel) {
-            Err(_) => {
-                discard(process);
-                Err(ExploreFault::NoMemory)
+    /// How many local steps process `pid` takes after its step from the world of a row, as far as that
+    /// is known.
+    pub(crate) fn known_steps(&self, moves: &Moves, at: usize, pid: u32) -> Option<u32> {
+        let (kernel, state) = self.places(at, pid)?;
+        if let Some(touch) = self.touch_at(kernel, pid, state) {
+            if let Some(effect) = moves.touches.find(touch) {
+                return effect.steps();
             }
-            Ok(kernel) => {
-                let state = self.keep_state(process)?;
-                Ok(Next::To {
-                    kernel,
-                    state,
-                    taken,
-                })
-            }
+        }
+        match moves.find(kernel, pid, state)? {
+            Next::To { taken, .. } => Some(taken),
+            _ => None,
         }
     }
 
-    /// What process `pid` does next in a state that is kept, over a kernel that is kept.
-    fn make_next(
-        &mut self,
-        alloc: Global,
-        kernel: u32,
-        pid: u32,
-        state: u32,
-        most: u32,
-    ) -> Result<Next, ExploreFault>
-        requires store { IsStore self.old }
-        ensures store { OnOk result (IsStore self.new) }
-        ensures grows { OnOk result (Grows self.old self.new) }
-        ensures next { IfOk result (λ next. IsMove self.new kernel pid state next) }
-    {
-        match self.try_next(alloc, kernel, pid, state, most) {
-            Ok(Tried::Still) => Ok(Next::Nothing),
-            Ok(Tried::Runs) => Ok(Next::Limit),
-            Ok(Tried::Came(made)) => {
-                let next = self.keep_made(made)?;
-                Ok(next)
-            }
-            Err(fault) => Err(fault),
-        }
-    }
-}
-
-impl Store {
-    /// What process `pid` does next in a state that is kept, over a kernel that is kept. Each such
-    /// move is made once.
+    /// What process `pid` does next in the world of a row.
     fn next(
         &mut self,
         alloc: Global,
         moves: &mut Moves,
-        kernel: u32,
+        at: usize,
         pid: u32,
-        state: u32,
         most: u32,
     ) -> Result<Next, ExploreFault>
         requires store { IsStore self.old }
@@ -131,13 +80,15 @@ impl Store {
         ensures store { OnOk result (IsStore self.new) }
         ensures known { OnOk result (AreKnown self.new moves.new) }
         ensures grows { OnOk result (Grows self.old self.new) }
-        ensures next { IfOk result (λ next. IsMove self.new kernel pid state next) }
+        ensures next { IfOk result (λ next. IsNextAt self.new at pid next) }
     {
-        if let Some(next) = moves.find(kernel, pid, state) {
+        if let Some(next) = self.known_next(moves, at, pid) {
             return Ok(next);
         }
-        let next = self.make_next(alloc, kernel, pid, state, most)?;
-        moves.keep(kernel, pid, state, next)?;
+        let Some((kernel, state)) = self.places(at, pid) else {
+            return Err(ExploreFault::Unvouched);
+        };
+        let next = self.make_move(alloc, moves, kernel, pid, state, most)?;
         Ok(next)
     }
 }
@@ -145,19 +96,22 @@ impl Store {
 impl Store {
     /// Keeps the world of a row, and the edge to it by a step of process `pid` from the world of
     /// another, if there are fewer worlds than `most`; with whether both are kept now.
-    fn keep_edge(&mut self, at: usize, pid: u32, row: Row, most: u32) -> Result<bool, AllocError>
+    fn keep_edge(&mut self, at: usize, pid: u32, row: &[u32], most: u32) -> Result<bool, AllocError>
         requires store { IsStore self.old }
-        requires row { (w : WorldState) × IsRow self.old row w }
+        requires row { (w : WorldState) × IsRow self.old (row_of row.now) w }
         ensures store { OnOk result (IsStore self.new) }
         ensures grows { OnOk result (Grows self.old self.new) }
-        ensures edge { IfOk result (λ kept. IsTrue kept → (w v : WorldState) → IsRow self.old row v
-            → AreReached (step w pid) v → HasEdge self.new at w pid) }
+        ensures edge { IfOk result (λ kept. IsTrue kept → (w v : WorldState)
+            → IsRow self.old (row_of row.now) v → AreReached (step w pid) v
+            → HasEdge self.new at w pid) }
     {
-        let taken = row.taken;
-        let Some(to) = self.keep_row(row, most)? else {
+        let Some(parent) = parent_of(at, pid) else {
             return Ok(false);
         };
-        let Some(edge) = edge_of(at, to, pid, taken) else {
+        let Some(to) = self.keep_row(row, parent, most)? else {
+            return Ok(false);
+        };
+        let Some(edge) = edge_of(at, to, pid) else {
             return Ok(false);
         };
         self.edges.push(edge)?;
@@ -182,19 +136,12 @@ impl Store {
         ensures tried { IfOk result (λ whole. IsTrue whole → (w : WorldState)
             → IsAt self.old at w → IsTried self.new at w pid) }
     {
-        let Some((kernel, state)) = self.places(at, pid) else {
-            return Err(ExploreFault::Unvouched);
-        };
-        match self.next(alloc, moves, kernel, pid, state, limits.steps)? {
+        match self.next(alloc, moves, at, pid, limits.steps)? {
             Next::Nothing => Ok(true),
             Next::Limit => Ok(false),
-            Next::To {
-                kernel,
-                state,
-                taken,
-            } => {
-                let row = self.row_after(alloc, at, pid, kernel, state, taken)?;
-                let kept = self.keep_edge(at, pid, row, limits.worlds)?;
+            Next::To { kernel, state, .. } => {
+                let row = self.row_after(alloc, at, pid, kernel, state)?;
+                let kept = self.keep_edge(at, pid, row.as_slice(), limits.worlds)?;
                 Ok(kept)
             }
         }

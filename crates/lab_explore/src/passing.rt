@@ -102,9 +102,9 @@ impl Pass {
         ensures passing { OnOk result (KeepsPassing self.old self.new) }
     {
         match leg {
-            Leg::Edge(edge) => {
-                self.take(edge.pid as usize)?;
-                self.take_on(edge.pid as usize, edge.taken)
+            Leg::Step { pid, taken } => {
+                self.take(pid as usize)?;
+                self.take_on(pid as usize, taken)
             }
             Leg::Rest(pid) => self.pause(pid as usize),
         }

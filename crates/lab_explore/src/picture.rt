@@ -70,7 +70,7 @@ pub fn draw(alloc: Global, fresh: Fresh, limits: Limits) -> Result<Option<Pictur
         ..limits
     };
     let mut nobody = Nobody;
-    let search = search_all(alloc, &processes, kernel, limits, &mut nobody)?;
+    let search = search_all(alloc, &processes, &kernel, limits, &mut nobody)?;
     match search.picture(alloc, &processes) {
         Ok(picture) => {
             discard(search);

@@ -5,7 +5,7 @@ ghost use Rattle.lab_explore.specs.Private.Known.{AreKnown};
 ghost use Rattle.lab_explore.specs.Private.Ranked.{rank_of, keeper_of, IsFalling, IsKept, AreRanked};
 
 use crate::search::Search;
-use crate::store::{Edge, Next};
+use crate::store::Edge;
 
 /// The rank of a row, and 0 where there is none.
 fn rank_at(ranks: &[u32], at: usize) -> u32
@@ -38,7 +38,7 @@ fn is_falling(ranks: &[u32], keepers: &[Option<u32>], edge: &Edge) -> bool
         return true;
     }
     match keeper_at(keepers, from) {
-        Some(pid) => to == from && edge.pid != pid,
+        Some(pid) => to == from && edge.pid as u32 != pid,
         None => false,
     }
 }
@@ -64,13 +64,13 @@ impl Search {
         let Some(pid) = keeper_at(keepers, rank_at(ranks, at)) else {
             return true;
         };
-        let Some((kernel, state)) = self.store.places(at, pid) else {
+        let Some(next) = self.store.known_next(&self.moves, at, pid) else {
             return false;
         };
-        match self.moves.find(kernel, pid, state) {
-            Some(Next::To { .. }) => true,
-            _ => false,
+        if next.is_nothing() {
+            return false;
         }
+        true
     }
 
     /// Whether ranks are such that no edge raises them, and the process of each goes on from each row of

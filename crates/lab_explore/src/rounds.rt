@@ -32,8 +32,9 @@ impl Search {
         ensures row { OnOk result (IsLike self.now.store cycle.now.at walk.new.world) }
     {
         for edge in cycle.edges.iter().rev() {
+            let taken = self.steps_after(edge.from, edge.pid)?;
             walk.go(edge.pid as usize)?;
-            walk.go_on(edge.pid as usize, edge.taken)?;
+            walk.go_on(edge.pid as usize, taken)?;
         }
         if walk.schedule.total() == 0 || !self.store.is_row(alloc, cycle.at, &walk.world)? {
             return Err(ExploreFault::Unvouched);

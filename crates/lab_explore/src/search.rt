@@ -1,14 +1,15 @@
 //! The search of every world.
-ghost use Rattle.std.specs.Prelude.{◌≡◌, [], All, IsTrue, false, map, IfOk, IfSome, OnOk};
+ghost use Rattle.std.specs.Prelude.{◌≡◌, All, IsTrue, false, map, IfOk, IfSome, OnOk};
 ghost use Rattle.lab_sched.specs.Held.{process_view, IsHeld};
-ghost use Rattle.lab_explore.specs.Private.Known.{AreKnown};
+ghost use Rattle.lab_explore.specs.Private.Known.{AreKnown, HasNone};
+ghost use Rattle.lab_explore.specs.Private.Rows.{row_of};
 ghost use Rattle.lab_explore.specs.Closed.{HasAdvance};
 ghost use Rattle.lab_explore.specs.Private.Stored.{IsState, IsReady, IsAt, IsStore, Grows, AreExpanded, IsSearched, IsCome, IsBegun};
 
 use crate::advance::{Ahead, advance};
 use crate::known::Moves;
 use crate::moves::both;
-use crate::store::{Row, Store};
+use crate::store::{Parent, Store};
 use crate::trying::discard;
 use crate::{ExploreFault, Limits, Observer};
 use ipc_kernel::Kernel;
@@ -42,7 +43,7 @@ pub(crate) struct Search {
 
 impl Store {
     /// Keeps the state of a process that stands at its call, if it does.
-    fn keep_ahead(&mut self, ahead: Ahead) -> Result<Option<Come>, ExploreFault>
+    fn keep_ahead(&mut self, alloc: Global, ahead: Ahead) -> Result<Option<Come>, ExploreFault>
         requires store { IsStore self.old }
         requires held { IsHeld ahead.process }
         requires at_call { IsTrue ahead.at_call → IsReady ahead.process }
@@ -60,7 +61,7 @@ impl Store {
             discard(process);
             return Ok(None);
         }
-        let state = self.keep_state(process)?;
+        let state = self.keep_state(alloc, process)?;
         Ok(Some(Come { state, taken }))
     }
 
@@ -80,7 +81,7 @@ impl Store {
     {
         let process = process.copy(alloc)?;
         let ahead = advance(alloc, process, most)?;
-        let come = self.keep_ahead(ahead)?;
+        let come = self.keep_ahead(alloc, ahead)?;
         Ok(come)
     }
 
@@ -131,7 +132,7 @@ impl Store {
             if at >= self.rows.len() {
                 return Ok(whole);
             }
-            if self.size(moves.made.len()) > limits.memory {
+            if self.size(moves) > limits.memory {
                 return Ok(false);
             }
             observer.see(at, self.rows.len() - at);
@@ -142,20 +143,30 @@ impl Store {
     }
 }
 
+/// The numbers of a row.
+fn first_row(alloc: Global, kernel: u32, states: &[u32]) -> Result<Vec<u32>, AllocError>
+    ensures kernel { IfOk result (λ row. (row_of row.items).kernel ≡ kernel) }
+    ensures states { IfOk result (λ row. (row_of row.items).states ≡ states.now) }
+{
+    let mut row = vec![in alloc; kernel]?;
+    row.extend_from_slice(states)?;
+    Ok(row)
+}
+
 impl Search {
     /// About how many bytes it takes.
     pub(crate) fn size(&self) -> usize {
-        self.store.size(self.moves.made.len())
+        self.store.size(&self.moves)
     }
 
     /// The search before its first world.
-    fn new(alloc: Global) -> Result<Search, AllocError>
+    fn new(alloc: Global, processes: usize) -> Result<Search, AllocError>
         ensures store { IfOk result (λ s. IsStore s.store) }
-        ensures none { IfOk result (λ s. s.moves.made.items ≡ []) }
+        ensures none { IfOk result (λ s. HasNone s.moves) }
         ensures open { IfOk result (λ s. s.complete ≡ false) }
     {
         Ok(Search {
-            store: Store::new(alloc)?,
+            store: Store::new(alloc, processes)?,
             moves: Moves::new(alloc)?,
             firsts: Vec::new(alloc),
             complete: false,
@@ -169,33 +180,28 @@ impl Search {
         &mut self,
         alloc: Global,
         processes: &[Process],
-        kernel: Kernel,
+        kernel: &Kernel,
         limits: Limits,
     ) -> Result<bool, ExploreFault>
         requires store { IsStore self.old.store }
-        requires none { self.old.moves.made.items ≡ [] }
+        requires none { HasNone self.old.moves }
         requires open { self.old.complete ≡ false }
         requires held { All IsHeld processes.now }
         ensures store { OnOk result (IsStore self.new.store) }
-        ensures none { OnOk result (self.new.moves.made.items ≡ []) }
+        ensures none { OnOk result (HasNone self.new.moves) }
         ensures open { OnOk result (self.new.complete ≡ false) }
         ensures begins { IfOk result (λ kept. IsTrue kept → HasAdvance (IsAt self.new.store 0)
-            (record { processes = map process_view processes.now; kernel = kernel })) }
+            (record { processes = map process_view processes.now; kernel = kernel.now })) }
     {
-        let kernel = self.store.keep_kernel(kernel)?;
+        let kernel = self.store.keep_alike(alloc, kernel)?;
         let Some(begun) = self.store.begin(alloc, processes, limits.steps)? else {
             return Ok(false);
         };
         let Begun { states, firsts } = begun;
         self.firsts = firsts;
-        let first = Row {
-            kernel,
-            states,
-            before: 0,
-            pid: 0,
-            taken: 0,
-        };
-        let Some(0) = self.store.keep_row(first, limits.worlds)? else {
+        let first = first_row(alloc, kernel, states.as_slice())?;
+        let none = Parent { row: 0, pid: 0 };
+        let Some(0) = self.store.keep_row(first.as_slice(), none, limits.worlds)? else {
             return Ok(false);
         };
         Ok(true)
@@ -209,7 +215,7 @@ impl Search {
         observer: &mut O,
     ) -> Result<(), ExploreFault>
         requires store { IsStore self.old.store }
-        requires none { self.old.moves.made.items ≡ [] }
+        requires none { HasNone self.old.moves }
         requires open { self.old.complete ≡ false }
         ensures store { OnOk result (IsTrue self.new.complete → IsStore self.new.store) }
         ensures known { OnOk result (IsTrue self.new.complete
@@ -245,19 +251,19 @@ impl Search {
         &mut self,
         alloc: Global,
         processes: &[Process],
-        kernel: Kernel,
+        kernel: &Kernel,
         limits: Limits,
         observer: &mut O,
     ) -> Result<(), ExploreFault>
         requires store { IsStore self.old.store }
-        requires none { self.old.moves.made.items ≡ [] }
+        requires none { HasNone self.old.moves }
         requires open { self.old.complete ≡ false }
         requires held { All IsHeld processes.now }
         ensures store { OnOk result (IsTrue self.new.complete → IsStore self.new.store) }
         ensures known { OnOk result (IsTrue self.new.complete
             → AreKnown self.new.store self.new.moves) }
         ensures complete { OnOk result (IsTrue self.new.complete → IsSearched
-            (record { processes = map process_view processes.now; kernel = kernel })
+            (record { processes = map process_view processes.now; kernel = kernel.now })
             self.new.store) }
     {
         let kept = self.begin(alloc, processes, kernel, limits)?;
@@ -273,7 +279,7 @@ impl Search {
 pub(crate) fn search_all<O: Observer>(
     alloc: Global,
     processes: &[Process],
-    kernel: Kernel,
+    kernel: &Kernel,
     limits: Limits,
     observer: &mut O,
 ) -> Result<Search, ExploreFault>
@@ -281,15 +287,9 @@ pub(crate) fn search_all<O: Observer>(
     ensures store { IfOk result (λ s. IsTrue s.complete → IsStore s.store) }
     ensures known { IfOk result (λ s. IsTrue s.complete → AreKnown s.store s.moves) }
     ensures complete { IfOk result (λ s. IsTrue s.complete → IsSearched
-        (record { processes = map process_view processes.now; kernel = kernel }) s.store) }
+        (record { processes = map process_view processes.now; kernel = kernel.now }) s.store) }
 {
-    let mut search = match Search::new(alloc) {
-        Ok(search) => search,
-        Err(_) => {
-            discard(kernel);
-            return Err(ExploreFault::NoMemory);
-        }
-    };
+    let mut search = Search::new(alloc, processes.len())?;
     match search.fill(alloc, processes, kernel, limits, observer) {
         Ok(()) => Ok(search),
         Err(fault) => {

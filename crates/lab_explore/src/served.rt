@@ -54,7 +54,7 @@ fn keep_only(numbers: &mut Vec<Processes>, at: usize, processes: Processes) {
 fn going_from(alloc: Global, edges: &[Edge], count: usize) -> Result<Vec<Processes>, AllocError> {
     let mut going = vec![in alloc; 0; count]?;
     for edge in edges {
-        add(&mut going, edge.from as usize, only(edge.pid));
+        add(&mut going, edge.from as usize, only(edge.pid as u32));
     }
     Ok(going)
 }
@@ -70,7 +70,7 @@ fn moving_in(
     for edge in edges {
         let set = small_at(of_rows, edge.from as usize);
         if set == small_at(of_rows, edge.to as usize) {
-            add(&mut moving, set as usize, only(edge.pid));
+            add(&mut moving, set as usize, only(edge.pid as u32));
         }
     }
     Ok(moving)

@@ -1,24 +1,16 @@
 //! What a search keeps.
-ghost use Rattle.std.specs.Prelude.{◌≡◌, ◌<◌, Some, IfOk, IfSome, OnOk};
+ghost use Rattle.std.specs.Prelude.{◌≡◌, ◌<◌, false, Some, IsTrue, IfOk, IfSome, OnOk, slice_get};
 ghost use Rattle.lab_sched.specs.Held.{process_view};
-ghost use Rattle.lab_explore.specs.Private.Stored.{IsState, IsKernel, IsReady, IsStore, Grows};
+ghost use Rattle.lab_explore.specs.declared.store.Next.TheVariants.{Nothing};
+ghost use Rattle.lab_explore.specs.Private.Stored.{IsExactly, IsState, IsKernel, IsReady, IsStore, Grows};
 
-use crate::index::Index;
-use ipc_kernel::Kernel;
+use crate::known::Moves;
+use crate::row::Rows;
+use ipc_kernel::{Handle, Index, Kernel, Kernels};
+use lab_conditions::call_of;
 use lab_sched::Process;
 use std::alloc::{AllocError, Global};
 use std::mem::size_of;
-
-/// A world: the places of its kernel and of the states of its processes. It was reached from the
-/// row before by the process `pid`, which then took so many local steps.
-#[derive(Drop)]
-pub(crate) struct Row {
-    pub kernel: u32,
-    pub states: Vec<u32>,
-    pub before: u32,
-    pub pid: u32,
-    pub taken: u32,
-}
 
 /// What a process does next.
 #[derive(Clone, Copy, Drop)]
@@ -32,6 +24,16 @@ pub(crate) enum Next {
     To { kernel: u32, state: u32, taken: u32 },
 }
 
+impl Next {
+    /// Whether it is nothing.
+    pub(crate) fn is_nothing(self) -> bool
+        ensures yes { IsTrue result → self ≡ Nothing }
+        ensures no { result ≡ false → self ≡ Nothing → ⊥ }
+    {
+        matches!(self, Next::Nothing)
+    }
+}
+
 /// A place, as it is kept, if it is small enough.
 pub(crate) fn place_of(at: usize) -> Result<u32, AllocError>
     ensures value { IfOk result (λ place. place ≡ at) }
@@ -42,73 +44,83 @@ pub(crate) fn place_of(at: usize) -> Result<u32, AllocError>
     }
 }
 
-/// A step of process `pid` from the world of a row, and then so many local steps of it, to the
-/// world of a row.
+/// The row from which another was reached first, by a step of process `pid`.
+#[derive(Clone, Copy, Drop)]
+pub(crate) struct Parent {
+    pub row: u32,
+    pub pid: u8,
+}
+
+/// A step of process `pid` from the world of a row, and then all its local steps, to the world of a
+/// row.
 #[derive(Clone, Copy, Drop)]
 pub(crate) struct Edge {
     pub from: u32,
     pub to: u32,
-    pub pid: u32,
-    pub taken: u32,
+    pub pid: u8,
 }
 
 /// Kernels, states of processes at calls, and worlds, each of which is kept once, and the edges
 /// between the worlds, in the order of those that they lead from.
 #[derive(Drop)]
 pub(crate) struct Store {
-    pub kernels: Vec<Kernel>,
+    pub kernels: Kernels,
     pub states: Vec<Process>,
-    pub rows: Vec<Row>,
+    /// For each state the descriptor or slot that its call names, if it is on an open object.
+    pub handles: Vec<Option<Handle>>,
+    pub rows: Rows,
+    /// For each row the one from which it was reached first.
+    pub parents: Vec<Parent>,
     pub edges: Vec<Edge>,
-    /// About how many bytes the kernels and the states take.
+    /// About how many bytes the states take.
     pub held: usize,
-    kernel_index: Index,
     state_index: Index,
     pub row_index: Index,
 }
 
-/// About how many bytes each row takes beside its places: in the index, and where the rows are told,
+/// About how many bytes each row takes beside its numbers: in the index, and where the rows are told,
 /// as a number in each of four lists and a depth.
-const ROW: usize = 80;
+const ROW: usize = 56;
 
-/// About how many bytes each move takes, with the index.
-const MOVE: usize = 44;
+/// The descriptor or slot that the call of a process names, if it stands at one on an open object.
+fn handle_at(alloc: Global, process: &Process) -> Result<Option<Handle>, AllocError> {
+    match call_of(alloc, process)? {
+        Some(call) => Ok(call.handle()),
+        None => Ok(None),
+    }
+}
 
 impl Store {
-    /// Nothing.
-    pub(crate) fn new(alloc: Global) -> Result<Store, AllocError>
+    /// Nothing, with room for worlds of so many processes.
+    pub(crate) fn new(alloc: Global, processes: usize) -> Result<Store, AllocError>
         ensures store { IfOk result (λ store. IsStore store) }
     {
         Ok(Store {
-            kernels: Vec::new(alloc),
+            kernels: Kernels::new(alloc)?,
             states: Vec::new(alloc),
-            rows: Vec::new(alloc),
+            handles: Vec::new(alloc),
+            rows: Rows::new(alloc, processes),
+            parents: Vec::new(alloc),
             edges: Vec::new(alloc),
             held: 0,
-            kernel_index: Index::new(alloc)?,
             state_index: Index::new(alloc)?,
             row_index: Index::new(alloc)?,
         })
     }
 
-    /// About how many bytes are taken by what is kept, and by so many moves.
-    pub(crate) fn size(&self, moves: usize) -> usize {
-        let width = match self.rows.first() {
-            Some(row) => row.states.len(),
-            None => 0,
-        };
-        let row = ROW
-            .saturating_add(size_of::<Row>())
-            .saturating_add(size_of::<u32>().saturating_mul(width));
+    /// About how many bytes are taken by what is kept, and by moves.
+    pub(crate) fn size(&self, moves: &Moves) -> usize {
         self.held
-            .saturating_add(row.saturating_mul(self.rows.len()))
+            .saturating_add(self.kernels.size())
+            .saturating_add(self.rows.size())
+            .saturating_add(ROW.saturating_mul(self.rows.len()))
             .saturating_add(size_of::<Edge>().saturating_mul(self.edges.len()))
-            .saturating_add(MOVE.saturating_mul(moves))
+            .saturating_add(moves.size())
     }
 
     /// Lets go of what only a search needs that goes on.
     pub(crate) fn forget(&mut self, alloc: Global) {
-        self.kernel_index = Index::none(alloc);
+        self.kernels.forget(alloc);
         self.state_index = Index::none(alloc);
         self.row_index = Index::none(alloc);
     }
@@ -130,25 +142,29 @@ impl Store {
         None
     }
 
-    /// The place of a kernel that is alike, if one is kept.
-    fn find_kernel(&self, kernel: &Kernel, hash: u64) -> Option<usize>
-        ensures found { IfSome result (λ i. IsKernel self.now i kernel.now) }
+    /// Keeps the state of a process at a call that isn't kept yet; with its place.
+    fn add_state(
+        &mut self,
+        process: Process,
+        handle: Option<Handle>,
+        hash: u64,
+    ) -> Result<u32, AllocError>
+        requires store { IsStore self.old }
+        requires ready { IsReady process }
+        ensures store { OnOk result (IsStore self.new) }
+        ensures grows { OnOk result (Grows self.old self.new) }
+        ensures state { IfOk result (λ i. IsState self.new i (process_view process)) }
     {
-        let mut number = self.kernel_index.newest(hash);
-        while number > 0 {
-            let at = number - 1;
-            if let Some(kept) = self.kernels.get(at) {
-                if kernel.is_alike(kept) {
-                    return Some(at);
-                }
-            }
-            number = self.kernel_index.older(number);
-        }
-        None
+        self.state_index.add(hash)?;
+        self.handles.push(handle)?;
+        self.held = self.held.saturating_add(process.machine().size());
+        let place = place_of(self.states.len())?;
+        self.states.push(process)?;
+        Ok(place)
     }
 
     /// Keeps the state of a process at a call; with its place.
-    pub(crate) fn keep_state(&mut self, process: Process) -> Result<u32, AllocError>
+    pub(crate) fn keep_state(&mut self, alloc: Global, process: Process) -> Result<u32, AllocError>
         requires store { IsStore self.old }
         requires ready { IsReady process }
         ensures store { OnOk result (IsStore self.new) }
@@ -160,29 +176,32 @@ impl Store {
             let place = place_of(at)?;
             return Ok(place);
         }
-        self.state_index.add(hash)?;
-        self.held = self.held.saturating_add(process.machine().size());
-        let place = place_of(self.states.len())?;
-        self.states.push(process)?;
+        let handle = handle_at(alloc, &process)?;
+        let place = self.add_state(process, handle, hash)?;
         Ok(place)
     }
 
-    /// Keeps a kernel, if none is kept that is alike; with the place.
-    pub(crate) fn keep_kernel(&mut self, kernel: Kernel) -> Result<u32, AllocError>
+    /// Keeps a kernel as it is; with its number.
+    pub(crate) fn keep_kernel(&mut self, alloc: Global, kernel: &Kernel) -> Result<u32, AllocError>
         requires store { IsStore self.old }
         ensures store { OnOk result (IsStore self.new) }
         ensures grows { OnOk result (Grows self.old self.new) }
-        ensures kernel { IfOk result (λ i. IsKernel self.new i kernel) }
+        ensures kernel { IfOk result (λ i. IsExactly self.new i kernel.now) }
     {
-        let hash = kernel.digest();
-        if let Some(at) = self.find_kernel(&kernel, hash) {
-            let place = place_of(at)?;
-            return Ok(place);
-        }
-        self.kernel_index.add(hash)?;
-        self.held = self.held.saturating_add(kernel.size());
-        let place = place_of(self.kernels.len())?;
-        self.kernels.push(kernel)?;
-        Ok(place)
+        let number = self.kernels.keep(alloc, kernel)?;
+        Ok(number)
+    }
+
+    /// Keeps a kernel that is alike, with its places in an order that is the same for all such; with
+    /// its number.
+    pub(crate) fn keep_alike(&mut self, alloc: Global, kernel: &Kernel) -> Result<u32, AllocError>
+        requires store { IsStore self.old }
+        ensures store { OnOk result (IsStore self.new) }
+        ensures grows { OnOk result (Grows self.old self.new) }
+        ensures kernel { IfOk result (λ i. IsKernel self.new i kernel.now) }
+    {
+        let arranged = kernel.arranged(alloc)?;
+        let number = self.kernels.keep(alloc, &arranged)?;
+        Ok(number)
     }
 }

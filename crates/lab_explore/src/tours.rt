@@ -1,6 +1,8 @@
 //! Ways through strongly connected sets of rows that serve each process. Nothing that is proved rests
 //! on what stands here: the steps along them are taken again (`fair`).
+use crate::ExploreFault;
 use crate::graph::{number_at, path_of, put};
+use crate::search::Search;
 use crate::served::{Sets, only};
 use crate::store::Edge;
 use std::alloc::{AllocError, Global};
@@ -8,8 +10,8 @@ use std::alloc::{AllocError, Global};
 /// A part of a tour.
 #[derive(Clone, Copy, Drop)]
 pub(crate) enum Leg {
-    /// The steps of an edge.
-    Edge(Edge),
+    /// A step of a process, and then so many local steps.
+    Step { pid: u8, taken: u32 },
     /// The process doesn't go on from here: it waits, or has ended.
     Rest(u32),
 }
@@ -53,11 +55,13 @@ impl Way {
         }
     }
 
-    /// Goes along edges, the last of which comes first.
-    fn go(&mut self, path: &[Edge]) -> Result<(), AllocError> {
+    /// Goes along edges of a search, the last of which comes first.
+    fn go(&mut self, search: &Search, path: &[Edge]) -> Result<(), ExploreFault> {
         for edge in path.iter().rev() {
-            self.legs.push(Leg::Edge(*edge))?;
-            self.moved |= only(edge.pid);
+            let pid = edge.pid;
+            let taken = search.steps_after(edge.from, pid)?;
+            self.legs.push(Leg::Step { pid, taken })?;
+            self.moved |= only(pid as u32);
             self.row = edge.to as usize;
         }
         Ok(())
@@ -82,7 +86,7 @@ impl Sets {
     /// Whether an edge is what is looked for, or leads to it.
     fn leads_there(&self, edge: &Edge, goal: Goal) -> bool {
         match goal {
-            Goal::Step(pid) => edge.pid == pid,
+            Goal::Step(pid) => edge.pid as u32 == pid,
             _ => self.is_there(edge.to as usize, goal),
         }
     }
@@ -143,17 +147,17 @@ impl Sets {
     fn go_on(
         &self,
         alloc: Global,
-        edges: &[Edge],
+        search: &Search,
         goal: Goal,
         way: &mut Way,
-    ) -> Result<bool, AllocError> {
+    ) -> Result<bool, ExploreFault> {
         if self.is_there(way.row, goal) {
             return Ok(true);
         }
-        let Some(path) = self.path_to(alloc, edges, way.row, goal)? else {
+        let Some(path) = self.path_to(alloc, search.store.edges.as_slice(), way.row, goal)? else {
             return Ok(false);
         };
-        way.go(path.as_slice())?;
+        way.go(search, path.as_slice())?;
         Ok(true)
     }
 
@@ -162,13 +166,13 @@ impl Sets {
     fn go_to_rests(
         &self,
         alloc: Global,
-        edges: &[Edge],
+        search: &Search,
         count: u32,
         way: &mut Way,
-    ) -> Result<bool, AllocError> {
+    ) -> Result<bool, ExploreFault> {
         for pid in 0..count {
             if !self.moves(way.row, pid) {
-                let came = self.go_on(alloc, edges, Goal::Rest(pid), way)?;
+                let came = self.go_on(alloc, search, Goal::Rest(pid), way)?;
                 if !came {
                     return Ok(false);
                 }
@@ -183,13 +187,13 @@ impl Sets {
     fn go_to_steps(
         &self,
         alloc: Global,
-        edges: &[Edge],
+        search: &Search,
         count: u32,
         way: &mut Way,
-    ) -> Result<bool, AllocError> {
+    ) -> Result<bool, ExploreFault> {
         for pid in 0..count {
             if self.moves(way.row, pid) && !way.has_moved(pid) {
-                let came = self.go_on(alloc, edges, Goal::Step(pid), way)?;
+                let came = self.go_on(alloc, search, Goal::Step(pid), way)?;
                 if !came {
                     return Ok(false);
                 }
@@ -202,18 +206,18 @@ impl Sets {
     pub(crate) fn tour(
         &self,
         alloc: Global,
-        edges: &[Edge],
+        search: &Search,
         at: usize,
         count: u32,
-    ) -> Result<Option<Tour>, AllocError> {
+    ) -> Result<Option<Tour>, ExploreFault> {
         let mut way = Way::at(alloc, at);
-        if !self.go_to_rests(alloc, edges, count, &mut way)? {
+        if !self.go_to_rests(alloc, search, count, &mut way)? {
             return Ok(None);
         }
         let mut more = Way::at(alloc, way.row);
         more.moved = way.moved;
-        if !self.go_to_steps(alloc, edges, count, &mut more)?
-            || !self.go_on(alloc, edges, Goal::Row(at), &mut more)?
+        if !self.go_to_steps(alloc, search, count, &mut more)?
+            || !self.go_on(alloc, search, Goal::Row(at), &mut more)?
         {
             return Ok(None);
         }

@@ -130,22 +130,22 @@ fn step_on(
     }
 }
 
-/// Takes a step of a copy of a process, and its local steps after it, over a copy of a kernel.
+/// Takes a step of a copy of a process, and its local steps after it, over a kernel.
 pub(crate) fn try_step(
     alloc: Global,
-    kernel: &Kernel,
+    kernel: Kernel,
     process: &Process,
     pid: usize,
     most: u32,
 ) -> Result<Tried, ExploreFault>
     requires held { IsHeld process.now }
     ensures stepped { IfOk result
-        (λ tried. IsStepped kernel.now pid (process_view process.now) tried) }
+        (λ tried. IsStepped kernel pid (process_view process.now) tried) }
 {
     if pid >= kernel.count() {
+        discard(kernel);
         return Err(ExploreFault::Unvouched);
     }
-    let kernel = kernel.copy(alloc)?;
     match process.copy(alloc) {
         Ok(process) => step_on(alloc, kernel, process, pid, most),
         Err(_) => {

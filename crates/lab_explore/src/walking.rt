@@ -223,33 +223,40 @@ fn exchange(local: &mut Vec<u32>, pid: usize, count: u32) -> Result<u32, Explore
     Ok(before)
 }
 
-impl Store {
+impl Search {
+    /// How many local steps process `pid` takes after its step from the world of a row. The move must
+    /// have been made.
+    pub(crate) fn steps_after(&self, at: u32, pid: u8) -> Result<u32, ExploreFault> {
+        self.store
+            .known_steps(&self.moves, at as usize, pid as u32)
+            .ok_or(ExploreFault::Unvouched)
+    }
+
     /// The processes that moved on the way to a row, with their local steps after that, the last
     /// first.
-    fn way(&self, alloc: Global, at: usize) -> Result<Vec<(usize, u32)>, AllocError> {
+    fn way(&self, alloc: Global, at: usize) -> Result<Vec<(usize, u32)>, ExploreFault> {
         let mut way = Vec::new(alloc);
         let mut now = at;
-        for _ in 0..self.rows.len() {
+        for _ in 0..self.store.rows.len() {
             if now == 0 {
                 break;
             }
-            let Some(row) = self.rows.get(now) else {
+            let Some(parent) = self.store.parents.get(now) else {
                 break;
             };
-            way.push((row.pid as usize, row.taken))?;
-            now = row.before as usize;
+            let taken = self.steps_after(parent.row, parent.pid)?;
+            way.push((parent.pid as usize, taken))?;
+            now = parent.row as usize;
         }
         Ok(way)
     }
-}
 
-impl Search {
     /// Goes the way to a row, up to its last call: the local steps of a process are taken just before
     /// its next call. With the local steps that are left of each process.
     fn go_calls(&self, alloc: Global, at: usize, walk: &mut Walk) -> Result<Vec<u32>, ExploreFault>
         ensures walk { OnOk result (KeepsStart walk.old walk.new) }
     {
-        let way = self.store.way(alloc, at)?;
+        let way = self.way(alloc, at)?;
         let mut local = Vec::from_slice(alloc, self.firsts.as_slice())?;
         for (pid, taken) in way.iter().rev() {
             let before = exchange(&mut local, *pid, *taken)?;

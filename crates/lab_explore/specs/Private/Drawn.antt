@@ -22,7 +22,7 @@ pub record IsNodeOfRow (start : WorldState) (t : Store) (depth i : ℕ) (n : Nod
 
 -- each node is that of the row with its number
 pub record AreNodesOfRows (start : WorldState) (t : Store) (depths : List ℕ) (ns : List Node) : Type 0 where
-  pub count : length ns ≡ length t.rows.items
+  pub count : length ns ≡ length t.rows
   pub each : (i : ℕ) (n : Node) → slice_get ns i ≡ Some n → IsNodeOfRow start t (depth_of depths i) i n
 
 -- the arrow of an edge
@@ -48,4 +48,4 @@ pub record IsPictureOf (start : WorldState) (t : Store) (x : Picture) : Type 0 w
   pub fewest : HaveFewestNodeCalls x.nodes.items x.arrows.items
   pub ends : All (IsEndOfNode start) x.nodes.items
   pub at_rest : All HasEndAtRest x.nodes.items
-  pub count : length x.nodes.items ≡ length t.rows.items
+  pub count : length x.nodes.items ≡ length t.rows

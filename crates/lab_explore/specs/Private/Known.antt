@@ -1,9 +1,21 @@
 -- The moves that a search has made.
-use Rattle.std.specs.Prelude.{All}
+use Rattle.std.specs.Prelude.{All, ◌≡◌, []}
 use Rattle.lab_explore.specs.declared.store.Store.{Store}
+use Rattle.lab_explore.specs.declared.known.Move.{Move}
 use Rattle.lab_explore.specs.declared.known.Moves.{Moves}
 use Rattle.lab_explore.specs.Private.Stored.{IsMove}
+use Rattle.lab_explore.specs.Private.Touched.{AreTouched}
 
 -- each move is one over what is kept
-abbrev pub AreKnown : Store → Moves → Type 0
-AreKnown t ms = All (λ m. IsMove t m.kernel m.pid m.state m.next) ms.made.items
+abbrev pub AreMoves : Store → Moves → Type 0
+AreMoves t ms = All (λ (m : Move). IsMove t m.kernel m.pid m.state m.next) ms.made.items
+
+-- so is each step at a call on an open object
+pub record AreKnown (t : Store) (ms : Moves) : Type 0 where
+  pub moves : AreMoves t ms
+  pub touches : AreTouched t ms.touches
+
+-- no move was made
+pub record HasNone (ms : Moves) : Type 0 where
+  pub moves : ms.made.items ≡ []
+  pub touches : ms.touches.made.items ≡ []

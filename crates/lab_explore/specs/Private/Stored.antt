@@ -1,12 +1,13 @@
 -- What a search keeps: kernels, states of processes, and worlds as places among these.
 use Rattle.std.specs.Prelude.{ℕ, ◌≡◌, ◌<◌, ◌^◌, List, Option, Some, None, All, length, slice_get}
 use Rattle.std.specs.Option.{option_map}
-use Rattle.ipc_kernel.specs.Kernel.{KernelState}
+use Rattle.ipc_kernel.specs.Kernel.{KernelState, IsSettled}
+use Rattle.ipc_kernel.specs.Kept.{GrowsKept}
 use Rattle.ipc_kernel.specs.Alike.{IsAlike}
 use Rattle.lab_sched.specs.declared.process.Process.{Process as Kept}
 use Rattle.lab_sched.specs.Worlds.{Process, WorldState, step_effect, step_effect_in, step}
 use Rattle.lab_sched.specs.Held.{process_view, IsHeld, step_of}
-use Rattle.lab_explore.specs.declared.store.Row.{Row}
+use Rattle.lab_explore.specs.Private.Rows.{Row}
 use Rattle.lab_explore.specs.declared.store.Edge.{Edge}
 use Rattle.lab_explore.specs.declared.store.Store.{Store}
 use Rattle.lab_explore.specs.declared.store.Next.{Next}
@@ -26,14 +27,19 @@ Keeps {A} xs ys = (i : ℕ) (x : A) → slice_get xs i ≡ Some x → slice_get 
 abbrev pub IsState : Store → ℕ → Process → Type 0
 IsState t i s = option_map process_view (slice_get t.states.items i) ≡ Some s
 
--- a row stands for the world with the kernel at its place, and the states at theirs
+-- the kernel with this number
+abbrev pub IsExactly : Store → ℕ → KernelState → Type 0
+IsExactly t i k = slice_get t.kernels.kernels i ≡ Some k
+
+-- a row stands for the world with the kernel at its place, which is settled, and the states at theirs
 pub record IsRow (t : Store) (r : Row) (w : WorldState) : Type 0 where
-  pub kernel : slice_get t.kernels.items r.kernel ≡ Some w.kernel
-  pub states : Alongside (IsState t) r.states.items w.processes
+  pub kernel : IsExactly t r.kernel w.kernel
+  pub settled : IsSettled w.kernel
+  pub states : Alongside (IsState t) r.states w.processes
 
 -- row number i stands for the world
 abbrev pub IsAt : Store → ℕ → WorldState → Type 0
-IsAt t i w = (r : Row) × (slice_get t.rows.items i ≡ Some r) × IsRow t r w
+IsAt t i w = (r : Row) × (slice_get t.rows i ≡ Some r) × IsRow t r w
 
 -- row number i stands for a world that the world is alike
 abbrev pub IsLike : Store → ℕ → WorldState → Type 0
@@ -46,13 +52,13 @@ IsReady s = IsHeld s × IsAtCall (process_view s)
 -- each row stands for a world
 pub record IsStore (t : Store) : Type 0 where
   pub states : All IsReady t.states.items
-  pub rows : All (λ r. (w : WorldState) × IsRow t r w) t.rows.items
+  pub rows : All (λ r. (w : WorldState) × IsRow t r w) t.rows
 
 -- nothing is lost
 pub record Grows (t u : Store) : Type 0 where
-  pub kernels : Keeps t.kernels.items u.kernels.items
+  pub kernels : GrowsKept t.kernels u.kernels
   pub states : Keeps t.states.items u.states.items
-  pub rows : Keeps t.rows.items u.rows.items
+  pub rows : Keeps t.rows u.rows
   pub edges : Keeps t.edges.items u.edges.items
 
 -- u is s after all its local steps, fewer than 2^32
@@ -66,9 +72,9 @@ pub record AreReached (w v : WorldState) : Type 0 where
   pub kernel : IsAlike w.kernel v.kernel
   pub processes : Alongside IsReached w.processes v.processes
 
--- the kernel at a place is alike a kernel
+-- the kernel with this number is settled, and alike a kernel
 abbrev pub IsKernel : Store → ℕ → KernelState → Type 0
-IsKernel t i k = (j : KernelState) × (slice_get t.kernels.items i ≡ Some j) × IsAlike k j
+IsKernel t i k = (j : KernelState) × IsExactly t i j × IsAlike k j × IsSettled j
 
 -- what a step of process p makes of it and of the kernel, and of it then all its local steps
 abbrev pub IsNext : Store → KernelState → ℕ → Process → Next → Type 0
@@ -81,8 +87,19 @@ IsNext t k p s (To kernel state taken) =
 -- the same where the kernel and the process are given by their places
 abbrev pub IsMove : Store → ℕ → ℕ → ℕ → Next → Type 0
 IsMove t kernel p state next =
-    (k : KernelState) × (s : Process) × (slice_get t.kernels.items kernel ≡ Some k)
-    × IsState t state s × IsNext t k p s next
+    (k : KernelState) × (s : Process) × IsExactly t kernel k × IsState t state s × IsNext t k p s next
+
+-- the same of whatever settled kernel, and whatever process, have these places
+abbrev pub IsMoveFrom : Store → ℕ → ℕ → ℕ → Next → Type 0
+IsMoveFrom t kernel p state next =
+    (k : KernelState) (s : Process) → IsExactly t kernel k → IsSettled k → IsState t state s
+    → IsNext t k p s next
+
+-- the same of process p in the world of row number i
+abbrev pub IsNextAt : Store → ℕ → ℕ → Next → Type 0
+IsNextAt t i p next =
+    (w : WorldState) → IsAt t i w
+    → (s : Process) × (slice_get w.processes p ≡ Some s) × IsNext t w.kernel p s next
 
 -- an edge from row number i, of process p, leads to the world after a step of p and then all its
 -- local steps
@@ -101,7 +118,7 @@ IsExpanded t i = (w : WorldState) × IsAt t i w × ((p : ℕ) → IsTried t i w 
 
 -- the same of each row
 abbrev pub AreExpanded : Store → Type 0
-AreExpanded t = (i : ℕ) → i < length t.rows.items → IsExpanded t i
+AreExpanded t = (i : ℕ) → i < length t.rows → IsExpanded t i
 
 -- the first row stands for the advance of the start, and each step from each row is held
 pub record IsSearched (start : WorldState) (t : Store) : Type 0 where
@@ -121,8 +138,8 @@ IsStepped k p s (Came made) =
 -- the same where the kernel and the process are given by their places
 abbrev pub IsKeptStep : Store → ℕ → ℕ → ℕ → Tried → Type 0
 IsKeptStep t kernel p state tried =
-    (k : KernelState) × (s : Process) × (slice_get t.kernels.items kernel ≡ Some k)
-    × IsState t state s × IsStepped k p s tried
+    (k : KernelState) × (s : Process) × IsExactly t kernel k × IsSettled k × IsState t state s
+    × IsStepped k p s tried
 
 -- all local steps of a process, if it may take so many
 abbrev pub IsRun : KernelState → Process → Option Made → Type 0

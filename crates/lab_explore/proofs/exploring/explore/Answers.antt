@@ -9,9 +9,12 @@ use Rattle.lab_explore.proofs.Bounds.{searched_bounded}
 use Rattle.lab_explore.proofs.FairRounds.{some_fairly_endless}
 use Rattle.lab_explore.proofs.Passes.{ranked_bounded}
 use Rattle.lab_explore.proofs.Cycles.{some_repeats, some_endless}
-use Rattle.lab_explore.proofs.Explorations.{started, IsReachedIn, starts_untried, starts_ask, same_ends, all_ends, never_stuck, fresh_consistent}
+use Rattle.lab_explore.proofs.Explorations.{started, IsReachedIn, starts_untried, starts_ask, same_ends, all_ends, never_stuck, fresh_consistent, starts_held}
 use Rattle.lab_explore.proofs.JudgedRows.{same_reached, are_kept}
 use Rattle.lab_explore.proofs.exploring.explore.Goals as goal
+
+pub search_all-requires : goal.search_all-requires
+search_all-requires g c = record { held = starts_held c.processes-processes.result.items c.deref.result.now c.deref.ensures.value c.processes-processes.ensures.starts }
 
 pub report-requires : goal.report-requires
 report-requires g c = record {

@@ -4,9 +4,12 @@ use Rattle.lab_sched.specs.Starts.{AreStarts, initial_world}
 use Rattle.lab_explore.specs.Closed.{HasAdvance}
 use Rattle.lab_explore.specs.Pictures.{IsNode, IsEndOfNode}
 use Rattle.lab_explore.specs.Private.Stored.{IsAt}
-use Rattle.lab_explore.proofs.Explorations.{started}
+use Rattle.lab_explore.proofs.Explorations.{started, starts_held}
 use Rattle.lab_explore.proofs.DrawnRows.{some_both}
 use Rattle.lab_explore.proofs.picture.draw.Goals as goal
+
+pub search_all-requires : goal.search_all-requires
+search_all-requires c = record { held = starts_held c.processes-processes.result.items c.deref.result.now c.deref.ensures.value c.processes-processes.ensures.starts }
 
 pub picture-requires : goal.picture-requires
 picture-requires c = record {

@@ -13,7 +13,7 @@ loop-edge-preserved c =
     let n = c.loop-edge.edge-index in
     let value = c.deref-edge-items.ensures.value in
     let within = subst (λ xs. n < length xs) value c.loop-edge-test.true in
-    let none : Edge = record { from = 0; to = 0; pid = 0; taken = 0 } in
+    let none : Edge = record { from = 0; to = 0; pid = 0 } in
     let e = get_or edges n none in
     let a = c.in_ok-arrow.arrow in
     let old = c.loop-edge.arrows.items in

@@ -1,19 +1,22 @@
 use Rattle.std.proofs.Common.{map, subst}
 use Rattle.lab_sched.specs.Held.{process_view}
+use Rattle.lab_explore.specs.Private.Rows.{row_of}
 use Rattle.lab_explore.specs.Private.Stored.{IsAt}
 use Rattle.lab_explore.proofs.Growths.{kernel_grows}
-use Rattle.lab_explore.proofs.FirstWorlds.{begins}
+use Rattle.lab_explore.proofs.FirstWorlds.{begins_row}
 use Rattle.lab_explore.proofs.search.Search.begin.Goals as goal
 
 pub keep_row-requires-clause-row : goal.keep_row-requires-clause-row
 keep_row-requires-clause-row c =
-    let first = begins c.begin.new.self (record { kernel = c.in_ok-kernel.kernel; states = c.in-Some.begun.states; before = 0; pid = 0; taken = 0 }) c.args.kernel (map process_view c.args.processes.now)
-    (kernel_grows c.keep_kernel.new.self c.begin.new.self c.in_ok-kernel.kernel c.args.kernel c.in_ok-begun.ensures.grows c.in_ok-kernel.ensures.kernel) (rw c.in-Some.is at c.in_ok-begun.ensures.begun) in
-    (first.0, first.1)
+    let first = begins_row c.begin.new.self (row_of c.in_ok-first.first.items) c.in_ok-kernel.kernel c.in-Some.begun.states.items c.args.kernel.now (map process_view c.args.processes.now)
+    c.in_ok-first.ensures.kernel (rw c.as_slice.ensures.value at c.in_ok-first.ensures.states)
+    (kernel_grows c.keep_alike.new.self c.begin.new.self c.in_ok-kernel.kernel c.args.kernel.now c.in_ok-begun.ensures.grows c.in_ok-kernel.ensures.kernel) (rw c.in-Some.is at c.in_ok-begun.ensures.begun) in
+    rw c.as_slice-2.ensures.value (first.0, first.1)
 
 pub returns-clause-begins : goal.returns-clause-begins
 returns-clause-begins c is =
-    let first = begins c.begin.new.self (record { kernel = c.in_ok-kernel.kernel; states = c.in-Some.begun.states; before = 0; pid = 0; taken = 0 }) c.args.kernel (map process_view c.args.processes.now)
-    (kernel_grows c.keep_kernel.new.self c.begin.new.self c.in_ok-kernel.kernel c.args.kernel c.in_ok-begun.ensures.grows c.in_ok-kernel.ensures.kernel) (rw c.in-Some.is at c.in_ok-begun.ensures.begun) in
-    let here = subst (λ n. IsAt c.keep_row.new.self n first.0) c.in-Some-eq0.field-0-test ((rw c.in-Some-eq0.is at c.in_ok-keep_row.ensures.kept) first.0 first.1) in
+    let first = begins_row c.begin.new.self (row_of c.in_ok-first.first.items) c.in_ok-kernel.kernel c.in-Some.begun.states.items c.args.kernel.now (map process_view c.args.processes.now)
+    c.in_ok-first.ensures.kernel (rw c.as_slice.ensures.value at c.in_ok-first.ensures.states)
+    (kernel_grows c.keep_alike.new.self c.begin.new.self c.in_ok-kernel.kernel c.args.kernel.now c.in_ok-begun.ensures.grows c.in_ok-kernel.ensures.kernel) (rw c.in-Some.is at c.in_ok-begun.ensures.begun) in
+    let here = subst (λ n. IsAt c.keep_row.new.self n first.0) c.in-Some-eq0.field-0-test ((rw c.in-Some-eq0.is at c.in_ok-keep_row.ensures.kept) first.0 (rw c.as_slice-2.ensures.value first.1)) in
     (first.0, here, first.2)

@@ -22,6 +22,6 @@ returns-clause-all c whole is = record {
   depths = c.in_ok-depths.depths.items;
   are = c.in_ok-depths.ensures.depths;
   each = λ i w here rest.
-      let below = get_past c.args.self.now.store.rows.items i here.0 here.1 in
+      let below = get_past c.args.self.now.store.rows i here.0 here.1 in
       c.loop-at.invariant.all is i (omega arith) w here rest;
 }

@@ -8,6 +8,6 @@ use Rattle.lab_explore.proofs.search.Search.nodes.Given as goal
 abbrev pub invariant-loop-at : goal.invariant-loop-at
 invariant-loop-at l = record {
   count : length l.nodes.items ≡ l.at;
-  within : l.at ≤ length l.self.store.rows.items;
+  within : l.at ≤ length l.self.store.rows;
   each : (i : ℕ) (n : Node) → slice_get l.nodes.items i ≡ Some n → IsNodeOfRow (initial_world l.processes) l.self.store (depth_of l.depths i) i n;
 }

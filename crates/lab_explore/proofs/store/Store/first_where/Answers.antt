@@ -18,5 +18,5 @@ loop-at-preserved c =
 
 pub returns-clause-none : goal.returns-clause-none
 returns-clause-none c none i w here =
-    let below = get_past c.args.self.now.rows.items i here.0 here.1 in
+    let below = get_past c.args.self.now.rows i here.0 here.1 in
     c.loop-at.invariant i (omega arith) w here

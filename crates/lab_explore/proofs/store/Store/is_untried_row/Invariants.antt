@@ -5,4 +5,4 @@ use Rattle.lab_explore.specs.Private.Stored.{IsState}
 use Rattle.lab_explore.proofs.store.Store.is_untried_row.Given as goal
 
 abbrev pub invariant-loop-pid : goal.invariant-loop-pid
-invariant-loop-pid l = (p : ℕ) → p < l.pid → Both (IsState l.self) (slice_get l.state-items p) (slice_get (untried l.world).processes p)
+invariant-loop-pid l = (p : ℕ) → p < l.pid → Both (IsState l.self) (slice_get l.states p) (slice_get (untried l.world).processes p)

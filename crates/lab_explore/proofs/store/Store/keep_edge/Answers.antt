@@ -1,6 +1,6 @@
-use Rattle.std.proofs.Common.{refl, subst, sym}
+use Rattle.std.proofs.Common.{refl, sym, subst}
 use Rattle.lab_explore.specs.Private.Stored.{IsAt}
-use Rattle.lab_explore.proofs.Growths.{edges_pushed, grows_more}
+use Rattle.lab_explore.proofs.Growths.{grows_more, edges_pushed}
 use Rattle.lab_explore.proofs.StepsOfRows.{edge_made}
 use Rattle.lab_explore.proofs.store.Store.keep_edge.Goals as goal
 
@@ -10,7 +10,7 @@ returns-clause-edge c is w v row reached =
     let e = c.in-Some-edge_of.edge in
     let g = (edges_pushed t _ e c.in_ok-to.ensures.store c.in_ok-push.ensures.items refl refl refl).0 in
     edge_made t _ w v c.args.at c.args.pid e g c.in_ok-push.ensures.items c.in-Some-edge_of.ensures.from c.in-Some-edge_of.ensures.pid
-    (subst (λ n. IsAt t n v) (sym c.in-Some-edge_of.ensures.to) ((rw c.in-Some.is at c.in_ok-to.ensures.kept) v row)) reached
+    (subst (λ n. IsAt t n v) (sym c.in-Some-edge_of.ensures.to) ((rw c.in-Some-2.is at c.in_ok-to.ensures.kept) v row)) reached
 
 pub returns-clause-store : goal.returns-clause-store
 returns-clause-store c =

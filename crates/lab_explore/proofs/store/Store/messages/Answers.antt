@@ -1,20 +1,16 @@
-use Rattle.std.proofs.Common.{◌<◌, ◌≤◌, length, get_or, ap, subst, map, ◌∙◌}
+use Rattle.std.proofs.Common.{◌≡◌, ◌∙◌, Some, ap, map, arith, slice_get, subst}
 use Rattle.std.proofs.lemmas.List.{take_all}
 use Rattle.lab_conditions.specs.Losses.{messages}
-use Rattle.lab_explore.proofs.LossesOfRows.{mapped_more}
+use Rattle.lab_explore.proofs.LossesOfRows.{counted_more}
 use Rattle.lab_explore.proofs.store.Store.messages.Goals as goal
 
-pub loop-kernel-preserved : goal.loop-kernel-preserved
-loop-kernel-preserved c =
-    let kernels = c.args.self.now.kernels.items in
-    let n = c.loop-kernel.kernel-index in
-    let value = c.deref-kernel-items.ensures.value in
-    let k = c.kernel-item.result in
-    mapped_more messages kernels n k c.messages_in-count.result c.loop-kernel.counts.items c.push.new.self.items c.loop-kernel.invariant
-    (subst (λ xs. n < length xs) value c.loop-kernel-test.true) (c.kernel-item.is ∙ ap (λ xs. get_or xs n k) value) c.messages_in-count.ensures.count c.in_ok-push.ensures.items
+pub loop-number-preserved : goal.loop-number-preserved
+loop-number-preserved c =
+    counted_more messages c.args.self.now.kernels.kernels c.loop-number.number c.in-Some.kernel c.messages_in-count.result c.loop-number.counts.items c.push.new.self.items
+    c.loop-number.invariant (subst (λ n. slice_get c.args.self.now.kernels.kernels n ≡ Some c.in-Some.kernel) c.in_ok-place_of.ensures.value (rw c.in-Some.is at c.in_ok-found.ensures.kept)) c.messages_in-count.ensures.count c.in_ok-push.ensures.items
 
 pub returns : goal.returns
 returns c =
-    let kernels = c.args.self.now.kernels.items in
-    let past = subst (λ xs. length xs ≤ c.loop-kernel.kernel-index) c.deref-kernel-items.ensures.value c.loop-kernel-test.false in
-    record { counts = c.loop-kernel.invariant ∙ ap (map messages) (take_all c.loop-kernel.kernel-index kernels past) }
+    let kernels = c.args.self.now.kernels.kernels in
+    let past = c.loop-number-test.false in
+    record { counts = c.loop-number.invariant ∙ ap (map messages) (take_all c.loop-number.number kernels (omega (arith, past))) }

@@ -1,4 +1,4 @@
-use Rattle.lab_explore.proofs.store.Store.find_kernel.Given as goal
+use Rattle.lab_explore.proofs.touches.Touches.find.Given as goal
 
 abbrev pub decreases-loop-number : goal.decreases-loop-number
 decreases-loop-number l = l.number

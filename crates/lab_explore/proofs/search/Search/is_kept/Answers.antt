@@ -1,0 +1,15 @@
+use Rattle.std.proofs.Common.{◌≡◌, ◌∙◌, Some, ap, refl, subst}
+use Rattle.lab_sched.specs.Worlds.{step_effect_in}
+use Rattle.lab_explore.specs.Untried.{GoesOn}
+use Rattle.lab_explore.specs.Private.Ranked.{keeper_of}
+use Rattle.lab_explore.proofs.StepsOfRows.{goes_on}
+use Rattle.lab_explore.proofs.search.Search.is_kept.Goals as goal
+
+pub returns : goal.returns
+returns c = record {
+  yes = λ is p keeper w here.
+      let t = c.args.self.now.store in
+      let found : Some c.in-Some.pid ≡ Some p = c.in-Some.ensures.keeper ∙ ap (keeper_of c.args.keepers.now) c.rank_at.ensures.rank ∙ keeper in
+      let same : c.in-Some.pid ≡ p = cc in
+      subst (λ q. GoesOn (step_effect_in w q)) same (goes_on t w c.args.at c.in-Some.pid c.in-Some-known_next.next here (c.in-Some-known_next.ensures.next c.requires.known) (c.if-is_nothing.ensures.no refl));
+}

@@ -1,0 +1,22 @@
+use Rattle.std.proofs.Common.{sym, subst}
+use Rattle.lab_explore.specs.Private.Touched.{AreTouched}
+use Rattle.lab_explore.proofs.Growths.{moves_grow, touches_grow}
+use Rattle.lab_explore.proofs.store.Store.make_move.Goals as goal
+
+pub returns-in-Some-clause-known : goal.returns-in-Some-clause-known
+returns-in-Some-clause-known c = record {
+  moves = moves_grow c.args.self.now c.make_touched.new.self c.args.moves.now c.in_ok-next.ensures.grows c.requires.known.moves;
+  touches = c.in_ok-next.ensures.touches;
+}
+
+pub returns-clause-known : goal.returns-clause-known
+returns-clause-known c =
+    let t = c.args.self.now in
+    let u = c.make_touched.new.self in
+    let v = c.make_next.new.self in
+    let moved = moves_grow u v c.args.moves.now c.in_ok-next-2.ensures.grows (moves_grow t u c.args.moves.now c.in_ok-next.ensures.grows c.requires.known.moves) in
+    let touched = touches_grow u v c.make_touched.new.touches c.in_ok-next-2.ensures.grows c.in_ok-next.ensures.touches in
+    record {
+      moves = c.in_ok-keep.ensures.known v moved c.in_ok-next-2.ensures.next;
+      touches = subst (λ ts. AreTouched v ts) (sym c.in_ok-keep.ensures.touches) touched;
+    }

@@ -1,0 +1,265 @@
+//! Steps that a search makes, and what it keeps of them.
+ghost use Rattle.std.specs.Prelude.{◌≡◌, ℕ, Some, IfOk, IfSome, OnOk, slice_get};
+ghost use Rattle.ipc_kernel.specs.Kernel.{KernelState};
+ghost use Rattle.ipc_kernel.specs.Operands.{operand_of};
+ghost use Rattle.ipc_kernel.specs.declared.call.Call.{Call};
+ghost use Rattle.ipc_kernel.specs.declared.process.OpenTables.{OpenTables};
+ghost use Rattle.lab_conditions.specs.Conditions.{StandsAt};
+ghost use Rattle.lab_sched.specs.Worlds.{Process as Seen};
+ghost use Rattle.lab_explore.specs.declared.trying.Tried.TheVariants.{Came};
+ghost use Rattle.lab_explore.specs.Private.Known.{AreKnown};
+ghost use Rattle.lab_explore.specs.Private.Stored.{IsExactly, IsState, IsReady, IsStore, Grows, IsNext, IsMove, IsMoveFrom, IsStepped, IsKeptStep};
+ghost use Rattle.lab_explore.specs.Private.Touched.{HasTouch, IsOutcome, IsTouched, AreTouched};
+
+use crate::ExploreFault;
+use crate::known::Moves;
+use crate::store::{Next, Store};
+use crate::touches::{Effect, Touch, Touches};
+use crate::trying::{Made, Tried, discard, try_step};
+use std::alloc::Global;
+
+impl Store {
+    /// What comes of a step of process `pid` in a state that is kept, over a kernel that is kept.
+    fn try_next(
+        &self,
+        alloc: Global,
+        kernel: u32,
+        pid: u32,
+        state: u32,
+        most: u32,
+    ) -> Result<Tried, ExploreFault>
+        requires store { IsStore self.now }
+        ensures tried { IfOk result (λ tried. IsKeptStep self.now kernel pid state tried) }
+    {
+        let Some(process) = self.states.get(state as usize) else {
+            return Err(ExploreFault::Unvouched);
+        };
+        let Some(kernel) = self.kernels.get(alloc, kernel)? else {
+            return Err(ExploreFault::Unvouched);
+        };
+        try_step(alloc, kernel, process, pid as usize, most)
+    }
+
+    /// Keeps the kernel, but for the numbers of its places, and the state that came of a step.
+    fn keep_made(&mut self, alloc: Global, made: Made) -> Result<Next, ExploreFault>
+        requires store { IsStore self.old }
+        requires ready { IsReady made.process }
+        ensures store { OnOk result (IsStore self.new) }
+        ensures grows { OnOk result (Grows self.old self.new) }
+        ensures next { IfOk result (λ next. (k : KernelState) (p : ℕ) (s : Seen)
+            → IsStepped k p s (Came made) → IsNext self.new k p s next) }
+    {
+        let Made {
+            kernel,
+            process,
+            taken,
+        } = made;
+        let number = self.keep_alike(alloc, &kernel);
+        discard(kernel);
+        match number {
+            Err(_) => {
+                discard(process);
+                Err(ExploreFault::NoMemory)
+            }
+            Ok(kernel) => {
+                let state = self.keep_state(alloc, process)?;
+                Ok(Next::To {
+                    kernel,
+                    state,
+                    taken,
+                })
+            }
+        }
+    }
+
+    /// What process `pid` does next in a state that is kept, over a kernel that is kept.
+    fn make_next(
+        &mut self,
+        alloc: Global,
+        kernel: u32,
+        pid: u32,
+        state: u32,
+        most: u32,
+    ) -> Result<Next, ExploreFault>
+        requires store { IsStore self.old }
+        ensures store { OnOk result (IsStore self.new) }
+        ensures grows { OnOk result (Grows self.old self.new) }
+        ensures next { IfOk result (λ next. IsMove self.new kernel pid state next) }
+    {
+        match self.try_next(alloc, kernel, pid, state, most) {
+            Ok(Tried::Still) => Ok(Next::Nothing),
+            Ok(Tried::Runs) => Ok(Next::Limit),
+            Ok(Tried::Came(made)) => {
+                let next = self.keep_made(alloc, made)?;
+                Ok(next)
+            }
+            Err(fault) => Err(fault),
+        }
+    }
+
+    /// Keeps the kernel and the state that came of a step of process `pid`; with the numbers of its
+    /// tables and of the object in a place.
+    fn keep_parts(
+        &mut self,
+        alloc: Global,
+        made: Made,
+        pid: u32,
+        place: u8,
+    ) -> Result<Effect, ExploreFault>
+        requires store { IsStore self.old }
+        requires ready { IsReady made.process }
+        ensures store { OnOk result (IsStore self.new) }
+        ensures grows { OnOk result (Grows self.old self.new) }
+        ensures effect { IfOk result (λ effect. (k : KernelState) (s : Seen)
+            → IsStepped k pid s (Came made) → IsOutcome self.new k pid s place effect) }
+    {
+        let Made {
+            kernel,
+            process,
+            taken,
+        } = made;
+        let number = self.keep_kernel(alloc, &kernel);
+        discard(kernel);
+        match number {
+            Err(_) => {
+                discard(process);
+                Err(ExploreFault::NoMemory)
+            }
+            Ok(kernel) => {
+                let state = self.keep_state(alloc, process)?;
+                let Some(tables) = self.kernels.tables_at(kernel, pid as usize) else {
+                    return Err(ExploreFault::Unvouched);
+                };
+                let Some(object) = self.kernels.object_at(kernel, place) else {
+                    return Err(ExploreFault::Unvouched);
+                };
+                Ok(Effect::To {
+                    tables,
+                    object,
+                    state,
+                    taken,
+                })
+            }
+        }
+    }
+
+    /// What comes of a step of process `pid` at its call on an open object.
+    fn make_effect(
+        &mut self,
+        alloc: Global,
+        kernel: u32,
+        pid: u32,
+        touch: Touch,
+        most: u32,
+    ) -> Result<Effect, ExploreFault>
+        requires store { IsStore self.old }
+        requires operand { (k : KernelState) → IsExactly self.old kernel k
+            → HasTouch self.old k pid touch }
+        requires stands { (s : Seen) (x : OpenTables) → IsState self.old touch.state s
+            → slice_get self.old.kernels.tables touch.tables ≡ Some x
+            → (c : Call) × StandsAt s c × (operand_of x c ≡ Some touch.place) }
+        ensures store { OnOk result (IsStore self.new) }
+        ensures grows { OnOk result (Grows self.old self.new) }
+        ensures touched { IfOk result (λ effect. IsTouched self.new touch effect) }
+    {
+        match self.try_next(alloc, kernel, pid, touch.state, most) {
+            Ok(Tried::Still) => Ok(Effect::Nothing),
+            Ok(Tried::Runs) => Ok(Effect::Limit),
+            Ok(Tried::Came(made)) => {
+                let effect = self.keep_parts(alloc, made, pid, touch.place)?;
+                Ok(effect)
+            }
+            Err(fault) => Err(fault),
+        }
+    }
+
+    /// What comes of a step of process `pid` at its call on an open object, which is made if it wasn't
+    /// made before; none if the call isn't on that object.
+    fn effect_of(
+        &mut self,
+        alloc: Global,
+        touches: &mut Touches,
+        kernel: u32,
+        pid: u32,
+        touch: Touch,
+        most: u32,
+    ) -> Result<Option<Effect>, ExploreFault>
+        requires store { IsStore self.old }
+        requires touches { AreTouched self.old touches.old }
+        requires operand { (k : KernelState) → IsExactly self.old kernel k
+            → HasTouch self.old k pid touch }
+        ensures store { OnOk result (IsStore self.new) }
+        ensures touches { OnOk result (AreTouched self.new touches.new) }
+        ensures grows { OnOk result (Grows self.old self.new) }
+        ensures touched { IfOk result (λ found. IfSome found (λ effect.
+            IsTouched self.new touch effect)) }
+    {
+        if let Some(effect) = touches.find(touch) {
+            return Ok(Some(effect));
+        }
+        if !self.is_touch(alloc, touch)? {
+            return Ok(None);
+        }
+        let effect = self.make_effect(alloc, kernel, pid, touch, most)?;
+        touches.keep(touch, effect)?;
+        Ok(Some(effect))
+    }
+
+    /// What process `pid` does next in a state and over a kernel that are kept, if it stands at a
+    /// call on an open object.
+    fn make_touched(
+        &mut self,
+        alloc: Global,
+        touches: &mut Touches,
+        kernel: u32,
+        pid: u32,
+        state: u32,
+        most: u32,
+    ) -> Result<Option<Next>, ExploreFault>
+        requires store { IsStore self.old }
+        requires touches { AreTouched self.old touches.old }
+        requires kernel { (k : KernelState) × IsExactly self.old kernel k }
+        ensures store { OnOk result (IsStore self.new) }
+        ensures touches { OnOk result (AreTouched self.new touches.new) }
+        ensures grows { OnOk result (Grows self.old self.new) }
+        ensures next { IfOk result (λ found. IfSome found (λ next.
+            IsMoveFrom self.new kernel pid state next)) }
+    {
+        let Some(touch) = self.touch_at(kernel, pid, state) else {
+            return Ok(None);
+        };
+        let Some(effect) = self.effect_of(alloc, touches, kernel, pid, touch, most)? else {
+            return Ok(None);
+        };
+        let next = self.keep_next_by(kernel, pid, touch.place, effect)?;
+        Ok(next)
+    }
+
+    /// What process `pid` does next in a state and over a kernel that are kept. Each such move, and
+    /// each step at a call on an open object, is made once.
+    pub(crate) fn make_move(
+        &mut self,
+        alloc: Global,
+        moves: &mut Moves,
+        kernel: u32,
+        pid: u32,
+        state: u32,
+        most: u32,
+    ) -> Result<Next, ExploreFault>
+        requires store { IsStore self.old }
+        requires known { AreKnown self.old moves.old }
+        requires kernel { (k : KernelState) × IsExactly self.old kernel k }
+        ensures store { OnOk result (IsStore self.new) }
+        ensures known { OnOk result (AreKnown self.new moves.new) }
+        ensures grows { OnOk result (Grows self.old self.new) }
+        ensures next { IfOk result (λ next. IsMoveFrom self.new kernel pid state next) }
+    {
+        let touches = &mut moves.touches;
+        if let Some(next) = self.make_touched(alloc, touches, kernel, pid, state, most)? {
+            return Ok(next);
+        }
+        let next = self.make_next(alloc, kernel, pid, state, most)?;
+        moves.keep(kernel, pid, state, next)?;
+        Ok(next)
+    }
+}

@@ -1,0 +1,87 @@
+//! Worlds as rows of numbers: of each that of its kernel, and then those of the states of its
+//! processes.
+ghost use Rattle.std.specs.Prelude.{◌≡◌, ◌≤◌, [], ◌∷◌, ◌++◌, false, Some, IfOk, IfSome, IsTrue, OnErr, length, slice_get};
+ghost use Rattle.lab_explore.specs.Private.Rows.{row_of};
+
+use std::alloc::{AllocError, Global};
+use std::marker::Model;
+use std::mem::size_of;
+
+/// Rows of one width, one behind the other.
+#[derive(Drop)]
+pub(crate) struct Rows {
+    numbers: Vec<u32>,
+    width: usize,
+    count: usize,
+}
+
+impl Model for Rows {
+    ghost use Rattle.std.specs.Prelude.{◌≡◌, ◌*◌, List, length};
+    ghost use Rattle.lab_explore.specs.Private.Rows.{Row, rows_of};
+
+    ghost Value = { List Row };
+
+    ghost view = { λ a. rows_of a.width a.count a.numbers.items };
+
+    ghost invariant = { λ a. length a.numbers.items ≡ a.count * a.width };
+}
+
+impl Rows {
+    /// No row of so many processes.
+    pub(crate) fn new(alloc: Global, processes: usize) -> Rows
+        ensures none { result ≡ [] }
+    {
+        Rows {
+            numbers: Vec::new(alloc),
+            width: processes.saturating_add(1),
+            count: 0,
+        }
+    }
+
+    /// How many there are.
+    pub(crate) fn len(&self) -> usize
+        ensures count { result ≡ length self.now }
+    {
+        self.count
+    }
+
+    /// The numbers of a row.
+    pub(crate) fn numbers(&self, at: usize) -> Option<&[u32]>
+        ensures row { IfSome result (λ ns. slice_get self.now at ≡ Some (row_of ns.now)) }
+    {
+        if at >= self.count {
+            return None;
+        }
+        let start = at * self.width;
+        Some(&self.numbers[start..start + self.width])
+    }
+
+    /// The number of the kernel of a row, and those of its states.
+    pub(crate) fn get(&self, at: usize) -> Option<(u32, &[u32])>
+        ensures row { IfSome result (λ x. slice_get self.now at
+            ≡ Some (record { kernel = x.0; states = x.1.now })) }
+    {
+        let (kernel, states) = self.numbers(at)?.split_first()?;
+        Some((*kernel, states))
+    }
+
+    /// Adds a row, if it has the width of the others; with whether it has.
+    pub(crate) fn push(&mut self, numbers: &[u32]) -> Result<bool, AllocError>
+        ensures pushed { IfOk result (λ done. IsTrue done
+            → self.new ≡ self.old ++ row_of numbers.now ∷ []) }
+        ensures same { IfOk result (λ done. done ≡ false → self.new ≡ self.old) }
+        ensures err { OnErr result (self.new ≡ self.old) }
+    {
+        if numbers.len() != self.width || self.count == usize::MAX {
+            return Ok(false);
+        }
+        self.numbers.extend_from_slice(numbers)?;
+        self.count += 1;
+        Ok(true)
+    }
+
+    /// About how many bytes they take.
+    pub(crate) fn size(&self) -> usize {
+        size_of::<u32>().saturating_mul(self.numbers.len())
+    }
+}
