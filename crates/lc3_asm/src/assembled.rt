@@ -12,7 +12,7 @@ use std::fmt::Write;
 use std::marker::Model;
 
 /// A source line that has words.
-#[derive(Clone, Copy, Debug, PartialEq, Eq)]
+#[derive(Clone, Copy)]
 pub struct Row {
     /// The number of the line, from 1.
     pub line: usize,

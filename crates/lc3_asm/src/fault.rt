@@ -7,7 +7,7 @@ use std::alloc::{AllocError, AllocFailed};
 use thiserror::Error;
 
 /// Why [`assemble`](crate::assemble) gives no program.
-#[derive(Clone, Copy, Debug, PartialEq, Eq, Error)]
+#[derive(Clone, Copy, Debug, Error)]
 pub enum AsmFault {
     /// Memory ran out. It says nothing about the text.
     #[error("out of memory")]
@@ -23,7 +23,7 @@ pub enum AsmFault {
 }
 
 /// A fault of a text with the number of its line.
-#[derive(Clone, Copy, Debug, PartialEq, Eq)]
+#[derive(Clone, Copy)]
 pub struct LineFault {
     /// The line with the fault, from 1.
     pub line: usize,
@@ -52,7 +52,7 @@ impl From<AllocError> for AsmFault {
 }
 
 /// Why a line is not read, or has no words.
-#[derive(Clone, Copy, Debug, PartialEq, Eq)]
+#[derive(Clone, Copy)]
 pub enum LineError {
     /// Memory ran out.
     Memory,

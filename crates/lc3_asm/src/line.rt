@@ -13,7 +13,7 @@ use lc3_table::{Fault, Operation};
 use std::alloc::Global;
 
 /// What a line says.
-#[derive(Debug, Drop)]
+#[derive(Drop)]
 pub enum Line {
     /// Nothing but separators and a comment.
     Blank,

@@ -10,7 +10,7 @@ use lc3_table::{Fault, Form};
 use std::alloc::Global;
 
 /// The part of a line at which it has its fault.
-#[derive(Clone, Copy, Debug)]
+#[derive(Clone, Copy)]
 pub struct Mark {
     /// The place of its first byte in the line, from 0.
     pub start: usize,

@@ -17,7 +17,7 @@ use lc3_word::{FIRST_DEVICE, Reg, number_of};
 use std::alloc::{AllocError, Global};
 
 /// An operand.
-#[derive(Debug, Drop)]
+#[derive(Drop)]
 pub enum Operand {
     Register(Reg),
     Number(i64),

@@ -9,7 +9,7 @@ ghost use Rattle.lc3_asm.specs.Views.{token_of};
 use std::alloc::{AllocError, Global};
 
 /// A token of a line.
-#[derive(Clone, Copy, Debug)]
+#[derive(Clone, Copy)]
 pub enum Token<'a> {
     Word(&'a [u8]),
     /// What stands between the quotes.
