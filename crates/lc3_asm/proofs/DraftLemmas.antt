@@ -138,10 +138,3 @@ kept-more symbols symbols' places places' started started' first first' address 
       let size_is : size l ≡ 0 = unstarted_size l (rw none at order) parts.1 in
       omega (arith, n, address-next ls l (unstarted_origin_named l parts.1), k.address_is, zero, size_is);
 }
-
-pub entry-some : (symbols symbols' : List (List ℕ × ℕ)) (address : ℕ) (name bytes : List ℕ) (o : Option (List ℕ))
-    → Some name ≡ o → bytes ≡ name → symbols' ≡ symbols ++ (bytes, address) ∷ [] → symbols' ≡ symbols ++ entry o address
-entry-some symbols symbols' address name bytes o e f g = rw (← e, ← f) g
-
-pub entry-none : (symbols symbols' : List (List ℕ × ℕ)) (address : ℕ) (o : Option (List ℕ)) → None ≡ o → symbols' ≡ symbols → symbols' ≡ symbols ++ entry o address
-entry-none symbols symbols' address o e g = rw (← e) (g ∙ sym (append-nil symbols))

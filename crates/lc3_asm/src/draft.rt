@@ -103,9 +103,7 @@ impl Draft {
         } = self;
         let first = line.origin().unwrap_or(first);
         let started = started || line.origin().is_some();
-        if let Some(label) = line.label() {
-            symbols.define(String::from_str(alloc, label)?, address as u16)?;
-        }
+        symbols.define_label(alloc, &line, address as u16)?;
         places.push(address as u16)?;
         lines.push(line)?;
         Ok(Draft {

@@ -287,9 +287,7 @@ impl Reader {
             count,
         } = self;
         let address = (before + count) as u16;
-        if let Some(label) = line.label() {
-            symbols.define(String::from_str(alloc, label)?, address)?;
-        }
+        symbols.define_label(alloc, &line, address)?;
         if let Some(kind) = fault {
             faults.push(LineFault {
                 line: lines.len() + 1,

@@ -1,11 +1,13 @@
 //! The labels of a text with their addresses, in the order of their definitions.
 
-ghost use Rattle.std.specs.Prelude.{◌≡◌, ℕ, List, [], ◌∷◌, ◌++◌, OnOk, OnErr, string_bytes, false, length, option_map, slice_get};
-ghost use Rattle.lc3_asm.specs.Texts.{value};
+ghost use Rattle.std.specs.Prelude.{◌≡◌, ℕ, List, [], ◌∷◌, ◌++◌, OnOk, OnErr, string_bytes, false, length, option_map, slice_get, Some};
+ghost use Rattle.lc3_asm.specs.Texts.{value, entry, label_of};
+ghost use Rattle.lc3_asm.specs.Views.{seen_line};
 ghost use Rattle.lc3_asm.specs.Symbols.{symbol_list};
 ghost use Rattle.lc3_asm.specs.Private.Tables.{is_defined};
 ghost use Rattle.lc3_asm.specs.Listings.{symbol_line, symbols_text};
 
+use crate::line::Line;
 use indexmap::IndexMap;
 use lc3_word::Hex;
 use std::alloc::{AllocError, Global};
@@ -70,6 +72,24 @@ impl Symbols {
     {
         self.addresses.insert(name, address)?;
         Ok(())
+    }
+
+    /// Adds the label of a line, where it has one.
+    pub(crate) fn define_label(
+        &mut self,
+        alloc: Global,
+        line: &Line,
+        address: u16,
+    ) -> Result<(), AllocError>
+        requires undefined { (name : List ℕ) → label_of (seen_line line.now) ≡ Some name
+            → is_defined self.old name ≡ false }
+        ensures added { OnOk result
+            (self.new ≡ self.old ++ entry (label_of (seen_line line.now)) address) }
+    {
+        match line.label() {
+            Some(label) => self.define(String::from_str(alloc, label)?, address),
+            None => Ok(()),
+        }
     }
 
     /// Appends a line for each label: its name and its address.

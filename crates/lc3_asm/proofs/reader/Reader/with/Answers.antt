@@ -1,29 +1,21 @@
 use Rattle.std.proofs.Common.{rules, ◌≡◌, ◌∙◌, sym, ap, map, ◌++◌, ◌+◌, [], ◌∷◌}
 use Rattle.std.proofs.lemmas.List.{map-append}
-use Rattle.std.specs.Prelude.{◌||◌, string_bytes, is_some}
-use Rattle.lc3_asm.specs.Texts.{entry, label_of, is_origin}
+use Rattle.std.specs.Prelude.{◌||◌, is_some}
+use Rattle.lc3_asm.specs.Texts.{is_origin}
 use Rattle.lc3_asm.specs.Views.{seen_line}
-use Rattle.lc3_asm.proofs.DraftLemmas.{entry-some, entry-none}
 use Rattle.lc3_asm.proofs.ReaderLemmas.{tables-more}
 use Rattle.lc3_asm.proofs.reader.Reader.with.Goals as goal
-use Rattle.lc3_asm.proofs.reader.Reader.with.Goals.{in-Some+in_ok-from_str+in_ok-define, in_default, then-started, else-started}
+use Rattle.lc3_asm.proofs.reader.Reader.with.Goals.{then-started, else-started}
 
 pub invariant_of-result : goal.invariant_of-result
 invariant_of-result c =
     let read : map seen_line c.self.inside.lines.items ≡ c.args.self.read = ap (λ r. r.read) c.self.view_is in
     let lines_are : map seen_line c.push-3.new.self.items ≡ c.args.self.read ++ seen_line c.args.line ∷ [] =
     ap (map seen_line) c.in_ok-push-3.ensures.items ∙ map-append seen_line c.self.inside.lines.items (c.args.line ∷ []) ∙ ap (λ u. u ++ seen_line c.args.line ∷ []) read in
-    let symbols_are : c.match-label.symbols ≡ c.self.inside.symbols ++ entry (label_of (seen_line c.args.line)) (c.self.inside.first + c.self.inside.count) =
-    elim c.match-label.branch [
-      | in-Some+in_ok-from_str+in_ok-define w ↦
-          entry-some c.self.inside.symbols c.match-label.symbols (c.self.inside.first + c.self.inside.count) w.in-Some.label.now (string_bytes w.in_ok-from_str.field-0) (label_of (seen_line c.args.line))
-          w.in-Some.ensures.label w.in_ok-from_str.ensures.ok (w.symbols-is ∙ w.in_ok-define.ensures.ok)
-      | in_default w ↦ entry-none c.self.inside.symbols c.match-label.symbols (c.self.inside.first + c.self.inside.count) (label_of (seen_line c.args.line)) w.in_default.ensures.label w.symbols-is
-    ] in
     let started_is : c.if-started.started ≡ (c.self.inside.started || is_origin (seen_line c.args.line)) =
     elim c.if-started.branch [
       | then-started w ↦ w.started-is ∙ w.if-started.true ∙ sym (ap (λ b. b || is_origin (seen_line c.args.line)) w.if-started.true)
       | else-started w ↦ w.started-is ∙ w.is_some-started.ensures ∙ ap is_some w.origin.ensures.value ∙ sym (ap (λ b. b || is_origin (seen_line c.args.line)) w.if-started.false)
     ] in
-    rw lines_are (tables-more c.self.inside.symbols c.match-label.symbols c.self.inside.places.items c.push-2.new.self.items c.self.inside.started c.if-started.started c.self.inside.first c.first_with-first.result c.self.inside.count (c.self.inside.count + c.size.result) (c.self.inside.first + c.self.inside.count) c.args.self.read (seen_line c.args.line)
-    (rw read at c.self.invariant) c.requires.room (search rules) symbols_are started_is c.first_with-first.ensures.value (search rules) (search rules))
+    rw lines_are (tables-more c.self.inside.symbols c.define_label.new.self c.self.inside.places.items c.push-2.new.self.items c.self.inside.started c.if-started.started c.self.inside.first c.first_with-first.result c.self.inside.count (c.self.inside.count + c.size.result) (c.self.inside.first + c.self.inside.count) c.args.self.read (seen_line c.args.line)
+    (rw read at c.self.invariant) c.requires.room (search rules) c.in_ok-define_label.ensures.added started_is c.first_with-first.ensures.value (search rules) (search rules))
