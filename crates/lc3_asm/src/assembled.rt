@@ -23,11 +23,20 @@ pub struct Row {
 }
 
 /// What a source text is assembled to: an image, the labels and the lines that the words come from.
-#[derive(Drop)]
 pub struct Assembled {
     image: Image,
     symbols: Symbols,
     rows: Vec<Row>,
+}
+
+impl Drop for Assembled {
+    fn drop(self) {
+        let Assembled {
+            image: _,
+            symbols: _,
+            rows: _,
+        } = self;
+    }
 }
 
 impl Model for Assembled {

@@ -20,7 +20,6 @@ use std::alloc::{AllocError, Global};
 use std::marker::Model;
 
 /// The lines of a text that are read so far, with what follows from them.
-#[derive(Drop)]
 pub struct Draft {
     lines: Vec<Line>,
     /// The labels that they define.
@@ -33,6 +32,19 @@ pub struct Draft {
     first: u64,
     /// The address after the lines.
     address: u64,
+}
+
+impl Drop for Draft {
+    fn drop(self) {
+        let Draft {
+            lines: _,
+            symbols: _,
+            places: _,
+            started: _,
+            first: _,
+            address: _,
+        } = self;
+    }
 }
 
 impl Model for Draft {
@@ -163,7 +175,15 @@ impl Draft {
     pub fn into_symbols(self) -> Symbols
         ensures value { result ≡ labels self }
     {
-        self.symbols
+        let Draft {
+            lines: _,
+            symbols,
+            places: _,
+            started: _,
+            first: _,
+            address: _,
+        } = self;
+        symbols
     }
 
     /// Whether a `.ORIG` was read.

@@ -127,7 +127,6 @@ fn label_alone(alloc: Global, line: Line) -> Line
 }
 
 /// The lines of a text that are read so far, those with a fault as what they count as, and the faults.
-#[derive(Drop)]
 pub struct Reader {
     lines: Vec<Line>,
     faults: Vec<LineFault>,
@@ -141,6 +140,20 @@ pub struct Reader {
     first: u64,
     /// How many words the lines make.
     count: u64,
+}
+
+impl Drop for Reader {
+    fn drop(self) {
+        let Reader {
+            lines: _,
+            faults: _,
+            symbols: _,
+            places: _,
+            started: _,
+            first: _,
+            count: _,
+        } = self;
+    }
 }
 
 impl Model for Reader {

@@ -8,7 +8,7 @@ use lc3_asm::{Line, Operand};
 use lc3_table::Operation;
 
 /// What a line with words is to execution.
-#[derive(Clone, Copy, Debug, PartialEq, Eq)]
+#[derive(Clone, Copy)]
 pub enum Flow {
     /// Words that aren't meant to be executed.
     Data,
@@ -19,7 +19,7 @@ pub enum Flow {
 }
 
 /// A line with words, by its number, from 1.
-#[derive(Clone, Copy, Debug, PartialEq, Eq)]
+#[derive(Clone, Copy)]
 pub struct Next {
     pub line: usize,
     pub flow: Flow,

@@ -12,7 +12,6 @@ use lc3_table::Profile;
 use std::alloc::{AllocError, Global};
 
 /// What the warnings of the lines of a text rest on.
-#[derive(Drop)]
 pub struct Settings {
     /// The machine that the warnings are about.
     pub profile: Profile,
@@ -24,6 +23,18 @@ pub struct Settings {
     pub called: Names,
     /// The labels that are words of faulty lines.
     pub mentioned: Names,
+}
+
+impl Drop for Settings {
+    fn drop(self) {
+        let Settings {
+            profile: _,
+            accepted: _,
+            named: _,
+            called: _,
+            mentioned: _,
+        } = self;
+    }
 }
 
 /// The setting of a text that was read so, and is accepted or not.

@@ -133,18 +133,45 @@ fn is_accepted(alloc: Global, text: &str, reader: &Reader) -> Result<bool, Alloc
     Ok(faults.is_empty())
 }
 
-/// The warnings of a source text, by line, for programs on this machine.
+/// The warnings of a text that was read so, where the warnings of its lines rest on this setting.
+fn warnings_under(
+    alloc: Global,
+    setting: &Settings,
+    text: &[u8],
+    read: &[Line],
+) -> Result<Vec<Warning>, AllocError>
+    ensures told { IfOk result (λ found. map told_of found.items
+        ≡ lines_told (seen_setting setting.now) [] (lines text.now) (map seen_line read.now)
+        ++ after_end (length read.now) (drop (length read.now) (lines text.now))) }
+{
+    let mut found = Vec::new(alloc);
+    let rest = push_lines(alloc, &mut found, setting, text, read)?;
+    push_after_end(&mut found, read.len(), rest)?;
+    Ok(found)
+}
+
+/// The warnings of a text that was read so.
 #[tactic(auto, using(crate::proofs::WalkLemmas::all_told))]
+fn warnings_of(
+    alloc: Global,
+    text: &str,
+    profile: Profile,
+    reader: &Reader,
+) -> Result<Vec<Warning>, AllocError>
+    requires read { reader.now ≡ reading text.now }
+    ensures told { IfOk result
+        (λ found. map told_of found.items ≡ warnings profile text.now) }
+{
+    let accepted = is_accepted(alloc, text, reader)?;
+    let setting = setting_of(alloc, profile, accepted, text.as_bytes(), reader)?;
+    warnings_under(alloc, &setting, text.as_bytes(), reader.lines())
+}
+
+/// The warnings of a source text, by line, for programs on this machine.
 pub fn warnings(alloc: Global, text: &str, profile: Profile) -> Result<Vec<Warning>, AllocError>
     ensures told { IfOk result
         (λ found. map told_of found.items ≡ warnings profile text.now) }
 {
     let reader = reading(alloc, text)?;
-    let accepted = is_accepted(alloc, text, &reader)?;
-    let lines = reader.lines();
-    let setting = setting_of(alloc, profile, accepted, text.as_bytes(), &reader)?;
-    let mut found = Vec::new(alloc);
-    let rest = push_lines(alloc, &mut found, &setting, text.as_bytes(), lines)?;
-    push_after_end(&mut found, lines.len(), rest)?;
-    Ok(found)
+    warnings_of(alloc, text, profile, &reader)
 }

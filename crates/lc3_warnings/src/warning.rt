@@ -3,7 +3,7 @@
 use lc3_table::Form;
 
 /// What a warning says.
-#[derive(Clone, Copy, Debug, PartialEq, Eq)]
+#[derive(Clone, Copy)]
 pub enum Kind {
     /// The number of an instruction's field means another one, this value; the form says which field it is.
     Wraps { form: Form, value: i16 },
@@ -26,7 +26,7 @@ pub enum Kind {
 }
 
 /// A warning about a line of a text.
-#[derive(Clone, Copy, Debug, PartialEq, Eq)]
+#[derive(Clone, Copy)]
 pub struct Warning {
     /// The number of the line, from 1.
     pub line: usize,
