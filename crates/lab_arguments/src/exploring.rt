@@ -32,32 +32,43 @@ pub(crate) fn explore<'a>(alloc: Global) -> Result<Command<'a>, AllocError> {
     let command = on_programs(alloc, "explore", about, examples::EXPLORE)?
         .arg(limit(alloc, "limit", "N", MOST_LOCAL_STEPS, steps))?
         .arg(memory.default_value("2048"))?;
-    with_questions(alloc, with_walks(alloc, command)?)
+    let command = with_demands(alloc, with_walks(alloc, command)?)?;
+    with_prints(alloc, with_tellings(alloc, command)?)
 }
 
-/// The command with the options that say what is asked, and how the answers are printed.
-fn with_questions<'a>(alloc: Global, command: Command<'a>) -> Result<Command<'a>, AllocError> {
+/// The command with the options that say what must be so.
+fn with_demands<'a>(alloc: Global, command: Command<'a>) -> Result<Command<'a>, AllocError> {
     let require = "Fails unless the search is complete and each end is so: \
         ended, stuck, halted, empty, same, with commas between them";
     let may_wait = "With ended or halted: process P may wait for ever; \
         'P at A' or 'P at A-B' where its program counter is there";
     let never = "Fails unless the search is complete and this condition never holds, \
         or, with lost, no message is lost with its queue";
+    command
+        .arg(value(alloc, "require", "WORDS", require))?
+        .arg(values(alloc, "may-wait", "P", may_wait))?
+        .arg(values(alloc, "never", "CONDITION", never))
+}
+
+/// The command with the options that say what is told of what is found.
+fn with_tellings<'a>(alloc: Global, command: Command<'a>) -> Result<Command<'a>, AllocError> {
+    let fair = "Tells only rounds in which each process that can go on takes a step";
     let show =
         "What is told of each end: out, what the processes have written, in place of the report; \
         left, the messages that are left, too; or both, with a comma between them";
-    let fair = "Tells only rounds in which each process that can go on takes a step";
     let first = "Ends the search where something is found that is not as it has to be";
+    command
+        .arg(flag(alloc, "fair", fair))?
+        .arg(value(alloc, "show", "WORDS", show))?
+        .arg(flag(alloc, "first", first))
+}
+
+/// The command with the options that say how the answers are printed.
+fn with_prints<'a>(alloc: Global, command: Command<'a>) -> Result<Command<'a>, AllocError> {
     let schedule =
         "Prints the schedule of end K alone, or of the first thing that is not as it has to be";
     let page = "Also writes FILE, a page that shows the ends and the run of each in a browser";
     command
-        .arg(value(alloc, "require", "WORDS", require))?
-        .arg(values(alloc, "may-wait", "P", may_wait))?
-        .arg(values(alloc, "never", "CONDITION", never))?
-        .arg(flag(alloc, "fair", fair))?
-        .arg(value(alloc, "show", "WORDS", show))?
-        .arg(flag(alloc, "first", first))?
         .arg(value(alloc, "schedule", "K|bad", schedule))?
         .arg(flag(alloc, "json", "Prints the answers as JSON"))?
         .arg(value(alloc, "page", "FILE", page))
@@ -162,14 +173,8 @@ pub(crate) fn explore_request<'a>(
     words: &ArgMatches<'a>,
 ) -> Result<Request<'a>, Refusal> {
     let question = question_of(alloc, words)?;
-    if question.random.is_none() && words.get_str("seed").is_some() {
-        return Err(Misuse::NothingSeeded.refusal(alloc));
-    }
     let page = words.get_str("page");
-    if question.random.is_some() && page.is_some() {
-        return Err(Misuse::PageAndRandom.refusal(alloc));
-    }
-    if let Some(misuse) = misuse_of(&question) {
+    if let Some(misuse) = misuse_in(&question, words.get_str("seed").is_some(), page.is_some()) {
         return Err(misuse.refusal(alloc));
     }
     Ok(Request::Explore {
@@ -177,6 +182,15 @@ pub(crate) fn explore_request<'a>(
         question,
         page,
     })
+}
+
+/// Which options don't go together, if some don't: of a question that has a seed, or a page.
+fn misuse_in(question: &Question<'_>, has_seed: bool, has_page: bool) -> Option<Misuse<'static>> {
+    match question.random {
+        None if has_seed => Some(Misuse::NothingSeeded),
+        Some(_) if has_page => Some(Misuse::PageAndRandom),
+        _ => misuse_of(question),
+    }
 }
 
 /// Which options of a question don't go together, if some don't.

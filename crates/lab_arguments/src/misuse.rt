@@ -5,7 +5,7 @@ use std::alloc::Global;
 use std::fmt;
 
 /// What is wrong with words that the parser of commands takes one by one.
-#[derive(Clone, Copy, Debug, PartialEq, Eq)]
+#[derive(Clone, Copy)]
 pub(crate) enum Misuse<'a> {
     /// The value of `--require` isn't made of its words.
     NoRequirement(&'a str),

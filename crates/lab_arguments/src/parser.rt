@@ -52,23 +52,46 @@ fn refusal_of(alloc: Global, error: &Error) -> Refusal {
 /// The version of the program; CHANGELOG.md says what each brings.
 const VERSION: &str = "1.0.0";
 
-fn program<'a>(alloc: Global) -> Result<Command<'a>, AllocError> {
-    Command::new(alloc, "lc3lab")
+/// The program without its commands.
+fn without_commands<'a>(alloc: Global) -> Result<Command<'a>, AllocError> {
+    let program = Command::new(alloc, "lc3lab")
         .about("A laboratory of LC-3 processes")
         .version(VERSION)
         .after_help(examples::PROGRAM)
-        .bin_name("lc3lab")?
-        .no_binary_name(true)
-        .subcommand_required(true)
-        .override_usage("lc3lab [COMMAND]")
+        .bin_name("lc3lab")?;
+    Ok(
+        program
+            .no_binary_name(true)
+            .subcommand_required(true)
+            .override_usage("lc3lab [COMMAND]"),
+    )
+}
+
+/// The program with the commands on sources and object files.
+fn with_files<'a>(alloc: Global, program: Command<'a>) -> Result<Command<'a>, AllocError> {
+    program
         .subcommand(asm(alloc)?)?
         .subcommand(check(alloc)?)?
-        .subcommand(dis(alloc)?)?
-        .subcommand(step(alloc)?)?
-        .subcommand(trace(alloc)?)?
+        .subcommand(dis(alloc)?)
+}
+
+/// The program with the commands that run programs by given steps.
+fn with_schedules<'a>(alloc: Global, program: Command<'a>) -> Result<Command<'a>, AllocError> {
+    program.subcommand(step(alloc)?)?.subcommand(trace(alloc)?)
+}
+
+/// The program with the commands that find steps themselves or are told them one by one.
+fn with_searches<'a>(alloc: Global, program: Command<'a>) -> Result<Command<'a>, AllocError> {
+    program
         .subcommand(run(alloc)?)?
         .subcommand(explore(alloc)?)?
         .subcommand(debug(alloc)?)
+}
+
+/// The program with all its commands.
+fn program<'a>(alloc: Global) -> Result<Command<'a>, AllocError> {
+    let program = with_files(alloc, without_commands(alloc)?)?;
+    with_searches(alloc, with_schedules(alloc, program)?)
 }
 
 /// What the parser's matches ask for. It has made sure that there is a command, and each required word.

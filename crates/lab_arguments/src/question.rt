@@ -3,7 +3,6 @@ use crate::requirements::Requirements;
 use crate::showing::Show;
 
 /// What is asked of an exploration.
-#[derive(Drop)]
 pub struct Question<'a> {
     /// The most worlds to visit, or those of a walk.
     pub worlds: u32,
@@ -31,8 +30,27 @@ pub struct Question<'a> {
     pub json: bool,
 }
 
+impl Drop for Question<'_> {
+    fn drop(self) {
+        let Question {
+            worlds: _,
+            memory: _,
+            steps: _,
+            required: _,
+            waiters: _,
+            never: _,
+            fair: _,
+            show: _,
+            first: _,
+            random: _,
+            schedule: _,
+            json: _,
+        } = self;
+    }
+}
+
 /// Walks by random numbers.
-#[derive(Clone, Copy, Debug, PartialEq, Eq)]
+#[derive(Clone, Copy)]
 pub struct Walks {
     /// How many there are.
     pub count: u32,
@@ -41,7 +59,7 @@ pub struct Walks {
 }
 
 /// A schedule of an exploration.
-#[derive(Clone, Copy, Debug, PartialEq, Eq)]
+#[derive(Clone, Copy)]
 pub enum Choice {
     /// That of the end with this number, from 1.
     End(u32),

@@ -5,7 +5,7 @@ ghost use Rattle.lab_arguments.specs.Private.Requirements.{how_often, once_if, r
 use std::alloc::{AllocError, Global};
 
 /// What each end of an exploration must be like.
-#[derive(Clone, Copy, Debug, PartialEq, Eq)]
+#[derive(Clone, Copy)]
 pub struct Requirements {
     /// How its processes must have come to rest.
     pub rest: Option<Rest>,
@@ -16,7 +16,7 @@ pub struct Requirements {
 }
 
 /// How processes come to rest.
-#[derive(Clone, Copy, Debug, PartialEq, Eq)]
+#[derive(Clone, Copy)]
 pub enum Rest {
     /// Each has ended, or may wait.
     Ended,

@@ -7,7 +7,7 @@ use crate::requirements::{stands, words_of};
 use std::alloc::{AllocError, Global};
 
 /// What is told of each end.
-#[derive(Clone, Copy, Debug, PartialEq, Eq)]
+#[derive(Clone, Copy)]
 pub struct Show {
     /// Whether what the processes have written, and the verdict, stand in place of the report.
     pub out: bool,

@@ -13,7 +13,7 @@ use std::alloc::{AllocError, Global};
 const MEGABYTE: usize = 1_048_576;
 
 /// How far an exploration goes, and how what it finds is told.
-#[derive(Clone, Copy, Debug, PartialEq, Eq)]
+#[derive(Clone, Copy)]
 pub struct Inquiry {
     pub limits: Limits,
     /// The walks that are taken in place of every interleaving.

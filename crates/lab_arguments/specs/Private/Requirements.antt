@@ -1,5 +1,5 @@
 -- What the words of `--require` say.
-use Rattle.std.specs.Prelude.{ℕ, ◌≡◌, ◌+◌, ◌==◌, Bool, true, false, if◌then◌else◌, Option, Some, None, List, codes, length, bytes_eq}
+use Rattle.std.specs.Prelude.{ℕ, ◌≡◌, ◌+◌, ◌==◌, Bool, true, false, Option, Some, None, List, codes, length, bytes_eq}
 use Rattle.std.specs.List.{count_by, slice_split}
 use Rattle.lab_arguments.specs.declared.requirements.Requirements.{Requirements}
 use Rattle.lab_arguments.specs.declared.requirements.Rest.{Rest}

@@ -1,7 +1,6 @@
-use Rattle.std.proofs.Common.{ℕ, ◌≡◌, ◌<◌, ◌+◌, Bool, true, false, List, [], map, take, length, get_or, bytes_eq, sym, ap, subst, refl, arith, ◌∙◌}
+use Rattle.std.proofs.Common.{◌<◌, ◌+◌, [], map, length, bytes_eq, sym, ap, arith, ◌∙◌}
 use Rattle.std.proofs.lemmas.List.{length-map, get_or-map}
 use Rattle.std.proofs.lemmas.List.Sums.{count_by_more_yes, count_by_more_no}
-use Rattle.lab_arguments.specs.Private.Requirements.{how_often}
 use Rattle.lab_arguments.proofs.requirements.how_often.Goals.{then-is_word, else-is_word}
 use Rattle.lab_arguments.proofs.requirements.how_often.Goals as goal
 
