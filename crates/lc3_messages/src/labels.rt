@@ -7,7 +7,6 @@ use lc3_table::{Fault, Operation};
 use std::alloc::{AllocError, Global};
 
 /// The labels of a text in upper case, each with the number of its line, from 1.
-#[derive(Drop)]
 pub(crate) struct Labels {
     /// The lines that define them, in their order.
     definitions: IndexMap<String, usize>,
@@ -15,6 +14,16 @@ pub(crate) struct Labels {
     meant: IndexMap<String, usize>,
     /// The first lines behind `.END` that begin with them.
     behind: IndexMap<String, usize>,
+}
+
+impl Drop for Labels {
+    fn drop(self) {
+        let Labels {
+            definitions: _,
+            meant: _,
+            behind: _,
+        } = self;
+    }
 }
 
 impl Labels {

@@ -4,10 +4,11 @@ use crate::forms::{form_text, is_target};
 use crate::message::Remark;
 use crate::parts::{part_at, part_count};
 use crate::texts::Place;
-use crate::words::{is_operation, is_register, number_meant};
+use crate::words::{NO_LABEL_BUT_OPERATION, is_operation, is_register, number_meant, said_of};
 use lc3_asm::is_label;
 use lc3_table::Form;
 use std::alloc::{AllocError, Global};
+use std::fmt::Write;
 
 /// The number of the operation among the tokens of a line, from 0.
 fn operation_number(line: &str) -> usize {
@@ -29,36 +30,37 @@ fn word_at(line: &str, number: usize) -> &str {
     }
 }
 
-/// How many operands an operation takes.
-fn taken(alloc: Global, count: usize) -> Result<String, AllocError> {
-    match count {
-        0 => String::from_str(alloc, "no operands"),
-        1 => String::from_str(alloc, "1 operand"),
-        _ => format!(in alloc; "{count} operands"),
+/// Adds a number, or this word where it is 0.
+fn push_number(text: &mut String, number: usize, none: &str) -> Result<(), AllocError> {
+    if number == 0 {
+        text.push_str(none)
+    } else {
+        write!(text, "{number}")
     }
 }
 
-/// How many operands a line has.
-fn given(alloc: Global, count: usize) -> Result<String, AllocError> {
-    match count {
-        0 => String::from_str(alloc, "here is none"),
-        1 => String::from_str(alloc, "here is 1"),
-        _ => format!(in alloc; "here are {count}"),
-    }
+/// Adds how many operands an operation takes and how many a line has.
+fn push_counts(text: &mut String, taken: usize, given: usize) -> Result<(), AllocError> {
+    push_number(text, taken, "no")?;
+    text.push_str(if taken == 1 {
+        " operand, here "
+    } else {
+        " operands, here "
+    })?;
+    text.push_str(if given > 1 { "are " } else { "is " })?;
+    push_number(text, given, "none")
 }
 
 /// What is said of an operation with another count of operands than it takes.
 fn other_count(alloc: Global, place: Place<'_>, operation: usize) -> Result<String, AllocError> {
-    let shown = Excerpt(place.word());
     if operation == 0 && is_operation(word_at(place.line, 1).as_bytes()) {
-        return format!(in alloc; "{shown} is an operation, so it can't be a label");
+        return said_of(alloc, place.word(), NO_LABEL_BUT_OPERATION);
     }
-    let count = part_count(place.line.as_bytes()).saturating_sub(operation.saturating_add(1));
-    let taken = taken(alloc, place.forms.len())?;
-    let given = given(alloc, count)?;
-    let mut text = format!(in alloc; "{shown} takes {taken}, {given}")?;
+    let given = part_count(place.line.as_bytes()).saturating_sub(operation.saturating_add(1));
+    let mut text = said_of(alloc, place.word(), " takes ")?;
+    push_counts(&mut text, place.forms.len(), given)?;
     push_forms(&mut text, place.forms)?;
-    if count > place.forms.len() {
+    if given > place.forms.len() {
         text.push_str(" (a comment begins with ;)")?;
     }
     Ok(text)
@@ -73,6 +75,26 @@ fn push_forms(text: &mut String, forms: &[Form]) -> Result<(), AllocError> {
     Ok(())
 }
 
+/// What is said of a word in the place of an operand of this form.
+fn misplaced(alloc: Global, word: &str, said: &str, form: Form) -> Result<String, AllocError> {
+    let shown = Excerpt(word);
+    let stands = form_text(form);
+    format!(in alloc; "{shown}{said}; here stands {stands}")
+}
+
+/// What an operand of another sort than this form is called, and what is wrong with it.
+fn other_sort(form: Form, word: &str) -> (&str, &'static str) {
+    if form == Form::Characters {
+        (word, " is no string")
+    } else if word.starts_with('"') {
+        ("a string", " can't stand here")
+    } else if is_register(word.as_bytes()) {
+        ("a register", " can't stand here")
+    } else {
+        (word, " is no register")
+    }
+}
+
 /// What is said of operands that are too few, too many, or of another sort than they have to be.
 pub(crate) fn bad_operands(alloc: Global, place: Place<'_>) -> Result<Remark, AllocError> {
     let operation = operation_number(place.line);
@@ -82,44 +104,43 @@ pub(crate) fn bad_operands(alloc: Global, place: Place<'_>) -> Result<Remark, Al
             return Ok(place.remark(text));
         }
     }
-    let word = place.word();
-    let shown = Excerpt(word);
     let form = place.form();
-    let stands = form_text(form);
-    let text = if form == Form::Characters {
-        format!(in alloc; "{shown} is no string; here stands {stands}")?
-    } else if word.starts_with('"') {
-        format!(in alloc; "a string can't stand here; here stands {stands}")?
-    } else if is_register(word.as_bytes()) {
-        format!(in alloc; "a register can't stand here; here stands {stands}")?
-    } else {
-        format!(in alloc; "{shown} is no register; here stands {stands}")?
-    };
+    let (name, said) = other_sort(form, place.word());
+    let text = misplaced(alloc, name, said, form)?;
     Ok(place.remark(text))
+}
+
+/// What is said of a word that was meant to be this number.
+fn other_number(alloc: Global, word: &str, number: &str) -> Result<String, AllocError> {
+    let shown = Excerpt(word);
+    let number = Excerpt(number);
+    format!(in alloc; "{shown} is no number; did you mean {number}?")
 }
 
 /// What is said of a word that is no number.
 fn no_number(alloc: Global, word: &str, form: Form) -> Result<String, AllocError> {
-    let shown = Excerpt(word);
-    let stands = form_text(form);
     let takes_label = form.takes_label();
     let bytes = word.as_bytes();
     if takes_label && is_operation(bytes) {
-        return format!(in alloc; "{shown} is an operation, so it can't be a label");
+        return said_of(alloc, word, NO_LABEL_BUT_OPERATION);
     }
     if is_label(bytes) {
-        return format!(in alloc;
-            "{shown} is no number, and a label can't stand here; here stands {stands}"
+        return misplaced(
+            alloc,
+            word,
+            " is no number, and a label can't stand here",
+            form,
         );
     }
     if let Some(number) = number_meant(alloc, bytes)? {
-        let number = Excerpt(&number);
-        return format!(in alloc; "{shown} is no number; did you mean {number}?");
+        return other_number(alloc, word, &number);
     }
-    if takes_label {
-        return format!(in alloc; "{shown} is no number and no label; here stands {stands}");
-    }
-    format!(in alloc; "{shown} is no number; here stands {stands}")
+    let said = if takes_label {
+        " is no number and no label"
+    } else {
+        " is no number"
+    };
+    misplaced(alloc, word, said, form)
 }
 
 /// What is said of a word that has to be a number and is none.
@@ -133,12 +154,11 @@ pub(crate) fn range(alloc: Global, place: Place<'_>) -> Result<Remark, AllocErro
     let shown = Excerpt(place.word());
     let form = place.form();
     let stands = form_text(form);
-    let text = if is_target(form) {
-        format!(in alloc;
-            "the number {shown} is out of range; here stands {stands}; a number here is the offset itself, not an address"
-        )?
+    let hint = if is_target(form) {
+        "; a number here is the offset itself, not an address"
     } else {
-        format!(in alloc; "the number {shown} is out of range; here stands {stands}")?
+        ""
     };
+    let text = format!(in alloc; "the number {shown} is out of range; here stands {stands}{hint}")?;
     Ok(place.remark(text))
 }

@@ -3,7 +3,10 @@ use crate::characters::{Excerpt, picture};
 use crate::message::{Remark, Span};
 use crate::parts::{Part, part_at, text_of};
 use crate::texts::{Place, Source};
-use crate::words::{did_you_mean, is_number, is_operation, is_register, operation_meant, upper};
+use crate::words::{
+    NO_LABEL_BUT_OPERATION, did_you_mean, is_number, is_operation, is_register, operation_meant,
+    said_of, upper,
+};
 use lc3_asm::{Token, is_label, without_colon};
 use std::alloc::{AllocError, Global};
 
@@ -21,18 +24,21 @@ fn other_character(name: &str) -> Option<char> {
     name.chars().find(|character| !character.is_ascii_alphanumeric() && *character != '_')
 }
 
+/// What is said of a name whose first character begins no label, behind the name.
+fn first_character_text(name: &[u8]) -> Option<&'static str> {
+    match name.first() {
+        Some(b'/' | b'#' | b'*') => Some(" is no label; a comment begins with ;"),
+        Some(b'0'..=b'9') => Some(" is no label; a label begins with a letter or _"),
+        _ => None,
+    }
+}
+
 /// What is said of a name that has no form of a label.
 fn no_label(alloc: Global, name: &str) -> Result<String, AllocError> {
-    let shown = Excerpt(name);
-    match name.as_bytes().first() {
-        Some(b'/' | b'#' | b'*') => {
-            return format!(in alloc; "{shown} is no label; a comment begins with ;");
-        }
-        Some(b'0'..=b'9') => {
-            return format!(in alloc; "{shown} is no label; a label begins with a letter or _");
-        }
-        _ => {}
+    if let Some(said) = first_character_text(name.as_bytes()) {
+        return said_of(alloc, name, said);
     }
+    let shown = Excerpt(name);
     if let Some(character) = other_character(name) {
         let character = picture(character);
         return format!(in alloc;
@@ -45,29 +51,42 @@ fn no_label(alloc: Global, name: &str) -> Result<String, AllocError> {
     )
 }
 
+/// What is said of a name that is something else than a label, behind the name.
+fn other_use(name: &[u8]) -> Option<&'static str> {
+    if is_number(name) {
+        Some(" is a number, so it can't be a label")
+    } else if is_register(name) {
+        Some(" is a register, so it can't be a label")
+    } else if is_operation(name) {
+        Some(NO_LABEL_BUT_OPERATION)
+    } else {
+        None
+    }
+}
+
+/// What is said of a name that can't be a label.
+fn label_text(alloc: Global, name: &str) -> Result<String, AllocError> {
+    let bytes = name.as_bytes();
+    if is_label(bytes) {
+        return String::from_str(alloc, ".ORIG takes no label");
+    }
+    if bytes.is_empty() {
+        return String::from_str(alloc, "a : stands right behind a label");
+    }
+    match other_use(bytes) {
+        Some(said) => said_of(alloc, name, said),
+        None => no_label(alloc, name),
+    }
+}
+
 /// What is said of a word that can't be the label of its line.
 pub(crate) fn bad_label(alloc: Global, place: Place<'_>) -> Result<Remark, AllocError> {
-    let name = name_of(place.word());
-    let shown = Excerpt(name);
-    let bytes = name.as_bytes();
-    let text = if is_label(bytes) {
-        String::from_str(alloc, ".ORIG takes no label")?
-    } else if bytes.is_empty() {
-        String::from_str(alloc, "a : stands right behind a label")?
-    } else if is_number(bytes) {
-        format!(in alloc; "{shown} is a number, so it can't be a label")?
-    } else if is_register(bytes) {
-        format!(in alloc; "{shown} is a register, so it can't be a label")?
-    } else if is_operation(bytes) {
-        format!(in alloc; "{shown} is an operation, so it can't be a label")?
-    } else {
-        no_label(alloc, name)?
-    };
+    let text = label_text(alloc, name_of(place.word()))?;
     Ok(place.remark(text))
 }
 
 /// What is said of a token of the line.
-fn remark_on(line: &str, part: Part<'_>, text: String) -> Remark {
+fn remark_on(part: Part<'_>, text: String) -> Remark {
     Remark {
         mark: Some(Span {
             start: part.start,
@@ -87,7 +106,7 @@ fn no_operation(
     let shown = Excerpt(text_of(line, part));
     let mean = did_you_mean(alloc, meant)?;
     let text = format!(in alloc; "{shown} is no operation and no directive{mean}")?;
-    Ok(remark_on(line, part, text))
+    Ok(remark_on(part, text))
 }
 
 /// The operation that the first token of a line was meant to name, if it is spelled nearly like one and has no `:`.
@@ -119,6 +138,16 @@ fn two_words(
     no_operation(alloc, line, second, second_meant)
 }
 
+/// What may stand before this operand, at the end of a text; nothing where a word is no operand.
+fn before_operand(operand: Token<'_>, has_colon: bool) -> Option<&'static str> {
+    match operand {
+        Token::Word(word) if is_number(word) => Some(", as .FILL before a number"),
+        Token::Word(_) if has_colon => Some(""),
+        Token::Word(_) => None,
+        Token::Quoted(_) | Token::Unclosed => Some(", as .STRINGZ before a string"),
+    }
+}
+
 /// What is said where an operand stands behind what may be a label.
 fn operand_behind(
     alloc: Global,
@@ -131,20 +160,14 @@ fn operand_behind(
     if meant.is_some() {
         return no_operation(alloc, line, first, meant);
     }
-    let shown = Excerpt(name_of(word));
-    let text = match second.token {
-        Token::Word(operand) if is_number(operand) => format!(in alloc;
-            "behind the label {shown} stands an operation or a directive, as .FILL before a number"
-        )?,
-        Token::Word(_) if word.ends_with(':') => format!(in alloc;
-            "behind the label {shown} stands an operation or a directive"
-        )?,
-        Token::Word(_) => return no_operation(alloc, line, first, None),
-        _ => format!(in alloc;
-            "behind the label {shown} stands an operation or a directive, as .STRINGZ before a string"
-        )?,
+    let Some(as_which) = before_operand(second.token, word.ends_with(':')) else {
+        return no_operation(alloc, line, first, None);
     };
-    Ok(remark_on(line, second, text))
+    let shown = Excerpt(name_of(word));
+    let text = format!(in alloc;
+        "behind the label {shown} stands an operation or a directive{as_which}"
+    )?;
+    Ok(remark_on(second, text))
 }
 
 /// What is said of a line in which no operation stands where one has to.
@@ -174,7 +197,7 @@ pub(crate) fn bad_operation(
                 alloc,
                 "a string begins no statement; here stands a label, an operation or a directive",
             )?;
-            Ok(remark_on(line, first, text))
+            Ok(remark_on(first, text))
         }
     }
 }

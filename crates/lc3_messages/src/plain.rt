@@ -16,30 +16,38 @@ fn bad_character(line: &str, mark: Span) -> Option<(usize, char)> {
         && !is_plain(*character))
 }
 
+/// What is said of a character that can't stand in a word, before its number and behind it.
+fn around_number(character: char, is_first: bool) -> (&'static str, &'static str) {
+    if is_first && character == '\u{FEFF}' {
+        (
+            "the file begins with a byte order mark, ",
+            "; save it as UTF-8 without one",
+        )
+    } else if is_typographic_quote(character) {
+        (
+            "this is a typographic quote, ",
+            "; a string stands between two \"",
+        )
+    } else if is_dash(character) {
+        ("this is a dash, ", "; a minus is written -")
+    } else if is_other_blank(character) {
+        (
+            "this is a blank of another kind, ",
+            "; blanks, tabs and commas separate words",
+        )
+    } else {
+        (
+            "the character ",
+            " can't stand in a word; words have characters from x21 to x7E",
+        )
+    }
+}
+
 /// What is said of a character that can't stand in a word.
 fn text_of(alloc: Global, character: char, is_first: bool) -> Result<String, AllocError> {
     let number = Number(character);
-    if is_first && character == '\u{FEFF}' {
-        return format!(in alloc;
-            "the file begins with a byte order mark, {number}; save it as UTF-8 without one"
-        );
-    }
-    if is_typographic_quote(character) {
-        return format!(in alloc;
-            "this is a typographic quote, {number}; a string stands between two \""
-        );
-    }
-    if is_dash(character) {
-        return format!(in alloc; "this is a dash, {number}; a minus is written -");
-    }
-    if is_other_blank(character) {
-        return format!(in alloc;
-            "this is a blank of another kind, {number}; blanks, tabs and commas separate words"
-        );
-    }
-    format!(in alloc;
-        "the character {number} can't stand in a word; words have characters from x21 to x7E"
-    )
+    let (before, behind) = around_number(character, is_first);
+    format!(in alloc; "{before}{number}{behind}")
 }
 
 /// What is said of a word with a character that can't stand in one.

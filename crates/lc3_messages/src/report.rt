@@ -7,7 +7,7 @@ use crate::operations::name_of;
 use crate::texts::{Source, line_at, remark};
 use crate::told::{Finding, What, findings};
 use crate::words::{bare_operation_meant, did_you_mean, operation_word};
-use lc3_asm::{faults_of, reading};
+use lc3_asm::{Reader, faults_of, reading};
 use lc3_table::Profile;
 use lc3_warnings::{Kind as WarningKind, Warning, push_text};
 use std::alloc::{AllocError, Global};
@@ -144,7 +144,7 @@ fn warning_remark<'a>(
     let shown = format!(in alloc; "{shown}")?;
     let mut text = String::new(alloc);
     push_text(&mut text, warning.kind, &shown)?;
-    if warning.kind == WarningKind::Misspelt {
+    if matches!(warning.kind, WarningKind::Misspelt) {
         let meant = bare_operation_meant(alloc, word.as_bytes())?;
         text.push_str(did_you_mean(alloc, meant)?.as_str())?;
     }
@@ -193,6 +193,58 @@ fn push_messages(
     Ok(())
 }
 
+/// The messages about these findings in a source.
+fn report_of(
+    alloc: Global,
+    file: &str,
+    source: &Source<'_>,
+    findings: &[Finding],
+) -> Result<Report, AllocError> {
+    let errors = findings.iter().filter(|it| it.what.is_error()).count();
+    let warnings = findings.len().saturating_sub(errors);
+    let mut text = String::new(alloc);
+    push_messages(alloc, &mut text, file, source, findings)?;
+    push_counts(&mut text, file, errors, warnings)?;
+    Ok(Report {
+        text,
+        errors,
+        warnings,
+    })
+}
+
+/// The messages about a source with this content.
+fn source_report(
+    alloc: Global,
+    file: &str,
+    content: &str,
+    source: &Source<'_>,
+    wish: Wish<'_>,
+) -> Result<Report, AllocError> {
+    let faults = faults_of(alloc, source.lines.len(), source.reader)?;
+    let findings = findings(alloc, source, &faults, content, wish)?;
+    report_of(alloc, file, source, &findings)
+}
+
+/// The messages about a text with these lines, which was read so.
+fn lines_report(
+    alloc: Global,
+    file: &str,
+    content: &str,
+    lines: &[&str],
+    reader: &Reader,
+    wish: Wish<'_>,
+) -> Result<Report, AllocError> {
+    let labels = labels_of(alloc, lines, reader)?;
+    let names = labels.names(alloc)?;
+    let source = Source {
+        lines,
+        reader,
+        labels: &labels,
+        names: &names,
+    };
+    source_report(alloc, file, content, &source, wish)
+}
+
 /// The messages about a text.
 fn text_report(
     alloc: Global,
@@ -202,53 +254,43 @@ fn text_report(
 ) -> Result<Report, AllocError> {
     let lines = lines_of(alloc, content)?;
     let reader = reading(alloc, content)?;
-    let labels = labels_of(alloc, &lines, &reader)?;
-    let names = labels.names(alloc)?;
-    let source = Source {
-        lines: &lines,
-        reader: &reader,
-        labels: &labels,
-        names: &names,
-    };
-    let faults = faults_of(alloc, lines.len(), &reader)?;
-    let findings = findings(alloc, &source, &faults, content, wish)?;
-    let errors = findings.iter().filter(|it| it.what.is_error()).count();
-    let warnings = findings.len().saturating_sub(errors);
-    let mut text = String::new(alloc);
-    push_messages(alloc, &mut text, file, &source, &findings)?;
-    push_counts(&mut text, file, errors, warnings)?;
-    Ok(Report {
-        text,
-        errors,
-        warnings,
-    })
+    lines_report(alloc, file, content, &lines, &reader, wish)
+}
+
+/// What is said of bytes that are no UTF-8, the first of which is this one.
+fn no_utf8(alloc: Global, bytes: &[u8], first: Option<&u8>) -> Result<String, AllocError> {
+    match (bytes, first) {
+        ([0xFF, 0xFE, ..] | [0xFE, 0xFF, ..], _) | (_, None) => String::from_str(
+            alloc,
+            "the file is UTF-16; save it as UTF-8",
+        ),
+        (_, Some(byte)) => format!(in alloc;
+            "the byte x{byte:02X} is no UTF-8; save the file as UTF-8"
+        ),
+    }
 }
 
 /// The message about bytes that are no UTF-8 from a place on.
+fn no_text(alloc: Global, bytes: &[u8], place: usize) -> Result<Message, AllocError> {
+    let (front, rest) = bytes.split_at(place.min(bytes.len()));
+    let (line, before) = end_of(std::str::from_utf8(front).unwrap_or(""));
+    Ok(Message {
+        line,
+        column: before.saturating_add(1),
+        mark: None,
+        kind: Kind::NotUtf8,
+        text: no_utf8(alloc, bytes, rest.first())?,
+    })
+}
+
+/// The report on bytes that are no UTF-8 from a place on.
 fn no_text_report(
     alloc: Global,
     file: &str,
     bytes: &[u8],
     place: usize,
 ) -> Result<Report, AllocError> {
-    let (front, rest) = bytes.split_at(place.min(bytes.len()));
-    let (line, before) = end_of(std::str::from_utf8(front).unwrap_or(""));
-    let remark = match (bytes, rest.first()) {
-        ([0xFF, 0xFE, ..] | [0xFE, 0xFF, ..], _) | (_, None) => String::from_str(
-            alloc,
-            "the file is UTF-16; save it as UTF-8",
-        )?,
-        (_, Some(byte)) => format!(in alloc;
-            "the byte x{byte:02X} is no UTF-8; save the file as UTF-8"
-        )?,
-    };
-    let message = Message {
-        line,
-        column: before.saturating_add(1),
-        mark: None,
-        kind: Kind::NotUtf8,
-        text: remark,
-    };
+    let message = no_text(alloc, bytes, place)?;
     let mut text = String::new(alloc);
     push_message(&mut text, file, "", &message)?;
     push_counts(&mut text, file, 1, 0)?;

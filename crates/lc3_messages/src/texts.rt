@@ -118,6 +118,19 @@ fn origin_line(reader: &Reader) -> usize {
     place.unwrap_or(0).saturating_add(1)
 }
 
+/// What is said of a token in this text.
+fn plainly(alloc: Global, place: Place<'_>, text: &str) -> Result<Remark, AllocError> {
+    let text = String::from_str(alloc, text)?;
+    Ok(place.remark(text))
+}
+
+/// What is said of a second `.ORIG`.
+fn second_origin(alloc: Global, reader: &Reader, place: Place<'_>) -> Result<Remark, AllocError> {
+    let line = origin_line(reader);
+    let text = format!(in alloc; "a source has one .ORIG, the one of line {line}")?;
+    Ok(place.remark(text))
+}
+
 /// What is said of a fault of this kind in a line with tokens.
 fn remark_at(
     alloc: Global,
@@ -126,18 +139,17 @@ fn remark_at(
     kind: Fault,
 ) -> Result<Remark, AllocError> {
     match kind {
-        Fault::NoOrig => Ok(place.remark(String::from_str(
+        Fault::NoOrig => plainly(
             alloc,
+            place,
             "the first statement has to be .ORIG with the address of the first word, as .ORIG x3000",
-        )?)),
-        Fault::SecondOrig => {
-            let line = origin_line(source.reader);
-            Ok(place.remark(format!(in alloc; "a source has one .ORIG, the one of line {line}")?))
-        }
-        Fault::TooLong => Ok(place.remark(String::from_str(
+        ),
+        Fault::SecondOrig => second_origin(alloc, source.reader, place),
+        Fault::TooLong => plainly(
             alloc,
+            place,
             "the words up to here go beyond xFE00, where the device registers begin",
-        )?)),
+        ),
         Fault::BadToken => bad_token(alloc, place.line, place.number, place.mark),
         Fault::BadString => bad_string(alloc, place.line, place.mark),
         Fault::BadLabel => bad_label(alloc, place),

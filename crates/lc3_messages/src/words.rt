@@ -1,4 +1,5 @@
 //! Words of a line.
+use crate::characters::Excerpt;
 use crate::parts::{part_at, text_of};
 use lc3_asm::{Token, register, token_operation};
 use lc3_spelling::{BARE_OPERATIONS, OPERATIONS, shown, suggestion};
@@ -74,6 +75,15 @@ pub(crate) fn bare_operation_meant(
         Some(place) => Ok(BARE_OPERATIONS.get(place).copied()),
         None => Ok(None),
     }
+}
+
+/// What is said of an operation in the place of a label, behind its name.
+pub(crate) const NO_LABEL_BUT_OPERATION: &str = " is an operation, so it can't be a label";
+
+/// A text that begins with a word of the source.
+pub(crate) fn said_of(alloc: Global, word: &str, said: &str) -> Result<String, AllocError> {
+    let shown = Excerpt(word);
+    format!(in alloc; "{shown}{said}")
 }
 
 /// What a text ends with where a name was meant, and nothing else.
