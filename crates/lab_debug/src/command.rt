@@ -11,7 +11,7 @@ use lab_sched::{MOST_STEPS, SchedFault, Schedule};
 use std::alloc::{AllocError, Global};
 
 /// A range of memory of a process: so many words from an address on.
-#[derive(Clone, Copy, Debug, PartialEq, Eq)]
+#[derive(Clone, Copy)]
 pub struct Range {
     pub pid: usize,
     pub address: u16,
@@ -104,7 +104,7 @@ pub enum Command {
 ghost use Rattle.lab_debug.specs.declared.command.Command.TheVariants.{Regs, Mem, Dis, Fds, Out, Run, Play};
 
 /// Why a line is refused, in this order.
-#[derive(Clone, Copy, Debug, PartialEq, Eq)]
+#[derive(Clone, Copy)]
 pub enum Refusal {
     /// The first word is no command.
     UnknownCommand,

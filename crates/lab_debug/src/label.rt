@@ -8,7 +8,7 @@ use lc3_word::unsigned;
 use std::alloc::{AllocError, Global};
 
 /// A label of a source, and a number of words before it or behind it.
-#[derive(Clone, Copy, Debug)]
+#[derive(Clone, Copy)]
 pub struct Label<'a> {
     /// The name, in either case.
     pub name: &'a [u8],

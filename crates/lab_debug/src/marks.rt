@@ -10,7 +10,7 @@ use std::alloc::{AllocError, Global};
 use std::fmt;
 
 /// An address of a process.
-#[derive(Clone, Copy, Debug, PartialEq, Eq)]
+#[derive(Clone, Copy)]
 pub struct Place {
     pub pid: usize,
     pub address: u16,

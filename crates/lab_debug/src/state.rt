@@ -23,7 +23,6 @@ use std::alloc::{AllocError, Global};
 
 /// A session of the debugger. It keeps its programs and the steps that were taken, so that it can
 /// go back, and the sources of the programs that were given as such.
-#[derive(Drop)]
 pub struct Session {
     programs: Vec<Program>,
     listings: Vec<Option<Listing>>,
@@ -31,6 +30,19 @@ pub struct Session {
     marks: Marks,
     taken: Vec<Block>,
     world: World,
+}
+
+impl Drop for Session {
+    fn drop(self) {
+        let Session {
+            programs: _,
+            listings: _,
+            profile: _,
+            marks: _,
+            taken: _,
+            world: _,
+        } = self;
+    }
 }
 
 /// The world of programs before their first step.

@@ -11,7 +11,7 @@ use std::alloc::{AllocError, Global};
 use std::fmt::{self, Write};
 
 /// A watched place, and the word that was seen there.
-#[derive(Clone, Copy, Debug, PartialEq, Eq)]
+#[derive(Clone, Copy)]
 pub struct Watched {
     pub place: Place,
     pub word: u16,
