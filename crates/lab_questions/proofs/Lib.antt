@@ -1,4 +1,5 @@
 mod Watched
+mod OrderLemmas
 pub mod ListLemmas
 pub mod AnswerLemmas
 pub mod ToldLemmas

@@ -1,5 +1,5 @@
 -- The semaphores and queues that conditions name, and whether any steps lead to a world that has them.
-use Rattle.std.specs.Prelude.{ℕ, ◌⊎◌, List, [], ◌∷◌, All, Contains, flat_map}
+use Rattle.std.specs.Prelude.{ℕ, ◌≡◌, ◌<◌, ◌⊎◌, Some, List, [], ◌∷◌, ◌++◌, All, Contains, codes, flat_map, slice_get}
 use Rattle.lab_sched.specs.declared.schedule.block.Block.{Block}
 use Rattle.lab_sched.specs.Execution.{AreEffective}
 use Rattle.lab_sched.specs.Schedules.{steps_of}
@@ -20,6 +20,11 @@ objects_in (Queue name r x) = object.Queue name ∷ []
 objects_in (Of p x) = []
 objects_in (MoreThan x n) = []
 
+-- an object, as a condition names it
+abbrev pub object_text : Object → List ℕ
+object_text (object.Semaphore name) = codes "sem " ++ name
+object_text (object.Queue name) = codes "mq " ++ name
+
 -- the objects that a condition names
 abbrev pub objects_of : Never → List Object
 objects_of (Holds c) = flat_map objects_in c.parts.items
@@ -28,6 +33,10 @@ objects_of Lost = []
 -- the objects that conditions name
 abbrev pub named : List Never → List Object
 named conditions = flat_map objects_of conditions
+
+-- the first place of one object among names lies before each place of another
+abbrev pub StandsBefore : List Object → Object → Object → Type 0
+StandsBefore names o other = (i : ℕ) × (slice_get names i ≡ Some o) × ((j : ℕ) → slice_get names j ≡ Some other → i < j)
 
 -- the part of a condition that holds of each world which has the object: each value of a semaphore, and each number of messages in a
 -- queue, is below 65,535

@@ -1,5 +1,5 @@
 //! Explorations with what is required of their ends.
-ghost use Rattle.std.specs.Prelude.{◌≡◌, None, false, [], map, string_bytes, All, Any, IfOk, IfSome, IsTrue};
+ghost use Rattle.std.specs.Prelude.{◌≡◌, None, false, [], map, string_bytes, All, AllPairs, Any, IfOk, IfSome, IsTrue};
 ghost use Rattle.lab_sched.specs.ScheduleTexts.{schedule_text};
 ghost use Rattle.lab_explore.specs.Ends.{AreEnds, HaveAllEnds};
 ghost use Rattle.lab_explore.specs.Reached.{AreReached, AreKept};
@@ -7,7 +7,7 @@ ghost use Rattle.lab_explore.specs.Rounds.{IsRound, CanBeRepeated, AreBounded};
 ghost use Rattle.lab_explore.specs.Fairness.{IsFairRound, AreFairlyEndless, AreFairlyBounded};
 ghost use Rattle.lab_findings.specs.Texts.{told_ends};
 ghost use Rattle.lab_questions.specs.Judgments.{IsAnswer};
-ghost use Rattle.lab_questions.specs.Objects.{AreUnopened};
+ghost use Rattle.lab_questions.specs.Objects.{named, AreUnopened, StandsBefore};
 ghost use Rattle.lab_questions.specs.Programs.{TellEveryEnd, AlwaysMeet, IsRefuted, AsksRest, Passes, IsFailure};
 ghost use Rattle.lab_questions.specs.Texts.{schedule_at, answers_text};
 
@@ -44,7 +44,8 @@ pub struct Answers {
 /// Where the exploration is complete and the word is so, every world at rest that any steps lead to
 /// is as the word requires. The schedule of what must never be so leads to it; where the exploration is
 /// complete and there is none, no steps do. Where it is complete, exactly those of the semaphores and
-/// queues that conditions name are unopened which no steps lead to. If only fair rounds are asked for, a
+/// queues that conditions name are unopened which no steps lead to. They are told once, in the order in
+/// which the conditions name them first. If only fair rounds are asked for, a
 /// round that is told is fair; where the exploration is complete and has none, no more than some number
 /// of passes that serve each process can follow each other.
 pub fn ask<O: Observer>(
@@ -96,6 +97,8 @@ pub fn ask<O: Observer>(
         → AreUnopened fresh conditions.items a.unopened.items) }
     ensures unknown { IfOk result (λ a. a.exploration.complete ≡ false
         → a.unopened.items ≡ []) }
+    ensures order { IfOk result (λ a.
+        AllPairs (StandsBefore (named conditions.items)) a.unopened.items) }
     ensures passes { IfOk result (λ a. a.failure ≡ None
         → Passes a.exploration a.answers.items) }
     ensures failure { IfOk result (λ a.

@@ -1,8 +1,8 @@
 //! Semaphores and queues that conditions name.
-ghost use Rattle.std.specs.Prelude.{◌≡◌, ◌⊎◌, ◌↔◌, [], ◌∷◌, ◌++◌, All, Contains, IfOk, IsTrue, OnOk, flat_map};
+ghost use Rattle.std.specs.Prelude.{◌≡◌, ◌↔◌, [], ◌∷◌, ◌++◌, All, AllPairs, Contains, IfOk, IsTrue, OnOk, flat_map};
 ghost use Rattle.std.specs.Option.{option_to_list};
-ghost use Rattle.lab_questions.specs.declared.object.Object.{Object as Seen};
-ghost use Rattle.lab_questions.specs.Objects.{objects_in, objects_of, named};
+ghost use Rattle.lab_questions.specs.Objects.{objects_in, objects_of, named, StandsBefore};
+ghost use Rattle.lab_questions.specs.Private.Presences.{AddsNew};
 
 use ipc_names::Name;
 use lab_conditions::{Never, Part};
@@ -18,7 +18,7 @@ pub enum Object {
 
 impl fmt::Display for Object {
     ghost use Rattle.std.specs.Prelude.{Some};
-    ghost use Rattle.lab_questions.specs.Private.Presences.{object_text};
+    ghost use Rattle.lab_questions.specs.Objects.{object_text};
 
     ghost output = { λ o. Some (object_text o) };
 
@@ -129,10 +129,8 @@ fn all_named(alloc: Global, conditions: &[Never]) -> Result<Vec<Object>, AllocEr
 
 /// Adds an object, unless it is among the others.
 fn push_new(objects: &mut Vec<Object>, object: &Object) -> Result<(), AllocError>
-    ensures old { OnOk result (All (Contains objects.new.items) objects.old.items) }
-    ensures new { OnOk result (Contains objects.new.items object.now) }
-    ensures only { OnOk result ((o : Seen) → Contains objects.new.items o
-        → Contains objects.old.items o ⊎ (object.now ≡ o)) }
+    ensures added { OnOk result
+        (AddsNew objects.old.items object.now objects.new.items) }
 {
     if object.is_among(objects) {
         return Ok(());
@@ -142,10 +140,12 @@ fn push_new(objects: &mut Vec<Object>, object: &Object) -> Result<(), AllocError
     Ok(())
 }
 
-/// The objects that conditions name, each once.
+/// The objects that conditions name, each once, in the order in which they first do.
 pub(crate) fn named_in(alloc: Global, conditions: &[Never]) -> Result<Vec<Object>, AllocError>
     ensures all { IfOk result (λ objects. All (Contains objects.items) (named conditions.now)) }
     ensures only { IfOk result (λ objects. All (Contains (named conditions.now)) objects.items) }
+    ensures order { IfOk result (λ objects.
+        AllPairs (StandsBefore (named conditions.now)) objects.items) }
 {
     let repeated = all_named(alloc, conditions)?;
     let mut objects = Vec::new(alloc);

@@ -1,9 +1,9 @@
 //! Whether semaphores and queues that conditions name are ever there.
-ghost use Rattle.std.specs.Prelude.{◌≡◌, ◌⊎◌, ℕ, None, Some, false, [], All, Contains, IfOk, IsTrue, OnOk, slice_get};
+ghost use Rattle.std.specs.Prelude.{◌≡◌, ℕ, None, Some, false, List, [], All, AllPairs, Contains, IfOk, IsTrue, OnOk, slice_get};
 ghost use Rattle.lab_explore.specs.Calls.{Alongside};
 ghost use Rattle.lab_questions.specs.declared.object.Object.{Object as Seen};
-ghost use Rattle.lab_questions.specs.Objects.{presence};
-ghost use Rattle.lab_questions.specs.Private.Presences.{AsksFor, IsUnseen};
+ghost use Rattle.lab_questions.specs.Objects.{presence, StandsBefore};
+ghost use Rattle.lab_questions.specs.Private.Presences.{AsksFor, AddsUnseen, IsUnseen};
 
 use crate::Object;
 use crate::failure::has_schedule;
@@ -63,10 +63,8 @@ fn push_unseen(
     object: &Object,
     schedule: &Option<Schedule>,
 ) -> Result<(), AllocError>
-    ensures old { OnOk result (All (Contains unseen.new.items) unseen.old.items) }
-    ensures new { OnOk result (schedule.now ≡ None → Contains unseen.new.items object.now) }
-    ensures only { OnOk result ((o : Seen) → Contains unseen.new.items o
-        → Contains unseen.old.items o ⊎ ((schedule.now ≡ None) × (object.now ≡ o))) }
+    ensures added { OnOk result
+        (AddsUnseen unseen.old.items object.now schedule.now unseen.new.items) }
 {
     if has_schedule(schedule) {
         return Ok(());
@@ -85,6 +83,9 @@ fn unseen(
     ensures each { IfOk result (λ unseen. All (IsUnseen objects.now seen.now) unseen.items) }
     ensures all { IfOk result (λ unseen. (i : ℕ) (o : Seen) → slice_get objects.now i ≡ Some o
         → slice_get seen.now i ≡ Some None → Contains unseen.items o) }
+    ensures order { IfOk result (λ unseen. (names : List Seen)
+        → AllPairs (StandsBefore names) objects.now
+        → AllPairs (StandsBefore names) unseen.items) }
 {
     let mut unseen = Vec::new(alloc);
     for number in 0..objects.len().min(seen.len()) {
@@ -106,6 +107,9 @@ pub(crate) fn unopened_in(
         → slice_get objects.now i ≡ Some o → slice_get seen.now i ≡ Some None
         → Contains unopened.items o) }
     ensures unknown { IfOk result (λ unopened. complete ≡ false → unopened.items ≡ []) }
+    ensures order { IfOk result (λ unopened. (names : List Seen)
+        → AllPairs (StandsBefore names) objects.now
+        → AllPairs (StandsBefore names) unopened.items) }
 {
     if complete {
         unseen(alloc, objects, seen)

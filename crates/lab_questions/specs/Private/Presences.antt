@@ -1,21 +1,24 @@
 -- Objects that are looked for in the worlds of a search.
-use Rattle.std.specs.Prelude.{ℕ, ◌≡◌, List, [], ◌∷◌, ◌++◌, Option, Some, None, codes, slice_get}
+use Rattle.std.specs.Prelude.{ℕ, ◌≡◌, ◌⊎◌, Contains, List, [], ◌∷◌, ◌++◌, Option, Some, None, slice_get}
 use Rattle.lab_sched.specs.declared.schedule.block.Block.{Block}
 use Rattle.lab_conditions.specs.declared.never.Never.{Never}
 use Rattle.lab_conditions.specs.declared.never.Never.TheVariants.{Holds, Lost}
 use Rattle.lab_questions.specs.declared.object.Object.{Object}
-use Rattle.lab_questions.specs.declared.object.Object.TheVariants as object
 use Rattle.lab_questions.specs.Objects.{presence}
-
--- an object, as a condition names it
-abbrev pub object_text : Object → List ℕ
-object_text (object.Semaphore name) = codes "sem " ++ name
-object_text (object.Queue name) = codes "mq " ++ name
 
 -- the condition holds of a world exactly where the object is there
 abbrev pub AsksFor : Object → Never → Type 0
 AsksFor o (Holds c) = c.parts.items ≡ presence o ∷ []
 AsksFor o Lost = ⊥
+
+-- an object is added at the end of objects, unless it is one of them
+abbrev pub AddsNew : List Object → Object → List Object → Type 0
+AddsNew olds o news = (Contains olds o × (news ≡ olds)) ⊎ ((Contains olds o → ⊥) × (news ≡ olds ++ o ∷ []))
+
+-- an object is added at the end of objects where there is no schedule for it
+abbrev pub AddsUnseen : List Object → Object → Option (List Block) → List Object → Type 0
+AddsUnseen olds o None news = news ≡ olds ++ o ∷ []
+AddsUnseen olds o (Some s) news = news ≡ olds
 
 -- the object has a place among the objects, and there no schedule is
 abbrev pub IsUnseen : List Object → List (Option (List Block)) → Object → Type 0

@@ -1,9 +1,9 @@
-use Rattle.std.proofs.Common.{◌≡◌, ◌<◌, ◌≤◌, ◌++◌, arith, All, Contains, IfSome, ap, length, slice_get, subst, sym, take, ◌∙◌}
+use Rattle.std.proofs.Common.{◌≡◌, ◌<◌, ◌≤◌, ◌++◌, arith, All, AllPairs, Contains, IfSome, ap, length, slice_get, subst, sym, take, ◌∙◌}
 use Rattle.std.proofs.Math.Seq.{take-append_seam}
 use Rattle.lab_explore.specs.Calls.{Alongside}
 use Rattle.lab_explore.specs.Reached.{ViolatesIfSome, KeptIfNone}
 use Rattle.lab_questions.specs.Judgments.{IsAnswer}
-use Rattle.lab_questions.specs.Objects.{named}
+use Rattle.lab_questions.specs.Objects.{named, StandsBefore}
 use Rattle.lab_questions.specs.Private.Presences.{AsksFor, IsUnseen}
 use Rattle.lab_questions.proofs.AnswerLemmas.{all_there, all_refuted, all_met}
 use Rattle.lab_questions.proofs.ToldLemmas.{tell_every_end}
@@ -88,3 +88,10 @@ returns-clause-met g c complete =
 pub returns-clause-told : goal.returns-clause-told
 returns-clause-told g c complete =
     tell_every_end c.args.show c.args.fresh c.in_ok-exploration.exploration.ends.items c.in_ok-exploration.ensures.sound (c.in_ok-exploration.ensures.complete complete)
+
+pub returns-clause-order : goal.returns-clause-order
+returns-clause-order g c =
+    let unopened = c.in_ok-unopened.unopened.items in
+    let names = named c.args.conditions.items in
+    let order = subst (λ ns. AllPairs (StandsBefore (named ns)) c.in_ok-objects.objects.items) c.deref.ensures.value c.in_ok-objects.ensures.order in
+    c.in_ok-unopened.ensures.order names (subst (AllPairs (StandsBefore names)) (sym c.deref-4.ensures.value) order)
