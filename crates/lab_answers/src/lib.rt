@@ -1,6 +1,7 @@
 //! The answers of an exploration as RFC 8259 (JSON) writes them, on one line.
 #![tactic(auto)]
 
+mod closing;
 mod ends;
 mod left;
 mod object;

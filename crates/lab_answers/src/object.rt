@@ -1,11 +1,14 @@
 //! The answers as one object.
+ghost use Rattle.std.specs.Prelude.{◌≡◌, ◌++◌, ℕ, List, IfOk, string_bytes};
+ghost use Rattle.lab_answers.specs.Members.{last_members};
 
+use crate::closing::push_last;
 use crate::ends::push_ends;
 use crate::reasons::{Extent, Manner, push_limits};
 use crate::values::{push_comma, push_schedule, push_text};
 use lab_conditions::Never;
-use lab_explore::{End, Exploration, Round};
-use lab_questions::{Answer, Answers, Failure, Object, Word};
+use lab_explore::{End, Exploration};
+use lab_questions::{Answer, Answers, Word};
 use lab_sched::Schedule;
 use std::alloc::{AllocError, Global};
 use std::fmt::Write;
@@ -139,63 +142,33 @@ fn push_conditions(
     Ok(())
 }
 
-/// Adds the semaphores and queues that conditions name and that are never there, with commas between
-/// them.
-fn push_unopened(alloc: Global, text: &mut String, objects: &[Object]) -> Result<(), AllocError> {
-    for (at, object) in objects.iter().enumerate() {
-        push_comma(text, at)?;
-        let named = format!(in alloc; "{object}")?;
-        push_text(text, named.as_bytes())?;
-    }
-    Ok(())
-}
-
-/// Adds a round, or that there is none.
-fn push_round(alloc: Global, text: &mut String, round: &Option<Round>) -> Result<(), AllocError> {
-    let Some(round) = round else {
-        return text.push_str("null");
-    };
-    text.push_str("{\"schedule\":")?;
-    push_schedule(alloc, text, &round.schedule)?;
-    text.push_str(",\"round\":")?;
-    push_schedule(alloc, text, &round.steps)?;
-    text.push_str("}")
-}
-
-/// Whether all is as it has to be, where something has to be so and that is known.
-fn holds_name(judged: bool, failure: Option<Failure>) -> &'static str {
-    if !judged {
-        return "null";
-    }
-    match failure {
-        None => "true",
-        Some(Failure::Not(_)) | Some(Failure::Reached(_)) | Some(Failure::Endless) => "false",
-        Some(Failure::Incomplete) => "null",
-    }
-}
-
-/// The answers as one line, by what was asked and how it is told.
-pub fn answers_json(
+/// Adds how far the exploration went, its ends, and what isn't as it has to be.
+fn push_findings(
     alloc: Global,
+    text: &mut String,
     answers: &Answers,
     manner: Manner,
-) -> Result<String, AllocError> {
+) -> Result<(), AllocError> {
     let found = &answers.exploration;
-    let mut text = String::new(alloc);
     text.push_str("{")?;
-    push_extent(alloc, &mut text, found, manner)?;
+    push_extent(alloc, text, found, manner)?;
     text.push_str(",\"ends\":[")?;
-    push_ends(alloc, &mut text, manner.show, &found.ends)?;
+    push_ends(alloc, text, manner.show, &found.ends)?;
     text.push_str("],\"not\":[")?;
-    push_faults(alloc, &mut text, &found.ends, &answers.answers)?;
+    push_faults(alloc, text, &found.ends, &answers.answers)?;
     text.push_str("],\"reached\":[")?;
-    push_conditions(alloc, &mut text, &answers.conditions, &found.reached)?;
-    text.push_str("],\"unopened\":[")?;
-    push_unopened(alloc, &mut text, &answers.unopened)?;
-    let fair = found.fair;
-    write!(text, "],\"fair\":{fair},\"endless\":")?;
-    push_round(alloc, &mut text, &found.round)?;
-    let holds = holds_name(manner.judged, answers.failure);
-    write!(text, ",\"holds\":{holds}}}\n")?;
+    push_conditions(alloc, text, &answers.conditions, &found.reached)?;
+    text.push_str("]")
+}
+
+/// The answers as one line, by what was asked and how it is told. Its last members tell which objects
+/// nobody opens, whether only fair rounds are told, a round, and whether all is as it has to be.
+pub fn answers_json(alloc: Global, answers: &Answers, manner: Manner) -> Result<String, AllocError>
+    ensures members { IfOk result (λ line. (front : List ℕ)
+        × (string_bytes line ≡ front ++ last_members manner.judged answers.now)) }
+{
+    let mut text = String::new(alloc);
+    push_findings(alloc, &mut text, answers, manner)?;
+    push_last(alloc, &mut text, answers, manner.judged)?;
     Ok(text)
 }

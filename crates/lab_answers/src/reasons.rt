@@ -5,7 +5,7 @@ use lab_findings::Show;
 use std::alloc::{AllocError, Global};
 
 /// How far an exploration was to go.
-#[derive(Clone, Copy, Debug, PartialEq, Eq)]
+#[derive(Clone, Copy)]
 pub enum Extent {
     /// It was to visit every interleaving, as far as these limits allow.
     Worlds(Limits),
@@ -14,7 +14,7 @@ pub enum Extent {
 }
 
 /// What was asked of an exploration, and how it is told.
-#[derive(Clone, Copy, Debug, PartialEq, Eq)]
+#[derive(Clone, Copy)]
 pub struct Manner {
     /// What is told of each end.
     pub show: Show,

@@ -1,6 +1,7 @@
 //! Values of JSON.
 ghost use Rattle.std.specs.Prelude.{◌≡◌, ◌++◌, Some, OnOk, string_bytes, flat_map};
-ghost use Rattle.lab_answers.specs.Private.Values.{number_json, character_json, text_json, schedule_json, first_comma};
+ghost use Rattle.lab_answers.specs.Values.{number_json, character_json, text_json, schedule_json, truth_json};
+ghost use Rattle.lab_answers.specs.Private.Values.{first_comma};
 
 use lab_sched::Schedule;
 use std::alloc::{AllocError, Global};
@@ -34,7 +35,7 @@ fn push_number(text: &mut String, character: u8) -> Result<(), AllocError>
 }
 
 /// Adds a character, by its number, as it stands in a text.
-#[tactic(auto, unfolding(crate::specs::Private::Values::character_json))]
+#[tactic(auto, unfolding(crate::specs::Values::character_json))]
 fn push_character(text: &mut String, character: u8) -> Result<(), AllocError>
     ensures text { OnOk result
         (string_bytes text.new ≡ string_bytes text.old ++ character_json character) }
@@ -63,7 +64,7 @@ fn push_characters(text: &mut String, characters: &[u8]) -> Result<(), AllocErro
 }
 
 /// Adds the text of characters, by their numbers.
-#[tactic(auto, unfolding(crate::specs::Private::Values::text_json))]
+#[tactic(auto, unfolding(crate::specs::Values::text_json))]
 pub(crate) fn push_text(text: &mut String, characters: &[u8]) -> Result<(), AllocError>
     ensures text { OnOk result
         (string_bytes text.new ≡ string_bytes text.old ++ text_json characters.now) }
@@ -84,6 +85,13 @@ pub(crate) fn push_schedule(
 {
     let steps = schedule.text(alloc)?;
     push_text(text, steps.as_bytes())
+}
+
+/// A truth, in a word.
+pub(crate) fn truth_name(truth: bool) -> &'static str
+    ensures text { result.now ≡ truth_json truth }
+{
+    if truth { "true" } else { "false" }
 }
 
 /// Adds a comma before each value of a list but the first.

@@ -1,28 +1,5 @@
--- Values of JSON.
-use Rattle.std.specs.Prelude.{ℕ, ◌/◌, ◌%◌, ◌==◌, ◌&&◌, nat_le, if◌then◌else◌, false, List, [], ◌∷◌, ◌++◌, codes, flat_map}
-use Rattle.std.specs.Fmt.{digit_glyph}
-use Rattle.lab_sched.specs.declared.schedule.block.Block.{Block}
-use Rattle.lab_sched.specs.ScheduleTexts.{schedule_text}
-
--- a character by its number, as `\u00` and two hexadecimal digits
-abbrev pub number_json : ℕ → List ℕ
-number_json c = codes "\\u00" ++ digit_glyph false (c / 16) ∷ digit_glyph false (c % 16) ∷ []
-
--- a character in a text: `"` and `\` behind a `\`, x20 to x7E as they are, any other by its number
-unfoldable pub character_json : ℕ → List ℕ
-character_json c =
-    if c == 34 then codes "\\\"" else
-    if c == 92 then codes "\\\\" else
-    if nat_le 32 c && nat_le c 126 then c ∷ [] else
-    number_json c
-
--- the text of characters of these numbers
-unfoldable pub text_json : List ℕ → List ℕ
-text_json characters = codes "\"" ++ flat_map character_json characters ++ codes "\""
-
--- the text of a schedule
-abbrev pub schedule_json : List Block → List ℕ
-schedule_json blocks = text_json (schedule_text blocks)
+-- What stands between values of JSON.
+use Rattle.std.specs.Prelude.{ℕ, ◌==◌, if◌then◌else◌, List, [], codes}
 
 -- a comma before each value of a list but the first
 abbrev pub first_comma : ℕ → List ℕ

@@ -1,5 +1,5 @@
 use Rattle.std.proofs.Common.{◌≡◌, ◌++◌, take, flat_map, string_bytes}
-use Rattle.lab_answers.specs.Private.Values.{character_json}
+use Rattle.lab_answers.specs.Values.{character_json}
 use Rattle.lab_answers.proofs.values.push_characters.Given as goal
 
 -- the characters so far are added
