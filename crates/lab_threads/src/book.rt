@@ -18,11 +18,20 @@ use std::marker::Model;
 
 /// The kernel that processes share, with the history of all their calls, and the call that each
 /// process waits for.
-#[derive(Drop)]
 pub struct Book {
     kernel: Kernel,
     history: Vec<Entry>,
     waiting: Vec<Option<Call>>,
+}
+
+impl Drop for Book {
+    fn drop(self) {
+        let Book {
+            kernel: _,
+            history: _,
+            waiting: _,
+        } = self;
+    }
 }
 
 impl Model for Book {

@@ -9,7 +9,7 @@ pub trait Gate: Sync {
 }
 
 /// A gate that stands open.
-#[derive(Clone, Copy, Debug, PartialEq, Eq)]
+#[derive(Clone, Copy)]
 pub struct NoGate;
 
 impl Gate for NoGate {

@@ -29,12 +29,22 @@ use std::thread::Threads;
 
 /// One interleaving of the steps of all processes, the history of its calls, the world that it
 /// leads to, and how that world stands.
-#[derive(Drop)]
 pub struct Report {
     pub world: World,
     pub schedule: Schedule,
     pub history: Vec<Entry>,
     pub verdict: Verdict,
+}
+
+impl Drop for Report {
+    fn drop(self) {
+        let Report {
+            world: _,
+            schedule: _,
+            history: _,
+            verdict: _,
+        } = self;
+    }
 }
 
 /// The steps that each worker has left.

@@ -25,7 +25,7 @@ use std::alloc::{AllocError, Global};
 use std::sync::Wait;
 
 /// Whether a worker goes on.
-#[derive(Clone, Copy, PartialEq, Eq, Debug)]
+#[derive(Clone, Copy, PartialEq, Eq)]
 enum Continuation {
     /// It does, as far as its process can.
     GoesOn,
