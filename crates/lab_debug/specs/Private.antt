@@ -5,3 +5,4 @@ pub mod Reading
 pub mod LabelViews
 pub mod Runs
 pub mod Stops
+pub mod Changes

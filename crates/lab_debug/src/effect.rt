@@ -1,54 +1,30 @@
 //! What a line of a script does.
-ghost use Rattle.std.specs.Prelude.{◌≡◌, ◌≤◌, ◌<◌, IfOk, OnOk, string_bytes, length, replicate, map, option_map, ◌∷◌};
+ghost use Rattle.std.specs.Prelude.{◌≡◌, ◌≤◌, ◌<◌, true, IfOk, OnOk, string_bytes, length, replicate, map, option_map, ◌∷◌};
 ghost use Rattle.ipc_kernel.specs.Limits.{process_max};
 ghost use Rattle.std.specs.List.{list_all};
 ghost use Rattle.lab_sched.specs.Schedules.{steps_of};
 ghost use Rattle.lab_debug.specs.Sessions.{state_of, after_steps};
 ghost use Rattle.lab_debug.specs.Commands.{step_count_max};
 ghost use Rattle.lab_texts.specs.Texts.{status_text};
-ghost use Rattle.lab_debug.specs.Help.{help_text};
 ghost use Rattle.lab_texts.specs.Verdicts.{verdict_text};
 ghost use Rattle.lab_debug.specs.Private.Replies.{effect_of};
-ghost use Rattle.lab_debug.specs.Effects.{steps_text, is_there, are_there, accepted_effect, command_effect, located_effect, labelled_effect, label_among, words_effect, line_effect};
+ghost use Rattle.lab_debug.specs.Effects.{is_there, are_there, accepted_effect, command_effect, located_effect, labelled_effect, label_among, words_effect, line_effect};
 ghost use Rattle.lab_debug.specs.Labels.{addressed};
 ghost use Rattle.lab_debug.specs.Private.LabelViews.{label_seen};
+ghost use Rattle.lab_debug.specs.Private.Changes.{changes};
 ghost use Rattle.lab_debug.specs.Private.Ranges.{IsCommand};
 
-use crate::breaks::{break_text, breaks_text};
+use crate::breaks::break_text;
 use crate::command::{Command, Refusal, read_command};
-use crate::help::HELP;
 use crate::label::{Label, second_label, with_zero};
 use crate::marking::{clear, go, play, unwatch, watch};
 use crate::operands::split_words;
-use crate::places::{code_text, labels_text, where_text};
 use crate::reply::{Reply, refuse};
+use crate::showing::{shown, steps_text};
 use crate::state::Session;
-use crate::taken::taken_text;
-use crate::watches::watches_text;
 use lab_sched::{Block, Schedule, World};
-use lab_texts::{
-    dis_text, fds_text, mem_text, mqs_text, out_text, procs_text, profile_text, regs_text,
-    sems_text, status_text, verdict_text,
-};
+use lab_texts::{status_text, verdict_text};
 use std::alloc::{AllocError, Global};
-use std::fmt::Write;
-
-/// The text of `help`.
-#[tactic(auto, unfolding(crate::specs::Help::help_text))]
-fn help_text(alloc: Global) -> Result<String, AllocError>
-    ensures text { IfOk result (λ s. string_bytes s ≡ help_text) }
-{
-    String::from_str(alloc, HELP)
-}
-
-/// The text of how many steps are left.
-fn steps_text(alloc: Global, count: u64) -> Result<String, AllocError>
-    ensures text { IfOk result (λ s. string_bytes s ≡ steps_text count) }
-{
-    let mut text = String::new(alloc);
-    write!(text, "steps {count}\n")?;
-    Ok(text)
-}
 
 /// Takes so many steps of a process.
 #[tactic(auto, unfolding(lab_sched::specs::Schedules::steps_of))]
@@ -120,9 +96,10 @@ fn are_there(world: &World, command: &Command) -> bool
     }
 }
 
-/// Carries out a command whose processes are there.
-fn carry_out(alloc: Global, session: &mut Session, command: Command) -> Result<Reply, AllocError>
+/// Carries out a command that changes the session or ends it, and whose processes are there.
+fn change(alloc: Global, session: &mut Session, command: Command) -> Result<Reply, AllocError>
     requires ranges { IsCommand command }
+    requires changes { changes command ≡ true }
     ensures effect { IfOk result (λ r. effect_of r (state_of session.new)
         ≡ accepted_effect (state_of session.old) command) }
 {
@@ -154,59 +131,27 @@ fn carry_out(alloc: Global, session: &mut Session, command: Command) -> Result<R
             break_text(alloc, session.listings(), place)?
         }
         Command::Clear(place) => return clear(alloc, session, place),
-        Command::Breaks => breaks_text(alloc, session.listings(), session.breaks())?,
         Command::Watch(place) => return watch(alloc, session, place),
         Command::Unwatch(place) => return unwatch(alloc, session, place),
-        Command::Watches => {
-            let watched = session.watched_words(alloc)?;
-            watches_text(alloc, session.listings(), &watched)?
-        }
-        Command::Steps => {
-            let (_, total) = session.effective(alloc)?;
-            steps_text(alloc, total)?
-        }
-        Command::Taken => {
-            let (blocks, _) = session.effective(alloc)?;
-            taken_text(alloc, blocks.as_slice())?
-        }
-        Command::Regs { pid } => regs_text(alloc, session.world(), pid)?,
-        Command::Mem(range) => mem_text(
-            alloc,
-            session.world(),
-            range.pid,
-            range.address,
-            range.count,
-        )?,
-        Command::Dis(range) => dis_text(
-            alloc,
-            session.world(),
-            range.pid,
-            range.address,
-            range.count,
-        )?,
-        Command::Procs => procs_text(alloc, session.world())?,
-        Command::Mqs => mqs_text(alloc, session.world())?,
-        Command::Sems => sems_text(alloc, session.world())?,
-        Command::Fds { pid } => fds_text(alloc, session.world(), pid)?,
-        Command::Out { pid } => out_text(alloc, session.world(), pid)?,
-        Command::Where { pid } => { where_text(alloc, session.world(), pid, session.listing(pid))? }
-        Command::Code(range) => code_text(
-            alloc,
-            session.world(),
-            range.pid,
-            session.listing(range.pid),
-            range.address,
-            range.count,
-        )?,
-        Command::Labels { pid } => labels_text(alloc, session.listing(pid))?,
-        Command::Profile => profile_text(alloc, session.world())?,
-        Command::Help => help_text(alloc)?,
         Command::Quit => {
             let text = String::new(alloc);
             return Ok(Reply { text, ends: true });
         }
+        _ => unreachable!(),
     };
     Ok(Reply { text, ends: false })
+}
+
+/// Carries out a command whose processes are there.
+fn carry_out(alloc: Global, session: &mut Session, command: Command) -> Result<Reply, AllocError>
+    requires ranges { IsCommand command }
+    ensures effect { IfOk result (λ r. effect_of r (state_of session.new)
+        ≡ accepted_effect (state_of session.old) command) }
+{
+    match shown(alloc, session, &command)? {
+        Some(text) => Ok(Reply { text, ends: false }),
+        None => change(alloc, session, command),
+    }
 }
 
 /// Carries out a command, or refuses it where a process isn't there.

@@ -18,6 +18,7 @@ mod placing;
 mod playing;
 mod reply;
 mod script;
+mod showing;
 mod state;
 mod stepping;
 mod taken;

@@ -1,0 +1,90 @@
+//! The commands that show something and change nothing.
+ghost use Rattle.std.specs.Prelude.{◌≡◌, None, true, IfOk, IfSome, string_bytes};
+ghost use Rattle.lab_debug.specs.Sessions.{state_of};
+ghost use Rattle.lab_debug.specs.Help.{help_text};
+ghost use Rattle.lab_debug.specs.Effects.{steps_text, shown_effect, accepted_effect};
+ghost use Rattle.lab_debug.specs.Private.Changes.{changes};
+ghost use Rattle.lab_debug.specs.Private.Ranges.{IsCommand};
+
+use crate::breaks::breaks_text;
+use crate::command::Command;
+use crate::help::HELP;
+use crate::places::{code_text, labels_text, where_text};
+use crate::state::Session;
+use crate::taken::taken_text;
+use crate::watches::watches_text;
+use lab_texts::{
+    dis_text, fds_text, mem_text, mqs_text, out_text, procs_text, profile_text, regs_text,
+    sems_text,
+};
+use std::alloc::{AllocError, Global};
+use std::fmt::Write;
+
+/// The text of `help`.
+#[tactic(auto, unfolding(crate::specs::Help::help_text))]
+fn help_text(alloc: Global) -> Result<String, AllocError>
+    ensures text { IfOk result (λ s. string_bytes s ≡ help_text) }
+{
+    String::from_str(alloc, HELP)
+}
+
+/// The text of how many steps are left.
+pub fn steps_text(alloc: Global, count: u64) -> Result<String, AllocError>
+    ensures text { IfOk result (λ s. string_bytes s ≡ steps_text count) }
+{
+    let mut text = String::new(alloc);
+    write!(text, "steps {count}\n")?;
+    Ok(text)
+}
+
+/// The text of a command that changes nothing, whose processes are there.
+pub fn shown(
+    alloc: Global,
+    session: &Session,
+    command: &Command,
+) -> Result<Option<String>, AllocError>
+    requires ranges { IsCommand command.now }
+    ensures shown { IfOk result (λ found. IfSome found (λ text.
+        accepted_effect (state_of session.now) command.now
+        ≡ shown_effect (string_bytes text) (state_of session.now))) }
+    ensures none { IfOk result (λ found. found ≡ None → changes command.now ≡ true) }
+{
+    let world = session.world();
+    let text = match command {
+        Command::Breaks => breaks_text(alloc, session.listings(), session.breaks())?,
+        Command::Watches => {
+            let watched = session.watched_words(alloc)?;
+            watches_text(alloc, session.listings(), &watched)?
+        }
+        Command::Steps => {
+            let (_, total) = session.effective(alloc)?;
+            steps_text(alloc, total)?
+        }
+        Command::Taken => {
+            let (blocks, _) = session.effective(alloc)?;
+            taken_text(alloc, blocks.as_slice())?
+        }
+        Command::Regs { pid } => regs_text(alloc, world, *pid)?,
+        Command::Mem(range) => mem_text(alloc, world, range.pid, range.address, range.count)?,
+        Command::Dis(range) => dis_text(alloc, world, range.pid, range.address, range.count)?,
+        Command::Procs => procs_text(alloc, world)?,
+        Command::Mqs => mqs_text(alloc, world)?,
+        Command::Sems => sems_text(alloc, world)?,
+        Command::Fds { pid } => fds_text(alloc, world, *pid)?,
+        Command::Out { pid } => out_text(alloc, world, *pid)?,
+        Command::Where { pid } => where_text(alloc, world, *pid, session.listing(*pid))?,
+        Command::Code(range) => code_text(
+            alloc,
+            world,
+            range.pid,
+            session.listing(range.pid),
+            range.address,
+            range.count,
+        )?,
+        Command::Labels { pid } => labels_text(alloc, session.listing(*pid))?,
+        Command::Profile => profile_text(alloc, world)?,
+        Command::Help => help_text(alloc)?,
+        _ => return Ok(None),
+    };
+    Ok(Some(text))
+}
