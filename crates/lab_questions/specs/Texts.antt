@@ -1,5 +1,5 @@
 -- The text that tells what was found and answered.
-use Rattle.std.specs.Prelude.{ℕ, ◌≡◌, Option, Some, None, Ok, List, [], ◌++◌, Any, codes, flat_map, length, min, slice_get}
+use Rattle.std.specs.Prelude.{ℕ, ◌≡◌, ◌≤◌, Option, Some, None, Ok, List, [], ◌++◌, Any, codes, flat_map, length, min, slice_get}
 use Rattle.std.specs.Fmt.{decimal}
 use Rattle.lab_sched.specs.ScheduleTexts.{schedule_text, reading}
 use Rattle.lab_texts.specs.Rows.{texts_below}
@@ -81,6 +81,10 @@ abbrev pub ShowsFault : List End → List Answer → List ℕ → Type 0
 ShowsFault ends answers text =
     Any (λ a. (i : ℕ) × (a.fault ≡ Some i) × (text ≡ schedule_text (schedule_at ends i))) answers
 
+-- an answer names an end beyond so many
+abbrev pub IsBeyond : ℕ → Answer → Type 0
+IsBeyond count a = (i : ℕ) × (a.fault ≡ Some i) × (count ≤ i)
+
 -- the text of the schedule that leads to number i of what must never be so
 abbrev pub ShowsReached : List (Option (List Block)) → ℕ → List ℕ → Type 0
 ShowsReached reached i text = (s : List Block) × (slice_get reached i ≡ Some (Some s)) × (text ≡ schedule_text s)
@@ -89,3 +93,7 @@ ShowsReached reached i text = (s : List Block) × (slice_get reached i ≡ Some 
 abbrev pub ShowsRound : Round → List ℕ → Type 0
 ShowsRound r text = (blocks : List Block) × (text ≡ schedule_text blocks)
     × (reading (schedule_text r.schedule ++ codes " " ++ schedule_text r.steps) ≡ Ok blocks)
+
+-- those of a round, one behind the other, are too long for one schedule
+abbrev pub IsTooLong : Round → Type 0
+IsTooLong r = (blocks : List Block) → reading (schedule_text r.schedule ++ codes " " ++ schedule_text r.steps) ≡ Ok blocks → ⊥

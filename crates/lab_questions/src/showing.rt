@@ -1,8 +1,9 @@
 //! Schedules that show why ends aren't as they are required to be.
-ghost use Rattle.std.specs.Prelude.{◌≡◌, ℕ, None, Some, All, Any, IfOk, IfSome, string_bytes};
+ghost use Rattle.std.specs.Prelude.{◌≡◌, ◌⊎◌, ℕ, List, None, Some, All, Any, IfOk, IfSome, length, slice_get, string_bytes};
+ghost use Rattle.lab_sched.specs.declared.schedule.block.Block.{Block};
 ghost use Rattle.lab_questions.specs.declared.failure.Failure.TheVariants.{Not, Reached, Endless};
 ghost use Rattle.lab_questions.specs.declared.word.Word.{Word};
-ghost use Rattle.lab_questions.specs.Texts.{ShowsFault, ShowsReached, ShowsRound};
+ghost use Rattle.lab_questions.specs.Texts.{IsBeyond, IsTooLong, ShowsFault, ShowsReached, ShowsRound};
 
 use crate::{Answer, Failure};
 use lab_explore::{Exploration, Round};
@@ -30,6 +31,9 @@ fn fault_schedule(
 ) -> Result<Option<String>, AllocError>
     ensures fault { IfOk result (λ shown. IfSome shown (λ text.
         ShowsFault found.now.ends.items answers.now (string_bytes text))) }
+    ensures none { IfOk result (λ shown. shown ≡ None
+        → All (λ a. a.fault ≡ None) answers.now
+        ⊎ Any (IsBeyond (length found.now.ends.items)) answers.now) }
 {
     let Some(number) = first_fault(answers) else {
         return Ok(None);
@@ -48,6 +52,8 @@ fn reached_schedule(
 ) -> Result<Option<String>, AllocError>
     ensures reached { IfOk result (λ shown. IfSome shown (λ text.
         ShowsReached reached.now number (string_bytes text))) }
+    ensures none { IfOk result (λ shown. shown ≡ None → (s : List Block)
+        → slice_get reached.now number ≡ Some (Some s) → ⊥) }
 {
     match reached.get(number) {
         Some(Some(schedule)) => Ok(Some(schedule.text(alloc)?)),
@@ -59,6 +65,7 @@ fn reached_schedule(
 fn round_schedule(alloc: Global, round: &Round) -> Result<Option<String>, AllocError>
     ensures round { IfOk result (λ shown. IfSome shown (λ text.
         ShowsRound round.now (string_bytes text))) }
+    ensures none { IfOk result (λ shown. shown ≡ None → IsTooLong round.now) }
 {
     let before = round.schedule.text(alloc)?;
     let steps = round.steps.text(alloc)?;
@@ -84,6 +91,14 @@ pub fn bad_schedule(
         → IfSome shown (λ text. ShowsReached found.now.reached.items i (string_bytes text))) }
     ensures round { IfOk result (λ shown. failure ≡ Some Endless
         → IfSome shown (λ text. IfSome found.now.round (λ r. ShowsRound r (string_bytes text)))) }
+    ensures no_fault { IfOk result (λ shown. (word : Word) → failure ≡ Some (Not word)
+        → shown ≡ None → All (λ a. a.fault ≡ None) answers.now
+        ⊎ Any (IsBeyond (length found.now.ends.items)) answers.now) }
+    ensures not_reached { IfOk result (λ shown. (i : ℕ) → failure ≡ Some (Reached i)
+        → shown ≡ None → (s : List Block)
+        → slice_get found.now.reached.items i ≡ Some (Some s) → ⊥) }
+    ensures too_long { IfOk result (λ shown. failure ≡ Some Endless
+        → shown ≡ None → IfSome found.now.round (λ r. IsTooLong r)) }
 {
     match failure {
         Some(Failure::Not(_)) => fault_schedule(alloc, found, answers),
