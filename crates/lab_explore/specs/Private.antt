@@ -2,6 +2,7 @@
 pub mod Rows
 pub mod Stored
 pub mod Touched
+pub mod Wholes
 pub mod Known
 pub mod Depths
 pub mod Walked

@@ -4,10 +4,13 @@ ghost use Rattle.lab_sched.specs.Worlds.{Process as Seen, WorldState};
 ghost use Rattle.lab_sched.specs.Held.{process_view};
 ghost use Rattle.lab_conditions.specs.Conditions.{Holds};
 ghost use Rattle.lab_explore.specs.Calls.{Alongside};
-ghost use Rattle.lab_explore.specs.Private.Stored.{IsState, IsAt};
+ghost use Rattle.lab_explore.specs.Private.Stored.{IsExactly, IsState, IsAt};
+ghost use Rattle.lab_explore.specs.Private.Wholes.{AreWholes};
 
 use crate::ExploreFault;
 use crate::store::Store;
+use crate::wholes::Wholes;
+use ipc_kernel::Kernel;
 use lab_conditions::Condition;
 use lab_sched::Process;
 use std::alloc::Global;
@@ -29,25 +32,45 @@ impl Store {
         Ok(processes)
     }
 
+    /// The kernel with a number, put together if it wasn't before.
+    fn whole_kernel(
+        &self,
+        alloc: Global,
+        wholes: &mut Wholes,
+        number: u32,
+    ) -> Result<Kernel, ExploreFault>
+        requires wholes { AreWholes self.now wholes.old }
+        ensures wholes { AreWholes self.now wholes.new }
+        ensures exactly { IfOk result (λ kernel. IsExactly self.now number kernel) }
+    {
+        if let Some(kernel) = wholes.take(number) {
+            return Ok(kernel);
+        }
+        let found = self.kernels.get(alloc, number)?;
+        found.ok_or(ExploreFault::Unvouched)
+    }
+
     /// Whether a condition holds of the world of a row.
     fn row_holds(
         &self,
         alloc: Global,
+        wholes: &mut Wholes,
         at: usize,
         condition: &Condition,
     ) -> Result<bool, ExploreFault>
+        requires wholes { AreWholes self.now wholes.old }
+        ensures wholes { AreWholes self.now wholes.new }
         ensures holds { IfOk result (λ holds. (w : WorldState) → IsAt self.now at w
             → IsTrue holds ↔ Holds condition.now w) }
     {
-        let Some((kernel, states)) = self.rows.get(at) else {
+        let Some((number, states)) = self.rows.get(at) else {
             return Err(ExploreFault::Unvouched);
         };
         let processes = self.processes_in(alloc, states)?;
-        let found = self.kernels.get(alloc, kernel)?;
-        let Some(kernel) = found else {
-            return Err(ExploreFault::Unvouched);
-        };
-        let holds = condition.holds_in(alloc, &kernel, processes.as_slice())?;
+        let kernel = self.whole_kernel(alloc, wholes, number)?;
+        let judged = condition.holds_in(alloc, &kernel, processes.as_slice());
+        wholes.put(number, kernel);
+        let holds = judged?;
         Ok(holds)
     }
 
@@ -62,8 +85,9 @@ impl Store {
         ensures none { IfOk result (λ first. first ≡ None → (i : ℕ) (w : WorldState)
             → IsAt self.now i w → Holds condition.now w → ⊥) }
     {
+        let mut wholes = Wholes::new(alloc)?;
         for at in 0..self.rows.len() {
-            if self.row_holds(alloc, at, condition)? {
+            if self.row_holds(alloc, &mut wholes, at, condition)? {
                 return Ok(Some(at));
             }
         }

@@ -38,6 +38,7 @@ mod tours;
 mod trying;
 mod walking;
 mod wandering;
+mod wholes;
 
 pub use ends::End;
 pub use exploring::{Exploration, explore};

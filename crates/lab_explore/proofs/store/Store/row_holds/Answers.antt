@@ -4,16 +4,16 @@ use Rattle.lab_conditions.specs.Conditions.{Holds, world_of}
 use Rattle.lab_explore.proofs.JudgedRows.{row_judged}
 use Rattle.lab_explore.proofs.store.Store.row_holds.Goals as goal
 
-pub returns : goal.returns
-returns c =
+pub returns-clause-holds : goal.returns-clause-holds
+returns-clause-holds c =
     let t = c.args.self.now in
-    let kernel = c.in-Some-found.kernel in
+    let kernel = c.in_ok-kernel.kernel in
     let condition = c.args.condition.now in
     let holds = c.in_ok-holds.holds in
     let processes = c.in_ok-processes.processes.items in
-    record {
-      holds =
-          row_judged t _ c.args.at condition kernel (map (λ s. process_view s.now) processes) holds c.in-Some.ensures.row (rw c.in-Some-found.is at c.in_ok-found.ensures.kept)
-          c.in_ok-processes.ensures.processes
-          (subst (λ xs. IsTrue holds ↔ Holds condition (world_of kernel (map (λ s. process_view s.now) xs))) c.as_slice.ensures.value c.in_ok-holds.ensures.holds);
-    }
+    row_judged t _ c.args.at condition kernel (map (λ s. process_view s.now) processes) holds c.in-Some.ensures.row c.in_ok-kernel.ensures.exactly
+    c.in_ok-processes.ensures.processes
+    (subst (λ xs. IsTrue holds ↔ Holds condition (world_of kernel (map (λ s. process_view s.now) xs))) c.as_slice.ensures.value c.in_ok-holds.ensures.holds)
+
+pub returns-clause-wholes : goal.returns-clause-wholes
+returns-clause-wholes c = c.put.ensures.all c.args.self.now c.in_ok-kernel.ensures.exactly c.in_ok-kernel.ensures.wholes
