@@ -14,7 +14,8 @@ use std::alloc::{AllocError, Global};
 impl Store {
     /// How many messages are in the queues of each kernel.
     fn messages(&self, alloc: Global) -> Result<Vec<usize>, ExploreFault>
-        ensures counts { IfOk result (λ counts. counts.items ≡ map messages self.now.kernels.kernels) }
+        ensures counts { IfOk result (λ counts.
+            counts.items ≡ map messages self.now.kernels.kernels) }
     {
         let mut counts = Vec::new(alloc);
         for number in 0..self.kernels.len() {
