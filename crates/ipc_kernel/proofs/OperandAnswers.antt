@@ -1,267 +1,99 @@
--- Calls on open objects: what they depend on, and what they change.
-use Rattle.std.proofs.Common.{◌≡◌, ℕ, ◌<◌, ◌-◌, ◌+◌, ◌==◌, Bool, true, false, cond, ◌||◌, nat_lt, nat_le, List, [], ◌∷◌, zero, suc, length, set, arith, Option, Some, None, unwrap_or, slice_get, IsSomeAnd, option_and_then, refl, sym, ap, subst, ◌∙◌}
-use Rattle.std.specs.Option.{option_map}
-use Rattle.std.specs.List.{list_any}
-use Rattle.std.proofs.lemmas.List.{ext_get_or}
+-- Calls that make and remove no object: what they depend on, and what they change.
+use Rattle.std.proofs.Common.{◌≡◌, ℕ, Bool, true, false, cond, List, set, Option, Some, None, option_and_then, refl, sym, ap, subst, ◌∙◌}
 use Rattle.ipc_names.specs.declared.errno.Errno.{Errno}
-use Rattle.ipc_names.specs.Flags.{has_flag}
-use Rattle.ipc_objects.specs.declared.queue.Message.{Message}
-use Rattle.ipc_objects.specs.Queue.{QueueState, with_message}
+use Rattle.ipc_names.specs.declared.flags.Flags.{Flags}
+use Rattle.ipc_names.specs.Flags.{flags_read}
+use Rattle.std.proofs.Common.{Result, Ok, Err}
 use Rattle.ipc_kernel.specs.declared.place.Place.{Place}
-use Rattle.ipc_kernel.specs.declared.place.Place.TheVariants.{Empty}
 use Rattle.ipc_kernel.specs.declared.process.OpenTables.{OpenTables}
-use Rattle.ipc_kernel.specs.declared.process.Slot.{Slot}
-use Rattle.ipc_kernel.specs.declared.process.Descriptor.{Descriptor}
 use Rattle.ipc_kernel.specs.declared.call.Call.{Call}
 use Rattle.ipc_kernel.specs.declared.call.Call.TheVariants.{MqOpen, MqClose, MqUnlink, MqSend, MqReceive, MqGetattr, MqSetattr, SemOpen, SemClose, SemUnlink, SemWait, SemTrywait, SemPost, SemGetvalue, Exit}
-use Rattle.ipc_kernel.specs.declared.call.Reply.{Reply}
 use Rattle.ipc_kernel.specs.declared.call.Answer.{Answer}
-use Rattle.ipc_kernel.specs.declared.call.Answer.TheVariants.{Done, Wait}
-use Rattle.ipc_kernel.specs.Processes.{process_at, descriptor_refers, slot_refers, process_refers, is_referred, with_descriptor}
-use Rattle.ipc_kernel.specs.Places.{place_at, queue_in, semaphore_value, with_queue, with_value, places_or_empty}
-use Rattle.ipc_kernel.specs.Kernel.{KernelState, IsSettled}
-use Rattle.ipc_kernel.specs.Outcomes.{Outcome, refusal, completion, wait_or_again, open_queue, open_semaphore, with_queue_at, with_value_at}
-use Rattle.ipc_kernel.specs.Queues.{mq_send, mq_receive, take_first, mq_getattr, mq_setattr}
-use Rattle.ipc_kernel.specs.Semaphores.{sem_wait, sem_trywait, sem_post, sem_getvalue}
-use Rattle.ipc_kernel.specs.Answer.{answer}
+use Rattle.ipc_kernel.specs.declared.call.Answer.TheVariants.{Done}
+use Rattle.ipc_kernel.specs.declared.call.Reply.TheVariants.{Plain}
 use Rattle.ipc_kernel.specs.declared.call.Handle.TheVariants.{Mqd, Slot as Sem}
-use Rattle.ipc_kernel.specs.declared.call.Reply.TheVariants.{Plain, Message as received, Attr, Value}
-use Rattle.ipc_names.specs.declared.errno.Errno.TheVariants.{Again, BadDescriptor, Invalid, MessageSize, Overflow}
-use Rattle.ipc_names.specs.Errno.{number_of}
-use Rattle.ipc_names.specs.Flags.{o_nonblock}
-use Rattle.ipc_objects.specs.Limits.{mq_prio_max, sem_value_max}
-use Rattle.ipc_kernel.specs.Queues.{attributes}
-use Rattle.ipc_kernel.specs.Operands.{place_of, operand_of, with_operand, HasOperand, AnswersByOperand}
-use Rattle.ipc_kernel.proofs.PlaceLemmas.{get_or-emptied, length-emptied}
-use Rattle.ipc_kernel.proofs.KernelLemmas.{done_settled, settled_with_queue, settled_with_value}
+use Rattle.ipc_kernel.specs.Processes.{closed_process}
+use Rattle.ipc_kernel.specs.Places.{place_at, has_name, queue_named}
+use Rattle.ipc_kernel.specs.Kernel.{KernelState, IsSettled}
+use Rattle.ipc_kernel.specs.Outcomes.{Outcome}
+use Rattle.ipc_kernel.specs.Queues.{sizes_asked, mq_open}
+use Rattle.ipc_kernel.specs.Answer.{answer}
+use Rattle.ipc_kernel.specs.Operands.{place_of, if_named, are_named, operand_in, with_operand, HasOperand, AnswersByOperand}
+use Rattle.ipc_kernel.proofs.KernelLemmas.{done_settled}
+use Rattle.ipc_kernel.proofs.SettledTables.{set_back, get_set, settled_named}
+use Rattle.ipc_kernel.proofs.LocalCalls.{IsLocal, place_of_operand, local_sent, local_received, local_attributes, local_set, local_waited, local_tried, local_posted, local_valued}
+use Rattle.ipc_kernel.proofs.OpeningCalls.{mq_open_at, local_mq_open, sem_open_at, local_sem_open, local_mq_close, local_sem_close}
 
--- an element that is written back changes nothing
-set_back : {A : Type 0} (xs : List A) (i : ℕ) (x : A) → slice_get xs i ≡ Some x → set xs i x ≡ xs
-set_back [] i x e = refl
-set_back (y ∷ xs) zero x e = let same : y ≡ x = cc in ap (λ z. z ∷ xs) (sym same)
-set_back (y ∷ xs) (suc i) x e = ap (λ zs. y ∷ zs) (set_back xs i x e)
-
--- an element that was written is read
-get_set : {A : Type 0} (xs : List A) (i : ℕ) (x y : A) → slice_get xs i ≡ Some x → slice_get (set xs i y) i ≡ Some y
-get_set [] i x y e = absurd (cc)
-get_set (z ∷ xs) zero x y e = refl
-get_set (z ∷ xs) (suc i) x y e = get_set xs i x y e
-
--- a test that the written element passes as the old one did is passed by as many
-any_set : {A : Type 0} (test : A → Bool) (xs : List A) (i : ℕ) (x y : A) → slice_get xs i ≡ Some x → test y ≡ test x → list_any test (set xs i y) ≡ list_any test xs
-any_set test [] i x y e same = refl
-any_set test (z ∷ xs) zero x y e same = let old : z ≡ x = cc in rw (old, same) refl
-any_set test (z ∷ xs) (suc i) x y e same = ap (λ b. test z || b) (any_set test xs i x y e same)
-
--- what a call makes of tables t and of the object o in place i: the same in each settled kernel that has them
-record IsLocal (i : ℕ) (t : OpenTables) (o : Place) (call : KernelState → ℕ → Outcome) : Type 0 where
+-- what a call makes of tables t and of the object o in place i: the same in each settled kernel that has them, and where it works
+-- on that place
+record IsAnswered (c : Call) (i : ℕ) (t : OpenTables) (o : Place) : Type 0 where
   reply : Answer
   object : Place
   tables : OpenTables
-  same : (k : KernelState) (p : ℕ) → IsSettled k → HasOperand k p i t o → call k p ≡ (reply, with_operand k p i object tables)
+  same : (k : KernelState) (p : ℕ) → IsSettled k → operand_in k t c ≡ Some i → HasOperand k p i t o → answer k p c ≡ (reply, with_operand k p i object tables)
 
--- the kernel as it was
-pub kept : (k : KernelState) (p i : ℕ) (t : OpenTables) (o : Place) → HasOperand k p i t o → with_operand k p i o t ≡ k
-kept k p i t o has =
-    ap (λ ps. record { places = ps; processes = set k.processes p t }) (set_back k.places i o has.object)
-    ∙ ap (λ ps. record { places = k.places; processes = ps }) (set_back k.processes p t has.tables)
+by_local : (c : Call) (i : ℕ) (t : OpenTables) (o : Place) (call : KernelState → ℕ → Outcome) → ((k : KernelState) (p : ℕ) → operand_in k t c ≡ Some i → answer k p c ≡ call k p) → IsLocal i t o call → IsAnswered c i t o
+by_local c i t o call e h = record { reply = h.reply; object = h.object; tables = h.tables; same = λ k p s at has. e k p at ∙ h.same k p s has }
 
--- a call that changes nothing
-local_kept : (i : ℕ) (t : OpenTables) (o : Place) (a : Answer) → IsLocal i t o (λ k p. (a, k))
-local_kept i t o a = record { reply = a; object = o; tables = t; same = λ k p s has. ap (λ x. (a, x)) (sym (kept k p i t o has)) }
+mq_open_is : (k : KernelState) (p : ℕ) (name : List ℕ) (sizes : ℕ × ℕ) (f : Result Flags Errno) → mq_open k p name sizes f ≡ mq_open_at k p name sizes (queue_named k.places name) f
+mq_open_is k p name sizes (Err e) = refl
+mq_open_is k p name sizes (Ok flags) = refl
 
-local_same : (i : ℕ) (t : OpenTables) (o : Place) (f g : KernelState → ℕ → Outcome) → ((k : KernelState) (p : ℕ) → IsSettled k → HasOperand k p i t o → f k p ≡ g k p) → IsLocal i t o g → IsLocal i t o f
-local_same i t o f g e h = record { reply = h.reply; object = h.object; tables = h.tables; same = λ k p s has. e k p s has ∙ h.same k p s has }
-
-local_told : (i : ℕ) (t : OpenTables) (o : Place) (r : Reply) → IsLocal i t o (λ k p. completion k r)
-local_told i t o r = local_same i t o (λ k p. completion k r) (λ k p. (Done r, k)) (λ k p s has. done_settled k r s) (local_kept i t o (Done r))
-
-local_if : (i : ℕ) (t : OpenTables) (o : Place) (b : Bool) (f g : KernelState → ℕ → Outcome) → IsLocal i t o f → IsLocal i t o g → IsLocal i t o (λ k p. cond b (f k p) (g k p))
-local_if i t o true f g h j = h
-local_if i t o false f g h j = j
-
-place_of_operand : (k : KernelState) (p i : ℕ) (t : OpenTables) (o : Place) → HasOperand k p i t o → place_at k.places i ≡ o
-place_of_operand k p i t o has = ap (λ x. unwrap_or x Empty) has.object
-
--- another state of the queue
-local_queue : (i : ℕ) (t : OpenTables) (o : Place) (q new : QueueState) (r : Reply) → queue_in o ≡ Some q → IsLocal i t o (λ k p. completion (with_queue_at k i new) r)
-local_queue i t o q new r is = record {
-  reply = Done r;
-  object = with_queue new o;
-  tables = t;
-  same = λ k p s has.
-      let at = place_of_operand k p i t o has in
-      let found : IsSomeAnd (queue_in (place_at k.places i)) (λ x. x ≡ x) = rw (at, is) refl in
-      done_settled (with_queue_at k i new) r (settled_with_queue k i new (λ x. x ≡ x) found s)
-      ∙ ap (λ x. (Done r, record { places = set k.places i (with_queue new x); processes = k.processes })) at
-      ∙ ap (λ ps. (Done r, record { places = set k.places i (with_queue new o); processes = ps })) (sym (set_back k.processes p t has.tables));
-}
-
--- another value of the semaphore
-local_value : (i : ℕ) (t : OpenTables) (o : Place) (v new : ℕ) (r : Reply) → semaphore_value o ≡ Some v → IsLocal i t o (λ k p. completion (with_value_at k i new) r)
-local_value i t o v new r is = record {
-  reply = Done r;
-  object = with_value new o;
-  tables = t;
-  same = λ k p s has.
-      let at = place_of_operand k p i t o has in
-      let found : semaphore_value (place_at k.places i) ≡ Some v = ap semaphore_value at ∙ is in
-      done_settled (with_value_at k i new) r (settled_with_value k i v new found s)
-      ∙ ap (λ x. (Done r, record { places = set k.places i (with_value new x); processes = k.processes })) at
-      ∙ ap (λ ps. (Done r, record { places = set k.places i (with_value new o); processes = ps })) (sym (set_back k.processes p t has.tables));
-}
-
--- kernels whose processes refer to the same places have the same places emptied
-emptied_alike : (ps qs : List OpenTables) (places : List Place) → ((n : ℕ) → is_referred ps n ≡ is_referred qs n) → places_or_empty ps places ≡ places_or_empty qs places
-emptied_alike ps qs places same = ext_get_or Empty _ _ (length-emptied ps places ∙ sym (length-emptied qs places)) (λ n h.
-    let inside : n < length places = omega (arith, length-emptied ps places) in
-    get_or-emptied ps places n Empty inside
-    ∙ rw (same n) refl
-    ∙ sym (get_or-emptied qs places n Empty inside))
-
--- the tables of the process
-tables_of_operand : (k : KernelState) (p i : ℕ) (t : OpenTables) (o : Place) → HasOperand k p i t o → process_at k.processes p ≡ t
-tables_of_operand k p i t o has = ap (λ x. unwrap_or x (record { descriptors = []; slots = [] })) has.tables
-
--- what is held is there
-held_in : (x : Option (Option Descriptor)) (h : Descriptor) → unwrap_or x None ≡ Some h → x ≡ Some (Some h)
-held_in None h e = absurd (cc)
-held_in (Some x) h e = ap (λ y. Some y) e
-
-abbrev held_by : ℕ → OpenTables → Option Descriptor
-held_by d t = unwrap_or (slice_get t.descriptors d) None
-
-abbrev slot_by : ℕ → OpenTables → Option Slot
-slot_by s t = unwrap_or (slice_get t.slots s) None
-
--- a descriptor with another flag
-abbrev with_flag : OpenTables → ℕ → Descriptor → Bool → OpenTables
-with_flag t d h b = record t { descriptors = set t.descriptors d (Some (record h { nonblock = b })) }
-
-same_refers : (t : OpenTables) (d : ℕ) (h : Descriptor) (b : Bool) (n : ℕ) → held_by d t ≡ Some h → process_refers n (with_flag t d h b) ≡ process_refers n t
-same_refers t d h b n e =
-    ap (λ x. x || list_any (slot_refers n) t.slots)
-    (any_set (descriptor_refers n) t.descriptors d (Some h) (Some (record h { nonblock = b })) (held_in (slice_get t.descriptors d) h e) refl)
-
--- another flag of the descriptor
-local_flag : (i : ℕ) (t : OpenTables) (o : Place) (d : ℕ) (h : Descriptor) (b : Bool) (r : Reply) → held_by d t ≡ Some h
-    → IsLocal i t o (λ k p. completion (record k { processes = with_descriptor k.processes p d (Some (record h { nonblock = b })) }) r)
-local_flag i t o d h b r e = record {
-  reply = Done r;
-  object = o;
-  tables = with_flag t d h b;
-  same = λ k p s has.
-      let new : KernelState = record { places = k.places; processes = set k.processes p (with_flag t d h b) } in
-      let settled : places_or_empty (set k.processes p (with_flag t d h b)) k.places ≡ k.places =
-      emptied_alike (set k.processes p (with_flag t d h b)) k.processes k.places
-      (λ n. any_set (process_refers n) k.processes p t (with_flag t d h b) has.tables (same_refers t d h b n e)) ∙ s in
-      ap (λ x. completion (record { places = k.places; processes = set k.processes p (with_flag x d h b) }) r) (tables_of_operand k p i t o has)
-      ∙ done_settled new r settled
-      ∙ ap (λ ps. (Done r, record { places = ps; processes = set k.processes p (with_flag t d h b) })) (sym (set_back k.places i o has.object));
-}
-
--- a call on what an open descriptor or slot refers to
-local_call : {H V : Type 0} (place : H → ℕ) (read : Place → Option V) (held : OpenTables → Option H) (call : KernelState → ℕ → Option (H × V) → Outcome) (i : ℕ) (t : OpenTables) (o : Place)
-    → option_map place (held t) ≡ Some i → IsLocal i t o (λ k p. call k p None)
-    → ((h : H) (v : V) → held t ≡ Some h → read o ≡ Some v → IsLocal (place h) t o (λ k p. call k p (Some (h, v))))
-    → IsLocal i t o (λ k p. call k p (option_and_then (λ h. option_map (λ v. (h, v)) (read (place_at k.places (place h)))) (held (process_at k.processes p))))
-local_call {H} {V} place read held call i t o at none some = by (held t) refl
+-- the place that is closed, and its object has a name
+closed_place : (ps : List Place) (x : Option ℕ) (i : ℕ) → option_and_then (if_named ps) x ≡ Some i → (x ≡ Some i) × (has_name (place_at ps i) ≡ true)
+closed_place ps None i e = absurd (cc)
+closed_place ps (Some n) i e = by (has_name (place_at ps n)) refl e
   where
-    found : (h : H) → held t ≡ Some h → place h ≡ i → (v : Option V) → read o ≡ v → IsLocal i t o (λ k p. call k p (option_map (λ x. (h, x)) v))
-    found h e same None is = none
-    found h e same (Some v) is = subst (λ n. IsLocal n t o (λ k p. call k p (Some (h, v)))) same (some h v e is)
+    by : (b : Bool) → has_name (place_at ps n) ≡ b → cond b (Some n) None ≡ Some i → (Some n ≡ Some i) × (has_name (place_at ps i) ≡ true)
+    by true f g = let same : n ≡ i = cc in (g, ap (λ m. has_name (place_at ps m)) (sym same) ∙ f)
+    by false f g = absurd (cc)
 
-    by : (x : Option H) → held t ≡ x → IsLocal i t o (λ k p. call k p (option_and_then (λ h. option_map (λ v. (h, v)) (read (place_at k.places (place h)))) (held (process_at k.processes p))))
-    by None e = let no : None ≡ Some i = sym (ap (option_map place) e) ∙ at in absurd (cc)
-    by (Some h) e =
-        let yes : Some (place h) ≡ Some i = sym (ap (option_map place) e) ∙ at in
-        let same : place h ≡ i = cc in
-        local_same i t o _ (λ k p. call k p (option_map (λ v. (h, v)) (read o))) (λ k p s has.
-        ap (λ x. call k p (option_and_then (λ y. option_map (λ v. (y, v)) (read (place_at k.places (place y)))) x)) (ap held (tables_of_operand k p i t o has) ∙ e)
-        ∙ ap (λ n. call k p (option_map (λ v. (h, v)) (read (place_at k.places n)))) same
-        ∙ ap (λ x. call k p (option_map (λ v. (h, v)) (read x))) (place_of_operand k p i t o has))
-        (found h e same (read o) refl)
+-- the end of a process where each object has a name
+all_named : (ps : List Place) (i : ℕ) → cond (are_named ps) (Some 0) None ≡ Some i → are_named ps ≡ true
+all_named ps i e = by (are_named ps) refl e
+  where
+    by : (b : Bool) → are_named ps ≡ b → cond b (Some 0) None ≡ Some i → are_named ps ≡ true
+    by true f g = f
+    by false f g = absurd (cc)
 
-abbrev QueueCall : Type 0
-QueueCall = KernelState → ℕ → Option (Descriptor × QueueState) → Outcome
-
-abbrev SemaphoreCall : Type 0
-SemaphoreCall = KernelState → ℕ → Option (Slot × ℕ) → Outcome
-
-local_queue_call : (d : ℕ) (call : QueueCall) (i : ℕ) (t : OpenTables) (o : Place) → place_of t (Mqd d) ≡ Some i → IsLocal i t o (λ k p. call k p None)
-    → ((h : Descriptor) (q : QueueState) → held_by d t ≡ Some h → queue_in o ≡ Some q → IsLocal h.place t o (λ k p. call k p (Some (h, q)))) → IsLocal i t o (λ k p. call k p (open_queue k p d))
-local_queue_call d call i t o at none some = local_call (λ h. h.place) queue_in (held_by d) call i t o at none some
-
-local_semaphore_call : (s : ℕ) (call : SemaphoreCall) (i : ℕ) (t : OpenTables) (o : Place) → place_of t (Sem s) ≡ Some i → IsLocal i t o (λ k p. call k p None)
-    → ((h : Slot) (v : ℕ) → slot_by s t ≡ Some h → semaphore_value o ≡ Some v → IsLocal h.place t o (λ k p. call k p (Some (h, v)))) → IsLocal i t o (λ k p. call k p (open_semaphore k p s))
-local_semaphore_call s call i t o at none some = local_call (λ h. h.place) semaphore_value (slot_by s) call i t o at none some
-
-local_refused : (i : ℕ) (t : OpenTables) (o : Place) (e : Errno) → IsLocal i t o (λ k p. refusal k e)
-local_refused i t o e = local_kept i t o (Done (Plain (65536 - number_of e)))
-
-local_blocked : (i : ℕ) (t : OpenTables) (o : Place) (h : Descriptor) → IsLocal i t o (λ k p. wait_or_again k h)
-local_blocked i t o h = local_if i t o h.nonblock _ _ (local_refused i t o Again) (local_kept i t o Wait)
-
-local_sent : (d : ℕ) (words : List ℕ) (prio i : ℕ) (t : OpenTables) (o : Place) → place_of t (Mqd d) ≡ Some i → IsLocal i t o (λ k p. mq_send k prio words (open_queue k p d))
-local_sent d words prio i t o at = local_queue_call d (λ k p x. mq_send k prio words x) i t o at (local_refused i t o BadDescriptor) (λ h q found is.
-    local_if h.place t o (h.access == 0) _ _ (local_refused h.place t o BadDescriptor)
-    (local_if h.place t o (nat_le mq_prio_max prio) _ _ (local_refused h.place t o Invalid)
-    (local_if h.place t o (nat_lt q.message_size (length words)) _ _ (local_refused h.place t o MessageSize)
-    (local_if h.place t o (nat_le q.max_messages (length q.messages)) _ _ (local_blocked h.place t o h)
-    (local_queue h.place t o q (with_message prio words q) (Plain 0) is)))))
-
-local_first : (i : ℕ) (t : OpenTables) (o : Place) (h : Descriptor) (q : QueueState) (ms : List Message) → h.place ≡ i → queue_in o ≡ Some q → IsLocal i t o (λ k p. take_first k h q ms)
-local_first i t o h q [] same is = local_blocked i t o h
-local_first i t o h q (m ∷ rest) same is = subst (λ n. IsLocal n t o (λ k p. take_first k h q (m ∷ rest))) same (local_queue h.place t o q (record q { messages = rest }) (received m.words m.priority) is)
-
-local_received : (d len i : ℕ) (t : OpenTables) (o : Place) → place_of t (Mqd d) ≡ Some i → IsLocal i t o (λ k p. mq_receive k len (open_queue k p d))
-local_received d len i t o at = local_queue_call d (λ k p x. mq_receive k len x) i t o at (local_refused i t o BadDescriptor) (λ h q found is.
-    local_if h.place t o (h.access == 1) _ _ (local_refused h.place t o BadDescriptor)
-    (local_if h.place t o (nat_lt len q.message_size) _ _ (local_refused h.place t o MessageSize)
-    (local_first h.place t o h q q.messages refl is)))
-
-local_attributes : (d i : ℕ) (t : OpenTables) (o : Place) → place_of t (Mqd d) ≡ Some i → IsLocal i t o (λ k p. mq_getattr k (open_queue k p d))
-local_attributes d i t o at = local_queue_call d (λ k p x. mq_getattr k x) i t o at (local_refused i t o BadDescriptor) (λ h q found is. local_told h.place t o (Attr (attributes h q)))
-
-local_set : (d flags i : ℕ) (t : OpenTables) (o : Place) → place_of t (Mqd d) ≡ Some i → IsLocal i t o (λ k p. mq_setattr k p d flags (open_queue k p d))
-local_set d flags i t o at = local_queue_call d (λ k p x. mq_setattr k p d flags x) i t o at (local_refused i t o BadDescriptor) (λ h q found is.
-    local_if h.place t o (has_flag 63487 flags) _ _ (local_refused h.place t o Invalid) (local_flag h.place t o d h (has_flag o_nonblock flags) (Attr (attributes h q)) found))
-
-local_waited : (s i : ℕ) (t : OpenTables) (o : Place) → place_of t (Sem s) ≡ Some i → IsLocal i t o (λ k p. sem_wait k (open_semaphore k p s))
-local_waited s i t o at = local_semaphore_call s (λ k p x. sem_wait k x) i t o at (local_refused i t o Invalid) (λ h v found is.
-    local_if h.place t o (v == 0) _ _ (local_kept h.place t o Wait) (local_value h.place t o v (v - 1) (Plain 0) is))
-
-local_tried : (s i : ℕ) (t : OpenTables) (o : Place) → place_of t (Sem s) ≡ Some i → IsLocal i t o (λ k p. sem_trywait k (open_semaphore k p s))
-local_tried s i t o at = local_semaphore_call s (λ k p x. sem_trywait k x) i t o at (local_refused i t o Invalid) (λ h v found is.
-    local_if h.place t o (v == 0) _ _ (local_refused h.place t o Again) (local_value h.place t o v (v - 1) (Plain 0) is))
-
-local_posted : (s i : ℕ) (t : OpenTables) (o : Place) → place_of t (Sem s) ≡ Some i → IsLocal i t o (λ k p. sem_post k (open_semaphore k p s))
-local_posted s i t o at = local_semaphore_call s (λ k p x. sem_post k x) i t o at (local_refused i t o Invalid) (λ h v found is.
-    local_if h.place t o (v == sem_value_max) _ _ (local_refused h.place t o Overflow) (local_value h.place t o v (v + 1) (Plain 0) is))
-
-local_valued : (s i : ℕ) (t : OpenTables) (o : Place) → place_of t (Sem s) ≡ Some i → IsLocal i t o (λ k p. sem_getvalue k (open_semaphore k p s))
-local_valued s i t o at = local_semaphore_call s (λ k p x. sem_getvalue k x) i t o at (local_refused i t o Invalid) (λ h v found is. local_told h.place t o (Value v))
-
-no_operand : (i : ℕ) → None ≡ Some i → ⊥
-no_operand i e = cc
-
-local_answer : (c : Call) (i : ℕ) (t : OpenTables) (o : Place) → operand_of t c ≡ Some i → IsLocal i t o (λ k p. answer k p c)
+ended : (i : ℕ) (t : OpenTables) (o : Place) → IsAnswered Exit i t o
 unfolding answer
-local_answer (MqOpen name flags attr) i t o at = absurd (no_operand i at)
-local_answer (MqClose d) i t o at = absurd (no_operand i at)
-local_answer (MqUnlink name) i t o at = absurd (no_operand i at)
-local_answer (MqSend d words prio) i t o at = local_sent d words prio i t o at
-local_answer (MqReceive d len) i t o at = local_received d len i t o at
-local_answer (MqGetattr d) i t o at = local_attributes d i t o at
-local_answer (MqSetattr d flags) i t o at = local_set d flags i t o at
-local_answer (SemOpen name flags value) i t o at = absurd (no_operand i at)
-local_answer (SemClose s) i t o at = absurd (no_operand i at)
-local_answer (SemUnlink name) i t o at = absurd (no_operand i at)
-local_answer (SemWait s) i t o at = local_waited s i t o at
-local_answer (SemTrywait s) i t o at = local_tried s i t o at
-local_answer (SemPost s) i t o at = local_posted s i t o at
-local_answer (SemGetvalue s) i t o at = local_valued s i t o at
-local_answer Exit i t o at = absurd (no_operand i at)
+ended i t o = record {
+  reply = Done (Plain 0);
+  object = o;
+  tables = closed_process;
+  same = λ k p s at has.
+      let new : KernelState = record { places = k.places; processes = set k.processes p closed_process } in
+      done_settled new (Plain 0) (settled_named (set k.processes p closed_process) k.places (all_named k.places i at))
+      ∙ ap (λ ps. (Done (Plain 0), record { places = ps; processes = set k.processes p closed_process })) (sym (set_back k.places i o has.object));
+}
+
+answered : (j : KernelState) (q : ℕ) (c : Call) (i : ℕ) (t : OpenTables) (o : Place) → operand_in j t c ≡ Some i → HasOperand j q i t o → IsAnswered c i t o
+unfolding answer
+answered j q (MqOpen name flags attr) i t o at has =
+    by_local (MqOpen name flags attr) i t o (λ k p. mq_open_at k p name (sizes_asked attr) (Some i) (flags_read flags))
+    (λ k p e. mq_open_is k p name (sizes_asked attr) (flags_read flags) ∙ ap (λ x. mq_open_at k p name (sizes_asked attr) x (flags_read flags)) e)
+    (local_mq_open name (sizes_asked attr) (flags_read flags) i t o)
+answered j q (MqClose d) i t o at has =
+    let closed = closed_place j.places (place_of t (Mqd d)) i at in
+    by_local (MqClose d) i t o _ (λ k p e. refl) (local_mq_close d i t o closed.0 (ap has_name (sym (place_of_operand j q i t o has)) ∙ closed.1))
+answered j q (MqUnlink name) i t o at has = absurd (cc)
+answered j q (MqSend d words prio) i t o at has = by_local (MqSend d words prio) i t o _ (λ k p e. refl) (local_sent d words prio i t o at)
+answered j q (MqReceive d len) i t o at has = by_local (MqReceive d len) i t o _ (λ k p e. refl) (local_received d len i t o at)
+answered j q (MqGetattr d) i t o at has = by_local (MqGetattr d) i t o _ (λ k p e. refl) (local_attributes d i t o at)
+answered j q (MqSetattr d flags) i t o at has = by_local (MqSetattr d flags) i t o _ (λ k p e. refl) (local_set d flags i t o at)
+answered j q (SemOpen name flags value) i t o at has =
+    by_local (SemOpen name flags value) i t o (λ k p. sem_open_at k p name flags value (Some i))
+    (λ k p e. ap (λ x. sem_open_at k p name flags value x) e) (local_sem_open name flags value i t o)
+answered j q (SemClose s) i t o at has =
+    let closed = closed_place j.places (place_of t (Sem s)) i at in
+    by_local (SemClose s) i t o _ (λ k p e. refl) (local_sem_close s i t o closed.0 (ap has_name (sym (place_of_operand j q i t o has)) ∙ closed.1))
+answered j q (SemUnlink name) i t o at has = absurd (cc)
+answered j q (SemWait s) i t o at has = by_local (SemWait s) i t o _ (λ k p e. refl) (local_waited s i t o at)
+answered j q (SemTrywait s) i t o at has = by_local (SemTrywait s) i t o _ (λ k p e. refl) (local_tried s i t o at)
+answered j q (SemPost s) i t o at has = by_local (SemPost s) i t o _ (λ k p e. refl) (local_posted s i t o at)
+answered j q (SemGetvalue s) i t o at has = by_local (SemGetvalue s) i t o _ (λ k p e. refl) (local_valued s i t o at)
+answered j q Exit i t o at has = ended i t o
 
 -- what is in the written place, and the written tables
 written : (j : KernelState) (q i : ℕ) (t u x : OpenTables) (o r y : Place) → HasOperand j q i t o → HasOperand (with_operand j q i r u) q i x y → (x ≡ u) × (y ≡ r)
@@ -271,22 +103,22 @@ written j q i t u x o r y has new =
     (cc, cc)
 
 pub answers_by_operand : AnswersByOperand
-answers_by_operand k j p q c i t o sk sj at hk hj =
-    let here = local_answer c i t o at in
+answers_by_operand k j p q c i t o sk sj at_k at_j hk hj =
+    let here = answered j q c i t o at_j hj in
     record {
-      answers = ap (λ (x : Outcome). x.0) (here.same k p sk hk) ∙ sym (ap (λ (x : Outcome). x.0) (here.same j q sj hj));
+      answers = ap (λ (x : Outcome). x.0) (here.same k p sk at_k hk) ∙ sym (ap (λ (x : Outcome). x.0) (here.same j q sj at_j hj));
       kernels = λ u y new.
-          let is = written j q i t here.tables u o here.object y hj (subst (λ (x : Outcome). HasOperand x.1 q i u y) (here.same j q sj hj) new) in
-          ap (λ (x : Outcome). x.1) (here.same k p sk hk) ∙ sym (ap (λ x. with_operand k p i x u) is.1 ∙ ap (λ x. with_operand k p i here.object x) is.0);
+          let is = written j q i t here.tables u o here.object y hj (subst (λ (x : Outcome). HasOperand x.1 q i u y) (here.same j q sj at_j hj) new) in
+          ap (λ (x : Outcome). x.1) (here.same k p sk at_k hk) ∙ sym (ap (λ x. with_operand k p i x u) is.1 ∙ ap (λ x. with_operand k p i here.object x) is.0);
     }
 
 -- there is an object in place i, and tables of the process, after the call too
-pub operand_left : (j : KernelState) (q : ℕ) (c : Call) (i : ℕ) (t : OpenTables) (o : Place) → IsSettled j → operand_of t c ≡ Some i → HasOperand j q i t o
+pub operand_left : (j : KernelState) (q : ℕ) (c : Call) (i : ℕ) (t : OpenTables) (o : Place) → IsSettled j → operand_in j t c ≡ Some i → HasOperand j q i t o
     → (u : OpenTables) × (y : Place) × HasOperand (answer j q c).1 q i u y
 operand_left j q c i t o s at has =
-    let here = local_answer c i t o at in
+    let here = answered j q c i t o at has in
     let left : HasOperand (with_operand j q i here.object here.tables) q i here.tables here.object = record {
       tables = get_set j.processes q t here.tables has.tables;
       object = get_set j.places i o here.object has.object;
     } in
-    (here.tables, here.object, subst (λ (x : Outcome). HasOperand x.1 q i here.tables here.object) (sym (here.same j q s has)) left)
+    (here.tables, here.object, subst (λ (x : Outcome). HasOperand x.1 q i here.tables here.object) (sym (here.same j q s at has)) left)

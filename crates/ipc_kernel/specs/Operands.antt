@@ -1,12 +1,14 @@
--- Calls on open objects: what they depend on, and what they change.
-use Rattle.std.specs.Prelude.{ℕ, ◌≡◌, Option, Some, None, slice_get, slice_set, unwrap_or}
+-- Calls that make and remove no object: on which one each works, what it depends on, and what it changes.
+use Rattle.std.specs.Prelude.{ℕ, ◌≡◌, Bool, ◌||◌, List, Option, Some, None, slice_get, slice_set, unwrap_or, if◌then◌else◌}
 use Rattle.std.specs.Option.{option_map, option_and_then}
+use Rattle.std.specs.List.{list_all}
 use Rattle.ipc_kernel.specs.declared.call.Call.{Call}
-use Rattle.ipc_kernel.specs.declared.call.Call.TheVariants.{MqSend, MqReceive, MqGetattr, MqSetattr, SemWait, SemTrywait, SemPost, SemGetvalue}
+use Rattle.ipc_kernel.specs.declared.call.Call.TheVariants.{MqOpen, MqClose, MqSend, MqReceive, MqGetattr, MqSetattr, SemOpen, SemClose, SemWait, SemTrywait, SemPost, SemGetvalue, Exit}
 use Rattle.ipc_kernel.specs.declared.call.Handle.{Handle}
 use Rattle.ipc_kernel.specs.declared.call.Handle.TheVariants.{Mqd, Slot as Sem}
 use Rattle.ipc_kernel.specs.declared.place.Place.{Place}
 use Rattle.ipc_kernel.specs.declared.process.OpenTables.{OpenTables}
+use Rattle.ipc_kernel.specs.Places.{place_at, is_empty, has_name, queue_named, semaphore_named}
 use Rattle.ipc_kernel.specs.Kernel.{KernelState, IsSettled}
 use Rattle.ipc_kernel.specs.Answer.{answer}
 
@@ -27,9 +29,24 @@ abbrev pub place_of : OpenTables → Handle → Option ℕ
 place_of t (Mqd d) = option_map (λ held. held.place) (unwrap_or (slice_get t.descriptors d) None)
 place_of t (Sem s) = option_map (λ held. held.place) (unwrap_or (slice_get t.slots s) None)
 
--- the object place that a call of a process with these tables works on
-abbrev pub operand_of : OpenTables → Call → Option ℕ
-operand_of t c = option_and_then (place_of t) (handle_of c)
+-- a place whose object has a name
+abbrev pub if_named : List Place → ℕ → Option ℕ
+if_named ps i = if has_name (place_at ps i) then Some i else None
+
+-- whether each object has a name
+abbrev pub are_named : List Place → Bool
+are_named ps = list_all (λ p. is_empty p || has_name p) ps
+
+-- the object place that a call of a process with these tables works on, if it makes and removes no object: it is open, or is
+-- opened by its name, or is closed and has a name; the end of a process removes none where each has a name, and no place is
+-- its own then
+abbrev pub operand_in : KernelState → OpenTables → Call → Option ℕ
+operand_in k t (MqOpen name flags attr) = queue_named k.places name
+operand_in k t (SemOpen name flags value) = semaphore_named k.places name
+operand_in k t (MqClose d) = option_and_then (if_named k.places) (place_of t (Mqd d))
+operand_in k t (SemClose s) = option_and_then (if_named k.places) (place_of t (Sem s))
+operand_in k t Exit = if are_named k.places then Some 0 else None
+operand_in k t other = option_and_then (place_of t) (handle_of other)
 
 -- process p has these tables, and this object is in place i
 pub record HasOperand (k : KernelState) (p i : ℕ) (t : OpenTables) (o : Place) : Type 0 where
@@ -46,11 +63,12 @@ pub record IsAnsweredAlike (k j : KernelState) (p q : ℕ) (c : Call) (i : ℕ) 
   pub answers : (answer k p c).0 ≡ (answer j q c).0
   pub kernels : (t : OpenTables) (o : Place) → HasOperand (answer j q c).1 q i t o → (answer k p c).1 ≡ with_operand k p i o t
 
--- a call on an open object depends on the tables of its process and on that object alone, and changes nothing else, where the
--- kernels are settled
+-- a call that works on one object depends on the tables of its process and on that object alone, and changes nothing else,
+-- where the kernels are settled
 abbrev pub AnswersByOperand : Type 0
 AnswersByOperand = (k j : KernelState) (p q : ℕ) (c : Call) (i : ℕ) (t : OpenTables) (o : Place) → IsSettled k → IsSettled j
-    → operand_of t c ≡ Some i → HasOperand k p i t o → HasOperand j q i t o → IsAnsweredAlike k j p q c i
+    → operand_in k t c ≡ Some i → operand_in j t c ≡ Some i → HasOperand k p i t o → HasOperand j q i t o
+    → IsAnsweredAlike k j p q c i
 
 -- each call leaves a kernel settled
 abbrev pub StaysSettled : Type 0

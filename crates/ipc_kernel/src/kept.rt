@@ -10,6 +10,7 @@ ghost use Rattle.ipc_kernel.specs.Kept.{GrowsKept};
 
 mod changes;
 mod objects;
+mod operands;
 mod rows;
 mod tables;
 

@@ -44,8 +44,8 @@ pub fn consistent_law()
     ensures consistent { StaysConsistent }
 {}
 
-/// A call on an open object depends on the tables of its process and on that object alone, and
-/// changes nothing else.
+/// A call that makes and removes no object depends on the tables of its process and on the object
+/// that it works on alone, and changes nothing else.
 #[tactic(auto, using(crate::proofs::OperandAnswers::answers_by_operand))]
 pub fn operand_law()
     ensures answers { AnswersByOperand }

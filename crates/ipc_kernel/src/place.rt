@@ -45,7 +45,7 @@ impl Place {
         matches!(self, Place::Empty)
     }
 
-    fn has_name(&self) -> bool
+    pub(crate) fn has_name(&self) -> bool
         ensures named { result ≡ has_name self.now }
     {
         match self {

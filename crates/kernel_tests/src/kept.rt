@@ -60,7 +60,7 @@ fn get(rt: &impl Abort, alloc: Global, kernels: &Kernels, number: u32) -> Kernel
     found.expect(rt, "a kernel")
 }
 
-fn arranged(rt: &impl Abort, alloc: Global, kernel: &Kernel) -> Kernel {
+fn arranged(rt: &impl Abort, alloc: Global, kernel: &Kernel) -> Option<Kernel> {
     match kernel.arranged(alloc) {
         Ok(arranged) => arranged,
         Err(_) => kernel.arranged(alloc).expect(rt, "memory"),
@@ -118,12 +118,23 @@ fn gives_back(rt: &impl Abort, alloc: Global) {
     );
 }
 
+/// The kernel in an order of its objects, which is the kernel itself if it has that order.
+fn in_order<'a>(arranged: &'a Option<Kernel>, kernel: &'a Kernel) -> &'a Kernel {
+    match arranged {
+        Some(arranged) => arranged,
+        None => kernel,
+    }
+}
+
 /// Both kernels become equal.
 fn become_equal(rt: &impl Abort, alloc: Global, one: &Kernel, other: &Kernel) {
     assert!(rt; !one.is_same(other), "not the same");
     let first = arranged(rt, alloc, one);
     let second = arranged(rt, alloc, other);
-    assert!(rt; first.is_same(&second), "the same");
+    assert!(rt;
+        in_order(&first, one).is_same(in_order(&second, other)),
+        "the same"
+    );
 }
 
 #[test]

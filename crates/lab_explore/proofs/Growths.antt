@@ -52,8 +52,8 @@ kept_at None s e = absurd (cc)
 kept_at (Some k) s e = let same : process_view k ≡ s = cc in (k, refl, same)
 
 -- the state that is kept at a place
-pub state_kept : (t : Store) (i : ℕ) (s : Process) → IsState t i s → (k : Kept) × (slice_get t.states.items i ≡ Some k) × (process_view k ≡ s)
-state_kept t i s h = kept_at (slice_get t.states.items i) s h
+pub state_kept : (t : Store) (i : ℕ) (s : Process) → IsState t i s → (k : Kept) × (slice_get t.states i ≡ Some k) × (process_view k ≡ s)
+state_kept t i s h = kept_at (slice_get t.states i) s h
 
 pub state_grows : (t u : Store) (i : ℕ) (s : Process) → Grows t u → IsState t i s → IsState u i s
 state_grows t u i s g h =
@@ -96,7 +96,7 @@ rows_grow t u s g =
     All-weaker (λ r. (w : WorldState) × IsRow t r w) (λ r. (w : WorldState) × IsRow u r w) (λ r h. (h.0, row_grows t u r h.0 g h.1)) t.rows s.rows
 
 -- a store that has more kernels, or more states
-pub store_grows : (t u : Store) → IsStore t → Grows t u → All IsReady u.states.items → u.rows ≡ t.rows → IsStore u
+pub store_grows : (t u : Store) → IsStore t → Grows t u → All IsReady u.states → u.rows ≡ t.rows → IsStore u
 store_grows t u s g ready same = record {
   states = ready;
   rows = subst (λ xs. All (λ r. (w : WorldState) × IsRow u r w) xs) (sym same) (rows_grow t u s g);
@@ -107,16 +107,16 @@ same_kernels : (t u : Store) → u.kernels ≡ t.kernels → GrowsKept t.kernels
 same_kernels t u same = subst (λ ks. GrowsKept t.kernels ks) (sym same) (record { objects = λ i x e. e; tables = λ i x e. e; kernels = λ i x e. e })
 
 -- one state more
-pub states_pushed : (t u : Store) (k : Kept) → IsStore t → IsReady k → u.states.items ≡ t.states.items ++ k ∷ [] → u.kernels ≡ t.kernels → u.rows ≡ t.rows
+pub states_pushed : (t u : Store) (k : Kept) → IsStore t → IsReady k → u.states ≡ t.states ++ k ∷ [] → u.kernels ≡ t.kernels → u.rows ≡ t.rows
     → u.edges.items ≡ t.edges.items → Grows t u × IsStore u
 states_pushed t u k s ready states kernels rows edges =
     let g : Grows t u = record {
       kernels = same_kernels t u kernels;
-      states = λ i x e. subst (λ xs. slice_get xs i ≡ Some x) (sym states) (keeps_push t.states.items k i x e);
+      states = λ i x e. subst (λ xs. slice_get xs i ≡ Some x) (sym states) (keeps_push t.states k i x e);
       rows = λ i x e. subst (λ xs. slice_get xs i ≡ Some x) (sym rows) e;
       edges = λ i x e. subst (λ xs. slice_get xs i ≡ Some x) (sym edges) e;
     } in
-    (g, store_grows t u s g (subst (λ xs. All IsReady xs) (sym states) (All-push IsReady t.states.items k s.states ready)) rows)
+    (g, store_grows t u s g (subst (λ xs. All IsReady xs) (sym states) (All-push IsReady t.states k s.states ready)) rows)
 
 pub state_pushed : (xs ys : List Kept) (k : Kept) (i : ℕ) → ys ≡ xs ++ k ∷ [] → i ≡ length xs → option_map process_view (slice_get ys i) ≡ Some (process_view k)
 state_pushed xs ys k i states is =
@@ -124,7 +124,7 @@ state_pushed xs ys k i states is =
     ∙ ap (λ o. option_map process_view o) (get_pushed xs k)
 
 -- more kernels
-pub kernels_grown : (t u : Store) → IsStore t → GrowsKept t.kernels u.kernels → u.states.items ≡ t.states.items → u.rows ≡ t.rows → u.edges.items ≡ t.edges.items → Grows t u × IsStore u
+pub kernels_grown : (t u : Store) → IsStore t → GrowsKept t.kernels u.kernels → u.states ≡ t.states → u.rows ≡ t.rows → u.edges.items ≡ t.edges.items → Grows t u × IsStore u
 kernels_grown t u s kernels states rows edges =
     let g : Grows t u = record {
       kernels = kernels;
@@ -135,11 +135,11 @@ kernels_grown t u s kernels states rows edges =
     (g, store_grows t u s g (subst (λ xs. All IsReady xs) (sym states) s.states) rows)
 
 -- the same rows
-pub rows_same : (t u : Store) → IsStore t → u.rows ≡ t.rows → u.kernels ≡ t.kernels → u.states.items ≡ t.states.items → u.edges.items ≡ t.edges.items → Grows t u × IsStore u
+pub rows_same : (t u : Store) → IsStore t → u.rows ≡ t.rows → u.kernels ≡ t.kernels → u.states ≡ t.states → u.edges.items ≡ t.edges.items → Grows t u × IsStore u
 rows_same t u s rows kernels states edges = kernels_grown t u s (same_kernels t u kernels) states rows edges
 
 -- one row more
-pub rows_pushed : (t u : Store) (r : Row) → IsStore t → ((w : WorldState) × IsRow t r w) → u.rows ≡ t.rows ++ r ∷ [] → u.kernels ≡ t.kernels → u.states.items ≡ t.states.items
+pub rows_pushed : (t u : Store) (r : Row) → IsStore t → ((w : WorldState) × IsRow t r w) → u.rows ≡ t.rows ++ r ∷ [] → u.kernels ≡ t.kernels → u.states ≡ t.states
     → u.edges.items ≡ t.edges.items → Grows t u × IsStore u
 rows_pushed t u r s stands rows kernels states edges =
     let g : Grows t u = record {
@@ -162,7 +162,7 @@ row_pushed t u r w n g rows is h =
     (r, ap (λ xs. slice_get xs n) rows ∙ ap (λ m. slice_get (t.rows ++ r ∷ []) m) is ∙ get_pushed t.rows r, row_grows t u r w g h)
 
 -- one edge more
-pub edges_pushed : (t u : Store) (e : Edge) → IsStore t → u.edges.items ≡ t.edges.items ++ e ∷ [] → u.kernels ≡ t.kernels → u.states.items ≡ t.states.items → u.rows ≡ t.rows
+pub edges_pushed : (t u : Store) (e : Edge) → IsStore t → u.edges.items ≡ t.edges.items ++ e ∷ [] → u.kernels ≡ t.kernels → u.states ≡ t.states → u.rows ≡ t.rows
     → Grows t u × IsStore u
 edges_pushed t u e s edges kernels states rows =
     let g : Grows t u = record {
@@ -185,7 +185,7 @@ effect_grows t u k p s i (effect.To tables object state taken) g h =
 
 pub touched_grows : (t u : Store) (x : Touch) (e : Effect) → Grows t u → IsTouched t x e → IsTouched u x e
 touched_grows t u x e g h =
-    (h.0, h.1, h.2, state_grows t u x.state h.0 g h.3, parts_grow t u x.tables x.object h.1 h.2 g h.4, λ k p settled at. effect_grows t u k p h.0 x.place e g (h.5 k p settled at))
+    (h.0, h.1, h.2, h.3, state_grows t u x.state h.0 g h.4, parts_grow t u x.tables x.object h.1 h.2 g h.5, h.6, λ k p settled at works. effect_grows t u k p h.0 x.place e g (h.7 k p settled at works))
 
 pub touches_grow : (t u : Store) (ts : Touches) → Grows t u → AreTouched t ts → AreTouched u ts
 touches_grow t u ts g h =

@@ -34,13 +34,13 @@ use Rattle.lab_explore.proofs.KeptConditions.{holds_alike, never_holds}
 use Rattle.lab_explore.proofs.KeptLosses.{never_loses}
 
 -- the process at a place of a row's world
-row_process : (t : Store) (state : ℕ) (k : Kept) (a : Option ℕ) (b : Option Process) → a ≡ Some state → slice_get t.states.items state ≡ Some k → Both (IsState t) a b → b ≡ Some (process_view k)
+row_process : (t : Store) (state : ℕ) (k : Kept) (a : Option ℕ) (b : Option Process) → a ≡ Some state → slice_get t.states state ≡ Some k → Both (IsState t) a b → b ≡ Some (process_view k)
 row_process t state k None b e at h = let none : None ≡ Some state = e in absurd (cc)
 row_process t state k (Some i) None e at h = absurd h
 row_process t state k (Some i) (Some s) e at h =
     let is : Some i ≡ Some state = e in
     let same : i ≡ state = cc in
-    sym h ∙ ap (λ j. option_map process_view (slice_get t.states.items j)) same ∙ ap (λ o. option_map process_view o) at
+    sym h ∙ ap (λ j. option_map process_view (slice_get t.states j)) same ∙ ap (λ o. option_map process_view o) at
 
 -- one element more
 take_next : {A : Type 0} (xs : List A) (n : ℕ) (x : A) → slice_get xs n ≡ Some x → take (n + 1) xs ≡ take n xs ++ x ∷ []
@@ -50,11 +50,7 @@ take_next (y ∷ ys) (suc n) x at =
     let same : suc n + 1 ≡ suc (n + 1) = omega arith in
     ap (λ k. take k (y ∷ ys)) same ∙ ap (λ zs. y ∷ zs) (take_next ys n x at)
 
--- a row's place
-pub place_in : (xs ys : List ℕ) (n : ℕ) → xs ≡ ys → n < length xs → slice_get ys n ≡ Some (get_or xs n 0)
-place_in xs ys n same within = subst (λ zs. slice_get zs n ≡ Some (get_or xs n 0)) same (slice_get-get_or xs n 0 within)
-
-pub states_more : (t : Store) (states : List ℕ) (ss seen more : List Process) (n state : ℕ) (k : Kept) → Alongside (IsState t) states ss → slice_get states n ≡ Some state → slice_get t.states.items state ≡ Some k
+pub states_more : (t : Store) (states : List ℕ) (ss seen more : List Process) (n state : ℕ) (k : Kept) → Alongside (IsState t) states ss → slice_get states n ≡ Some state → slice_get t.states state ≡ Some k
     → seen ≡ take n ss → more ≡ seen ++ process_view k ∷ [] → more ≡ take (n + 1) ss
 states_more t states ss seen more n state k row place at so pushed =
     let here = row_process t state k (slice_get states n) (slice_get ss n) place at (row n) in

@@ -42,7 +42,7 @@ own_at t is None (Some y) h = absurd h
 own_at t is (Some i) None h = absurd h
 own_at t is (Some i) (Some s) h =
     let k = state_kept t i s h in
-    let ahead : IsAhead s s = record { taken = zero; local = refl; at_call = subst IsAtCall k.2 (all_at IsReady t.states.items i k.0 is.states k.1).1 } in
+    let ahead : IsAhead s s = record { taken = zero; local = refl; at_call = subst IsAtCall k.2 (all_at IsReady t.states i k.0 is.states k.1).1 } in
     record { ahead = ahead; few = omega arith }
 
 -- a world that a row stands for is its own advance
@@ -61,7 +61,7 @@ next_of t i p kernel state n placed move w here =
 pub move_from : (t : Store) (kernel p state : ℕ) (n : Next) → IsMove t kernel p state n → IsMoveFrom t kernel p state n
 move_from t kernel p state n m k s at settled here =
     let k-is : m.0 ≡ k = same_some m.0 k (slice_get t.kernels.kernels kernel) m.2 at in
-    let s-is : m.1 ≡ s = same_some m.1 s (option_map process_view (slice_get t.states.items state)) m.3 here in
+    let s-is : m.1 ≡ s = same_some m.1 s (option_map process_view (slice_get t.states state)) m.3 here in
     subst (λ j. IsNext t j p s n) k-is (subst (λ x. IsNext t m.0 p x n) s-is m.4)
 
 -- the world after a step, by its row

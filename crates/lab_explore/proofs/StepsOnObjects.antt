@@ -1,4 +1,4 @@
--- Steps at calls on open objects: what they depend on, and what they change.
+-- Steps at calls that work on one object: what they depend on, and what they change.
 use Rattle.std.proofs.Common.{ℕ, ◌≡◌, Some, refl, sym, ap, subst, ◌∙◌}
 use Rattle.lc3_machine.specs.Process.{Process as Machine}
 use Rattle.ipc_kernel.specs.declared.place.Place.{Place}
@@ -8,8 +8,9 @@ use Rattle.ipc_kernel.specs.declared.call.Answer.{Answer}
 use Rattle.ipc_kernel.specs.declared.call.Answer.TheVariants.{Done, Wait}
 use Rattle.ipc_kernel.specs.Kernel.{KernelState, IsSettled}
 use Rattle.ipc_kernel.specs.Answer.{answer}
-use Rattle.ipc_kernel.specs.Operands.{operand_of, with_operand, HasOperand, IsAnsweredAlike}
-use Rattle.ipc_kernel.proofs.OperandAnswers.{answers_by_operand, kept, operand_left}
+use Rattle.ipc_kernel.specs.Operands.{operand_in, with_operand, HasOperand, IsAnsweredAlike}
+use Rattle.ipc_kernel.proofs.LocalCalls.{kept}
+use Rattle.ipc_kernel.proofs.OperandAnswers.{answers_by_operand, operand_left}
 use Rattle.ipc_kernel.proofs.SettledAnswers.{stays_settled}
 use Rattle.lab_sched.specs.Worlds.{Process, Running, Waiting, Ended, calls, next_action, StepEffect, nothing, local_step, kernel_step, step_effect, first_try, retry, process_after, kernel_after}
 use Rattle.lab_sched.specs.Held.{step_of}
@@ -27,10 +28,10 @@ alike_by k j p q s i e here there kernels = record {
 }
 
 pub steps_by_operand : StepsByOperand
-steps_by_operand k j p q s c i t o sk sj stands at hk hj = by s stands
+steps_by_operand k j p q s c i t o sk sj stands at_k at_j hk hj = by s stands
   where
     alike : IsAnsweredAlike k j p q c i
-    alike = answers_by_operand k j p q c i t o sk sj at hk hj
+    alike = answers_by_operand k j p q c i t o sk sj at_k at_j hk hj
 
     -- a call that is made for the first time
     tried : (m : Machine) → next_action m ≡ calls c → IsStepAlike k j p q (Running m) i
@@ -59,7 +60,7 @@ abbrev Left : KernelState → ℕ → ℕ → Type 0
 Left k p i = (t : OpenTables) × (o : Place) × HasOperand k p i t o
 
 -- after the step too there are an object in place i and tables of the process
-pub operand_left_by_step : (j : KernelState) (q : ℕ) (s : Process) (c : Call) (i : ℕ) (t : OpenTables) (o : Place) → IsSettled j → StandsAt s c → operand_of t c ≡ Some i
+pub operand_left_by_step : (j : KernelState) (q : ℕ) (s : Process) (c : Call) (i : ℕ) (t : OpenTables) (o : Place) → IsSettled j → StandsAt s c → operand_in j t c ≡ Some i
     → HasOperand j q i t o → (u : OpenTables) × (y : Place) × HasOperand (step_of j q s).kernel q i u y
 operand_left_by_step j q s c i t o settled stands at has = by s stands
   where

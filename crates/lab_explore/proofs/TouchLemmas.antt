@@ -1,14 +1,14 @@
--- Steps at calls on open objects, from one kernel to another.
-use Rattle.std.proofs.Common.{ℕ, ◌≡◌, Some, sym, subst, slice_get}
+-- Steps at calls that work on one object, from one kernel to another.
+use Rattle.std.proofs.Common.{ℕ, ◌≡◌, Some, sym, subst, ◌∙◌, slice_get}
 use Rattle.std.specs.Option.{option_map}
 use Rattle.ipc_kernel.specs.Kernel.{KernelState, IsSettled}
-use Rattle.ipc_kernel.specs.Operands.{HasOperand, operand_of, with_operand}
+use Rattle.ipc_kernel.specs.Operands.{HasOperand, operand_in, with_operand}
 use Rattle.ipc_kernel.specs.declared.call.Call.{Call}
 use Rattle.ipc_kernel.specs.declared.place.Place.{Place}
 use Rattle.ipc_kernel.specs.declared.process.OpenTables.{OpenTables}
 use Rattle.ipc_kernel.proofs.Alikes.{alike_itself}
 use Rattle.lab_conditions.specs.Conditions.{StandsAt}
-use Rattle.lab_sched.specs.Worlds.{Process}
+use Rattle.lab_sched.specs.Worlds.{Process, Running, Waiting, Ended, calls}
 use Rattle.lab_sched.specs.Held.{process_view, step_of}
 use Rattle.lab_explore.specs.declared.store.Store.{Store}
 use Rattle.lab_explore.specs.declared.store.Next.{Next}
@@ -30,30 +30,44 @@ outcome_over t k j p q s i Limit there back h = there.goes_on h
 outcome_over t k j p q s i (To tables object state taken) there back h =
     (h.0, h.1, h.2, h.3, h.4, there.kernel h.0 h.1 h.5, subst (λ u. IsReached u h.2) (sym there.process) h.6, there.goes_on h.7)
 
--- the same object and tables, by their numbers
-same_touch : (t : Store) (k : KernelState) (p : ℕ) (touch : Touch) (x : OpenTables) (o : Place) → AreParts t touch.tables touch.object x o → HasTouch t k p touch → HasOperand k p touch.place x o
-same_touch t k p touch x o parts has =
-    let x-is : has.0 ≡ x = same_some has.0 x (slice_get t.kernels.tables touch.tables) has.2.0 parts.0 in
-    let o-is : has.1 ≡ o = same_some has.1 o (slice_get t.kernels.objects touch.object) has.2.1 parts.1 in
-    subst (λ y. HasOperand k p touch.place y o) x-is (subst (λ y. HasOperand k p touch.place has.0 y) o-is has.3)
+-- a process stands at one call
+stands_once : (s : Process) (c d : Call) → StandsAt s c → StandsAt s d → c ≡ d
+stands_once (Running m) c d a b = let same : calls c ≡ calls d = sym a ∙ b in cc
+stands_once (Waiting m e) c d a b = sym a ∙ b
+stands_once (Ended e) c d a b = absurd a
 
--- a step that was made at a call on an open object is the step over whatever kernel
+-- a call that works on an object, by the numbers of its state, its tables and the object
+same_touch : (t : Store) (k : KernelState) (p : ℕ) (touch : Touch) (s : Process) (x : OpenTables) (o : Place) (c : Call) → IsState t touch.state s → AreParts t touch.tables touch.object x o → StandsAt s c
+    → HasTouch t k p touch → HasOperand k p touch.place x o × (operand_in k x c ≡ Some touch.place)
+same_touch t k p touch s x o c state parts stands has =
+    let s-is : has.process ≡ s = same_some has.process s (option_map process_view (slice_get t.states touch.state)) has.state state in
+    let x-is : has.tables ≡ x = same_some has.tables x (slice_get t.kernels.tables touch.tables) has.parts.0 parts.0 in
+    let o-is : has.object ≡ o = same_some has.object o (slice_get t.kernels.objects touch.object) has.parts.1 parts.1 in
+    let c-is : has.call ≡ c = stands_once s has.call c (subst (λ r. StandsAt r has.call) s-is has.stands) stands in (
+      subst (λ y. HasOperand k p touch.place y o) x-is (subst (λ y. HasOperand k p touch.place has.tables y) o-is has.operand),
+      subst (λ y. operand_in k y c ≡ Some touch.place) x-is (subst (λ d. operand_in k has.tables d ≡ Some touch.place) c-is has.works),
+    )
+
+-- a step that was made at such a call is the step over whatever kernel
 pub touched_made : (t u : Store) (k : KernelState) (p : ℕ) (s : Process) (touch : Touch) (e : Effect) → Grows t u → IsSettled k → IsState t touch.state s → HasTouch t k p touch
-    → ((r : Process) (x : OpenTables) → IsState t touch.state r → slice_get t.kernels.tables touch.tables ≡ Some x → (c : Call) × StandsAt r c × (operand_of x c ≡ Some touch.place))
     → IsOutcome u k p s touch.place e → IsTouched u touch e
-touched_made t u k p s touch e g settled state has stands made =
-    let x = has.0 in
-    let o = has.1 in
-    let call = stands s x state has.2.0 in (
+touched_made t u k p s touch e g settled state has made =
+    let x = has.tables in
+    let o = has.object in
+    let c = has.call in
+    let s-is : has.process ≡ s = same_some has.process s (option_map process_view (slice_get t.states touch.state)) has.state state in
+    let stands : StandsAt s c = subst (λ r. StandsAt r c) s-is has.stands in (
       s,
       x,
       o,
+      c,
       state_grows t u touch.state s g state,
-      (g.kernels.tables touch.tables x has.2.0, g.kernels.objects touch.object o has.2.1),
-      λ j q fixed at.
+      (g.kernels.tables touch.tables x has.parts.0, g.kernels.objects touch.object o has.parts.1),
+      stands,
+      λ j q fixed at works.
           outcome_over u j k q p s touch.place e
-          (steps_by_operand j k q p s call.0 touch.place x o fixed settled call.1 call.2 at has.3)
-          (steps_by_operand k j p q s call.0 touch.place x o settled fixed call.1 call.2 has.3 at) made,
+          (steps_by_operand j k q p s c touch.place x o fixed settled stands works has.works at has.operand)
+          (steps_by_operand k j p q s c touch.place x o settled fixed stands has.works works has.operand at) made,
     )
 
 -- what a process does next by the effect of its call
@@ -69,9 +83,12 @@ next_by_effect t u k p s i kernel tables object state taken g settled h there =
       h.7,
     )
 
--- a call is one over a kernel also where more is kept
+-- a call works on an object also where more is kept
 pub touch_grows : (t u : Store) (k : KernelState) (p : ℕ) (touch : Touch) → Grows t u → HasTouch t k p touch → HasTouch u k p touch
-touch_grows t u k p touch g h = (h.0, h.1, (g.kernels.tables touch.tables h.0 h.2.0, g.kernels.objects touch.object h.1 h.2.1), h.3)
+touch_grows t u k p touch g h = record h {
+  state = state_grows t u touch.state h.process g h.state;
+  parts = (g.kernels.tables touch.tables h.tables h.parts.0, g.kernels.objects touch.object h.object h.parts.1);
+}
 
 -- the move of a process by a step that was made for its call
 pub move_by_touch : (t u : Store) (kernel p state : ℕ) (n : Next) (touch : Touch) (e : Effect) (j : KernelState) → Grows t u → IsExactly t kernel j → touch.state ≡ state → HasTouch t j p touch → IsTouched t touch e
@@ -79,7 +96,8 @@ pub move_by_touch : (t u : Store) (kernel p state : ℕ) (n : Next) (touch : Tou
 move_by_touch t u kernel p state n touch e j g exact same has h by k s at settled here =
     let k-is : j ≡ k = same_some j k (slice_get u.kernels.kernels kernel) (g.kernels.kernels kernel j exact) at in
     let state-is : IsState u touch.state s = subst (λ i. IsState u i s) (sym same) here in
-    let s-is : h.0 ≡ s = same_some h.0 s (option_map process_view (slice_get u.states.items touch.state)) (state_grows t u touch.state h.0 g h.3) state-is in
+    let s-is : h.0 ≡ s = same_some h.0 s (option_map process_view (slice_get u.states touch.state)) (state_grows t u touch.state h.0 g h.4) state-is in
     let fixed : IsSettled j = subst IsSettled (sym k-is) settled in
-    let next = by j h.0 exact fixed (h.5 j p fixed (same_touch t j p touch h.1 h.2 h.4 has)) in
+    let there = same_touch t j p touch h.0 h.1 h.2 h.3 h.4 h.5 h.6 has in
+    let next = by j h.0 exact fixed (h.7 j p fixed there.0 there.1) in
     subst (λ x. IsNext u x p s n) k-is (subst (λ r. IsNext u j p r n) s-is next)

@@ -14,7 +14,7 @@ ghost use Rattle.lab_explore.specs.Ends.{IsEnd, AreEnds};
 use crate::ExploreFault;
 use crate::depths::depth_of;
 use crate::search::Search;
-use crate::store::{Next, place_of};
+use crate::store::Next;
 use crate::trying::discard;
 use crate::walking::Walk;
 use lab_sched::{Process, Schedule, Verdict, World};

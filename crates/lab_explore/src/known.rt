@@ -1,9 +1,10 @@
 //! The moves that a search has made.
-ghost use Rattle.std.specs.Prelude.{◌≡◌, [], IfOk, IfSome, OnOk};
+ghost use Rattle.std.specs.Prelude.{◌≡◌, IfOk, IfSome, OnOk};
 ghost use Rattle.lab_explore.specs.declared.store.Store.{Store as Kept};
 ghost use Rattle.lab_explore.specs.Private.Stored.{IsMove};
 ghost use Rattle.lab_explore.specs.Private.Known.{AreMoves, HasNone};
 
+use crate::row::digest_of;
 use crate::store::Next;
 use crate::touches::Touches;
 use ipc_kernel::Index;
@@ -19,22 +20,13 @@ pub(crate) struct Move {
     pub next: Next,
 }
 
-/// Moves, each of which is made once, and the steps at calls on open objects, which aren't made again
-/// for each kernel.
+/// Moves, each of which is made once, and the steps at calls that work on one object, which aren't
+/// made again for each kernel.
 #[derive(Drop)]
 pub(crate) struct Moves {
     pub made: Vec<Move>,
     pub touches: Touches,
     index: Index,
-}
-
-/// A number for the places of a move.
-fn move_digest(kernel: u32, pid: u32, state: u32) -> u64 {
-    let mut hash = (kernel as u64).wrapping_mul(0x9E37_79B9_7F4A_7C15);
-    hash = (hash ^ (state as u64)).wrapping_mul(0xBF58_476D_1CE4_E5B9);
-    hash ^= hash >> 31;
-    hash.wrapping_add(pid as u64)
-        .wrapping_mul(0x94D0_49BB_1331_11EB)
 }
 
 impl Moves {
@@ -54,7 +46,7 @@ impl Moves {
         ensures known { (t : Kept) → AreMoves t self.now
             → IfSome result (λ next. IsMove t kernel pid state next) }
     {
-        let mut number = self.index.newest(move_digest(kernel, pid, state));
+        let mut number = self.index.newest(digest_of(&[kernel, pid, state]));
         while number > 0 {
             let at = number - 1;
             if let Some(made) = self.made.get(at) {
@@ -79,7 +71,7 @@ impl Moves {
         ensures known { OnOk result ((t : Kept) → AreMoves t self.old
             → IsMove t kernel pid state next → AreMoves t self.new) }
     {
-        self.index.add(move_digest(kernel, pid, state))?;
+        self.index.add(digest_of(&[kernel, pid, state]))?;
         self.made.push(Move {
             kernel,
             pid,
@@ -92,7 +84,7 @@ impl Moves {
     /// About how many bytes they take.
     pub(crate) fn size(&self) -> usize {
         size_of::<Move>()
-            .saturating_add(3 * size_of::<u32>())
+            .saturating_add(Index::ENTRY)
             .saturating_mul(self.made.len())
             .saturating_add(self.touches.size())
     }

@@ -31,6 +31,7 @@ mod row;
 mod rows;
 mod search;
 mod served;
+mod states;
 mod store;
 mod touches;
 mod touching;

@@ -1,14 +1,10 @@
 //! Steps that a search makes, and what it keeps of them.
-ghost use Rattle.std.specs.Prelude.{◌≡◌, ℕ, Some, IfOk, IfSome, OnOk, slice_get};
+ghost use Rattle.std.specs.Prelude.{ℕ, IfOk, IfSome, OnOk};
 ghost use Rattle.ipc_kernel.specs.Kernel.{KernelState};
-ghost use Rattle.ipc_kernel.specs.Operands.{operand_of};
-ghost use Rattle.ipc_kernel.specs.declared.call.Call.{Call};
-ghost use Rattle.ipc_kernel.specs.declared.process.OpenTables.{OpenTables};
-ghost use Rattle.lab_conditions.specs.Conditions.{StandsAt};
 ghost use Rattle.lab_sched.specs.Worlds.{Process as Seen};
 ghost use Rattle.lab_explore.specs.declared.trying.Tried.TheVariants.{Came};
 ghost use Rattle.lab_explore.specs.Private.Known.{AreKnown};
-ghost use Rattle.lab_explore.specs.Private.Stored.{IsExactly, IsState, IsReady, IsStore, Grows, IsNext, IsMove, IsMoveFrom, IsStepped, IsKeptStep};
+ghost use Rattle.lab_explore.specs.Private.Stored.{IsExactly, IsReady, IsStore, Grows, IsNext, IsMove, IsMoveFrom, IsStepped, IsKeptStep};
 ghost use Rattle.lab_explore.specs.Private.Touched.{HasTouch, IsOutcome, IsTouched, AreTouched};
 
 use crate::ExploreFault;
@@ -143,7 +139,7 @@ impl Store {
         }
     }
 
-    /// What comes of a step of process `pid` at its call on an open object.
+    /// What comes of a step of process `pid` at its call that works on one object.
     fn make_effect(
         &mut self,
         alloc: Global,
@@ -155,9 +151,6 @@ impl Store {
         requires store { IsStore self.old }
         requires operand { (k : KernelState) → IsExactly self.old kernel k
             → HasTouch self.old k pid touch }
-        requires stands { (s : Seen) (x : OpenTables) → IsState self.old touch.state s
-            → slice_get self.old.kernels.tables touch.tables ≡ Some x
-            → (c : Call) × StandsAt s c × (operand_of x c ≡ Some touch.place) }
         ensures store { OnOk result (IsStore self.new) }
         ensures grows { OnOk result (Grows self.old self.new) }
         ensures touched { IfOk result (λ effect. IsTouched self.new touch effect) }
@@ -173,8 +166,8 @@ impl Store {
         }
     }
 
-    /// What comes of a step of process `pid` at its call on an open object, which is made if it wasn't
-    /// made before; none if the call isn't on that object.
+    /// What comes of a step of process `pid` at its call that works on one object, which is made if it
+    /// wasn't made before.
     fn effect_of(
         &mut self,
         alloc: Global,
@@ -183,7 +176,7 @@ impl Store {
         pid: u32,
         touch: Touch,
         most: u32,
-    ) -> Result<Option<Effect>, ExploreFault>
+    ) -> Result<Effect, ExploreFault>
         requires store { IsStore self.old }
         requires touches { AreTouched self.old touches.old }
         requires operand { (k : KernelState) → IsExactly self.old kernel k
@@ -191,22 +184,18 @@ impl Store {
         ensures store { OnOk result (IsStore self.new) }
         ensures touches { OnOk result (AreTouched self.new touches.new) }
         ensures grows { OnOk result (Grows self.old self.new) }
-        ensures touched { IfOk result (λ found. IfSome found (λ effect.
-            IsTouched self.new touch effect)) }
+        ensures touched { IfOk result (λ effect. IsTouched self.new touch effect) }
     {
         if let Some(effect) = touches.find(touch) {
-            return Ok(Some(effect));
-        }
-        if !self.is_touch(alloc, touch)? {
-            return Ok(None);
+            return Ok(effect);
         }
         let effect = self.make_effect(alloc, kernel, pid, touch, most)?;
         touches.keep(touch, effect)?;
-        Ok(Some(effect))
+        Ok(effect)
     }
 
     /// What process `pid` does next in a state and over a kernel that are kept, if it stands at a
-    /// call on an open object.
+    /// call that works on one object.
     fn make_touched(
         &mut self,
         alloc: Global,
@@ -228,15 +217,13 @@ impl Store {
         let Some(touch) = self.touch_at(kernel, pid, state) else {
             return Ok(None);
         };
-        let Some(effect) = self.effect_of(alloc, touches, kernel, pid, touch, most)? else {
-            return Ok(None);
-        };
+        let effect = self.effect_of(alloc, touches, kernel, pid, touch, most)?;
         let next = self.keep_next_by(kernel, pid, touch.place, effect)?;
         Ok(next)
     }
 
     /// What process `pid` does next in a state and over a kernel that are kept. Each such move, and
-    /// each step at a call on an open object, is made once.
+    /// each step at a call that works on one object, is made once.
     pub(crate) fn make_move(
         &mut self,
         alloc: Global,

@@ -7,6 +7,16 @@ use std::alloc::{AllocError, Global};
 use std::marker::Model;
 use std::mem::size_of;
 
+/// A digest that depends on some numbers alone.
+pub(crate) fn digest_of(numbers: &[u32]) -> u64 {
+    let mut digest = 0_u64;
+    for number in numbers {
+        digest = (digest ^ (*number as u64)).wrapping_mul(0x9E37_79B9_7F4A_7C15);
+        digest ^= digest >> 29;
+    }
+    digest
+}
+
 /// Rows of one width, one behind the other.
 #[derive(Drop)]
 pub(crate) struct Rows {

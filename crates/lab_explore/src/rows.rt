@@ -5,18 +5,9 @@ ghost use Rattle.lab_explore.specs.Private.Rows.{Row, row_of};
 ghost use Rattle.lab_explore.specs.Private.Stored.{IsRow, IsAt, IsStore, Grows};
 
 use crate::ExploreFault;
+use crate::row::digest_of;
 use crate::store::{Parent, Store, place_of};
 use std::alloc::{AllocError, Global};
-
-/// A number that depends on the numbers of a row alone.
-fn row_digest(row: &[u32]) -> u64 {
-    let mut hash = 0_u64;
-    for number in row {
-        hash = (hash ^ (*number as u64)).wrapping_mul(0x9E37_79B9_7F4A_7C15);
-        hash ^= hash >> 29;
-    }
-    hash
-}
 
 impl Store {
     /// The number of a row of the same world, if one is kept.
@@ -49,7 +40,7 @@ impl Store {
         ensures kept { IfOk result (λ kept. IfSome kept (λ i. (w : WorldState)
             → IsRow self.old (row_of row.now) w → IsAt self.new i w)) }
     {
-        let hash = row_digest(row);
+        let hash = digest_of(row);
         if let Some(at) = self.find_row(row, hash) {
             return Ok(Some(at));
         }

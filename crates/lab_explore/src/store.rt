@@ -6,7 +6,8 @@ ghost use Rattle.lab_explore.specs.Private.Stored.{IsExactly, IsState, IsKernel,
 
 use crate::known::Moves;
 use crate::row::Rows;
-use ipc_kernel::{Handle, Index, Kernel, Kernels};
+use crate::states::States;
+use ipc_kernel::{Index, Kernel, Kernels};
 use lab_conditions::call_of;
 use lab_sched::Process;
 use std::alloc::{AllocError, Global};
@@ -65,30 +66,17 @@ pub(crate) struct Edge {
 #[derive(Drop)]
 pub(crate) struct Store {
     pub kernels: Kernels,
-    pub states: Vec<Process>,
-    /// For each state the descriptor or slot that its call names, if it is on an open object.
-    pub handles: Vec<Option<Handle>>,
+    pub states: States,
     pub rows: Rows,
     /// For each row the one from which it was reached first.
     pub parents: Vec<Parent>,
     pub edges: Vec<Edge>,
-    /// About how many bytes the states take.
-    pub held: usize,
-    state_index: Index,
     pub row_index: Index,
 }
 
 /// About how many bytes each row takes beside its numbers: in the index, and where the rows are told,
 /// as a number in each of four lists and a depth.
 const ROW: usize = 56;
-
-/// The descriptor or slot that the call of a process names, if it stands at one on an open object.
-fn handle_at(alloc: Global, process: &Process) -> Result<Option<Handle>, AllocError> {
-    match call_of(alloc, process)? {
-        Some(call) => Ok(call.handle()),
-        None => Ok(None),
-    }
-}
 
 impl Store {
     /// Nothing, with room for worlds of so many processes.
@@ -97,20 +85,18 @@ impl Store {
     {
         Ok(Store {
             kernels: Kernels::new(alloc)?,
-            states: Vec::new(alloc),
-            handles: Vec::new(alloc),
+            states: States::new(alloc)?,
             rows: Rows::new(alloc, processes),
             parents: Vec::new(alloc),
             edges: Vec::new(alloc),
-            held: 0,
-            state_index: Index::new(alloc)?,
             row_index: Index::new(alloc)?,
         })
     }
 
     /// About how many bytes are taken by what is kept, and by moves.
     pub(crate) fn size(&self, moves: &Moves) -> usize {
-        self.held
+        self.states
+            .size()
             .saturating_add(self.kernels.size())
             .saturating_add(self.rows.size())
             .saturating_add(ROW.saturating_mul(self.rows.len()))
@@ -121,46 +107,8 @@ impl Store {
     /// Lets go of what only a search needs that goes on.
     pub(crate) fn forget(&mut self, alloc: Global) {
         self.kernels.forget(alloc);
-        self.state_index = Index::none(alloc);
+        self.states.forget(alloc);
         self.row_index = Index::none(alloc);
-    }
-
-    /// The place of a state, if it is kept.
-    fn find_state(&self, process: &Process, hash: u64) -> Option<usize>
-        ensures found { IfSome result (λ i. IsState self.now i (process_view process.now)) }
-    {
-        let mut number = self.state_index.newest(hash);
-        while number > 0 {
-            let at = number - 1;
-            if let Some(state) = self.states.get(at) {
-                if state.is_same(process) {
-                    return Some(at);
-                }
-            }
-            number = self.state_index.older(number);
-        }
-        None
-    }
-
-    /// Keeps the state of a process at a call that isn't kept yet; with its place.
-    fn add_state(
-        &mut self,
-        process: Process,
-        handle: Option<Handle>,
-        hash: u64,
-    ) -> Result<u32, AllocError>
-        requires store { IsStore self.old }
-        requires ready { IsReady process }
-        ensures store { OnOk result (IsStore self.new) }
-        ensures grows { OnOk result (Grows self.old self.new) }
-        ensures state { IfOk result (λ i. IsState self.new i (process_view process)) }
-    {
-        self.state_index.add(hash)?;
-        self.handles.push(handle)?;
-        self.held = self.held.saturating_add(process.machine().size());
-        let place = place_of(self.states.len())?;
-        self.states.push(process)?;
-        Ok(place)
     }
 
     /// Keeps the state of a process at a call; with its place.
@@ -171,13 +119,13 @@ impl Store {
         ensures grows { OnOk result (Grows self.old self.new) }
         ensures state { IfOk result (λ i. IsState self.new i (process_view process)) }
     {
-        let hash = process.digest();
-        if let Some(at) = self.find_state(&process, hash) {
+        let digest = process.digest();
+        if let Some(at) = self.states.find(&process, digest) {
             let place = place_of(at)?;
             return Ok(place);
         }
-        let handle = handle_at(alloc, &process)?;
-        let place = self.add_state(process, handle, hash)?;
+        let call = call_of(alloc, &process)?;
+        let place = self.states.add(process, call, digest)?;
         Ok(place)
     }
 
@@ -200,8 +148,10 @@ impl Store {
         ensures grows { OnOk result (Grows self.old self.new) }
         ensures kernel { IfOk result (λ i. IsKernel self.new i kernel.now) }
     {
-        let arranged = kernel.arranged(alloc)?;
-        let number = self.kernels.keep(alloc, &arranged)?;
+        let number = match kernel.arranged(alloc)? {
+            Some(arranged) => self.kernels.keep(alloc, &arranged)?,
+            None => self.kernels.keep(alloc, kernel)?,
+        };
         Ok(number)
     }
 }

@@ -1,14 +1,15 @@
-//! The steps at calls on open objects that a search has made.
+//! The steps at calls that work on one object that a search has made.
 ghost use Rattle.std.specs.Prelude.{◌≡◌, [], IfOk, IfSome, IsTrue, OnOk};
 ghost use Rattle.lab_explore.specs.declared.store.Store.{Store as Kept};
 ghost use Rattle.lab_explore.specs.Private.Touched.{IsTouched, AreTouched};
 
+use crate::row::digest_of;
 use ipc_kernel::Index;
 use std::alloc::{AllocError, Global};
 use std::mem::size_of;
 
-/// A call on an open object: the state of its process, the tables of the process, the object place
-/// to which these refer, and the object there.
+/// A call that works on one object: the state of its process, the tables of the process, the place of
+/// the object, and the object there.
 #[derive(Clone, Copy, Drop)]
 pub(crate) struct Touch {
     pub state: u32,
@@ -58,12 +59,9 @@ impl Touch {
             && self.place == other.place
     }
 
-    /// A number for the call.
+    /// A digest of the call.
     fn digest(self) -> u64 {
-        let mut hash = (self.state as u64).wrapping_mul(0x9E37_79B9_7F4A_7C15);
-        hash = (hash ^ (self.tables as u64)).wrapping_mul(0xBF58_476D_1CE4_E5B9);
-        hash ^= hash >> 31;
-        (hash ^ (self.object as u64)).wrapping_mul(0x94D0_49BB_1331_11EB)
+        digest_of(&[self.state, self.tables, self.object])
     }
 }
 
@@ -119,7 +117,7 @@ impl Touches {
     /// About how many bytes they take.
     pub(crate) fn size(&self) -> usize {
         size_of::<Touched>()
-            .saturating_add(3 * size_of::<u32>())
+            .saturating_add(Index::ENTRY)
             .saturating_mul(self.made.len())
     }
 }

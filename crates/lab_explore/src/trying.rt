@@ -1,4 +1,4 @@
-//! Steps that are tried on copies.
+//! Steps that are tried on copies of processes.
 ghost use Rattle.std.specs.Prelude.{◌≡◌, ◌<◌, ◌^◌, ℕ, IsTrue, false, Some, length, IfOk};
 ghost use Rattle.ipc_kernel.specs.Kernel.{KernelState};
 ghost use Rattle.lab_sched.specs.Worlds.{Process as Seen, StepEffect, step_effect};

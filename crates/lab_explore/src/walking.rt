@@ -14,7 +14,6 @@ ghost use Rattle.lab_explore.specs.Private.Walked.{IsWalk, KeepsStart};
 use crate::ExploreFault;
 use crate::depths::count_waiting;
 use crate::search::Search;
-use crate::store::Store;
 use crate::trying::discard;
 use ipc_kernel::{Kernel, PROCESS_MAX};
 use lab_conditions::{is_receiving, messages_in};

@@ -1,13 +1,26 @@
 //! Objects, each once.
-ghost use Rattle.std.specs.Prelude.{◌≡◌, ℕ, [], Some, map, slice_get, IfOk, IfSome};
+ghost use Rattle.std.specs.Prelude.{◌≡◌, ◌||◌, ℕ, [], Some, map, position, slice_get, IfOk, IfSome};
+ghost use Rattle.std.specs.List.{list_all};
 ghost use Rattle.std.specs.Option.{option_copied};
 ghost use Rattle.ipc_kernel.specs.declared.place.Place.{Place};
+ghost use Rattle.ipc_kernel.specs.Places.{place_at, is_empty, has_name, is_name, queue_name, semaphore_name};
 
 use super::rows::number_of;
 use crate::index::Index;
 use crate::place::Place;
+use ipc_names::Name;
 use std::alloc::{AllocError, Global};
 use std::marker::Model;
+
+/// Whether a name is this one.
+fn is_name(name: &Name, other: Option<&Name>) -> bool
+    ensures same { result ≡ is_name name.now (option_copied other.entry) }
+{
+    match other {
+        Some(other) => name.text() == other.text(),
+        None => false,
+    }
+}
 
 /// Objects, each with a number, from 0.
 #[derive(Drop)]
@@ -44,6 +57,75 @@ impl Objects {
         ensures object { option_copied result ≡ slice_get self.now number }
     {
         self.objects.get(number as usize)
+    }
+
+    /// Whether an object is a queue with a name.
+    fn is_queue(&self, number: u32, name: &Name) -> bool
+        ensures named { result ≡ is_name name.now (queue_name (place_at self.now number)) }
+    {
+        match self.get(number) {
+            Some(object) => is_name(name, object.queue_name()),
+            None => false,
+        }
+    }
+
+    /// Whether an object is a semaphore with a name.
+    fn is_semaphore(&self, number: u32, name: &Name) -> bool
+        ensures named { result ≡ is_name name.now (semaphore_name (place_at self.now number)) }
+    {
+        match self.get(number) {
+            Some(object) => is_name(name, object.semaphore_name()),
+            None => false,
+        }
+    }
+
+    /// Whether an object has a name.
+    pub(crate) fn has_name(&self, number: u32) -> bool
+        ensures named { result ≡ has_name (place_at self.now number) }
+    {
+        match self.get(number) {
+            Some(object) => object.has_name(),
+            None => false,
+        }
+    }
+
+    /// Whether an object is none, or has a name.
+    fn is_empty_or_named(&self, number: u32) -> bool
+        ensures named { result
+            ≡ (is_empty (place_at self.now number) || has_name (place_at self.now number)) }
+    {
+        match self.get(number) {
+            Some(object) => object.is_empty() || object.has_name(),
+            None => true,
+        }
+    }
+
+    /// The place of the queue with a name among objects, which are given by their numbers.
+    pub(crate) fn queue_named(&self, numbers: &[u32], name: &Name) -> Option<usize>
+        ensures found { result
+            ≡ position (λ n. is_name name.now (queue_name (place_at self.now n))) numbers.now }
+    {
+        numbers
+            .iter()
+            .position(|number| self.is_queue(*number, name))
+    }
+
+    /// The place of the semaphore with a name among objects, which are given by their numbers.
+    pub(crate) fn semaphore_named(&self, numbers: &[u32], name: &Name) -> Option<usize>
+        ensures found { result
+            ≡ position (λ n. is_name name.now (semaphore_name (place_at self.now n))) numbers.now }
+    {
+        numbers
+            .iter()
+            .position(|number| self.is_semaphore(*number, name))
+    }
+
+    /// Whether each of some objects, which are given by their numbers, has a name.
+    pub(crate) fn are_named(&self, numbers: &[u32]) -> bool
+        ensures named { result ≡ list_all (λ n. is_empty (place_at self.now n)
+            || has_name (place_at self.now n)) numbers.now }
+    {
+        numbers.iter().all(|number| self.is_empty_or_named(*number))
     }
 
     /// The number of an equal object, if one is kept.

@@ -1,6 +1,5 @@
 //! Rows of numbers, each once.
 ghost use Rattle.std.specs.Prelude.{◌≡◌, ◌<◌, ◌⊎◌, ℕ, [], Some, length, slice_get, slice_set, IfOk, IfSome, IsTrue, ◌+◌, ◌≤◌, None, IfNone};
-ghost use Rattle.std.specs.Option.{option_map};
 ghost use Rattle.ipc_kernel.specs.Rows.{KernelRow};
 ghost use Rattle.ipc_kernel.specs.Private.KeptRows.{row_of};
 

@@ -1,4 +1,5 @@
-//! Kernels whose places are in an order that doesn't depend on how they were made.
+//! Kernels whose places are in an order that doesn't depend on how they were made. Opens and closes of
+//! objects with a name leave that order as it was.
 ghost use Rattle.std.specs.Prelude.{IfOk, IfSome};
 ghost use Rattle.ipc_kernel.specs.Alike.{IsAlike};
 ghost use Rattle.ipc_kernel.specs.Private.Renamings.{Permutes};
@@ -8,30 +9,27 @@ use crate::arrangement::Arrangement;
 use std::alloc::{AllocError, Global};
 
 impl Kernel {
-    /// The kernel with its places renamed, so that the order of its objects is that in which
-    /// processes have them open, and then that of their kinds and names. Kernels that are alike
-    /// become equal.
-    #[tactic(auto, using(crate::proofs::Alikes::alike_same))]
-    pub fn arranged(&self, alloc: Global) -> Result<Kernel, AllocError>
-        ensures alike { IfOk result (λ k. IsAlike self.now k) }
+    /// The kernel with its places renamed, so that its named objects stand first, in the order of
+    /// their kinds and names, and then the others in the order in which processes have them open;
+    /// none if its objects stand so already. Kernels that are alike become equal.
+    pub fn arranged(&self, alloc: Global) -> Result<Option<Kernel>, AllocError>
+        ensures alike { IfOk result (λ found. IfSome found (λ k. IsAlike self.now k)) }
     {
         let arrangement = self.arrangement();
-        if !arrangement.is_none() {
-            if let Some(arranged) = self.renamed(alloc, &arrangement)? {
-                return Ok(arranged);
-            }
+        if arrangement.is_none() {
+            return Ok(None);
         }
-        let copy = self.copy(alloc)?;
-        Ok(copy)
+        let arranged = self.renamed(alloc, &arrangement)?;
+        Ok(arranged)
     }
 
-    /// The order of the objects in which processes have them open, and then of their names.
+    /// The order of the objects by their kinds and names, and then in which processes have them open.
     fn arrangement(&self) -> Arrangement
         ensures permutation { Permutes result.renaming }
     {
         let mut arrangement = Arrangement::new();
-        self.processes.arrange(&mut arrangement);
         self.places.arrange(&mut arrangement);
+        self.processes.arrange(&mut arrangement);
         arrangement
     }
 

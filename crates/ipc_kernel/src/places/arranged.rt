@@ -1,5 +1,4 @@
 //! Places in the order of their names, and places that are renamed.
-ghost use Rattle.std.specs.Prelude.{◌<◌, length, IfSome};
 ghost use Rattle.ipc_kernel.specs.Private.Renamings.{Permutes};
 
 use super::Places;
@@ -7,14 +6,14 @@ use crate::arrangement::Arrangement;
 use crate::place::Place;
 use std::alloc::{AllocError, Global};
 
-/// The first by kind and name of the objects that aren't taken.
+/// The first by kind and name of the objects with a name that aren't taken.
 fn first_left(places: &[Place], arrangement: &Arrangement) -> Option<u8> {
     let mut first: Option<u8> = None;
     for (at, place) in places.iter().enumerate() {
         let Ok(number) = u8::try_from(at) else {
             return first;
         };
-        if !place.is_empty() && !arrangement.has(number) {
+        if place.has_name() && !arrangement.has(number) {
             let is_first = match first {
                 Some(other) => match places.get(other as usize) {
                     Some(other) => place.is_before(other),
@@ -30,7 +29,7 @@ fn first_left(places: &[Place], arrangement: &Arrangement) -> Option<u8> {
     first
 }
 
-/// Takes each object that isn't taken, in the order of their kinds and names.
+/// Takes each object with a name, in the order of their kinds and names.
 fn arrange(places: &[Place], arrangement: &mut Arrangement)
     requires permutation { Permutes arrangement.old.renaming }
     ensures permutation { Permutes arrangement.new.renaming }
@@ -65,8 +64,8 @@ fn renamed(
 }
 
 impl Places {
-    /// Takes each object that isn't taken, first the queues and then the semaphores, each in the order
-    /// of their names.
+    /// Takes each object with a name, first the queues and then the semaphores, each in the order of
+    /// their names.
     pub(crate) fn arrange(&self, arrangement: &mut Arrangement)
         requires permutation { Permutes arrangement.old.renaming }
         ensures permutation { Permutes arrangement.new.renaming }

@@ -1,5 +1,5 @@
 //! Places from objects.
-ghost use Rattle.std.specs.Prelude.{◌≡◌, ◌+◌, ◌≤◌, ◌++◌, ◌-◌, ℕ, IsTrue, IfOk, IfSome, length, replicate, take};
+ghost use Rattle.std.specs.Prelude.{◌≡◌, ◌+◌, ◌≤◌, ◌++◌, ◌-◌, ℕ, IsTrue, IfOk, IfSome, length, take};
 ghost use Rattle.ipc_kernel.specs.Limits.{object_places};
 ghost use Rattle.ipc_kernel.specs.Places.{places_or_empty, queue_name, semaphore_name};
 ghost use Rattle.ipc_kernel.specs.Rows.{padded};

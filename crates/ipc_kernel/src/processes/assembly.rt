@@ -1,6 +1,5 @@
 //! Processes from their tables.
 ghost use Rattle.std.specs.Prelude.{◌≡◌, ◌<◌, ◌+◌, ℕ, IsTrue, IfSome, All, slice_index, count_by, length};
-ghost use Rattle.ipc_kernel.specs.Limits.{object_places};
 ghost use Rattle.ipc_kernel.specs.Processes.{descriptor_refers, slot_refers};
 ghost use Rattle.ipc_kernel.specs.Private.Counts.{references_in, references_to, HasFullTables};
 

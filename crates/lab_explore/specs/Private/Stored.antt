@@ -25,7 +25,7 @@ Keeps {A} xs ys = (i : ℕ) (x : A) → slice_get xs i ≡ Some x → slice_get 
 
 -- the state at a place
 abbrev pub IsState : Store → ℕ → Process → Type 0
-IsState t i s = option_map process_view (slice_get t.states.items i) ≡ Some s
+IsState t i s = option_map process_view (slice_get t.states i) ≡ Some s
 
 -- the kernel with this number
 abbrev pub IsExactly : Store → ℕ → KernelState → Type 0
@@ -51,13 +51,13 @@ IsReady s = IsHeld s × IsAtCall (process_view s)
 
 -- each row stands for a world
 pub record IsStore (t : Store) : Type 0 where
-  pub states : All IsReady t.states.items
+  pub states : All IsReady t.states
   pub rows : All (λ r. (w : WorldState) × IsRow t r w) t.rows
 
 -- nothing is lost
 pub record Grows (t u : Store) : Type 0 where
   pub kernels : GrowsKept t.kernels u.kernels
-  pub states : Keeps t.states.items u.states.items
+  pub states : Keeps t.states u.states
   pub rows : Keeps t.rows u.rows
   pub edges : Keeps t.edges.items u.edges.items
 

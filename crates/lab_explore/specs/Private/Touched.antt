@@ -1,11 +1,13 @@
--- Steps at calls on open objects.
+-- Steps at calls that work on one object.
 use Rattle.std.specs.Prelude.{ℕ, ◌≡◌, Some, All, slice_get}
 use Rattle.ipc_kernel.specs.Kernel.{KernelState, IsSettled}
-use Rattle.ipc_kernel.specs.Operands.{HasOperand, with_operand}
+use Rattle.ipc_kernel.specs.Operands.{HasOperand, operand_in, with_operand}
+use Rattle.ipc_kernel.specs.declared.call.Call.{Call}
 use Rattle.ipc_kernel.specs.declared.place.Place.{Place}
 use Rattle.ipc_kernel.specs.declared.process.OpenTables.{OpenTables}
 use Rattle.lab_sched.specs.Worlds.{Process, step_effect}
 use Rattle.lab_sched.specs.Held.{step_of}
+use Rattle.lab_conditions.specs.Conditions.{StandsAt}
 use Rattle.lab_explore.specs.declared.store.Store.{Store}
 use Rattle.lab_explore.specs.declared.touches.Effect.{Effect}
 use Rattle.lab_explore.specs.declared.touches.Effect.TheVariants.{Nothing, Limit, To}
@@ -20,11 +22,17 @@ abbrev pub AreParts : Store → ℕ → ℕ → OpenTables → Place → Type 0
 AreParts t tables object x o =
     (slice_get t.kernels.tables tables ≡ Some x) × (slice_get t.kernels.objects object ≡ Some o)
 
--- over this kernel process p has the tables of a call, and its object is in the place
-abbrev pub HasTouch : Store → KernelState → ℕ → Touch → Type 0
-HasTouch t k p touch =
-    (x : OpenTables) × (o : Place) × AreParts t touch.tables touch.object x o
-    × HasOperand k p touch.place x o
+-- over this kernel process p has the tables of a call, which works on the object in the place
+pub record HasTouch (t : Store) (k : KernelState) (p : ℕ) (touch : Touch) : Type 0 where
+  pub process : Process
+  pub call : Call
+  pub tables : OpenTables
+  pub object : Place
+  pub state : IsState t touch.state process
+  pub stands : StandsAt process call
+  pub parts : AreParts t touch.tables touch.object tables object
+  pub operand : HasOperand k p touch.place tables object
+  pub works : operand_in k tables call ≡ Some touch.place
 
 -- what a step of process p makes of its tables, of the object in a place, and of it then all its
 -- local steps; of the kernel nothing else is changed
@@ -45,13 +53,13 @@ IsOutcome t k p s i (To tables object state taken) =
     × HasOperand (step_of k p s).kernel p i x o × IsReached (step_of k p s).process u
     × GoesOn (step_effect k p (Some s))
 
--- that comes of a step at the call, over whatever kernel
+-- that comes of a step at the call, over whatever kernel in which it works on the object in the place
 abbrev pub IsTouched : Store → Touch → Effect → Type 0
 IsTouched t touch effect =
-    (s : Process) × (x : OpenTables) × (o : Place) × IsState t touch.state s
-    × AreParts t touch.tables touch.object x o
+    (s : Process) × (x : OpenTables) × (o : Place) × (c : Call) × IsState t touch.state s
+    × AreParts t touch.tables touch.object x o × StandsAt s c
     × ((k : KernelState) (p : ℕ) → IsSettled k → HasOperand k p touch.place x o
-    → IsEffect t k p s touch.place effect)
+    → operand_in k x c ≡ Some touch.place → IsEffect t k p s touch.place effect)
 
 -- each step is such a one
 abbrev pub AreTouched : Store → Touches → Type 0

@@ -1,8 +1,7 @@
-use Rattle.std.proofs.Common.{◌∙◌, ◌∷◌, [], ap, arith, map, get_or}
+use Rattle.std.proofs.Common.{sym, ◌∙◌, ◌∷◌, [], ap, arith, map, get_or}
 use Rattle.std.proofs.lemmas.List.{map-append}
 use Rattle.std.proofs.lemmas.Option.{slice_get-get_or}
 use Rattle.lab_sched.specs.Held.{process_view}
-use Rattle.lab_explore.proofs.Pushes.{got}
 use Rattle.lab_explore.proofs.JudgedRows.{states_more, states_all}
 use Rattle.lab_explore.proofs.store.Store.processes_in.Goals as goal
 
@@ -13,10 +12,9 @@ loop-state-preserved c ss along =
     let state = get_or states n 0 in
     let seen = c.loop-state.processes.items in
     let process = c.in-Some.process in
-    let lookup = c.in-Some.ensures.lookup in
     states_more c.args.self.now states ss (map (λ s. process_view s.now) seen) (map (λ s. process_view s.now) c.push.new.self.items) n state process.now along
     (slice_get-get_or states n 0 c.loop-state-test.true)
-    (got c.deref.result.now c.args.self.now.states.items state process.now c.deref.ensures.value lookup.3.0 lookup.1) (c.loop-state.invariant ss along)
+    (sym c.in-Some.ensures.state) (c.loop-state.invariant ss along)
     (ap (map (λ s. process_view s.now)) (c.in_ok-push.ensures.items) ∙ map-append (λ s. process_view s.now) seen (process ∷ []))
 
 pub returns : goal.returns

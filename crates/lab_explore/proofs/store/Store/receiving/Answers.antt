@@ -7,7 +7,7 @@ use Rattle.lab_explore.proofs.store.Store.receiving.Goals as goal
 
 pub loop-process-preserved : goal.loop-process-preserved
 loop-process-preserved c =
-    let states = c.args.self.now.states.items in
+    let states = c.args.self.now.states in
     let n = c.loop-process.process-index in
     let value = c.deref-process-items.ensures.value in
     let s = c.process-item.result in
@@ -16,6 +16,6 @@ loop-process-preserved c =
 
 pub returns : goal.returns
 returns c =
-    let states = c.args.self.now.states.items in
+    let states = c.args.self.now.states in
     let past = subst (λ xs. length xs ≤ c.loop-process.process-index) c.deref-process-items.ensures.value c.loop-process-test.false in
     record { receiving = c.loop-process.invariant ∙ ap (map (λ s. is_receiving (process_view s))) (take_all c.loop-process.process-index states past) }

@@ -1,0 +1,11 @@
+use Rattle.std.proofs.Common.{Some, sym, ap, ◌∙◌}
+use Rattle.ipc_kernel.specs.Places.{semaphore_name}
+use Rattle.ipc_kernel.proofs.OperandRows.{named_there}
+use Rattle.ipc_kernel.proofs.kept.Kernels.semaphore_named.Goals as goal
+
+pub returns : goal.returns
+returns c = record {
+  place = rw (← c.self.view_is) (λ k at_kernel.
+      named_there semaphore_name c.self.inside.objects c.self.inside.tables c.self.inside.rows c.args.kernel c.in_ok-objects.objects.now c.in_ok-objects.field-0-1.now c.args.name.now k c.in_ok-first.first
+      c.in_ok-objects.ensures.row at_kernel (sym c.in_ok-first.ensures.found) ∙ ap Some (sym c.in_ok-place.ensures.place));
+}
