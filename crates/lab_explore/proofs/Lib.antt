@@ -7,6 +7,7 @@ mod StepsToCalls
 mod Pushes
 mod Growths
 mod StepsOfRows
+mod StandingStates
 mod TouchLemmas
 mod RowTables
 mod FirstWorlds

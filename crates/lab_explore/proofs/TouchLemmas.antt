@@ -85,9 +85,16 @@ next_by_effect t u k p s i kernel tables object state taken g settled h there =
 
 -- a call works on an object also where more is kept
 pub touch_grows : (t u : Store) (k : KernelState) (p : ℕ) (touch : Touch) → Grows t u → HasTouch t k p touch → HasTouch u k p touch
-touch_grows t u k p touch g h = record h {
+touch_grows t u k p touch g h = record {
+  process = h.process;
+  call = h.call;
+  tables = h.tables;
+  object = h.object;
   state = state_grows t u touch.state h.process g h.state;
+  stands = h.stands;
   parts = (g.kernels.tables touch.tables h.tables h.parts.0, g.kernels.objects touch.object h.object h.parts.1);
+  operand = h.operand;
+  works = h.works;
 }
 
 -- the move of a process by a step that was made for its call

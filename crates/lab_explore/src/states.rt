@@ -1,6 +1,6 @@
 //! States of processes at calls, each of which is kept once.
 ghost use Rattle.std.specs.Prelude.{◌≡◌, [], ◌∷◌, ◌++◌, IfOk, IfSome, OnOk, Some, length, slice_get};
-ghost use Rattle.std.specs.Option.{option_copied};
+ghost use Rattle.std.specs.Option.{option_copied, option_map};
 ghost use Rattle.lab_sched.specs.Held.{process_view};
 ghost use Rattle.lab_sched.specs.declared.process.Process.{Process as Kept};
 ghost use Rattle.lab_conditions.specs.Conditions.{StandsAt};
@@ -81,8 +81,8 @@ impl States {
 
     /// The number of an equal state, if one is kept.
     pub(crate) fn find(&self, process: &Process, digest: u64) -> Option<usize>
-        ensures found { IfSome result (λ i. (s : Kept) × (slice_get self.now i ≡ Some s)
-            × (process_view s ≡ process_view process.now)) }
+        ensures found { IfSome result (λ i. option_map process_view (slice_get self.now i)
+            ≡ Some (process_view process.now)) }
     {
         let mut number = self.index.newest(digest);
         while number > 0 {

@@ -1,5 +1,6 @@
 //! What a search keeps.
 ghost use Rattle.std.specs.Prelude.{◌≡◌, ◌<◌, false, Some, IsTrue, IfOk, IfSome, OnOk, slice_get};
+ghost use Rattle.ipc_kernel.specs.Kernel.{IsSettled};
 ghost use Rattle.lab_sched.specs.Held.{process_view};
 ghost use Rattle.lab_explore.specs.declared.store.Next.TheVariants.{Nothing};
 ghost use Rattle.lab_explore.specs.Private.Stored.{IsExactly, IsState, IsKernel, IsReady, IsStore, Grows};
@@ -135,6 +136,7 @@ impl Store {
         ensures store { OnOk result (IsStore self.new) }
         ensures grows { OnOk result (Grows self.old self.new) }
         ensures kernel { IfOk result (λ i. IsExactly self.new i kernel.now) }
+        ensures settled { IsSettled kernel.now }
     {
         let number = self.kernels.keep(alloc, kernel)?;
         Ok(number)
@@ -148,10 +150,11 @@ impl Store {
         ensures grows { OnOk result (Grows self.old self.new) }
         ensures kernel { IfOk result (λ i. IsKernel self.new i kernel.now) }
     {
-        let number = match kernel.arranged(alloc)? {
-            Some(arranged) => self.kernels.keep(alloc, &arranged)?,
-            None => self.kernels.keep(alloc, kernel)?,
-        };
+        if let Some(arranged) = kernel.arranged(alloc)? {
+            let number = self.keep_kernel(alloc, &arranged)?;
+            return Ok(number);
+        }
+        let number = self.keep_kernel(alloc, kernel)?;
         Ok(number)
     }
 }

@@ -1,6 +1,5 @@
-use Rattle.std.proofs.Common.{refl}
-use Rattle.lab_explore.proofs.Growths.{kernels_grown}
+use Rattle.ipc_kernel.proofs.Alikes.{alike_itself}
 use Rattle.lab_explore.proofs.store.Store.keep_alike.Goals as goal
 
-pub returns-clause-store : goal.returns-clause-store
-returns-clause-store c = (kernels_grown c.args.self.now _ c.requires.store c.in_ok-number.ensures.grows refl refl refl).1
+pub returns-clause-kernel : goal.returns-clause-kernel
+returns-clause-kernel c = (c.args.kernel.now, c.in_ok-number-2.ensures.kernel, alike_itself c.args.kernel.now, c.in_ok-number-2.ensures.settled)
