@@ -27,31 +27,39 @@ const MACHINE: &str =
     "The machine that the warnings are about: a is the book's; in b a trap leaves R7";
 
 pub(crate) fn asm<'a>(alloc: Global) -> Result<Command<'a>, AllocError> {
-    let explain = "Shows the source line of a fault, where it is wrong and what could stand there";
-    Command::new(alloc, "asm")
+    let command = Command::new(alloc, "asm")
         .about("Assembles a source and writes its object file")
         .after_help(examples::ASSEMBLE)
         .arg(file(alloc, "SOURCE", "A source text, as UTF-8"))?
-        .arg(file(alloc, "OBJECT", "The object file to write"))?
+        .arg(file(alloc, "OBJECT", "The object file to write"))?;
+    with_listings(alloc, command)
+}
+
+/// The command with the options that say what is printed of a source.
+fn with_listings<'a>(alloc: Global, command: Command<'a>) -> Result<Command<'a>, AllocError> {
+    let explain = "Shows the source line of a fault, where it is wrong and what could stand there";
+    command
         .arg(flag(alloc, "list", "Prints the listing"))?
         .arg(flag(alloc, "explain", explain))?
         .arg(profile(alloc, MACHINE))
 }
 
 pub(crate) fn check<'a>(alloc: Global) -> Result<Command<'a>, AllocError> {
-    let allow = values(
-        alloc,
-        "allow",
-        "WARNING",
-        "Leaves out a warning of this name",
-    );
-    Command::new(alloc, "check")
+    let command = Command::new(alloc, "check")
         .about("Writes all that is wrong with sources, and warnings")
         .after_help(examples::CHECK)
         .arg(file(alloc, "SOURCE", "A source text, as UTF-8").num_args(1..))?
-        .arg(profile(alloc, MACHINE))?
+        .arg(profile(alloc, MACHINE))?;
+    with_warnings(alloc, command)
+}
+
+/// The command with the options that say what becomes of warnings.
+fn with_warnings<'a>(alloc: Global, command: Command<'a>) -> Result<Command<'a>, AllocError> {
+    let allow = "Leaves out a warning of this name";
+    let names = ValueParser::Names(WARNINGS);
+    command
         .arg(flag(alloc, "werror", "Fails where there is a warning"))?
-        .arg(allow.value_parser(ValueParser::Names(WARNINGS)))
+        .arg(values(alloc, "allow", "WARNING", allow).value_parser(names))
 }
 
 pub(crate) fn dis<'a>(alloc: Global) -> Result<Command<'a>, AllocError> {

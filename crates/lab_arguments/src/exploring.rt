@@ -21,19 +21,26 @@ use std::alloc::{AllocError, Global};
 
 pub(crate) fn explore<'a>(alloc: Global) -> Result<Command<'a>, AllocError> {
     let about = "Visits every interleaving of programs and prints the ends that they can have";
+    let command = on_programs(alloc, "explore", about, examples::EXPLORE)?;
+    let command = with_limits(alloc, command)?;
+    with_questions(alloc, command)
+}
+
+/// The command with the options that say how much a search may take.
+fn with_limits<'a>(alloc: Global, command: Command<'a>) -> Result<Command<'a>, AllocError> {
     let steps = "The most steps of a process without a call";
-    let memory = number(
-        alloc,
-        "memory",
-        "MB",
-        MOST_MEMORY,
-        "The most memory to take, in megabytes",
-    );
-    let command = on_programs(alloc, "explore", about, examples::EXPLORE)?
+    let memory = "The most memory to take, in megabytes";
+    command
         .arg(limit(alloc, "limit", "N", MOST_LOCAL_STEPS, steps))?
-        .arg(memory.default_value("2048"))?;
-    let command = with_demands(alloc, with_walks(alloc, command)?)?;
-    with_prints(alloc, with_tellings(alloc, command)?)
+        .arg(number(alloc, "memory", "MB", MOST_MEMORY, memory).default_value("2048"))
+}
+
+/// The command with the options that say what is asked, and how the answers are printed.
+fn with_questions<'a>(alloc: Global, command: Command<'a>) -> Result<Command<'a>, AllocError> {
+    let command = with_walks(alloc, command)?;
+    let command = with_demands(alloc, command)?;
+    let command = with_tellings(alloc, command)?;
+    with_prints(alloc, command)
 }
 
 /// The command with the options that say what must be so.

@@ -67,31 +67,40 @@ fn without_commands<'a>(alloc: Global) -> Result<Command<'a>, AllocError> {
     )
 }
 
+/// The program with a command.
+fn with_command<'a>(
+    program: Command<'a>,
+    command: Result<Command<'a>, AllocError>,
+) -> Result<Command<'a>, AllocError> {
+    program.subcommand(command?)
+}
+
 /// The program with the commands on sources and object files.
 fn with_files<'a>(alloc: Global, program: Command<'a>) -> Result<Command<'a>, AllocError> {
-    program
-        .subcommand(asm(alloc)?)?
-        .subcommand(check(alloc)?)?
-        .subcommand(dis(alloc)?)
+    let program = with_command(program, asm(alloc))?;
+    let program = with_command(program, check(alloc))?;
+    with_command(program, dis(alloc))
 }
 
 /// The program with the commands that run programs by given steps.
 fn with_schedules<'a>(alloc: Global, program: Command<'a>) -> Result<Command<'a>, AllocError> {
-    program.subcommand(step(alloc)?)?.subcommand(trace(alloc)?)
+    let program = with_command(program, step(alloc))?;
+    with_command(program, trace(alloc))
 }
 
 /// The program with the commands that find steps themselves or are told them one by one.
 fn with_searches<'a>(alloc: Global, program: Command<'a>) -> Result<Command<'a>, AllocError> {
-    program
-        .subcommand(run(alloc)?)?
-        .subcommand(explore(alloc)?)?
-        .subcommand(debug(alloc)?)
+    let program = with_command(program, run(alloc))?;
+    let program = with_command(program, explore(alloc))?;
+    with_command(program, debug(alloc))
 }
 
 /// The program with all its commands.
 fn program<'a>(alloc: Global) -> Result<Command<'a>, AllocError> {
-    let program = with_files(alloc, without_commands(alloc)?)?;
-    with_searches(alloc, with_schedules(alloc, program)?)
+    let program = without_commands(alloc)?;
+    let program = with_files(alloc, program)?;
+    let program = with_schedules(alloc, program)?;
+    with_searches(alloc, program)
 }
 
 /// What the parser's matches ask for. It has made sure that there is a command, and each required word.
