@@ -13,6 +13,9 @@ use Rattle.ipc_kernel.specs.declared.call.Call.{Call}
 use Rattle.ipc_kernel.specs.declared.call.Call.TheVariants.{MqOpen, MqClose, MqUnlink, MqSend, MqReceive, MqGetattr, MqSetattr, SemOpen, SemClose, SemUnlink, SemWait, SemTrywait, SemPost, SemGetvalue, Exit}
 use Rattle.ipc_traps.specs.declared.Asked.{Asked}
 use Rattle.ipc_traps.specs.declared.Asked.TheVariants as asked_for
+use Rattle.ipc_traps.specs.declared.service.Service.{Service}
+use Rattle.ipc_traps.specs.declared.service.Service.TheVariants as service
+use Rattle.ipc_traps.specs.Services.{service_in}
 use Rattle.ipc_traps.specs.Names.{is_in_memory, words_at, reaches_devices, name_words}
 
 -- what the next step is: a local step with the process after it, a refusal, a call of the kernel, or the end
@@ -83,29 +86,32 @@ mq_setattr_request p =
 abbrev pub sem_getvalue_request : Process → Request
 sem_getvalue_request p = request_within (is_in_memory (reg p 1) 1) (Calls (SemGetvalue (reg p 0)))
 
--- what a trap of the kernel asks for, by its vector; before any other trap a process is at its end
-unfoldable pub trap_request : ℕ → Process → Request
-trap_request v p =
-    if v == 0x40 then mq_open_request p else
-    if v == 0x41 then Calls (MqClose (reg p 0)) else
-    if v == 0x42 then request_by_name p true MqUnlink else
-    if v == 0x43 then mq_send_request p else
-    if v == 0x44 then mq_receive_request p else
-    if v == 0x45 then mq_getattr_request p else
-    if v == 0x46 then mq_setattr_request p else
-    if v == 0x50 then sem_open_request p else
-    if v == 0x51 then Calls (SemClose (reg p 0)) else
-    if v == 0x52 then request_by_name p true SemUnlink else
-    if v == 0x53 then Calls (SemWait (reg p 0)) else
-    if v == 0x54 then Calls (SemTrywait (reg p 0)) else
-    if v == 0x55 then Calls (SemPost (reg p 0)) else
-    if v == 0x56 then sem_getvalue_request p else
-    Calls Exit
+-- what a call of the kernel asks for
+abbrev pub service_request : Service → Process → Request
+service_request service.MqOpen p = mq_open_request p
+service_request service.MqClose p = Calls (MqClose (reg p 0))
+service_request service.MqUnlink p = request_by_name p true MqUnlink
+service_request service.MqSend p = mq_send_request p
+service_request service.MqReceive p = mq_receive_request p
+service_request service.MqGetattr p = mq_getattr_request p
+service_request service.MqSetattr p = mq_setattr_request p
+service_request service.SemOpen p = sem_open_request p
+service_request service.SemClose p = Calls (SemClose (reg p 0))
+service_request service.SemUnlink p = request_by_name p true SemUnlink
+service_request service.SemWait p = Calls (SemWait (reg p 0))
+service_request service.SemTrywait p = Calls (SemTrywait (reg p 0))
+service_request service.SemPost p = Calls (SemPost (reg p 0))
+service_request service.SemGetvalue p = sem_getvalue_request p
+
+-- what a trap asks for; before one that is no call of the kernel a process is at its end
+abbrev pub trap_request : Option Service → Process → Request
+trap_request (Some s) p = service_request s p
+trap_request None p = Calls Exit
 
 -- what an outcome of the machine asks for
 abbrev pub outcome_request : Process → Outcome → Request
 outcome_request p (GoesOn q) = Local q
-outcome_request p (Stops (Trap v)) = trap_request v p
+outcome_request p (Stops (Trap v)) = trap_request (service_in v) p
 outcome_request p (Stops (End how)) = Ends how
 
 -- what the next step of a process asks for

@@ -4,11 +4,13 @@
 mod memory;
 mod reading;
 mod replying;
+mod service;
 
 use ipc_kernel::Call;
 use ipc_names::Errno;
 pub use reading::read_call;
 pub use replying::{effect_of, prepare};
+pub use service::Service;
 
 /// What a process that stands before a call asks for.
 #[derive(Drop)]

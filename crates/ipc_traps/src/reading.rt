@@ -4,11 +4,12 @@ ghost use Rattle.std.specs.Prelude.{◌≡◌, IfOk, ◌<◌, true, ℕ, Result,
 ghost use Rattle.lc3_machine.specs.Process.{reg};
 ghost use Rattle.lc3_machine.specs.Steps.{AsksTrap};
 ghost use Rattle.ipc_kernel.specs.declared.call.Call.TheVariants.{MqUnlink, SemUnlink};
+ghost use Rattle.ipc_traps.specs.Services.{service_in};
 ghost use Rattle.ipc_traps.specs.Names.{is_in_memory, words_at};
-ghost use Rattle.ipc_traps.specs.Asked.{IsAsked, request_of, next_request, trap_request, name_at, request_by_name, has_attributes, attributes, mq_open_request, sem_open_request, mq_send_request, mq_receive_request, mq_getattr_request, mq_setattr_request, sem_getvalue_request};
+ghost use Rattle.ipc_traps.specs.Asked.{IsAsked, request_of, next_request, trap_request, service_request, name_at, request_by_name, has_attributes, attributes, mq_open_request, sem_open_request, mq_send_request, mq_receive_request, mq_getattr_request, mq_setattr_request, sem_getvalue_request};
 
-use crate::Asked;
 use crate::memory::{is_in_memory, name_length, read_few, read_four, read_words, register};
+use crate::{Asked, Service};
 use ipc_kernel::Call;
 use ipc_names::{Errno, Name, O_CREAT};
 use ipc_objects::{FEW_WORDS, Words};
@@ -31,28 +32,39 @@ pub fn read_call(alloc: Global, call: &AtCall) -> Result<Asked, AllocError>
 }
 
 /// What the trap with this vector asks for.
-#[tactic(auto, unfolding(crate::specs::Asked::trap_request))]
 #[inline(always)]
 fn read_trap(alloc: Global, machine: &Machine, vector: u8) -> Result<Asked, AllocError>
-    ensures request { IfOk result (λ a. request_of a ≡ trap_request vector machine.now.process) }
+    ensures request { IfOk result (λ a. request_of a
+        ≡ trap_request (service_in vector) machine.now.process) }
+{
+    match Service::of_vector(vector) {
+        Some(service) => read_service(alloc, machine, service),
+        None => Ok(Asked::Kernel(Call::Exit)),
+    }
+}
+
+/// What a process asks for by this call.
+#[inline(always)]
+fn read_service(alloc: Global, machine: &Machine, service: Service) -> Result<Asked, AllocError>
+    ensures request { IfOk result (λ a. request_of a
+        ≡ service_request service machine.now.process) }
 {
     let first = register(machine, 0);
-    match vector {
-        0x40 => read_open(alloc, machine),
-        0x41 => Ok(Asked::Kernel(Call::MqClose { mqd: first })),
-        0x42 => read_unlink(alloc, machine),
-        0x43 => read_send(alloc, machine),
-        0x44 => Ok(read_receive(machine)),
-        0x45 => Ok(read_getattr(machine)),
-        0x46 => Ok(read_setattr(machine)),
-        0x50 => read_sem_open(alloc, machine),
-        0x51 => Ok(Asked::Kernel(Call::SemClose { slot: first })),
-        0x52 => read_sem_unlink(alloc, machine),
-        0x53 => Ok(Asked::Kernel(Call::SemWait { slot: first })),
-        0x54 => Ok(Asked::Kernel(Call::SemTrywait { slot: first })),
-        0x55 => Ok(Asked::Kernel(Call::SemPost { slot: first })),
-        0x56 => Ok(read_getvalue(machine)),
-        _ => Ok(Asked::Kernel(Call::Exit)),
+    match service {
+        Service::MqOpen => read_open(alloc, machine),
+        Service::MqClose => Ok(Asked::Kernel(Call::MqClose { mqd: first })),
+        Service::MqUnlink => read_unlink(alloc, machine),
+        Service::MqSend => read_send(alloc, machine),
+        Service::MqReceive => Ok(read_receive(machine)),
+        Service::MqGetattr => Ok(read_getattr(machine)),
+        Service::MqSetattr => Ok(read_setattr(machine)),
+        Service::SemOpen => read_sem_open(alloc, machine),
+        Service::SemClose => Ok(Asked::Kernel(Call::SemClose { slot: first })),
+        Service::SemUnlink => read_sem_unlink(alloc, machine),
+        Service::SemWait => Ok(Asked::Kernel(Call::SemWait { slot: first })),
+        Service::SemTrywait => Ok(Asked::Kernel(Call::SemTrywait { slot: first })),
+        Service::SemPost => Ok(Asked::Kernel(Call::SemPost { slot: first })),
+        Service::SemGetvalue => Ok(read_getvalue(machine)),
     }
 }
 

@@ -1,12 +1,14 @@
 //! What a reply does to the process that made the call.
 
-ghost use Rattle.std.specs.Prelude.{◌≡◌, ℕ, ◌<◌, OnOk, Option};
+ghost use Rattle.std.specs.Prelude.{◌≡◌, ◌<◌, OnOk, Option, Some};
 ghost use Rattle.lc3_machine.specs.Effects.{next_step};
 ghost use Rattle.lc3_machine.specs.Memory.{StaysReady};
 ghost use Rattle.lc3_machine.specs.Reply.{CanTake, process_after_effect};
+ghost use Rattle.ipc_traps.specs.declared.service.Service.TheVariants.{MqReceive, MqGetattr, MqSetattr, SemGetvalue};
 ghost use Rattle.ipc_traps.specs.Asked.{mq_receive_request, mq_getattr_request, mq_setattr_request, sem_getvalue_request};
-ghost use Rattle.ipc_traps.specs.Reply.{vector_in, unless_zero, four_words_address, process_after_reply, process_after_trap_reply, HasRoom, IsPrepared, IsPreparedFor};
+ghost use Rattle.ipc_traps.specs.Reply.{service_asked, unless_zero, four_words_address, process_after_reply, HasRoom, IsPrepared, IsPreparedFor};
 
+use crate::Service;
 use crate::memory::{is_in_memory, register};
 use ipc_kernel::Reply;
 use ipc_objects::MQ_MSGSIZE_MAX;
@@ -20,13 +22,24 @@ fn unless_zero(address: u16) -> Option<u16>
     if address == 0 { None } else { Some(address) }
 }
 
+/// The call of the kernel that a process stands before.
+#[inline(always)]
+fn service_asked(call: &AtCall) -> Option<Service>
+    ensures service { result ≡ service_asked (next_step call.now.process) }
+{
+    match call.want() {
+        Want::Trap(vector) => Service::of_vector(vector),
+        Want::End(_) => None,
+    }
+}
+
 /// Where the call wants the attributes of a queue written.
 fn four_words_address(call: &AtCall) -> Option<u16>
     ensures address { result
-        ≡ four_words_address (vector_in (next_step call.now.process)) call.now.process }
+        ≡ four_words_address (service_asked (next_step call.now.process)) call.now.process }
 {
-    match call.want() {
-        Want::Trap(0x46) => unless_zero(register(call.machine(), 2)),
+    match service_asked(call) {
+        Some(Service::MqSetattr) => unless_zero(register(call.machine(), 2)),
         _ => Some(register(call.machine(), 1)),
     }
 }
@@ -61,21 +74,18 @@ pub fn effect_of<'a>(call: &AtCall, reply: &'a Reply) -> Effect<'a>
 /// Makes writable each word that a reply to the call may write, of a buffer for a message the first
 /// `MQ_MSGSIZE_MAX` words at most.
 /// An error is want of memory: some of the words may be writable then.
-#[tactic(auto, unfolding(crate::specs::Reply::IsPrepared, crate::specs::Reply::HasRoom, crate::specs::Asked::next_request, crate::specs::Asked::trap_request))]
+#[tactic(auto, unfolding(crate::specs::Reply::IsPrepared, crate::specs::Reply::HasRoom, crate::specs::Asked::next_request))]
 #[inline(always)]
 pub fn prepare(call: &mut AtCall) -> Result<(), AllocError>
     ensures process { call.new.process ≡ call.old.process }
     ensures ready { StaysReady call.old.ready call.new.ready }
     ensures ok { OnOk result (IsPrepared call.new) }
 {
-    let Want::Trap(vector) = call.want() else {
-        return Ok(());
-    };
-    match vector {
-        0x44 => prepare_receive(call),
-        0x45 => prepare_getattr(call),
-        0x46 => prepare_setattr(call),
-        0x56 => prepare_getvalue(call),
+    match service_asked(call) {
+        Some(Service::MqReceive) => prepare_receive(call),
+        Some(Service::MqGetattr) => prepare_getattr(call),
+        Some(Service::MqSetattr) => prepare_setattr(call),
+        Some(Service::SemGetvalue) => prepare_getvalue(call),
         _ => Ok(()),
     }
 }
@@ -84,7 +94,8 @@ pub fn prepare(call: &mut AtCall) -> Result<(), AllocError>
 fn prepare_receive(call: &mut AtCall) -> Result<(), AllocError>
     ensures process { call.new.process ≡ call.old.process }
     ensures ready { StaysReady call.old.ready call.new.ready }
-    ensures ok { OnOk result (IsPreparedFor 0x44 (mq_receive_request call.new.process) call.new) }
+    ensures ok { OnOk result (IsPreparedFor (Some MqReceive)
+        (mq_receive_request call.new.process) call.new) }
 {
     let at = register(call.machine(), 1);
     let len = register(call.machine(), 2);
@@ -106,7 +117,8 @@ fn prepare_receive(call: &mut AtCall) -> Result<(), AllocError>
 fn prepare_getattr(call: &mut AtCall) -> Result<(), AllocError>
     ensures process { call.new.process ≡ call.old.process }
     ensures ready { StaysReady call.old.ready call.new.ready }
-    ensures ok { OnOk result (IsPreparedFor 0x45 (mq_getattr_request call.new.process) call.new) }
+    ensures ok { OnOk result (IsPreparedFor (Some MqGetattr)
+        (mq_getattr_request call.new.process) call.new) }
 {
     let at = register(call.machine(), 1);
     if !is_in_memory(at, 4) {
@@ -119,7 +131,8 @@ fn prepare_getattr(call: &mut AtCall) -> Result<(), AllocError>
 fn prepare_setattr(call: &mut AtCall) -> Result<(), AllocError>
     ensures process { call.new.process ≡ call.old.process }
     ensures ready { StaysReady call.old.ready call.new.ready }
-    ensures ok { OnOk result (IsPreparedFor 0x46 (mq_setattr_request call.new.process) call.new) }
+    ensures ok { OnOk result (IsPreparedFor (Some MqSetattr)
+        (mq_setattr_request call.new.process) call.new) }
 {
     let at = register(call.machine(), 2);
     if at == 0 {
@@ -135,8 +148,8 @@ fn prepare_setattr(call: &mut AtCall) -> Result<(), AllocError>
 fn prepare_getvalue(call: &mut AtCall) -> Result<(), AllocError>
     ensures process { call.new.process ≡ call.old.process }
     ensures ready { StaysReady call.old.ready call.new.ready }
-    ensures ok { OnOk result ((v : ℕ)
-        → IsPreparedFor v (sem_getvalue_request call.new.process) call.new) }
+    ensures ok { OnOk result (IsPreparedFor (Some SemGetvalue)
+        (sem_getvalue_request call.new.process) call.new) }
 {
     let at = register(call.machine(), 1);
     if !is_in_memory(at, 1) {

@@ -11,8 +11,8 @@ use Rattle.lab_trace.specs.declared.units.UnitCount.{UnitCount}
 use Rattle.lab_trace.specs.declared.told.Act.{Act}
 use Rattle.lab_trace.specs.declared.told.Act.TheVariants.{Calls, Writes, Ends}
 use Rattle.lab_trace.specs.declared.told.Called.{Called}
-use Rattle.lab_trace.specs.declared.service.Service.{Service}
-use Rattle.lab_trace.specs.declared.service.Service.TheVariants.{MqOpen, MqClose, MqUnlink, MqSend, MqReceive, MqGetattr, MqSetattr, SemOpen, SemClose, SemUnlink, SemWait, SemTrywait, SemPost, SemGetvalue}
+use Rattle.ipc_traps.specs.declared.service.Service.{Service}
+use Rattle.ipc_traps.specs.declared.service.Service.TheVariants.{MqOpen, MqClose, MqUnlink, MqSend, MqReceive, MqGetattr, MqSetattr, SemOpen, SemClose, SemUnlink, SemWait, SemTrywait, SemPost, SemGetvalue}
 
 -- the loop over the counts
 pub remaining_units-none : (k : KernelState) → remaining_units k [] ≡ []

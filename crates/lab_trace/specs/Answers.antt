@@ -19,8 +19,8 @@ use Rattle.lab_trace.specs.declared.answers.Given.{Given}
 use Rattle.lab_trace.specs.declared.answers.Given.TheVariants.{Nothing, Received, Attributes, Value}
 use Rattle.lab_trace.specs.declared.answers.Outcome.{Outcome}
 use Rattle.lab_trace.specs.declared.answers.Outcome.TheVariants.{Waits, Refused, Gives}
-use Rattle.lab_trace.specs.declared.service.Service.{Service}
-use Rattle.lab_trace.specs.declared.service.Service.TheVariants.{MqReceive, MqGetattr, MqSetattr, SemGetvalue}
+use Rattle.ipc_traps.specs.declared.service.Service.{Service}
+use Rattle.ipc_traps.specs.declared.service.Service.TheVariants.{MqReceive, MqGetattr, MqSetattr, SemGetvalue}
 
 -- the name of an error (POSIX.1-2017, <errno.h>)
 abbrev pub error_name : Errno → List ℕ

@@ -10,9 +10,9 @@ use Rattle.lab_trace.specs.Attributes.{sizes_text, flags_text}
 use Rattle.lab_trace.specs.Words.{pointer_text, name_text, bare_name_text, message_text}
 use Rattle.lab_trace.specs.Flags.{mq_flags, sem_flags}
 use Rattle.lab_trace.specs.Objects.{held_place, object_or_number, handle_text}
-use Rattle.lab_trace.specs.Services.{service_name, is_by_name}
-use Rattle.lab_trace.specs.declared.service.Service.{Service}
-use Rattle.lab_trace.specs.declared.service.Service.TheVariants.{MqOpen, MqUnlink, MqSend, MqReceive, MqGetattr, MqSetattr, SemOpen, SemUnlink, SemGetvalue}
+use Rattle.ipc_traps.specs.Services.{service_name, is_by_name}
+use Rattle.ipc_traps.specs.declared.service.Service.{Service}
+use Rattle.ipc_traps.specs.declared.service.Service.TheVariants.{MqOpen, MqUnlink, MqSend, MqReceive, MqGetattr, MqSetattr, SemOpen, SemUnlink, SemGetvalue}
 
 -- what stands between two arguments
 abbrev pub comma : List ℕ

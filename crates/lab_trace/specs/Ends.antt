@@ -15,8 +15,8 @@ use Rattle.lab_trace.specs.Tallies.{TallyState, account_of}
 use Rattle.lab_trace.specs.Forms.{Form, process_text, head, line_end}
 use Rattle.lab_trace.specs.Units.{units_of, balance}
 use Rattle.lab_trace.specs.declared.units.UnitCount.{UnitCount}
-use Rattle.lab_trace.specs.declared.service.Service.{Service}
-use Rattle.lab_trace.specs.declared.service.Service.TheVariants.{MqSend, MqReceive}
+use Rattle.ipc_traps.specs.declared.service.Service.{Service}
+use Rattle.ipc_traps.specs.declared.service.Service.TheVariants.{MqSend, MqReceive}
 
 -- whether a test holds for one of the numbers below n
 unfoldable pub any_below : ℕ → (ℕ → Bool) → Bool

@@ -6,14 +6,14 @@ use Rattle.ipc_kernel.specs.Kernel.{KernelState}
 use Rattle.lab_sched.specs.Worlds.{Process, Running, Waiting, Ended}
 use Rattle.lab_trace.specs.Answers.{outcome_of, result_of}
 use Rattle.lab_trace.specs.Objects.{held_place, level_at}
-use Rattle.lab_trace.specs.Services.{is_open, is_on_level}
+use Rattle.ipc_traps.specs.Services.{is_open, is_on_level}
 use Rattle.lab_trace.specs.Origins.{origin_by}
 use Rattle.lab_trace.specs.Tallies.{TallyState, account_of}
 use Rattle.lab_trace.specs.declared.answers.Outcome.{Outcome}
 use Rattle.lab_trace.specs.declared.asking.Asking.{Asking}
 use Rattle.lab_trace.specs.declared.asking.Observed.{Observed}
 use Rattle.lab_trace.specs.declared.handles.Level.{Level}
-use Rattle.lab_trace.specs.declared.service.Service.{Service}
+use Rattle.ipc_traps.specs.declared.service.Service.{Service}
 use Rattle.lab_trace.specs.declared.tally.Account.{Account}
 use Rattle.lab_trace.specs.declared.told.Called.{Called}
 use Rattle.lab_trace.specs.declared.told.Act.{Act}

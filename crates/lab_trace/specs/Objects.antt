@@ -8,8 +8,8 @@ use Rattle.ipc_kernel.specs.Processes.{descriptor_of, slot_of}
 use Rattle.ipc_kernel.specs.declared.place.Place.{Place}
 use Rattle.ipc_kernel.specs.declared.place.Place.TheVariants.{Empty, Mq, Sem}
 use Rattle.lab_trace.specs.Words.{signed_text}
-use Rattle.lab_trace.specs.Services.{is_on_queues}
-use Rattle.lab_trace.specs.declared.service.Service.{Service}
+use Rattle.ipc_traps.specs.Services.{is_on_queues}
+use Rattle.ipc_traps.specs.declared.service.Service.{Service}
 use Rattle.lab_trace.specs.declared.handles.Level.{Level}
 use Rattle.lab_trace.specs.declared.handles.Level.TheVariants.{Messages, Value}
 

@@ -8,8 +8,8 @@ use Rattle.lab_trace.specs.declared.origins.Origin.{Origin}
 use Rattle.lab_trace.specs.declared.told.Called.{Called}
 use Rattle.lab_trace.specs.declared.told.Act.{Act}
 use Rattle.lab_trace.specs.declared.told.Act.TheVariants.{Calls}
-use Rattle.lab_trace.specs.declared.service.Service.{Service}
-use Rattle.lab_trace.specs.declared.service.Service.TheVariants.{MqOpen, MqSend, MqReceive}
+use Rattle.ipc_traps.specs.declared.service.Service.{Service}
+use Rattle.ipc_traps.specs.declared.service.Service.TheVariants.{MqOpen, MqSend, MqReceive}
 
 -- whether a message is in the queue in a place
 abbrev pub is_in : ℕ → Origin → Bool

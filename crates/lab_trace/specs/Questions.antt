@@ -9,7 +9,7 @@ use Rattle.lab_trace.specs.Calls.{arguments, object_called, place_of, sent_words
 use Rattle.lab_trace.specs.Services.{service_at}
 use Rattle.lab_trace.specs.declared.asking.Asking.{Asking}
 use Rattle.lab_trace.specs.declared.asking.Observed.{Observed}
-use Rattle.lab_trace.specs.declared.service.Service.{Service}
+use Rattle.ipc_traps.specs.declared.service.Service.{Service}
 
 -- a call that process p is about to make: by its words, by what it is on, and by what it gives where it isn't refused
 abbrev pub question : KernelState → ℕ → Machine → Service → Asking

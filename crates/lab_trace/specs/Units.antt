@@ -8,8 +8,8 @@ use Rattle.lab_trace.specs.declared.told.Called.{Called}
 use Rattle.lab_trace.specs.declared.told.Act.{Act}
 use Rattle.lab_trace.specs.declared.told.Act.TheVariants.{Calls, Writes, Ends}
 use Rattle.lab_trace.specs.declared.units.UnitCount.{UnitCount}
-use Rattle.lab_trace.specs.declared.service.Service.{Service}
-use Rattle.lab_trace.specs.declared.service.Service.TheVariants.{SemWait, SemTrywait, SemPost}
+use Rattle.ipc_traps.specs.declared.service.Service.{Service}
+use Rattle.ipc_traps.specs.declared.service.Service.TheVariants.{SemWait, SemTrywait, SemPost}
 
 -- whether a count is that of process p for the semaphore in a place
 abbrev pub is_of : ℕ → ℕ → UnitCount → Bool

@@ -8,11 +8,11 @@ ghost use Rattle.lab_trace.specs.Answers.{error_name, error_in, first_given, att
 
 use crate::attributes::push_attributes;
 use crate::message::push_message;
-use crate::service::Service;
 use crate::words::register;
 use ipc_kernel::{Descriptor, Kernel};
 use ipc_names::{Errno, O_NONBLOCK};
 use ipc_objects::{Queue, Words};
+use ipc_traps::Service;
 use lab_sched::Process;
 use std::alloc::AllocError;
 

@@ -2,14 +2,13 @@
 ghost use Rattle.std.specs.Prelude.{◌≡◌, ◌<◌, ◌++◌, OnOk, IfOk, length, string_bytes};
 ghost use Rattle.lab_sched.specs.Held.{process_view};
 ghost use Rattle.lab_sched.specs.Worlds.{machine_of};
-ghost use Rattle.lab_trace.specs.declared.service.Service.TheVariants.{MqSend, MqReceive};
+ghost use Rattle.ipc_traps.specs.declared.service.Service.TheVariants.{MqSend, MqReceive};
 ghost use Rattle.lab_trace.specs.Calls.{attributes_asked, mq_open_arguments, sem_open_arguments, flags_asked, further_arguments, arguments, call_text, object_called, place_of, sent_words};
 
 use crate::attributes::{push_flags, push_sizes};
 use crate::flags::{has_flag, push_mq_flags, push_sem_flags};
 use crate::handles::{held_place, push_handle, push_object_or_number};
 use crate::message::push_buffer;
-use crate::service::Service;
 use crate::text::Text;
 use crate::words::{
     is_in_memory, push_address, push_bare_name, push_name, push_pointer, read_words, register,
@@ -17,6 +16,7 @@ use crate::words::{
 use ipc_kernel::Kernel;
 use ipc_names::O_CREAT;
 use ipc_objects::Words;
+use ipc_traps::Service;
 use lab_sched::Process;
 use std::alloc::{AllocError, Global};
 

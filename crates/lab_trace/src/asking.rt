@@ -6,11 +6,12 @@ ghost use Rattle.lab_trace.specs.Questions.{question, before, before_in};
 
 use crate::answers::{Given, given_by};
 use crate::arguments::{arguments_of, object_called, place_of, sent_words};
-use crate::service::{Service, service_at};
+use crate::service::service_at;
 use crate::text::Text;
 use crate::words::register;
 use ipc_kernel::Kernel;
 use ipc_objects::Words;
+use ipc_traps::Service;
 use lab_sched::{Process, World};
 use std::alloc::{AllocError, Global};
 

@@ -9,10 +9,11 @@ use crate::arguments::{arguments_of, push_call};
 use crate::form::Form;
 use crate::handles::{held_place, level_at, push_level};
 use crate::others::{others_title, push_others};
-use crate::service::{Service, service_at};
+use crate::service::service_at;
 use crate::takers::push_takers;
 use crate::tally::Tally;
 use crate::words::register;
+use ipc_traps::Service;
 use lab_sched::{Process, World};
 use std::alloc::{AllocError, Global};
 

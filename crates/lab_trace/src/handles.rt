@@ -5,10 +5,10 @@ ghost use Rattle.ipc_kernel.specs.Limits.{object_places};
 ghost use Rattle.ipc_kernel.specs.Places.{place_at};
 ghost use Rattle.lab_trace.specs.Objects.{held_place, named_text, object_text, behind_text, handle_text, object_or_number, level_at, level_text};
 
-use crate::service::Service;
 use crate::words::push_signed;
 use ipc_kernel::Kernel;
 use ipc_names::Name;
+use ipc_traps::Service;
 use std::alloc::AllocError;
 
 /// The level of an object.

@@ -5,9 +5,9 @@ ghost use Rattle.ipc_kernel.specs.Outcomes.{queue_at};
 ghost use Rattle.lab_trace.specs.Origins.{is_in, is_below, origins_with, first, origins_without_first, origins_without_queue, origins_after_open, origins_after_send, origins_after_receive, origins_after_success, origins_after};
 
 use crate::answers::result_of;
-use crate::service::Service;
 use crate::told::{Act, Called};
 use ipc_kernel::Kernel;
+use ipc_traps::Service;
 use std::alloc::{AllocError, Global};
 use std::marker::Model;
 

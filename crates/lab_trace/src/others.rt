@@ -4,8 +4,8 @@ ghost use Rattle.ipc_kernel.specs.Processes.{slot_refers};
 ghost use Rattle.lab_texts.specs.Rows.{texts_below};
 ghost use Rattle.lab_trace.specs.Ends.{can_do, has_queue, has_semaphore, has_open, other_text, or_nobody, others_text, others_title};
 
-use crate::service::Service;
 use ipc_kernel::{Descriptor, Kernel, OPEN_MAX, Slot};
+use ipc_traps::Service;
 use lab_sched::World;
 use std::alloc::{AllocError, Global};
 

@@ -6,9 +6,9 @@ ghost use Rattle.lab_trace.specs.Units.{is_of, is_there, units_of, balance, unit
 ghost use Rattle.lab_trace.specs.Private.Room.{HasRoom};
 
 use crate::answers::result_of;
-use crate::service::Service;
 use crate::told::{Act, Called};
 use ipc_kernel::Kernel;
+use ipc_traps::Service;
 use std::alloc::{AllocError, Global};
 use std::marker::Model;
 
