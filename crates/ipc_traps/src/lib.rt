@@ -8,6 +8,7 @@ mod service;
 
 use ipc_kernel::Call;
 use ipc_names::Errno;
+pub use memory::{WINDOW_MAX, is_in_memory, name_length, read_words};
 pub use reading::read_call;
 pub use replying::{effect_of, prepare};
 pub use service::Service;

@@ -19,14 +19,14 @@ pub(crate) fn register(machine: &Machine, number: u16) -> u16
 }
 
 /// Whether a range lies below the device registers.
-pub(crate) fn is_in_memory(at: u16, len: u16) -> bool
+pub fn is_in_memory(at: u16, len: u16) -> bool
     ensures inside { result ≡ is_in_memory at len }
 {
     len == 0 || at as u32 + len as u32 <= FIRST_DEVICE as u32
 }
 
 /// The words of a range.
-pub(crate) fn read_words(
+pub fn read_words(
     alloc: Global,
     machine: &Machine,
     at: u16,
@@ -69,11 +69,11 @@ pub(crate) fn read_four(machine: &Machine, at: u16) -> [u16; 4]
 }
 
 /// How many words are looked at for a name, at most: one more than a name has.
-const WINDOW_MAX: u16 = 256;
+pub const WINDOW_MAX: u16 = 256;
 
 /// How many words stand before the x0000 that ends a name, at most `WINDOW_MAX`; none if it reaches the device registers
 /// before so many.
-pub(crate) fn name_length(machine: &Machine, at: u16) -> Option<u16>
+pub fn name_length(machine: &Machine, at: u16) -> Option<u16>
     ensures name { MatchOption result (reaches_devices machine.now.process.memory at ≡ true)
         (λ n. (reaches_devices machine.now.process.memory at ≡ false)
         × (name_length machine.now.process.memory at ≡ n)) }

@@ -1,25 +1,29 @@
 -- Where a name ends.
-use Rattle.std.proofs.Common.{◌≡◌, ℕ, ◌+◌, ◌-◌, ◌<◌, ◌≤◌, List, Some, None, length, get_or, min, arith}
-use Rattle.lc3_machine.proofs.Strings.{position-first, position-none}
-use Rattle.ipc_traps.specs.Names.{window}
-use Rattle.ipc_traps.proofs.Ranges.{IsWithoutEnd, length-window, get-window}
+use Rattle.std.proofs.Common.{◌≡◌, ℕ, ◌<◌, ◌≤◌, ◌==◌, true, false, List, Some, None, not, length, arith, length-take}
+use Rattle.std.proofs.lemmas.Bool.Decides.{nat_tests}
+use Rattle.std.proofs.lemmas.List.Sums.{prefix_len-le-length}
+use Rattle.ipc_traps.specs.Names.{window, name_length, reaches_devices}
 use Rattle.lab_trace.specs.Words.{name_end}
-use Rattle.lc3_word.specs.Segment.{first_device}
 
--- a zero word ends it
-pub name_end-some : (memory : List ℕ) (a k : ℕ) → length memory ≡ 65536 → k < 256 → a + k < first_device → IsWithoutEnd memory a k → get_or memory (a + k) 0 ≡ 0 → name_end memory a ≡ Some k
-unfolding name_end
-name_end-some memory a k whole within below before is_zero =
-    let n = length-window memory a whole in
-    let at = get-window memory a k within below in
-    position-first (window memory a) k (omega (arith, n))
-    (λ j h e. let b = before j h in let here = get-window memory a j (omega arith) b.0 in b.1 (omega (arith, here, e)))
-    (omega (arith, at, is_zero))
+-- a name that reaches the device registers has no end
+pub no_end : (memory : List ℕ) (a : ℕ) → reaches_devices memory a ≡ true → None ≡ name_end memory a
+unfolding name_end reaches_devices name_length
+no_end memory a reaches = grind (arith, nat_tests)
 
--- no zero word does among all that are looked at
-pub name_end-none : (memory : List ℕ) (a k : ℕ) → length memory ≡ 65536 → min 256 (first_device - a) ≤ k → IsWithoutEnd memory a k → name_end memory a ≡ None
-unfolding name_end
-name_end-none memory a k whole all before =
-    let n = length-window memory a whole in
-    position-none (window memory a)
-    (λ j h e. let b = before j (omega (arith, n)) in let here = get-window memory a j (omega (arith, n)) b.0 in b.1 (omega (arith, here, e)))
+length-window : (memory : List ℕ) (a : ℕ) → length (window memory a) ≤ 256
+unfolding window
+length-window memory a = simp length-take (omega arith)
+
+-- a name of all words that are looked at has none
+pub no_end_within : (memory : List ℕ) (a n : ℕ) → name_length memory a ≡ n → 256 ≤ n → None ≡ name_end memory a
+unfolding name_end name_length
+no_end_within memory a n long full =
+    let few = length-window memory a in
+    grind (arith, nat_tests)
+
+-- a shorter name ends behind its words
+pub end_behind : (memory : List ℕ) (a n : ℕ) → reaches_devices memory a ≡ false → name_length memory a ≡ n → n < 256 → Some n ≡ name_end memory a
+unfolding name_end reaches_devices name_length
+end_behind memory a n reaches long short =
+    let inside = prefix_len-le-length (λ w. not (w == 0)) (window memory a) in
+    grind (arith, nat_tests)

@@ -10,13 +10,11 @@ use crate::flags::{has_flag, push_mq_flags, push_sem_flags};
 use crate::handles::{held_place, push_handle, push_object_or_number};
 use crate::message::push_buffer;
 use crate::text::Text;
-use crate::words::{
-    is_in_memory, push_address, push_bare_name, push_name, push_pointer, read_words, register,
-};
+use crate::words::{push_address, push_bare_name, push_name, push_pointer, register};
 use ipc_kernel::Kernel;
 use ipc_names::O_CREAT;
 use ipc_objects::Words;
-use ipc_traps::Service;
+use ipc_traps::{Service, is_in_memory, read_words};
 use lab_sched::Process;
 use std::alloc::{AllocError, Global};
 
@@ -245,7 +243,7 @@ pub fn sent_words(
     let len = register(process, 2);
     match service {
         Service::MqSend if is_in_memory(at, len) => {
-            let words = read_words(alloc, process, at, len)?;
+            let words = read_words(alloc, process.machine(), at, len)?;
             Ok(Some(Words::from_vec(words)?))
         }
         _ => Ok(None),

@@ -6,7 +6,8 @@ ghost use Rattle.lab_sched.specs.Worlds.{machine_of};
 ghost use Rattle.lab_trace.specs.Words.{further_word, words_text, is_printable, glyph, glyphs_text, more_text, shown_text, message_text};
 ghost use Rattle.lab_trace.specs.Calls.{buffer_text};
 
-use crate::words::{is_in_memory, is_quotable, push_address, read_words};
+use crate::words::{is_quotable, push_address};
+use ipc_traps::{is_in_memory, read_words};
 use lab_sched::Process;
 use lc3_word::Hex;
 use std::alloc::{AllocError, Global};
@@ -133,6 +134,6 @@ pub fn push_buffer(
     if !is_in_memory(at, len) {
         return push_address(text, at);
     }
-    let words = read_words(alloc, process, at, len)?;
+    let words = read_words(alloc, process.machine(), at, len)?;
     push_message(text, words.as_slice())
 }

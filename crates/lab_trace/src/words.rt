@@ -4,16 +4,14 @@ ghost use Rattle.lab_sched.specs.Held.{process_view};
 ghost use Rattle.lab_sched.specs.Worlds.{machine_of};
 ghost use Rattle.lc3_word.specs.Words.{hexadecimal_text};
 ghost use Rattle.lc3_machine.specs.Process.{reg};
-ghost use Rattle.ipc_traps.specs.Names.{is_in_memory, words_at};
+ghost use Rattle.ipc_traps.specs.Names.{is_in_memory};
 ghost use Rattle.lab_trace.specs.Words.{pointer_text, signed_text, is_quotable, character_text, string_text, byte_text, bytes_text, name_end, name_text, bare_name_text, blanks, at_left, at_right};
 
+use ipc_traps::{WINDOW_MAX, name_length, read_words};
 use lab_sched::Process;
 use lab_texts::Escape;
-use lc3_word::{FIRST_DEVICE, Hex, Reg};
+use lc3_word::{Hex, Reg};
 use std::alloc::{AllocError, Global};
-
-/// The most words that are looked at for a name.
-const NAME_WINDOW: u16 = 256;
 
 /// What a register of a process holds.
 pub fn register(process: &Process, number: u16) -> u16
@@ -21,13 +19,6 @@ pub fn register(process: &Process, number: u16) -> u16
     ensures value { result ≡ reg (machine_of (process_view process.now)) number }
 {
     process.machine().reg(Reg::of_low_bits(number))
-}
-
-/// Whether a range lies below the device registers.
-pub fn is_in_memory(at: u16, len: u16) -> bool
-    ensures value { result ≡ is_in_memory at len }
-{
-    len == 0 || u32::from(at) + u32::from(len) <= u32::from(FIRST_DEVICE)
 }
 
 /// Adds an address.
@@ -124,40 +115,16 @@ pub fn push_bytes(text: &mut String, bytes: &[u8]) -> Result<(), AllocError>
     text.push_str("\"")
 }
 
-/// The words of a range of a process.
-pub fn read_words(
-    alloc: Global,
-    process: &Process,
-    at: u16,
-    len: u16,
-) -> Result<Vec<u16>, AllocError>
-    requires inside { is_in_memory at len ≡ true }
-    ensures words { IfOk result (λ v. v.items
-        ≡ words_at (machine_of (process_view process.now)).memory at len) }
-{
-    let mut words = Vec::with_capacity(alloc, len as usize)?;
-    for k in 0..len {
-        words.push(process.machine().word(at + k))?;
-    }
-    Ok(words)
-}
-
 /// How many words of a process stand before the zero word that ends a name, where there is one.
+#[tactic(auto, using(crate::proofs::NameLemmas::no_end, crate::proofs::NameLemmas::no_end_within, crate::proofs::NameLemmas::end_behind))]
 fn name_end(process: &Process, at: u16) -> Option<u16>
     ensures length { result ≡ name_end (machine_of (process_view process.now)).memory at }
     ensures inside { IfSome result (λ n. is_in_memory at n ≡ true) }
 {
-    // A look at memory, whose contract says that there are 65,536 words.
-    let _ = process.machine().word(at);
-    for k in 0..NAME_WINDOW {
-        if u32::from(at) + u32::from(k) >= u32::from(FIRST_DEVICE) {
-            return None;
-        }
-        if process.machine().word(at + k) == 0 {
-            return Some(k);
-        }
+    match name_length(process.machine(), at) {
+        Some(length) if length < WINDOW_MAX => Some(length),
+        _ => None,
     }
-    None
 }
 
 /// Adds words between quotation marks.
@@ -195,7 +162,7 @@ pub fn push_name(
     let Some(len) = name_end(process, at) else {
         return push_address(text, at);
     };
-    let words = read_words(alloc, process, at, len)?;
+    let words = read_words(alloc, process.machine(), at, len)?;
     push_string(text, words.as_slice())
 }
 
@@ -212,7 +179,7 @@ pub fn push_bare_name(
     let Some(len) = name_end(process, at) else {
         return push_address(text, at);
     };
-    let words = read_words(alloc, process, at, len)?;
+    let words = read_words(alloc, process.machine(), at, len)?;
     push_characters(text, words.as_slice())
 }
 
