@@ -7,13 +7,13 @@ use Rattle.lab_texts.specs.Texts.{how_text}
 use Rattle.lab_trace.specs.Answers.{error_name, outcome_text}
 use Rattle.lab_trace.specs.Forms.{Form}
 use Rattle.lab_trace.specs.Lines.{columns, act_text}
-use Rattle.lab_trace.specs.Services.{service_name, is_on_level}
+use Rattle.ipc_traps.specs.Services.{service_name, is_on_level}
 use Rattle.lab_trace.specs.Tallies.{TallyState}
 use Rattle.lab_trace.specs.declared.answers.Given.TheVariants.{Received}
 use Rattle.lab_trace.specs.declared.answers.Outcome.{Outcome}
 use Rattle.lab_trace.specs.declared.answers.Outcome.TheVariants.{Waits, Refused, Gives}
-use Rattle.lab_trace.specs.declared.service.Service.{Service}
-use Rattle.lab_trace.specs.declared.service.Service.TheVariants.{MqGetattr, SemGetvalue}
+use Rattle.ipc_traps.specs.declared.service.Service.{Service}
+use Rattle.ipc_traps.specs.declared.service.Service.TheVariants.{MqGetattr, SemGetvalue}
 use Rattle.lab_trace.specs.declared.told.Act.{Act}
 use Rattle.lab_trace.specs.declared.told.Act.TheVariants.{Calls, Writes, Ends}
 use Rattle.lab_trace.specs.declared.told.Called.{Called}

@@ -11,7 +11,7 @@ use Rattle.lab_sched.specs.declared.verdict.Verdict.{Verdict}
 use Rattle.lab_texts.specs.Texts.{how_text, place_text}
 use Rattle.lab_trace.specs.Calls.{arguments, call_text}
 use Rattle.lab_trace.specs.Services.{service_at}
-use Rattle.lab_trace.specs.declared.service.Service.{Service}
+use Rattle.ipc_traps.specs.declared.service.Service.{Service}
 use Rattle.lab_page.specs.Runs.{verdict_word}
 use Rattle.lab_page.specs.Values.{list, natural, or_null, all_below}
 use Rattle.lab_page.specs.declared.worlds.WorldEdge.{WorldEdge}

@@ -8,11 +8,12 @@ ghost use Rattle.lab_page.specs.Events.{outcome_data, words_of, called_data, act
 use crate::objects::{object_at, objects};
 use crate::open::open_value;
 use crate::values::{bytes_value, push_some, words_value};
+use ipc_traps::Service;
 use lab_sched::World;
 use lab_texts::how_name;
 use lab_trace::{
-    Act, Called, Event, Form, Given, Origin, Outcome, Service, Tally, columns_text, error_name,
-    event_text, push_outcome,
+    Act, Called, Event, Form, Given, Origin, Outcome, Tally, columns_text, error_name, event_text,
+    push_outcome,
 };
 use serde_json::{Value, json};
 use std::alloc::{AllocError, Global};
