@@ -1,6 +1,6 @@
 //! The strongly connected sets of the rows of a search, by a descent along the edges. Nothing that is
 //! proved rests on what stands here: what is made of them is checked (`ranks`, `fair`).
-use crate::graph::number_at;
+use crate::graph::{number_at, put};
 use crate::store::Edge;
 use std::alloc::{AllocError, Global};
 
@@ -16,26 +16,11 @@ struct Descent {
     /// The open rows with which the sets may begin that the path goes through.
     roots: Vec<u32>,
     /// The rows from the first up to this one, each with the place of the next edge from it.
-    path: Vec<(u32, usize)>,
+    path: Vec<(u32, u32)>,
     /// How many rows were entered.
     count: u32,
     /// How many sets are known.
     known: u32,
-}
-
-/// The number at a place, or 0.
-pub(crate) fn small_at(numbers: &[u32], at: usize) -> u32 {
-    match numbers.get(at) {
-        Some(number) => *number,
-        None => 0,
-    }
-}
-
-/// Puts a number in its place, if there is such a place.
-fn put(numbers: &mut Vec<u32>, at: usize, number: u32) {
-    if at < numbers.len() {
-        numbers[at] = number;
-    }
 }
 
 impl Descent {
@@ -53,7 +38,7 @@ impl Descent {
     }
 
     /// Enters a row.
-    fn enter(&mut self, firsts: &[usize], row: u32) -> Result<(), AllocError> {
+    fn enter(&mut self, firsts: &[u32], row: u32) -> Result<(), AllocError> {
         self.count = self.count.saturating_add(1);
         put(&mut self.entered, row as usize, self.count);
         self.open.push(row)?;
@@ -64,12 +49,12 @@ impl Descent {
 
     /// An edge leads to an open row: what was entered after it is in its set.
     fn join(&mut self, row: u32) {
-        let number = small_at(&self.entered, row as usize);
+        let number = number_at(&self.entered, row as usize);
         for _ in 0..self.roots.len() {
             let Some(root) = self.roots.last().copied() else {
                 return;
             };
-            if small_at(&self.entered, root as usize) <= number {
+            if number_at(&self.entered, root as usize) <= number {
                 return;
             }
             self.roots.pop();
@@ -95,18 +80,18 @@ impl Descent {
     }
 
     /// Follows an edge to a row.
-    fn follow(&mut self, firsts: &[usize], row: u32) -> Result<(), AllocError> {
-        if small_at(&self.entered, row as usize) == 0 {
+    fn follow(&mut self, firsts: &[u32], row: u32) -> Result<(), AllocError> {
+        if number_at(&self.entered, row as usize) == 0 {
             return self.enter(firsts, row);
         }
-        if small_at(&self.sets, row as usize) == 0 {
+        if number_at(&self.sets, row as usize) == 0 {
             self.join(row);
         }
         Ok(())
     }
 
     /// Follows the next edge, or leaves a row; with whether there was one.
-    fn go_on(&mut self, edges: &[Edge], firsts: &[usize]) -> Result<bool, AllocError> {
+    fn go_on(&mut self, edges: &[Edge], firsts: &[u32]) -> Result<bool, AllocError> {
         let Some((row, next)) = self.path.pop() else {
             return Ok(false);
         };
@@ -115,14 +100,14 @@ impl Descent {
             return Ok(true);
         }
         self.path.push((row, next.saturating_add(1)))?;
-        if let Some(edge) = edges.get(next) {
+        if let Some(edge) = edges.get(next as usize) {
             self.follow(firsts, edge.to)?;
         }
         Ok(true)
     }
 
     /// Follows all edges.
-    fn go_through(&mut self, edges: &[Edge], firsts: &[usize]) -> Result<(), AllocError> {
+    fn go_through(&mut self, edges: &[Edge], firsts: &[u32]) -> Result<(), AllocError> {
         for _ in 0..edges.len().saturating_add(self.sets.len()) {
             let went = self.go_on(edges, firsts)?;
             if !went {
@@ -138,7 +123,7 @@ impl Descent {
 pub(crate) fn sets_of(
     alloc: Global,
     edges: &[Edge],
-    firsts: &[usize],
+    firsts: &[u32],
     count: usize,
 ) -> Result<Vec<u32>, AllocError> {
     let mut descent = Descent::new(alloc, count)?;

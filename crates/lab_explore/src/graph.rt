@@ -3,8 +3,9 @@
 ghost use Rattle.std.specs.Prelude.{◌<◌, Some, IsTrue};
 ghost use Rattle.lab_explore.specs.Private.Rising.{IsRising, Rises};
 
-use crate::store::Edge;
+use crate::store::{Edge, place_of};
 use std::alloc::{AllocError, Global};
+use std::ops::Range;
 
 /// A cycle: a row that lies on it, and the edges from there to it again, the last of which comes
 /// first.
@@ -15,7 +16,7 @@ pub(crate) struct Cycle {
 }
 
 /// The number at a place, or 0.
-pub(crate) fn number_at(numbers: &[usize], at: usize) -> usize {
+pub(crate) fn number_at(numbers: &[u32], at: usize) -> u32 {
     match numbers.get(at) {
         Some(number) => *number,
         None => 0,
@@ -23,14 +24,14 @@ pub(crate) fn number_at(numbers: &[usize], at: usize) -> usize {
 }
 
 /// Puts a number in its place, if there is such a place.
-pub(crate) fn put(numbers: &mut Vec<usize>, at: usize, number: usize) {
+pub(crate) fn put(numbers: &mut Vec<u32>, at: usize, number: u32) {
     if at < numbers.len() {
         numbers[at] = number;
     }
 }
 
 /// Puts in each place that is less than one before it the greatest number before it.
-fn carry(numbers: &mut [usize]) {
+fn carry(numbers: &mut [u32]) {
     let mut last = 0;
     for number in numbers.iter_mut() {
         last = last.max(*number);
@@ -44,18 +45,18 @@ pub(crate) fn first_edges(
     alloc: Global,
     edges: &[Edge],
     count: usize,
-) -> Result<Vec<usize>, AllocError> {
+) -> Result<Vec<u32>, AllocError> {
     let mut firsts = vec![in alloc; 0; count.saturating_add(1)]?;
     for (at, edge) in edges.iter().enumerate() {
         let next = (edge.from as usize).saturating_add(1);
-        put(&mut firsts, next, at.saturating_add(1));
+        put(&mut firsts, next, place_of(at)?.saturating_add(1));
     }
     carry(firsts.as_mut_slice());
     Ok(firsts)
 }
 
 /// How many edges lead to each row.
-fn edges_to(alloc: Global, edges: &[Edge], count: usize) -> Result<Vec<usize>, AllocError> {
+fn edges_to(alloc: Global, edges: &[Edge], count: usize) -> Result<Vec<u32>, AllocError> {
     let mut numbers = vec![in alloc; 0; count]?;
     for edge in edges {
         let to = edge.to as usize;
@@ -66,35 +67,61 @@ fn edges_to(alloc: Global, edges: &[Edge], count: usize) -> Result<Vec<usize>, A
 }
 
 /// The rows to which no edge leads.
-fn rows_without(alloc: Global, numbers: &[usize]) -> Result<Vec<usize>, AllocError> {
-    let mut rows = Vec::new(alloc);
+fn rows_without(alloc: Global, numbers: &[u32]) -> Result<Vec<u32>, AllocError> {
+    let mut rows = Vec::with_capacity(alloc, numbers.len())?;
     for (row, number) in numbers.iter().enumerate() {
         if *number == 0 {
-            rows.push(row)?;
+            rows.push(place_of(row)?)?;
         }
     }
     Ok(rows)
 }
 
+/// The places of the edges from a row, by that of the first edge from each.
+pub(crate) fn range_from(firsts: &[u32], row: usize) -> Range<usize> {
+    let first = number_at(firsts, row) as usize;
+    first..number_at(firsts, row.saturating_add(1)) as usize
+}
+
 /// Takes the edges from a row away, and adds the rows to which then none leads.
 fn release(
     edges: &[Edge],
-    firsts: &[usize],
+    firsts: &[u32],
     row: usize,
-    numbers: &mut Vec<usize>,
-    rows: &mut Vec<usize>,
+    numbers: &mut Vec<u32>,
+    rows: &mut Vec<u32>,
 ) -> Result<(), AllocError> {
-    for at in number_at(firsts, row)..number_at(firsts, row.saturating_add(1)) {
+    for at in range_from(firsts, row) {
         if let Some(edge) = edges.get(at) {
             let to = edge.to as usize;
             let number = number_at(numbers, to);
             put(numbers, to, number.saturating_sub(1));
             if number == 1 {
-                rows.push(to)?;
+                rows.push(edge.to)?;
             }
         }
     }
     Ok(())
+}
+
+/// The rows to which no cycle leads, each behind those that lead to it.
+fn rows_in_order(alloc: Global, edges: &[Edge], count: usize) -> Result<Vec<u32>, AllocError> {
+    let firsts = first_edges(alloc, edges, count)?;
+    let mut numbers = edges_to(alloc, edges, count)?;
+    let mut rows = rows_without(alloc, numbers.as_slice())?;
+    for place in 0..count {
+        let Some(row) = rows.get(place).copied() else {
+            return Ok(rows);
+        };
+        release(
+            edges,
+            firsts.as_slice(),
+            row as usize,
+            &mut numbers,
+            &mut rows,
+        )?;
+    }
+    Ok(rows)
 }
 
 /// A number for each row, from 1, with which those that lead to it have less; 0 for a row to which
@@ -103,24 +130,21 @@ pub(crate) fn order_of(
     alloc: Global,
     edges: &[Edge],
     count: usize,
-) -> Result<Vec<usize>, AllocError> {
-    let firsts = first_edges(alloc, edges, count)?;
-    let mut numbers = edges_to(alloc, edges, count)?;
-    let mut rows = rows_without(alloc, numbers.as_slice())?;
+) -> Result<Vec<u32>, AllocError> {
+    let rows = rows_in_order(alloc, edges, count)?;
     let mut order = vec![in alloc; 0; count]?;
-    for place in 0..count {
-        let Some(row) = rows.get(place) else {
-            return Ok(order);
-        };
-        let row = *row;
-        put(&mut order, row, place + 1);
-        release(edges, firsts.as_slice(), row, &mut numbers, &mut rows)?;
+    for (place, row) in rows.iter().enumerate() {
+        put(
+            &mut order,
+            *row as usize,
+            place_of(place)?.saturating_add(1),
+        );
     }
     Ok(order)
 }
 
 /// Whether an edge leads to a row with a greater number, which isn't above the count of rows.
-fn is_rising(edge: &Edge, order: &[usize]) -> bool
+fn is_rising(edge: &Edge, order: &[u32]) -> bool
     ensures yes { IsTrue result → IsRising order.now edge.now }
 {
     let Some(from) = order.get(edge.from as usize) else {
@@ -129,11 +153,11 @@ fn is_rising(edge: &Edge, order: &[usize]) -> bool
     let Some(to) = order.get(edge.to as usize) else {
         return false;
     };
-    *from < *to && *to <= order.len()
+    *from < *to && *to as usize <= order.len()
 }
 
 /// Whether each edge does.
-pub(crate) fn is_order(order: &[usize], edges: &[Edge]) -> bool
+pub(crate) fn is_order(order: &[u32], edges: &[Edge]) -> bool
     ensures yes { IsTrue result → Rises order.now edges.now }
 {
     for edge in edges {
@@ -145,33 +169,38 @@ pub(crate) fn is_order(order: &[usize], edges: &[Edge]) -> bool
 }
 
 /// For each row without a number one of those that lead to it, plus 1.
-fn rows_before(alloc: Global, edges: &[Edge], order: &[usize]) -> Result<Vec<usize>, AllocError> {
+fn rows_before(alloc: Global, edges: &[Edge], order: &[u32]) -> Result<Vec<u32>, AllocError> {
     let mut before = vec![in alloc; 0; order.len()]?;
     for edge in edges {
         let from = edge.from as usize;
         let to = edge.to as usize;
         if number_at(order, from) == 0 && number_at(&before, to) == 0 {
-            put(&mut before, to, from.saturating_add(1));
+            put(&mut before, to, edge.from.saturating_add(1));
         }
     }
     Ok(before)
 }
 
+/// The row before a row.
+fn row_before(before: &[u32], row: usize) -> usize {
+    number_at(before, row).saturating_sub(1) as usize
+}
+
 /// A row that lies on a cycle, if each row that has one before it has such a one before it.
-fn row_on_cycle(before: &[usize]) -> usize {
+fn row_on_cycle(before: &[u32]) -> usize {
     let mut row = before.iter().position(|number| *number > 0).unwrap_or(0);
     for _ in 0..before.len() {
-        row = number_at(before, row).saturating_sub(1);
+        row = row_before(before, row);
     }
     row
 }
 
 /// The least row of the cycle on which a row lies.
-fn least_on_cycle(before: &[usize], row: usize) -> usize {
+fn least_on_cycle(before: &[u32], row: usize) -> usize {
     let mut least = row;
     let mut now = row;
     for _ in 0..before.len() {
-        now = number_at(before, now).saturating_sub(1);
+        now = row_before(before, now);
         if now == row {
             return least;
         }
@@ -184,20 +213,20 @@ fn least_on_cycle(before: &[usize], row: usize) -> usize {
 /// place of the edge plus 1; with the place of an edge to the goal, if there is one.
 fn follow(
     edges: &[Edge],
-    range: (usize, usize),
+    range: Range<usize>,
     goal: usize,
-    reached: &mut Vec<usize>,
-    rows: &mut Vec<usize>,
+    reached: &mut Vec<u32>,
+    rows: &mut Vec<u32>,
 ) -> Result<Option<usize>, AllocError> {
-    for at in range.0..range.1 {
+    for at in range {
         if let Some(edge) = edges.get(at) {
             let to = edge.to as usize;
             if to == goal {
                 return Ok(Some(at));
             }
             if number_at(reached, to) == 0 {
-                put(reached, to, at.saturating_add(1));
-                rows.push(to)?;
+                put(reached, to, place_of(at)?.saturating_add(1));
+                rows.push(edge.to)?;
             }
         }
     }
@@ -208,7 +237,7 @@ fn follow(
 pub(crate) fn path_of(
     alloc: Global,
     edges: &[Edge],
-    reached: &[usize],
+    reached: &[u32],
     goal: usize,
     last: usize,
 ) -> Result<Vec<Edge>, AllocError> {
@@ -223,7 +252,7 @@ pub(crate) fn path_of(
         if from == goal {
             return Ok(path);
         }
-        at = number_at(reached, from).saturating_sub(1);
+        at = number_at(reached, from).saturating_sub(1) as usize;
     }
     Ok(path)
 }
@@ -237,16 +266,12 @@ fn cycle_through(
 ) -> Result<Option<Cycle>, AllocError> {
     let firsts = first_edges(alloc, edges, count)?;
     let mut reached = vec![in alloc; 0; count]?;
-    let mut rows = vec![in alloc; goal]?;
+    let mut rows = vec![in alloc; place_of(goal)?]?;
     for place in 0..count {
-        let Some(row) = rows.get(place) else {
+        let Some(row) = rows.get(place).copied() else {
             return Ok(None);
         };
-        let row = *row;
-        let range = (
-            number_at(&firsts, row),
-            number_at(&firsts, row.saturating_add(1)),
-        );
+        let range = range_from(firsts.as_slice(), row as usize);
         if let Some(last) = follow(edges, range, goal, &mut reached, &mut rows)? {
             let edges = path_of(alloc, edges, reached.as_slice(), goal, last)?;
             return Ok(Some(Cycle { at: goal, edges }));
@@ -255,14 +280,20 @@ fn cycle_through(
     Ok(None)
 }
 
+/// The least row of a cycle among the rows to which the order gives no number.
+fn least_of_cycle(alloc: Global, edges: &[Edge], order: Vec<u32>) -> Result<usize, AllocError> {
+    let before = rows_before(alloc, edges, order.as_slice())?;
+    let row = row_on_cycle(before.as_slice());
+    Ok(least_on_cycle(before.as_slice(), row))
+}
+
 /// A cycle among the rows to which the order gives no number: the shortest through its least row.
 pub(crate) fn cycle_of(
     alloc: Global,
     edges: &[Edge],
-    order: &[usize],
+    order: Vec<u32>,
 ) -> Result<Option<Cycle>, AllocError> {
-    let before = rows_before(alloc, edges, order)?;
-    let row = row_on_cycle(before.as_slice());
-    let least = least_on_cycle(before.as_slice(), row);
-    cycle_through(alloc, edges, order.len(), least)
+    let count = order.len();
+    let least = least_of_cycle(alloc, edges, order)?;
+    cycle_through(alloc, edges, count, least)
 }

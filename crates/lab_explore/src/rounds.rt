@@ -111,7 +111,7 @@ impl Search {
         if is_order(order.as_slice(), edges) {
             return Ok(None);
         }
-        let Some(cycle) = cycle_of(alloc, edges, order.as_slice())? else {
+        let Some(cycle) = cycle_of(alloc, edges, order)? else {
             return Err(ExploreFault::Unvouched);
         };
         let round = self.round_of(alloc, processes, &cycle)?;

@@ -229,6 +229,7 @@ impl Search {
             .expand_all(alloc, &mut self.moves, limits, observer)
         {
             Ok(true) => {
+                self.store.close(alloc);
                 self.complete = true;
                 Ok(())
             }

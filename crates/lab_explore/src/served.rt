@@ -1,7 +1,7 @@
 //! Which processes go on, and which take steps, in the strongly connected sets of the rows of a search.
 //! Nothing that is proved rests on what stands here: what is made of it is checked (`ranks`, `fair`).
-use crate::components::{sets_of, small_at};
-use crate::graph::first_edges;
+use crate::components::sets_of;
+use crate::graph::{first_edges, number_at};
 use crate::store::Edge;
 use std::alloc::{AllocError, Global};
 
@@ -12,7 +12,7 @@ type Processes = u64;
 #[derive(Drop)]
 pub(crate) struct Sets {
     /// The place of the first edge from each row.
-    pub firsts: Vec<usize>,
+    pub firsts: Vec<u32>,
     /// For each row the number of its set, from 1, or 0.
     pub of_rows: Vec<u32>,
     /// For each row the processes that go on from it.
@@ -68,8 +68,8 @@ fn moving_in(
 ) -> Result<Vec<Processes>, AllocError> {
     let mut moving = vec![in alloc; 0; most.saturating_add(1)]?;
     for edge in edges {
-        let set = small_at(of_rows, edge.from as usize);
-        if set == small_at(of_rows, edge.to as usize) {
+        let set = number_at(of_rows, edge.from as usize);
+        if set == number_at(of_rows, edge.to as usize) {
             add(&mut moving, set as usize, only(edge.pid as u32));
         }
     }
@@ -103,7 +103,7 @@ impl Sets {
     pub(crate) fn new(alloc: Global, edges: &[Edge], count: usize) -> Result<Sets, AllocError> {
         let firsts = first_edges(alloc, edges, count)?;
         let of_rows = sets_of(alloc, edges, firsts.as_slice(), count)?;
-        let most = small_at(&of_rows, 0) as usize;
+        let most = number_at(&of_rows, 0) as usize;
         let going = going_from(alloc, edges, count)?;
         let moving = moving_in(alloc, edges, of_rows.as_slice(), most)?;
         let always = always_in(alloc, of_rows.as_slice(), going.as_slice(), most)?;
@@ -118,7 +118,7 @@ impl Sets {
 
     /// The number of the set of a row.
     pub(crate) fn set_of(&self, row: usize) -> u32 {
-        small_at(&self.of_rows, row)
+        number_at(&self.of_rows, row)
     }
 
     /// Whether a process goes on from a row.

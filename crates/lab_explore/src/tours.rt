@@ -1,10 +1,10 @@
 //! Ways through strongly connected sets of rows that serve each process. Nothing that is proved rests
 //! on what stands here: the steps along them are taken again (`fair`).
 use crate::ExploreFault;
-use crate::graph::{number_at, path_of, put};
+use crate::graph::{number_at, path_of, put, range_from};
 use crate::search::Search;
 use crate::served::{Sets, only};
-use crate::store::Edge;
+use crate::store::{Edge, place_of};
 use std::alloc::{AllocError, Global};
 
 /// A part of a tour.
@@ -98,10 +98,10 @@ impl Sets {
         edges: &[Edge],
         row: usize,
         goal: Goal,
-        reached: &mut Vec<usize>,
-        rows: &mut Vec<usize>,
+        reached: &mut Vec<u32>,
+        rows: &mut Vec<u32>,
     ) -> Result<Option<usize>, AllocError> {
-        for at in number_at(&self.firsts, row)..number_at(&self.firsts, row.saturating_add(1)) {
+        for at in range_from(self.firsts.as_slice(), row) {
             if let Some(edge) = edges.get(at) {
                 let to = edge.to as usize;
                 if self.set_of(to) == self.set_of(row) {
@@ -109,8 +109,8 @@ impl Sets {
                         return Ok(Some(at));
                     }
                     if number_at(reached, to) == 0 {
-                        put(reached, to, at.saturating_add(1));
-                        rows.push(to)?;
+                        put(reached, to, place_of(at)?.saturating_add(1));
+                        rows.push(edge.to)?;
                     }
                 }
             }
@@ -129,13 +129,12 @@ impl Sets {
     ) -> Result<Option<Vec<Edge>>, AllocError> {
         let count = self.of_rows.len();
         let mut reached = vec![in alloc; 0; count]?;
-        let mut rows = vec![in alloc; from]?;
+        let mut rows = vec![in alloc; place_of(from)?]?;
         for place in 0..count {
-            let Some(row) = rows.get(place) else {
+            let Some(row) = rows.get(place).copied() else {
                 return Ok(None);
             };
-            let row = *row;
-            if let Some(last) = self.follow(edges, row, goal, &mut reached, &mut rows)? {
+            if let Some(last) = self.follow(edges, row as usize, goal, &mut reached, &mut rows)? {
                 let path = path_of(alloc, edges, reached.as_slice(), from, last)?;
                 return Ok(Some(path));
             }
