@@ -25,7 +25,7 @@ left_at order s = total s.taken + 4294967296 * rank (length order) (slice_get or
 abbrev HasLeft : Store → List ℕ → WorldState → ℕ → Type 0
 HasLeft t order w n = (s : Place) × Stands t w s × (left_at order s ≡ n)
 
-module _ (t : Store) (order : List ℕ) (start : WorldState) (searched : IsSearched start t) (rises : Rises order t.edges.items) where
+module _ (t : Store) (order : List ℕ) (start : WorldState) (searched : IsSearched start t) (rises : Rises order t.edges) where
   nearer_less : (s u : Place) (p : ℕ) → GoesNearer s u p → left_at order u < left_at order s
   nearer_less s u p h =
       let sums = total_set s.taken p (suc h.0) h.0 h.1 in
@@ -34,7 +34,7 @@ module _ (t : Store) (order : List ℕ) (start : WorldState) (searched : IsSearc
 
   along_less : (s u : Place) (p : ℕ) → GoesAlong t s u p → left_at order u < left_at order s
   along_less s u p h =
-      let rise = all_at (IsRising order) t.edges.items h.0 h.1 rises h.3 in
+      let rise = all_at (IsRising order) t.edges h.0 h.1 rises h.3 in
       let from : slice_get order s.at ≡ Some rise.before = ap (λ i. slice_get order i) (sym h.4) ∙ rise.from in
       let to : slice_get order u.at ≡ Some rise.after = ap (λ i. slice_get order i) (sym h.5) ∙ rise.to in
       let sums = total_set s.taken p 0 h.2 h.7 in
@@ -79,5 +79,5 @@ module _ (t : Store) (order : List ℕ) (start : WorldState) (searched : IsSearc
       (2 * n + running start, λ ps h. within ps start n asks (subst (λ x. HasLeft t order x n) (sym same) (begun.0, begun.1, refl)) h)
 
 -- where the rows are searched, and all edges rise, each list of effective steps has at most so many
-pub searched_bounded : (t : Store) (start : WorldState) → IsConsistent start.kernel → AskAgain start → untried start ≡ start → IsSearched start t → AreRising t.edges.items → AreBounded start
+pub searched_bounded : (t : Store) (start : WorldState) → IsConsistent start.kernel → AskAgain start → untried start ≡ start → IsSearched start t → AreRising t.edges → AreBounded start
 searched_bounded t start consistent asks same searched rising = bounded t rising.0 start searched rising.1 consistent asks same

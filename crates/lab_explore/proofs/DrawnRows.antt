@@ -162,7 +162,7 @@ step_of_row start t depths ns a consistent nodes h =
           (advance_then (step h.before a.process) h.after n.0.world (reached_advance (step h.before a.process) h.after h.leads) n.3);
     }
 
-all_steps : (start : WorldState) (t : Store) (depths : List ℕ) (ns : List Node) (arrows : List Arrow) → IsConsistent start.kernel → AreNodesOfRows start t depths ns → arrows ≡ map arrow_of t.edges.items
+all_steps : (start : WorldState) (t : Store) (depths : List ℕ) (ns : List Node) (arrows : List Arrow) → IsConsistent start.kernel → AreNodesOfRows start t depths ns → arrows ≡ map arrow_of t.edges
     → AreExpanded t → HaveAllSteps ns arrows
 all_steps start t depths ns arrows consistent nodes same expanded i p w here goes =
     let n = here.0 in
@@ -174,7 +174,7 @@ all_steps start t depths ns arrows consistent nodes same expanded i p w here goe
     let first : GoesOn (step_effect_in n.world p) = subst (λ x. GoesOn (step_effect_in x p)) (sym here.2) goes in
     let second : GoesOn (step_effect_in v p) = subst GoesOn (sym (same_effect n.world v p held (world_back v n.world is.row.2))) first in
     let edge = done.2 p (subst (λ x. GoesOn (step_effect_in x p)) world second) in
-    (edge.0, arrow_of edge.1, ap (λ xs. slice_get xs edge.0) same ∙ slice_get-map arrow_of t.edges.items edge.0 ∙ ap (option_map arrow_of) edge.3, edge.4, edge.7)
+    (edge.0, arrow_of edge.1, ap (λ xs. slice_get xs edge.0) same ∙ slice_get-map arrow_of t.edges edge.0 ∙ ap (option_map arrow_of) edge.3, edge.4, edge.7)
 
 begins_at : (start : WorldState) (t : Store) (depths : List ℕ) (ns : List Node) → AreNodesOfRows start t depths ns → (w : WorldState) → HasAdvance (IsAt t 0) w → BeginsAt w ns
 begins_at start t depths ns nodes w h =
@@ -203,18 +203,18 @@ nearer start t depths ns e nodes near m n from to =
     let second = (nodes.each e.to n to).calls in
     omega (arith, near, first, second)
 
-fewest : (start : WorldState) (t : Store) (depths : List ℕ) (ns : List Node) (arrows : List Arrow) → AreNodesOfRows start t depths ns → arrows ≡ map arrow_of t.edges.items → AreDepths depths t.edges.items
+fewest : (start : WorldState) (t : Store) (depths : List ℕ) (ns : List Node) (arrows : List Arrow) → AreNodesOfRows start t depths ns → arrows ≡ map arrow_of t.edges → AreDepths depths t.edges
     → HaveFewestNodeCalls ns arrows
 fewest start t depths ns arrows nodes same deep = record {
   first = λ n at. (nodes.each 0 n at).calls ∙ deep.first;
   nearer =
       subst (λ xs. All (IsNearer ns) xs) (sym same)
-      (all_arrows (IsNearer ns) t.edges.items (λ k d below. nearer start t depths ns (get_or t.edges.items k d) nodes (deep.near k d below)));
+      (all_arrows (IsNearer ns) t.edges (λ k d below. nearer start t depths ns (get_or t.edges k d) nodes (deep.near k d below)));
 }
 
 -- the picture of a search in which each step was tried
-pub drawn : (start : WorldState) (t : Store) (depths : List ℕ) (x : Picture) → IsConsistent start.kernel → AreNodesOfRows start t depths x.nodes.items → x.arrows.items ≡ map arrow_of t.edges.items
-    → All (IsRowStep t) x.arrows.items → AreDepths depths t.edges.items → AreExpanded t → IsPictureOf start t x
+pub drawn : (start : WorldState) (t : Store) (depths : List ℕ) (x : Picture) → IsConsistent start.kernel → AreNodesOfRows start t depths x.nodes.items → x.arrows.items ≡ map arrow_of t.edges
+    → All (IsRowStep t) x.arrows.items → AreDepths depths t.edges → AreExpanded t → IsPictureOf start t x
 drawn start t depths x consistent nodes same steps deep expanded =
     let ns = x.nodes.items in
     let each : (k : ℕ) (d : Node) → k < length ns → IsNodeOfRow start t (depth_of depths k) k (get_or ns k d) = λ k d below. nodes.each k (get_or ns k d) (slice_get-get_or ns k d below) in

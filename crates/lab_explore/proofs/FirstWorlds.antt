@@ -89,7 +89,7 @@ abbrev pub AreAtDepth : Store → List ℕ → ℕ → WorldState → Type 0
 AreAtDepth t depths n v = (i : ℕ) × IsAt t i v × (depth_of depths i ≤ n)
 
 -- where each row was expanded, they are levels of worlds
-pub all_levels : (t : Store) (start : WorldState) (depths : List ℕ) → untried start ≡ start → IsSearched start t → AreDepths depths t.edges.items → AreLevels start (AreAtDepth t depths)
+pub all_levels : (t : Store) (start : WorldState) (depths : List ℕ) → untried start ≡ start → IsSearched start t → AreDepths depths t.edges → AreLevels start (AreAtDepth t depths)
 all_levels t start depths same searched deep = record {
   begins =
       let first = searched.begins in
@@ -100,7 +100,7 @@ all_levels t start depths same searched deep = record {
       let done = searched.expanded i (get_past t.rows i held.1.0 held.1.1) in
       let same : v ≡ done.0 = at_unique t i v done.0 held.1 done.1 in
       let edge = done.2 p (subst (λ w. GoesOn (step_effect_in w p)) same effective) in
-      let near : depth_of depths edge.1.to ≤ depth_of depths edge.1.from + 1 = all_at (IsNear depths) t.edges.items edge.0 edge.1 deep.near edge.3 in
+      let near : depth_of depths edge.1.to ≤ depth_of depths edge.1.from + 1 = all_at (IsNear depths) t.edges edge.0 edge.1 deep.near edge.3 in
       let from : depth_of depths edge.1.from ≡ depth_of depths i = ap (depth_of depths) edge.4 in
       let few = held.2 in
       let there : HasAdvance (AreAtDepth t depths (n + 1)) (step done.0 p) = (edge.2, (edge.1.to, edge.5, omega (arith, near, from, few)), reached_advance (step done.0 p) edge.2 edge.6) in

@@ -108,7 +108,7 @@ same_kernels t u same = subst (λ ks. GrowsKept t.kernels ks) (sym same) (record
 
 -- one state more
 pub states_pushed : (t u : Store) (k : Kept) → IsStore t → IsReady k → u.states ≡ t.states ++ k ∷ [] → u.kernels ≡ t.kernels → u.rows ≡ t.rows
-    → u.edges.items ≡ t.edges.items → Grows t u × IsStore u
+    → u.edges ≡ t.edges → Grows t u × IsStore u
 states_pushed t u k s ready states kernels rows edges =
     let g : Grows t u = record {
       kernels = same_kernels t u kernels;
@@ -124,7 +124,7 @@ state_pushed xs ys k i states is =
     ∙ ap (λ o. option_map process_view o) (get_pushed xs k)
 
 -- more kernels
-pub kernels_grown : (t u : Store) → IsStore t → GrowsKept t.kernels u.kernels → u.states ≡ t.states → u.rows ≡ t.rows → u.edges.items ≡ t.edges.items → Grows t u × IsStore u
+pub kernels_grown : (t u : Store) → IsStore t → GrowsKept t.kernels u.kernels → u.states ≡ t.states → u.rows ≡ t.rows → u.edges ≡ t.edges → Grows t u × IsStore u
 kernels_grown t u s kernels states rows edges =
     let g : Grows t u = record {
       kernels = kernels;
@@ -135,12 +135,12 @@ kernels_grown t u s kernels states rows edges =
     (g, store_grows t u s g (subst (λ xs. All IsReady xs) (sym states) s.states) rows)
 
 -- the same rows
-pub rows_same : (t u : Store) → IsStore t → u.rows ≡ t.rows → u.kernels ≡ t.kernels → u.states ≡ t.states → u.edges.items ≡ t.edges.items → Grows t u × IsStore u
+pub rows_same : (t u : Store) → IsStore t → u.rows ≡ t.rows → u.kernels ≡ t.kernels → u.states ≡ t.states → u.edges ≡ t.edges → Grows t u × IsStore u
 rows_same t u s rows kernels states edges = kernels_grown t u s (same_kernels t u kernels) states rows edges
 
 -- one row more
 pub rows_pushed : (t u : Store) (r : Row) → IsStore t → ((w : WorldState) × IsRow t r w) → u.rows ≡ t.rows ++ r ∷ [] → u.kernels ≡ t.kernels → u.states ≡ t.states
-    → u.edges.items ≡ t.edges.items → Grows t u × IsStore u
+    → u.edges ≡ t.edges → Grows t u × IsStore u
 rows_pushed t u r s stands rows kernels states edges =
     let g : Grows t u = record {
       kernels = same_kernels t u kernels;
@@ -162,14 +162,14 @@ row_pushed t u r w n g rows is h =
     (r, ap (λ xs. slice_get xs n) rows ∙ ap (λ m. slice_get (t.rows ++ r ∷ []) m) is ∙ get_pushed t.rows r, row_grows t u r w g h)
 
 -- one edge more
-pub edges_pushed : (t u : Store) (e : Edge) → IsStore t → u.edges.items ≡ t.edges.items ++ e ∷ [] → u.kernels ≡ t.kernels → u.states ≡ t.states → u.rows ≡ t.rows
+pub edges_pushed : (t u : Store) (e : Edge) → IsStore t → u.edges ≡ t.edges ++ e ∷ [] → u.kernels ≡ t.kernels → u.states ≡ t.states → u.rows ≡ t.rows
     → Grows t u × IsStore u
 edges_pushed t u e s edges kernels states rows =
     let g : Grows t u = record {
       kernels = same_kernels t u kernels;
       states = λ i x h. subst (λ xs. slice_get xs i ≡ Some x) (sym states) h;
       rows = λ i x h. subst (λ xs. slice_get xs i ≡ Some x) (sym rows) h;
-      edges = λ i x h. subst (λ xs. slice_get xs i ≡ Some x) (sym edges) (keeps_push t.edges.items e i x h);
+      edges = λ i x h. subst (λ xs. slice_get xs i ≡ Some x) (sym edges) (keeps_push t.edges e i x h);
     } in
     (g, store_grows t u s g (subst (λ xs. All IsReady xs) (sym states) s.states) rows)
 

@@ -92,7 +92,7 @@ receives_here w p (Ended e) at goes = ap receives (effect_at w p (Some (Ended e)
 
 -- a loss from a world of which a whole search has the advance is one along an edge
 edge_loses : (start w : WorldState) (t : Store) (p : ℕ) → IsConsistent w.kernel → IsSearched start t → (i : ℕ) (v : WorldState) → IsAt t i v → IsAdvance w v → Loses w p
-    → (k : ℕ) × (e : Edge) × (slice_get t.edges.items k ≡ Some e) × IsLoss t e
+    → (k : ℕ) × (e : Edge) × (slice_get t.edges k ≡ Some e) × IsLoss t e
 edge_loses start w t p consistent searched i v row advance h = (
   edge.0,
   edge.1,
@@ -139,4 +139,4 @@ never_loses fresh start t same consistent asks first searched none = subst (λ s
     let w = run start ps in
     let held = reaches_world start (IsSomeRow t) consistent asks (row_levels t start first searched) ps in
     let loss = edge_loses start (untried w) t p (consistent_run ps start consistent) searched held.1.1.0 held.1.0 held.1.1.1 held.1.2 (loss_untried w p (asks_run ps start asks) h) in
-    all_at (λ e. IsLoss t e → ⊥) t.edges.items loss.0 loss.1 none loss.2 loss.3)
+    all_at (λ e. IsLoss t e → ⊥) t.edges loss.0 loss.1 none loss.2 loss.3)

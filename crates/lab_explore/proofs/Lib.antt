@@ -10,6 +10,7 @@ mod StepsOfRows
 mod StandingStates
 mod TouchLemmas
 mod RowTables
+mod EdgeLists
 mod FirstWorlds
 mod WalkLemmas
 mod KeptEnds

@@ -144,7 +144,7 @@ module _ (t : Store) (start : WorldState) (ranks : List ℕ) (keepers : List (Op
   along_falls : (s u : Place) (p : ℕ) → GoesAlong t s u p
       → (rank u < rank s) ⊎ ((rank u ≡ rank s) × (q : ℕ) × (keeper_of keepers (rank s) ≡ Some q) × (p ≡ q → ⊥))
   along_falls s u p h =
-      let fall = all_at (IsFalling ranks keepers) t.edges.items h.0 h.1 ranked.falls h.3 in
+      let fall = all_at (IsFalling ranks keepers) t.edges h.0 h.1 ranked.falls h.3 in
       let from : rank_of ranks h.1.from ≡ rank s = ap (λ i. rank_of ranks i) h.4 in
       let to : rank_of ranks h.1.to ≡ rank u = ap (λ i. rank_of ranks i) h.5 in
       elim fall.falls [

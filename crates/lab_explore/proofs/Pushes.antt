@@ -1,6 +1,8 @@
 -- Lists with one more element, and pairs of lists.
-use Rattle.std.proofs.Common.{ℕ, zero, suc, ◌≡◌, ◌<◌, get_or, All, List, [], ◌∷◌, ◌++◌, Option, Some, None, refl, sym, subst, slice_get, length, set, inl, inr}
+use Rattle.std.proofs.Common.{ℕ, zero, suc, ◌≡◌, ◌+◌, ◌<◌, get_or, All, List, [], ◌∷◌, ◌++◌, Option, Some, None, refl, sym, subst, slice_get, length, set, inl, inr}
+use Rattle.std.specs.List.{AllWithin}
 use Rattle.std.proofs.lemmas.Bool.Decides.{eqb_tells}
+use Rattle.std.proofs.lemmas.List.Elements.{AllWithin-more}
 use Rattle.std.proofs.lemmas.Option.{slice_get_read, slice_get_within, get_or_from_slice_get}
 use Rattle.lab_sched.proofs.ListPlaces.{get-set_same, get-set_other, get_past}
 use Rattle.lab_explore.specs.Calls.{Both, Alongside}
@@ -18,6 +20,10 @@ get_pushed (z ∷ zs) x = get_pushed zs x
 -- what holds of each element holds of the one at a place
 pub all_at : {A : Type 0} (P : A → Type 0) (xs : List A) (i : ℕ) (x : A) → All P xs → slice_get xs i ≡ Some x → P x
 all_at P xs i x h e = subst P (get_or_from_slice_get xs i x x e) (h i x (slice_get_within xs i x e))
+
+-- what holds of each element before a place, and of the one there
+pub within_more : {A : Type 0} (P : A → Type 0) (xs : List A) (i : ℕ) (x : A) → AllWithin P xs 0 i → slice_get xs i ≡ Some x → P x → AllWithin P xs 0 (i + 1)
+within_more P xs i x h is here = AllWithin-more P xs 0 i h (λ d. subst P (sym (get_or_from_slice_get xs i x d is)) here)
 
 pub both_weaker : {A B : Type 0} (R Q : A → B → Type 0) → ((x : A) (y : B) → R x y → Q x y) → (a : Option A) (b : Option B) → Both R a b → Both Q a b
 both_weaker R Q w None None h = tt

@@ -184,7 +184,7 @@ GoesNearer s u p = (j : ℕ) × (slice_get s.taken p ≡ Some (suc j)) × (u.tak
 -- where it takes a step of the kernel, an edge of it leads on, and fewer than 2^32 local steps are left
 abbrev pub GoesAlong : Store → Place → Place → ℕ → Type 0
 GoesAlong t s u p =
-    (i : ℕ) × (e : Edge) × (j : ℕ) × (slice_get t.edges.items i ≡ Some e) × (e.from ≡ s.at) × (e.to ≡ u.at) × (e.pid ≡ p)
+    (i : ℕ) × (e : Edge) × (j : ℕ) × (slice_get t.edges i ≡ Some e) × (e.from ≡ s.at) × (e.to ≡ u.at) × (e.pid ≡ p)
     × (slice_get s.taken p ≡ Some 0) × (u.taken ≡ set s.taken p j) × (j < 4294967296)
 
 abbrev pub StandsAfter : Store → WorldState → ℕ → Place → Type 0

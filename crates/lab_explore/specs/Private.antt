@@ -1,5 +1,6 @@
 -- Definitions that only contracts inside the crate cite.
 pub mod Rows
+pub mod Edges
 pub mod Standing
 pub mod Stored
 pub mod Touched

@@ -1,7 +1,8 @@
 //! The strongly connected sets of the rows of a search, by a descent along the edges. Nothing that is
 //! proved rests on what stands here: what is made of them is checked (`ranks`, `fair`).
+use crate::edges::Edges;
 use crate::graph::{number_at, put};
-use crate::store::Edge;
+use crate::store::place_of;
 use std::alloc::{AllocError, Global};
 
 /// A descent along edges: each row is entered once, and left when all edges from it were followed.
@@ -38,12 +39,13 @@ impl Descent {
     }
 
     /// Enters a row.
-    fn enter(&mut self, firsts: &[u32], row: u32) -> Result<(), AllocError> {
+    fn enter(&mut self, edges: &Edges, row: u32) -> Result<(), AllocError> {
         self.count = self.count.saturating_add(1);
         put(&mut self.entered, row as usize, self.count);
         self.open.push(row)?;
         self.roots.push(row)?;
-        self.path.push((row, number_at(firsts, row as usize)))?;
+        self.path
+            .push((row, place_of(edges.first_of(row as usize))?))?;
         Ok(())
     }
 
@@ -80,9 +82,9 @@ impl Descent {
     }
 
     /// Follows an edge to a row.
-    fn follow(&mut self, firsts: &[u32], row: u32) -> Result<(), AllocError> {
+    fn follow(&mut self, edges: &Edges, row: u32) -> Result<(), AllocError> {
         if number_at(&self.entered, row as usize) == 0 {
-            return self.enter(firsts, row);
+            return self.enter(edges, row);
         }
         if number_at(&self.sets, row as usize) == 0 {
             self.join(row);
@@ -91,25 +93,25 @@ impl Descent {
     }
 
     /// Follows the next edge, or leaves a row; with whether there was one.
-    fn go_on(&mut self, edges: &[Edge], firsts: &[u32]) -> Result<bool, AllocError> {
+    fn go_on(&mut self, edges: &Edges) -> Result<bool, AllocError> {
         let Some((row, next)) = self.path.pop() else {
             return Ok(false);
         };
-        if next >= number_at(firsts, (row as usize).saturating_add(1)) {
+        if next as usize >= edges.end_of(row as usize) {
             self.leave(row);
             return Ok(true);
         }
         self.path.push((row, next.saturating_add(1)))?;
-        if let Some(edge) = edges.get(next as usize) {
-            self.follow(firsts, edge.to)?;
+        if let Some(edge) = edges.get_after(next as usize, row as usize) {
+            self.follow(edges, edge.to)?;
         }
         Ok(true)
     }
 
     /// Follows all edges.
-    fn go_through(&mut self, edges: &[Edge], firsts: &[u32]) -> Result<(), AllocError> {
+    fn go_through(&mut self, edges: &Edges) -> Result<(), AllocError> {
         for _ in 0..edges.len().saturating_add(self.sets.len()) {
-            let went = self.go_on(edges, firsts)?;
+            let went = self.go_on(edges)?;
             if !went {
                 return Ok(());
             }
@@ -119,15 +121,10 @@ impl Descent {
 }
 
 /// For each row that the first leads to the number of its strongly connected set, from 1: edges lead to
-/// sets with the same or a lesser number. The place of the first edge from each row is given.
-pub(crate) fn sets_of(
-    alloc: Global,
-    edges: &[Edge],
-    firsts: &[u32],
-    count: usize,
-) -> Result<Vec<u32>, AllocError> {
+/// sets with the same or a lesser number.
+pub(crate) fn sets_of(alloc: Global, edges: &Edges, count: usize) -> Result<Vec<u32>, AllocError> {
     let mut descent = Descent::new(alloc, count)?;
-    descent.enter(firsts, 0)?;
-    descent.go_through(edges, firsts)?;
+    descent.enter(edges, 0)?;
+    descent.go_through(edges)?;
     Ok(descent.sets)
 }

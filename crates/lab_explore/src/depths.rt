@@ -5,6 +5,7 @@ ghost use Rattle.lab_explore.specs.Private.Depths.{depth_of, IsNear, AreDepths, 
 
 use crate::ExploreFault;
 use crate::comparing::waits;
+use crate::edges::Edges;
 use crate::store::{Edge, Store};
 use lab_sched::World;
 use std::alloc::{AllocError, Global};
@@ -29,13 +30,18 @@ fn is_near(depths: &[u32], edge: &Edge) -> bool
 }
 
 /// Whether each edge does.
-fn are_near(depths: &[u32], edges: &[Edge]) -> bool
+fn are_near(depths: &[u32], edges: &Edges) -> bool
     ensures yes { IsTrue result → All (IsNear depths.now) edges.now }
 {
-    for edge in edges {
-        if !is_near(depths, edge) {
+    let mut row = 0;
+    for at in 0..edges.len() {
+        let Some(edge) = edges.get_after(at, row) else {
+            return false;
+        };
+        if !is_near(depths, &edge) {
             return false;
         }
+        row = edge.from as usize;
     }
     true
 }
@@ -77,11 +83,11 @@ impl Store {
 
     /// The depth of each row: no fewer calls lead there.
     pub(crate) fn depths(&self, alloc: Global) -> Result<Vec<u32>, ExploreFault>
-        ensures depths { IfOk result (λ depths. AreDepths depths.items self.now.edges.items) }
+        ensures depths { IfOk result (λ depths. AreDepths depths.items self.now.edges) }
     {
         let depths = self.count_calls(alloc)?;
         let found = depths.as_slice();
-        if depth_of(found, 0) != 0 || !are_near(found, self.edges.as_slice()) {
+        if depth_of(found, 0) != 0 || !are_near(found, &self.edges) {
             return Err(ExploreFault::Unvouched);
         }
         Ok(depths)

@@ -164,13 +164,18 @@ impl Search {
         requires store { IsStore self.now.store }
         requires known { AreKnown self.now.store self.now.moves }
         ensures arrows { IfOk result (λ arrows.
-            arrows.items ≡ map arrow_of self.now.store.edges.items) }
+            arrows.items ≡ map arrow_of self.now.store.edges) }
         ensures steps { IfOk result (λ arrows. All (IsRowStep self.now.store) arrows.items) }
     {
         let mut arrows = Vec::with_capacity(alloc, self.store.edges.len())?;
-        for edge in &self.store.edges {
-            let arrow = self.arrow(alloc, edge)?;
+        let mut row = 0;
+        for at in 0..self.store.edges.len() {
+            let Some(edge) = self.store.edges.get_after(at, row) else {
+                return Err(ExploreFault::Unvouched);
+            };
+            let arrow = self.arrow(alloc, &edge)?;
             arrows.push(arrow)?;
+            row = edge.from as usize;
         }
         Ok(arrows)
     }

@@ -121,7 +121,7 @@ impl Search {
         ensures round { IfOk result (λ found.
             IfSome found.round (λ r. IsRound (initial_world processes.now) r)) }
         ensures none { IfOk result (λ found.
-            fair ≡ false → found.round ≡ None → AreRising self.now.store.edges.items) }
+            fair ≡ false → found.round ≡ None → AreRising self.now.store.edges) }
         ensures fair_round { IfOk result (λ found. IsTrue fair
             → IfSome found.round (λ r. IsFairRound (initial_world processes.now) r)) }
         ensures no_fair_round { IfOk result (λ found. IsTrue fair → IsTrue found.shown
@@ -160,7 +160,7 @@ impl Search {
         ensures round { IfOk result (λ found.
             IfSome found.round (λ r. IsRound (initial_world processes.now) r)) }
         ensures none { IfOk result (λ found.
-            fair ≡ false → found.round ≡ None → AreRising self.now.store.edges.items) }
+            fair ≡ false → found.round ≡ None → AreRising self.now.store.edges) }
         ensures fair { IfOk result (λ found. found.fair ≡ fair) }
         ensures fair_round { IfOk result (λ found. IsTrue fair
             → IfSome found.round (λ r. IsFairRound (initial_world processes.now) r)) }

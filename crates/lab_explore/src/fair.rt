@@ -252,7 +252,7 @@ impl Search {
         ensures none { IfOk result (λ found. IsTrue found.shown → found.round ≡ None
             → HaveRanks self.now.store) }
     {
-        let sets = Sets::new(alloc, self.store.edges.as_slice(), self.store.rows.len())?;
+        let sets = Sets::new(alloc, &self.store.edges, self.store.rows.len())?;
         if let Some(at) = sets.first_fair() {
             let round = self.fair_round(alloc, processes, &sets, at)?;
             let shown = round.is_some();

@@ -3,9 +3,9 @@
 ghost use Rattle.std.specs.Prelude.{◌<◌, Some, IsTrue};
 ghost use Rattle.lab_explore.specs.Private.Rising.{IsRising, Rises};
 
+use crate::edges::Edges;
 use crate::store::{Edge, place_of};
 use std::alloc::{AllocError, Global};
-use std::ops::Range;
 
 /// A cycle: a row that lies on it, and the edges from there to it again, the last of which comes
 /// first.
@@ -30,36 +30,11 @@ pub(crate) fn put(numbers: &mut Vec<u32>, at: usize, number: u32) {
     }
 }
 
-/// Puts in each place that is less than one before it the greatest number before it.
-fn carry(numbers: &mut [u32]) {
-    let mut last = 0;
-    for number in numbers.iter_mut() {
-        last = last.max(*number);
-        *number = last;
-    }
-}
-
-/// The place of the first edge from each row, by the edges in the order of the rows that they
-/// lead from, and behind these the number of edges.
-pub(crate) fn first_edges(
-    alloc: Global,
-    edges: &[Edge],
-    count: usize,
-) -> Result<Vec<u32>, AllocError> {
-    let mut firsts = vec![in alloc; 0; count.saturating_add(1)]?;
-    for (at, edge) in edges.iter().enumerate() {
-        let next = (edge.from as usize).saturating_add(1);
-        put(&mut firsts, next, place_of(at)?.saturating_add(1));
-    }
-    carry(firsts.as_mut_slice());
-    Ok(firsts)
-}
-
 /// How many edges lead to each row.
-fn edges_to(alloc: Global, edges: &[Edge], count: usize) -> Result<Vec<u32>, AllocError> {
+fn edges_to(alloc: Global, edges: &Edges, count: usize) -> Result<Vec<u32>, AllocError> {
     let mut numbers = vec![in alloc; 0; count]?;
-    for edge in edges {
-        let to = edge.to as usize;
+    for to in edges.tos() {
+        let to = *to as usize;
         let number = number_at(&numbers, to);
         put(&mut numbers, to, number.saturating_add(1));
     }
@@ -77,22 +52,15 @@ fn rows_without(alloc: Global, numbers: &[u32]) -> Result<Vec<u32>, AllocError> 
     Ok(rows)
 }
 
-/// The places of the edges from a row, by that of the first edge from each.
-pub(crate) fn range_from(firsts: &[u32], row: usize) -> Range<usize> {
-    let first = number_at(firsts, row) as usize;
-    first..number_at(firsts, row.saturating_add(1)) as usize
-}
-
 /// Takes the edges from a row away, and adds the rows to which then none leads.
 fn release(
-    edges: &[Edge],
-    firsts: &[u32],
+    edges: &Edges,
     row: usize,
     numbers: &mut Vec<u32>,
     rows: &mut Vec<u32>,
 ) -> Result<(), AllocError> {
-    for at in range_from(firsts, row) {
-        if let Some(edge) = edges.get(at) {
+    for at in edges.places_from(row) {
+        if let Some(edge) = edges.get_after(at, row) {
             let to = edge.to as usize;
             let number = number_at(numbers, to);
             put(numbers, to, number.saturating_sub(1));
@@ -105,32 +73,21 @@ fn release(
 }
 
 /// The rows to which no cycle leads, each behind those that lead to it.
-fn rows_in_order(alloc: Global, edges: &[Edge], count: usize) -> Result<Vec<u32>, AllocError> {
-    let firsts = first_edges(alloc, edges, count)?;
+fn rows_in_order(alloc: Global, edges: &Edges, count: usize) -> Result<Vec<u32>, AllocError> {
     let mut numbers = edges_to(alloc, edges, count)?;
     let mut rows = rows_without(alloc, numbers.as_slice())?;
     for place in 0..count {
         let Some(row) = rows.get(place).copied() else {
             return Ok(rows);
         };
-        release(
-            edges,
-            firsts.as_slice(),
-            row as usize,
-            &mut numbers,
-            &mut rows,
-        )?;
+        release(edges, row as usize, &mut numbers, &mut rows)?;
     }
     Ok(rows)
 }
 
 /// A number for each row, from 1, with which those that lead to it have less; 0 for a row to which
 /// a cycle leads.
-pub(crate) fn order_of(
-    alloc: Global,
-    edges: &[Edge],
-    count: usize,
-) -> Result<Vec<u32>, AllocError> {
+pub(crate) fn order_of(alloc: Global, edges: &Edges, count: usize) -> Result<Vec<u32>, AllocError> {
     let rows = rows_in_order(alloc, edges, count)?;
     let mut order = vec![in alloc; 0; count]?;
     for (place, row) in rows.iter().enumerate() {
@@ -157,25 +114,40 @@ fn is_rising(edge: &Edge, order: &[u32]) -> bool
 }
 
 /// Whether each edge does.
-pub(crate) fn is_order(order: &[u32], edges: &[Edge]) -> bool
+pub(crate) fn is_order(order: &[u32], edges: &Edges) -> bool
     ensures yes { IsTrue result → Rises order.now edges.now }
 {
-    for edge in edges {
-        if !is_rising(edge, order) {
+    let mut row = 0;
+    for at in 0..edges.len() {
+        let Some(edge) = edges.get_after(at, row) else {
+            return false;
+        };
+        if !is_rising(&edge, order) {
             return false;
         }
+        row = edge.from as usize;
     }
     true
 }
 
-/// For each row without a number one of those that lead to it, plus 1.
-fn rows_before(alloc: Global, edges: &[Edge], order: &[u32]) -> Result<Vec<u32>, AllocError> {
+/// Puts down a row, plus 1, as the one before each to which it leads and that has none.
+fn put_before(edges: &Edges, row: usize, before: &mut Vec<u32>) {
+    for at in edges.places_from(row) {
+        if let Some(edge) = edges.get_after(at, row) {
+            let to = edge.to as usize;
+            if number_at(before, to) == 0 {
+                put(before, to, edge.from.saturating_add(1));
+            }
+        }
+    }
+}
+
+/// For each row without a number the first of those that lead to it, plus 1.
+fn rows_before(alloc: Global, edges: &Edges, order: &[u32]) -> Result<Vec<u32>, AllocError> {
     let mut before = vec![in alloc; 0; order.len()]?;
-    for edge in edges {
-        let from = edge.from as usize;
-        let to = edge.to as usize;
-        if number_at(order, from) == 0 && number_at(&before, to) == 0 {
-            put(&mut before, to, edge.from.saturating_add(1));
+    for (row, number) in order.iter().enumerate() {
+        if *number == 0 {
+            put_before(edges, row, &mut before);
         }
     }
     Ok(before)
@@ -212,14 +184,14 @@ fn least_on_cycle(before: &[u32], row: usize) -> usize {
 /// Follows the edges from a row: those to rows that weren't reached are written down, with the
 /// place of the edge plus 1; with the place of an edge to the goal, if there is one.
 fn follow(
-    edges: &[Edge],
-    range: Range<usize>,
+    edges: &Edges,
+    row: usize,
     goal: usize,
     reached: &mut Vec<u32>,
     rows: &mut Vec<u32>,
 ) -> Result<Option<usize>, AllocError> {
-    for at in range {
-        if let Some(edge) = edges.get(at) {
+    for at in edges.places_from(row) {
+        if let Some(edge) = edges.get_after(at, row) {
             let to = edge.to as usize;
             if to == goal {
                 return Ok(Some(at));
@@ -236,7 +208,7 @@ fn follow(
 /// The edges from a row up to this edge, the last of which comes first.
 pub(crate) fn path_of(
     alloc: Global,
-    edges: &[Edge],
+    edges: &Edges,
     reached: &[u32],
     goal: usize,
     last: usize,
@@ -247,7 +219,7 @@ pub(crate) fn path_of(
         let Some(edge) = edges.get(at) else {
             return Ok(path);
         };
-        path.push(*edge)?;
+        path.push(edge)?;
         let from = edge.from as usize;
         if from == goal {
             return Ok(path);
@@ -260,19 +232,17 @@ pub(crate) fn path_of(
 /// The shortest cycle through a row, if there is one.
 fn cycle_through(
     alloc: Global,
-    edges: &[Edge],
+    edges: &Edges,
     count: usize,
     goal: usize,
 ) -> Result<Option<Cycle>, AllocError> {
-    let firsts = first_edges(alloc, edges, count)?;
     let mut reached = vec![in alloc; 0; count]?;
     let mut rows = vec![in alloc; place_of(goal)?]?;
     for place in 0..count {
         let Some(row) = rows.get(place).copied() else {
             return Ok(None);
         };
-        let range = range_from(firsts.as_slice(), row as usize);
-        if let Some(last) = follow(edges, range, goal, &mut reached, &mut rows)? {
+        if let Some(last) = follow(edges, row as usize, goal, &mut reached, &mut rows)? {
             let edges = path_of(alloc, edges, reached.as_slice(), goal, last)?;
             return Ok(Some(Cycle { at: goal, edges }));
         }
@@ -281,7 +251,7 @@ fn cycle_through(
 }
 
 /// The least row of a cycle among the rows to which the order gives no number.
-fn least_of_cycle(alloc: Global, edges: &[Edge], order: Vec<u32>) -> Result<usize, AllocError> {
+fn least_of_cycle(alloc: Global, edges: &Edges, order: Vec<u32>) -> Result<usize, AllocError> {
     let before = rows_before(alloc, edges, order.as_slice())?;
     let row = row_on_cycle(before.as_slice());
     Ok(least_on_cycle(before.as_slice(), row))
@@ -290,7 +260,7 @@ fn least_of_cycle(alloc: Global, edges: &[Edge], order: Vec<u32>) -> Result<usiz
 /// A cycle among the rows to which the order gives no number: the shortest through its least row.
 pub(crate) fn cycle_of(
     alloc: Global,
-    edges: &[Edge],
+    edges: &Edges,
     order: Vec<u32>,
 ) -> Result<Option<Cycle>, AllocError> {
     let count = order.len();

@@ -7,6 +7,7 @@ mod components;
 mod depths;
 mod dice;
 mod drawing;
+mod edges;
 mod ends;
 mod exploring;
 mod fair;

@@ -101,10 +101,15 @@ impl Store {
     {
         let counts = self.messages(alloc)?;
         let receiving = self.receiving(alloc)?;
-        for edge in &self.edges {
-            if self.is_loss(counts.as_slice(), receiving.as_slice(), edge)? {
-                return Ok(Some(*edge));
+        let mut row = 0;
+        for at in 0..self.edges.len() {
+            let Some(edge) = self.edges.get_after(at, row) else {
+                return Err(ExploreFault::Unvouched);
+            };
+            if self.is_loss(counts.as_slice(), receiving.as_slice(), &edge)? {
+                return Ok(Some(edge));
             }
+            row = edge.from as usize;
         }
         Ok(None)
     }

@@ -114,7 +114,10 @@ impl Store {
         let Some(edge) = edge_of(at, to, pid) else {
             return Ok(false);
         };
-        self.edges.push(edge)?;
+        let pushed = self.edges.push(edge)?;
+        if !pushed {
+            return Ok(false);
+        }
         Ok(true)
     }
 

@@ -4,6 +4,7 @@ ghost use Rattle.std.specs.Prelude.{◌≡◌, All, IsTrue};
 ghost use Rattle.lab_explore.specs.Private.Known.{AreKnown};
 ghost use Rattle.lab_explore.specs.Private.Ranked.{rank_of, keeper_of, IsFalling, IsKept, AreRanked};
 
+use crate::edges::Edges;
 use crate::search::Search;
 use crate::store::Edge;
 
@@ -44,13 +45,18 @@ fn is_falling(ranks: &[u32], keepers: &[Option<u32>], edge: &Edge) -> bool
 }
 
 /// Whether each edge does.
-fn are_falling(ranks: &[u32], keepers: &[Option<u32>], edges: &[Edge]) -> bool
+fn are_falling(ranks: &[u32], keepers: &[Option<u32>], edges: &Edges) -> bool
     ensures yes { IsTrue result → All (IsFalling ranks.now keepers.now) edges.now }
 {
-    for edge in edges {
-        if !is_falling(ranks, keepers, edge) {
+    let mut row = 0;
+    for at in 0..edges.len() {
+        let Some(edge) = edges.get_after(at, row) else {
+            return false;
+        };
+        if !is_falling(ranks, keepers, &edge) {
             return false;
         }
+        row = edge.from as usize;
     }
     true
 }
@@ -79,7 +85,7 @@ impl Search {
         requires known { AreKnown self.now.store self.now.moves }
         ensures yes { IsTrue result → AreRanked self.now.store ranks.now keepers.now }
     {
-        if !are_falling(ranks, keepers, self.store.edges.as_slice()) {
+        if !are_falling(ranks, keepers, &self.store.edges) {
             return false;
         }
         for at in 0..self.store.rows.len() {

@@ -104,9 +104,9 @@ impl Search {
         requires starts { AreStarts processes.now }
         ensures round { IfOk result (λ round.
             IfSome round (λ r. IsRound (initial_world processes.now) r)) }
-        ensures none { IfOk result (λ round. round ≡ None → AreRising self.now.store.edges.items) }
+        ensures none { IfOk result (λ round. round ≡ None → AreRising self.now.store.edges) }
     {
-        let edges = self.store.edges.as_slice();
+        let edges = &self.store.edges;
         let order = order_of(alloc, edges, self.store.rows.len())?;
         if is_order(order.as_slice(), edges) {
             return Ok(None);

@@ -1,8 +1,8 @@
 //! Which processes go on, and which take steps, in the strongly connected sets of the rows of a search.
 //! Nothing that is proved rests on what stands here: what is made of it is checked (`ranks`, `fair`).
 use crate::components::sets_of;
-use crate::graph::{first_edges, number_at};
-use crate::store::Edge;
+use crate::edges::Edges;
+use crate::graph::number_at;
 use std::alloc::{AllocError, Global};
 
 /// Processes, as the bits of a number.
@@ -11,8 +11,6 @@ type Processes = u64;
 /// The strongly connected sets of rows, and processes in them.
 #[derive(Drop)]
 pub(crate) struct Sets {
-    /// The place of the first edge from each row.
-    pub firsts: Vec<u32>,
     /// For each row the number of its set, from 1, or 0.
     pub of_rows: Vec<u32>,
     /// For each row the processes that go on from it.
@@ -51,10 +49,14 @@ fn keep_only(numbers: &mut Vec<Processes>, at: usize, processes: Processes) {
 }
 
 /// For each row the processes that have an edge from it.
-fn going_from(alloc: Global, edges: &[Edge], count: usize) -> Result<Vec<Processes>, AllocError> {
+fn going_from(alloc: Global, edges: &Edges, count: usize) -> Result<Vec<Processes>, AllocError> {
     let mut going = vec![in alloc; 0; count]?;
-    for edge in edges {
-        add(&mut going, edge.from as usize, only(edge.pid as u32));
+    let mut row = 0;
+    for at in 0..edges.len() {
+        if let Some(edge) = edges.get_after(at, row) {
+            row = edge.from as usize;
+            add(&mut going, row, only(edge.pid as u32));
+        }
     }
     Ok(going)
 }
@@ -62,15 +64,19 @@ fn going_from(alloc: Global, edges: &[Edge], count: usize) -> Result<Vec<Process
 /// For each number of a set the processes that have an edge inside.
 fn moving_in(
     alloc: Global,
-    edges: &[Edge],
+    edges: &Edges,
     of_rows: &[u32],
     most: usize,
 ) -> Result<Vec<Processes>, AllocError> {
     let mut moving = vec![in alloc; 0; most.saturating_add(1)]?;
-    for edge in edges {
-        let set = number_at(of_rows, edge.from as usize);
-        if set == number_at(of_rows, edge.to as usize) {
-            add(&mut moving, set as usize, only(edge.pid as u32));
+    let mut row = 0;
+    for at in 0..edges.len() {
+        if let Some(edge) = edges.get_after(at, row) {
+            row = edge.from as usize;
+            let set = number_at(of_rows, row);
+            if set == number_at(of_rows, edge.to as usize) {
+                add(&mut moving, set as usize, only(edge.pid as u32));
+            }
         }
     }
     Ok(moving)
@@ -100,15 +106,13 @@ fn first_of(processes: Processes) -> Option<u32> {
 
 impl Sets {
     /// The sets of so many rows.
-    pub(crate) fn new(alloc: Global, edges: &[Edge], count: usize) -> Result<Sets, AllocError> {
-        let firsts = first_edges(alloc, edges, count)?;
-        let of_rows = sets_of(alloc, edges, firsts.as_slice(), count)?;
+    pub(crate) fn new(alloc: Global, edges: &Edges, count: usize) -> Result<Sets, AllocError> {
+        let of_rows = sets_of(alloc, edges, count)?;
         let most = number_at(&of_rows, 0) as usize;
         let going = going_from(alloc, edges, count)?;
         let moving = moving_in(alloc, edges, of_rows.as_slice(), most)?;
         let always = always_in(alloc, of_rows.as_slice(), going.as_slice(), most)?;
         Ok(Sets {
-            firsts,
             of_rows,
             going,
             moving,

@@ -5,6 +5,7 @@ ghost use Rattle.lab_sched.specs.Held.{process_view};
 ghost use Rattle.lab_explore.specs.declared.store.Next.TheVariants.{Nothing};
 ghost use Rattle.lab_explore.specs.Private.Stored.{IsExactly, IsState, IsKernel, IsReady, IsStore, Grows};
 
+use crate::edges::Edges;
 use crate::known::Moves;
 use crate::row::Rows;
 use crate::states::States;
@@ -12,7 +13,6 @@ use ipc_kernel::{Index, Kernel, Kernels};
 use lab_conditions::call_of;
 use lab_sched::Process;
 use std::alloc::{AllocError, Global};
-use std::mem::size_of;
 
 /// What a process does next.
 #[derive(Clone, Copy, Drop)]
@@ -71,7 +71,7 @@ pub(crate) struct Store {
     pub rows: Rows,
     /// For each row the one from which it was reached first.
     pub parents: Vec<Parent>,
-    pub edges: Vec<Edge>,
+    pub edges: Edges,
     pub row_index: Index,
 }
 
@@ -89,7 +89,7 @@ impl Store {
             states: States::new(alloc)?,
             rows: Rows::new(alloc, processes),
             parents: Vec::new(alloc),
-            edges: Vec::new(alloc),
+            edges: Edges::new(alloc),
             row_index: Index::new(alloc)?,
         })
     }
@@ -101,7 +101,7 @@ impl Store {
             .saturating_add(self.kernels.size())
             .saturating_add(self.rows.size())
             .saturating_add(ROW.saturating_mul(self.rows.len()))
-            .saturating_add(size_of::<Edge>().saturating_mul(self.edges.len()))
+            .saturating_add(self.edges.size())
             .saturating_add(moves.size())
     }
 
@@ -116,8 +116,8 @@ impl Store {
         self.row_index = Index::none(alloc);
     }
 
-    /// Lets go of what only a search needs that goes on. The moves of a whole search are told by its
-    /// kernels, which are found no more then.
+    /// Lets go of what only a search needs that goes on or is whole. Where it isn't whole, no kernel is
+    /// looked for any more.
     pub(crate) fn forget(&mut self, alloc: Global) {
         self.kernels.forget(alloc);
         self.close(alloc);

@@ -1,7 +1,8 @@
 //! Ways through strongly connected sets of rows that serve each process. Nothing that is proved rests
 //! on what stands here: the steps along them are taken again (`fair`).
 use crate::ExploreFault;
-use crate::graph::{number_at, path_of, put, range_from};
+use crate::edges::Edges;
+use crate::graph::{number_at, path_of, put};
 use crate::search::Search;
 use crate::served::{Sets, only};
 use crate::store::{Edge, place_of};
@@ -95,17 +96,17 @@ impl Sets {
     /// with the place of the edge plus 1; with the place of one that is looked for, or leads to it.
     fn follow(
         &self,
-        edges: &[Edge],
+        edges: &Edges,
         row: usize,
         goal: Goal,
         reached: &mut Vec<u32>,
         rows: &mut Vec<u32>,
     ) -> Result<Option<usize>, AllocError> {
-        for at in range_from(self.firsts.as_slice(), row) {
-            if let Some(edge) = edges.get(at) {
+        for at in edges.places_from(row) {
+            if let Some(edge) = edges.get_after(at, row) {
                 let to = edge.to as usize;
                 if self.set_of(to) == self.set_of(row) {
-                    if self.leads_there(edge, goal) {
+                    if self.leads_there(&edge, goal) {
                         return Ok(Some(at));
                     }
                     if number_at(reached, to) == 0 {
@@ -123,7 +124,7 @@ impl Sets {
     fn path_to(
         &self,
         alloc: Global,
-        edges: &[Edge],
+        edges: &Edges,
         from: usize,
         goal: Goal,
     ) -> Result<Option<Vec<Edge>>, AllocError> {
@@ -153,7 +154,7 @@ impl Sets {
         if self.is_there(way.row, goal) {
             return Ok(true);
         }
-        let Some(path) = self.path_to(alloc, search.store.edges.as_slice(), way.row, goal)? else {
+        let Some(path) = self.path_to(alloc, &search.store.edges, way.row, goal)? else {
             return Ok(false);
         };
         way.go(search, path.as_slice())?;

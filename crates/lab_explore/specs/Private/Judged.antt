@@ -28,7 +28,7 @@ pub record IsLoss (t : Store) (e : Edge) : Type 0 where
 
 -- no edge is
 abbrev pub NoEdgeLoses : Store → Type 0
-NoEdgeLoses t = All (λ e. IsLoss t e → ⊥) t.edges.items
+NoEdgeLoses t = All (λ e. IsLoss t e → ⊥) t.edges
 
 -- no row, and no edge, shows what must never be so
 abbrev pub IsUnseen : Store → Never → Type 0

@@ -28,7 +28,7 @@ IsKept t ranks keepers i = (p : ℕ) → keeper_of keepers (rank_of ranks i) ≡
 
 -- each edge is such a one, and each row
 pub record AreRanked (t : Store) (ranks : List ℕ) (keepers : List (Option ℕ)) : Type 0 where
-  pub falls : All (IsFalling ranks keepers) t.edges.items
+  pub falls : All (IsFalling ranks keepers) t.edges
   pub kept : (i : ℕ) → i < length t.rows → IsKept t ranks keepers i
 
 -- the rows have such ranks

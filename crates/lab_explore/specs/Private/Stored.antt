@@ -59,7 +59,7 @@ pub record Grows (t u : Store) : Type 0 where
   pub kernels : GrowsKept t.kernels u.kernels
   pub states : Keeps t.states u.states
   pub rows : Keeps t.rows u.rows
-  pub edges : Keeps t.edges.items u.edges.items
+  pub edges : Keeps t.edges u.edges
 
 -- u is s after all its local steps, fewer than 2^32
 pub record IsReached (s u : Process) : Type 0 where
@@ -105,7 +105,7 @@ IsNextAt t i p next =
 -- local steps
 abbrev pub HasEdge : Store → ℕ → WorldState → ℕ → Type 0
 HasEdge t i w p =
-    (k : ℕ) × (e : Edge) × (v : WorldState) × (slice_get t.edges.items k ≡ Some e) × (e.from ≡ i)
+    (k : ℕ) × (e : Edge) × (v : WorldState) × (slice_get t.edges k ≡ Some e) × (e.from ≡ i)
     × IsAt t e.to v × AreReached (step w p) v × (e.pid ≡ p)
 
 -- the step of process p from the world of row number i, if the process goes on, has an edge

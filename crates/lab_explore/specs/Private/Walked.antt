@@ -35,5 +35,5 @@ HasRowEnd t ends i d = (w : WorldState) → IsAt t i w → NoneGoesOn w → HasU
 -- the same of each row, by its depth
 pub record HaveRowEnds (t : Store) (ends : List End) : Type 0 where
   pub depths : List ℕ
-  pub are : AreDepths depths t.edges.items
+  pub are : AreDepths depths t.edges
   pub each : (i : ℕ) → HasRowEnd t ends i (depth_of depths i)

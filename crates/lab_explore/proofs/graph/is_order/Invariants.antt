@@ -2,5 +2,5 @@ use Rattle.std.specs.List.{AllWithin}
 use Rattle.lab_explore.specs.Private.Rising.{IsRising}
 use Rattle.lab_explore.proofs.graph.is_order.Given as goal
 
-abbrev pub invariant-loop-edge : goal.invariant-loop-edge
-invariant-loop-edge l = AllWithin (IsRising l.order) l.edges 0 l.edge-index
+abbrev pub invariant-loop-at : goal.invariant-loop-at
+invariant-loop-at l = AllWithin (IsRising l.order) l.edges 0 l.at

@@ -1,5 +1,5 @@
-use Rattle.std.proofs.Common.{All, arith, subst, below_more}
-use Rattle.lab_explore.specs.Private.Ranked.{IsFalling, IsKept}
+use Rattle.std.proofs.Common.{arith, below_more}
+use Rattle.lab_explore.specs.Private.Ranked.{IsKept}
 use Rattle.lab_explore.proofs.search.Search.are_ranked.Goals as goal
 
 pub loop-at-preserved : goal.loop-at-preserved
@@ -13,7 +13,7 @@ returns c =
     let end = c.len-at-end.ensures in
     record {
       yes = λ is. record {
-        falls = subst (λ es. All (IsFalling c.args.ranks.now c.args.keepers.now) es) c.as_slice.ensures.value (c.are_falling.ensures.yes c.if-not-are_falling.false);
+        falls = c.are_falling.ensures.yes c.if-not-are_falling.false;
         kept = λ i within. c.loop-at.invariant i (omega (arith, within, past, end));
       };
     }
