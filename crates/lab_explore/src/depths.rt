@@ -72,10 +72,11 @@ pub(crate) fn count_waiting(world: &World) -> u32
 impl Store {
     /// For each row the number of calls on the way to it.
     fn count_calls(&self, alloc: Global) -> Result<Vec<u32>, AllocError> {
-        let mut depths = Vec::with_capacity(alloc, self.parents.len())?;
+        let parents = self.parents.rows();
+        let mut depths = Vec::with_capacity(alloc, parents.len())?;
         depths.push(0)?;
-        for parent in self.parents.iter().skip(1) {
-            let before = depth_of(depths.as_slice(), parent.row as usize);
+        for parent in parents.iter().skip(1) {
+            let before = depth_of(depths.as_slice(), *parent as usize);
             depths.push(before.saturating_add(1))?;
         }
         Ok(depths)

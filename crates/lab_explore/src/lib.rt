@@ -22,6 +22,7 @@ mod losses;
 mod making;
 mod moves;
 mod observer;
+mod parents;
 mod passing;
 mod picture;
 mod random;

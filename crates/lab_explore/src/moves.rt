@@ -6,7 +6,8 @@ ghost use Rattle.lab_explore.specs.Private.Rows.{row_of};
 ghost use Rattle.lab_explore.specs.Private.Stored.{IsRow, IsStore, Grows, AreReached, HasEdge, IsNextAt, IsAt, IsTried, IsExpanded};
 
 use crate::known::Moves;
-use crate::store::{Edge, Next, Parent, Store};
+use crate::parents::Parent;
+use crate::store::{Edge, Next, Store};
 use crate::{ExploreFault, Limits};
 use std::alloc::{AllocError, Global};
 

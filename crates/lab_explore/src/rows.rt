@@ -5,8 +5,9 @@ ghost use Rattle.lab_explore.specs.Private.Rows.{Row, row_of};
 ghost use Rattle.lab_explore.specs.Private.Stored.{IsRow, IsAt, IsStore, Grows};
 
 use crate::ExploreFault;
+use crate::parents::Parent;
 use crate::row::digest_of;
-use crate::store::{Parent, Store, place_of};
+use crate::store::{Store, place_of};
 use std::alloc::{AllocError, Global};
 
 impl Store {

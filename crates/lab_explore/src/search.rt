@@ -9,7 +9,8 @@ ghost use Rattle.lab_explore.specs.Private.Stored.{IsState, IsReady, IsAt, IsSto
 use crate::advance::{Ahead, advance};
 use crate::known::Moves;
 use crate::moves::both;
-use crate::store::{Parent, Store};
+use crate::parents::Parent;
+use crate::store::Store;
 use crate::trying::discard;
 use crate::{ExploreFault, Limits, Observer};
 use ipc_kernel::Kernel;

@@ -7,6 +7,7 @@ ghost use Rattle.lab_explore.specs.Private.Stored.{IsExactly, IsState, IsKernel,
 
 use crate::edges::Edges;
 use crate::known::Moves;
+use crate::parents::Parents;
 use crate::row::Rows;
 use crate::states::States;
 use ipc_kernel::{Index, Kernel, Kernels};
@@ -46,13 +47,6 @@ pub(crate) fn place_of(at: usize) -> Result<u32, AllocError>
     }
 }
 
-/// The row from which another was reached first, by a step of process `pid`.
-#[derive(Clone, Copy, Drop)]
-pub(crate) struct Parent {
-    pub row: u32,
-    pub pid: u8,
-}
-
 /// A step of process `pid` from the world of a row, and then all its local steps, to the world of a
 /// row.
 #[derive(Clone, Copy, Drop)]
@@ -70,7 +64,7 @@ pub(crate) struct Store {
     pub states: States,
     pub rows: Rows,
     /// For each row the one from which it was reached first.
-    pub parents: Vec<Parent>,
+    pub parents: Parents,
     pub edges: Edges,
     pub row_index: Index,
 }
@@ -88,7 +82,7 @@ impl Store {
             kernels: Kernels::new(alloc)?,
             states: States::new(alloc)?,
             rows: Rows::new(alloc, processes),
-            parents: Vec::new(alloc),
+            parents: Parents::new(alloc),
             edges: Edges::new(alloc),
             row_index: Index::new(alloc)?,
         })

@@ -1,0 +1,47 @@
+//! From where each row was reached first. Nothing that is proved rests on what stands here: the way to a
+//! row is walked again (`walking`).
+use std::alloc::{AllocError, Global};
+
+/// The row from which another was reached first, by a step of process `pid`.
+#[derive(Clone, Copy, Drop)]
+pub(crate) struct Parent {
+    pub row: u32,
+    pub pid: u8,
+}
+
+/// The parents of rows, in their order.
+#[derive(Drop)]
+pub(crate) struct Parents {
+    rows: Vec<u32>,
+    pids: Vec<u8>,
+}
+
+impl Parents {
+    /// None.
+    pub(crate) fn new(alloc: Global) -> Parents {
+        Parents {
+            rows: Vec::new(alloc),
+            pids: Vec::new(alloc),
+        }
+    }
+
+    /// The parent of a row.
+    pub(crate) fn get(&self, at: usize) -> Option<Parent> {
+        let row = *self.rows.get(at)?;
+        let pid = *self.pids.get(at)?;
+        Some(Parent { row, pid })
+    }
+
+    /// Adds the parent of the next row. Where memory is refused none is added.
+    pub(crate) fn push(&mut self, parent: Parent) -> Result<(), AllocError> {
+        self.rows.reserve(1)?;
+        self.pids.push(parent.pid)?;
+        self.rows.push_reserved(parent.row);
+        Ok(())
+    }
+
+    /// The rows that are parents.
+    pub(crate) fn rows(&self) -> &[u32] {
+        self.rows.as_slice()
+    }
+}
