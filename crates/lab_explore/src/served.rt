@@ -6,15 +6,13 @@ use crate::graph::number_at;
 use std::alloc::{AllocError, Global};
 
 /// Processes, as the bits of a number.
-type Processes = u64;
+pub(crate) type Processes = u64;
 
 /// The strongly connected sets of rows, and processes in them.
 #[derive(Drop)]
 pub(crate) struct Sets {
     /// For each row the number of its set, from 1, or 0.
     pub of_rows: Vec<u32>,
-    /// For each row the processes that go on from it.
-    going: Vec<Processes>,
     /// For each number of a set the processes that have an edge inside.
     moving: Vec<Processes>,
     /// For each number of a set the processes that go on from each of its rows.
@@ -48,17 +46,15 @@ fn keep_only(numbers: &mut Vec<Processes>, at: usize, processes: Processes) {
     }
 }
 
-/// For each row the processes that have an edge from it.
-fn going_from(alloc: Global, edges: &Edges, count: usize) -> Result<Vec<Processes>, AllocError> {
-    let mut going = vec![in alloc; 0; count]?;
-    let mut row = 0;
-    for at in 0..edges.len() {
+/// The processes that have an edge from a row.
+pub(crate) fn going_from(edges: &Edges, row: usize) -> Processes {
+    let mut going = 0;
+    for at in edges.places_from(row) {
         if let Some(edge) = edges.get_after(at, row) {
-            row = edge.from as usize;
-            add(&mut going, row, only(edge.pid as u32));
+            going |= only(edge.pid as u32);
         }
     }
-    Ok(going)
+    going
 }
 
 /// For each number of a set the processes that have an edge inside.
@@ -85,13 +81,13 @@ fn moving_in(
 /// For each number of a set the processes that go on from each of its rows.
 fn always_in(
     alloc: Global,
+    edges: &Edges,
     of_rows: &[u32],
-    going: &[Processes],
     most: usize,
 ) -> Result<Vec<Processes>, AllocError> {
     let mut always = vec![in alloc; u64::MAX; most.saturating_add(1)]?;
     for (row, set) in of_rows.iter().enumerate() {
-        keep_only(&mut always, *set as usize, some_at(going, row));
+        keep_only(&mut always, *set as usize, going_from(edges, row));
     }
     Ok(always)
 }
@@ -109,12 +105,10 @@ impl Sets {
     pub(crate) fn new(alloc: Global, edges: &Edges, count: usize) -> Result<Sets, AllocError> {
         let of_rows = sets_of(alloc, edges, count)?;
         let most = number_at(&of_rows, 0) as usize;
-        let going = going_from(alloc, edges, count)?;
         let moving = moving_in(alloc, edges, of_rows.as_slice(), most)?;
-        let always = always_in(alloc, of_rows.as_slice(), going.as_slice(), most)?;
+        let always = always_in(alloc, edges, of_rows.as_slice(), most)?;
         Ok(Sets {
             of_rows,
-            going,
             moving,
             always,
         })
@@ -123,11 +117,6 @@ impl Sets {
     /// The number of the set of a row.
     pub(crate) fn set_of(&self, row: usize) -> u32 {
         number_at(&self.of_rows, row)
-    }
-
-    /// Whether a process goes on from a row.
-    pub(crate) fn goes_on(&self, row: usize, pid: u32) -> bool {
-        some_at(&self.going, row) & only(pid) != 0
     }
 
     /// Whether a process has an edge inside the set of a row.

@@ -4,7 +4,7 @@ use crate::ExploreFault;
 use crate::edges::Edges;
 use crate::graph::{number_at, path_of, put};
 use crate::search::Search;
-use crate::served::{Sets, only};
+use crate::served::{Sets, going_from, only};
 use crate::store::{Edge, place_of};
 use std::alloc::{AllocError, Global};
 
@@ -76,19 +76,19 @@ impl Way {
 
 impl Sets {
     /// Whether a row is what is looked for.
-    fn is_there(&self, row: usize, goal: Goal) -> bool {
+    fn is_there(&self, edges: &Edges, row: usize, goal: Goal) -> bool {
         match goal {
-            Goal::Rest(pid) => !self.goes_on(row, pid),
+            Goal::Rest(pid) => going_from(edges, row) & only(pid) == 0,
             Goal::Step(_) => false,
             Goal::Row(other) => row == other,
         }
     }
 
     /// Whether an edge is what is looked for, or leads to it.
-    fn leads_there(&self, edge: &Edge, goal: Goal) -> bool {
+    fn leads_there(&self, edges: &Edges, edge: &Edge, goal: Goal) -> bool {
         match goal {
             Goal::Step(pid) => edge.pid as u32 == pid,
-            _ => self.is_there(edge.to as usize, goal),
+            _ => self.is_there(edges, edge.to as usize, goal),
         }
     }
 
@@ -106,7 +106,7 @@ impl Sets {
             if let Some(edge) = edges.get_after(at, row) {
                 let to = edge.to as usize;
                 if self.set_of(to) == self.set_of(row) {
-                    if self.leads_there(&edge, goal) {
+                    if self.leads_there(edges, &edge, goal) {
                         return Ok(Some(at));
                     }
                     if number_at(reached, to) == 0 {
@@ -151,7 +151,7 @@ impl Sets {
         goal: Goal,
         way: &mut Way,
     ) -> Result<bool, ExploreFault> {
-        if self.is_there(way.row, goal) {
+        if self.is_there(&search.store.edges, way.row, goal) {
             return Ok(true);
         }
         let Some(path) = self.path_to(alloc, &search.store.edges, way.row, goal)? else {
