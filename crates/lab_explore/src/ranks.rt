@@ -19,7 +19,7 @@ fn rank_at(ranks: &[u32], at: usize) -> u32
 }
 
 /// The process of a rank, if it has one.
-fn keeper_at(keepers: &[Option<u32>], rank: u32) -> Option<u32>
+fn keeper_at(keepers: &[Option<u8>], rank: u32) -> Option<u8>
     ensures keeper { result ≡ keeper_of keepers.now rank }
 {
     match keepers.get(rank as usize) {
@@ -30,7 +30,7 @@ fn keeper_at(keepers: &[Option<u32>], rank: u32) -> Option<u32>
 
 /// Whether an edge leads to a lesser rank, or from one that has a process to the same by a step of
 /// another.
-fn is_falling(ranks: &[u32], keepers: &[Option<u32>], edge: &Edge) -> bool
+fn is_falling(ranks: &[u32], keepers: &[Option<u8>], edge: &Edge) -> bool
     ensures yes { IsTrue result → IsFalling ranks.now keepers.now edge.now }
 {
     let from = rank_at(ranks, edge.from as usize);
@@ -39,13 +39,13 @@ fn is_falling(ranks: &[u32], keepers: &[Option<u32>], edge: &Edge) -> bool
         return true;
     }
     match keeper_at(keepers, from) {
-        Some(pid) => to == from && edge.pid as u32 != pid,
+        Some(pid) => to == from && edge.pid != pid,
         None => false,
     }
 }
 
 /// Whether each edge does.
-fn are_falling(ranks: &[u32], keepers: &[Option<u32>], edges: &Edges) -> bool
+fn are_falling(ranks: &[u32], keepers: &[Option<u8>], edges: &Edges) -> bool
     ensures yes { IsTrue result → All (IsFalling ranks.now keepers.now) edges.now }
 {
     let mut row = 0;
@@ -63,14 +63,14 @@ fn are_falling(ranks: &[u32], keepers: &[Option<u32>], edges: &Edges) -> bool
 
 impl Search {
     /// Whether the process of the rank of a row, if it has one, goes on from the world of the row.
-    fn is_kept(&self, ranks: &[u32], keepers: &[Option<u32>], at: usize) -> bool
+    fn is_kept(&self, ranks: &[u32], keepers: &[Option<u8>], at: usize) -> bool
         requires known { AreKnown self.now.store self.now.moves }
         ensures yes { IsTrue result → IsKept self.now.store ranks.now keepers.now at }
     {
         let Some(pid) = keeper_at(keepers, rank_at(ranks, at)) else {
             return true;
         };
-        let Some(next) = self.store.known_next(&self.moves, at, pid) else {
+        let Some(next) = self.store.known_next(&self.moves, at, pid as u32) else {
             return false;
         };
         if next.is_nothing() {
@@ -81,7 +81,7 @@ impl Search {
 
     /// Whether ranks are such that no edge raises them, and the process of each goes on from each row of
     /// it and has no edge between two of these.
-    pub(crate) fn are_ranked(&self, ranks: &[u32], keepers: &[Option<u32>]) -> bool
+    pub(crate) fn are_ranked(&self, ranks: &[u32], keepers: &[Option<u8>]) -> bool
         requires known { AreKnown self.now.store self.now.moves }
         ensures yes { IsTrue result → AreRanked self.now.store ranks.now keepers.now }
     {

@@ -93,11 +93,11 @@ fn always_in(
 }
 
 /// The first of some processes, if there is one.
-fn first_of(processes: Processes) -> Option<u32> {
+fn first_of(processes: Processes) -> Option<u8> {
     if processes == 0 {
         return None;
     }
-    Some(processes.trailing_zeros())
+    u8::try_from(processes.trailing_zeros()).ok()
 }
 
 impl Sets {
@@ -131,7 +131,7 @@ impl Sets {
 
     /// For each number of a set a process that goes on from each of its rows and has no edge inside, if
     /// there is one.
-    pub(crate) fn keepers(&self, alloc: Global) -> Result<Vec<Option<u32>>, AllocError> {
+    pub(crate) fn keepers(&self, alloc: Global) -> Result<Vec<Option<u8>>, AllocError> {
         let mut keepers = Vec::with_capacity(alloc, self.moving.len())?;
         for set in 0..self.moving.len() {
             keepers.push(first_of(self.kept(set)))?;
