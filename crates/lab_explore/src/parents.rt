@@ -1,6 +1,7 @@
 //! From where each row was reached first. Nothing that is proved rests on what stands here: the way to a
 //! row is walked again (`walking`).
 use std::alloc::{AllocError, Global};
+use std::mem::size_of;
 
 /// The row from which another was reached first, by a step of process `pid`.
 #[derive(Clone, Copy, Drop)]
@@ -17,6 +18,9 @@ pub(crate) struct Parents {
 }
 
 impl Parents {
+    /// How many bytes each takes.
+    pub(crate) const ENTRY: usize = size_of::<u32>() + size_of::<u8>();
+
     /// None.
     pub(crate) fn new(alloc: Global) -> Parents {
         Parents {

@@ -69,9 +69,9 @@ pub(crate) struct Store {
     pub row_index: Index,
 }
 
-/// About how many bytes each row takes beside its numbers: in the index, and where the rows are told,
-/// as a number in each of four lists and a depth.
-const ROW: usize = 56;
+/// About how many bytes each row takes beside its numbers and its edges: by its parent, and in the
+/// index, which is let go of before lists are made that take about as much.
+const ROW: usize = Index::ENTRY + Parents::ENTRY;
 
 impl Store {
     /// Nothing, with room for worlds of so many processes.

@@ -1,23 +1,23 @@
-use Rattle.std.proofs.Common.{◌<◌, ap, subst, length}
+use Rattle.std.proofs.Common.{◌<◌, subst, length}
 use Rattle.lab_explore.specs.Private.Stored.{AreExpanded}
 use Rattle.lab_explore.proofs.Growths.{rows_same, known_grows, expanded_grows}
 use Rattle.lab_explore.proofs.search.Search.go_on.Goals as goal
 
 pub returns-in-Ok-true-clause-store : goal.returns-in-Ok-true-clause-store
 returns-in-Ok-true-clause-store g c done =
-    (rows_same c.expand_all.new.self c.close.new.self c.in-Ok-true.ensures.store c.close.ensures.rows c.close.ensures.kernels (ap (λ v. v.items) c.close.ensures.states)
+    (rows_same c.expand_all.new.self c.close.new.self c.in-Ok-true.ensures.store c.close.ensures.rows c.close.ensures.kernels c.close.ensures.states
     c.close.ensures.edges).1
 
 pub returns-in-Ok-true-clause-known : goal.returns-in-Ok-true-clause-known
 returns-in-Ok-true-clause-known g c done =
     known_grows c.expand_all.new.self c.close.new.self c.expand_all.new.moves
-    (rows_same c.expand_all.new.self c.close.new.self c.in-Ok-true.ensures.store c.close.ensures.rows c.close.ensures.kernels (ap (λ v. v.items) c.close.ensures.states)
+    (rows_same c.expand_all.new.self c.close.new.self c.in-Ok-true.ensures.store c.close.ensures.rows c.close.ensures.kernels c.close.ensures.states
     c.close.ensures.edges).0 c.in-Ok-true.ensures.known
 
 pub returns-in-Ok-true-clause-expanded : goal.returns-in-Ok-true-clause-expanded
 returns-in-Ok-true-clause-expanded g c done i below =
     let t = c.expand_all.new.self in
     let u = c.close.new.self in
-    let grown = (rows_same t u c.in-Ok-true.ensures.store c.close.ensures.rows c.close.ensures.kernels (ap (λ v. v.items) c.close.ensures.states) c.close.ensures.edges).0 in
+    let grown = (rows_same t u c.in-Ok-true.ensures.store c.close.ensures.rows c.close.ensures.kernels c.close.ensures.states c.close.ensures.edges).0 in
     let all : AreExpanded t = c.in-Ok-true.ensures.all c.in-Ok-true.field-0-test in
     expanded_grows t u i grown (all i (subst (λ rs. i < length rs) c.close.ensures.rows below))
