@@ -7,7 +7,7 @@ use std::alloc::{AllocError, Global};
 const CHAINS: usize = 1 << 10;
 
 /// Chains of numbers, from 1 in the order in which they were added: those of one hash are in one
-/// chain, the newest first. There are at least as many chains as numbers.
+/// chain, the newest first. There are at least as many chains as numbers, and a power of 2.
 #[derive(Drop)]
 pub struct Index {
     newest: Vec<u32>,
@@ -79,10 +79,7 @@ impl Index {
 
     /// The chain of a hash.
     fn chain(&self, hash: u32) -> usize {
-        match self.newest.len() {
-            0 => 0,
-            count => hash as usize % count,
-        }
+        hash as usize & self.newest.len().wrapping_sub(1)
     }
 
     /// Makes twice as many chains.

@@ -9,6 +9,7 @@ ghost use Rattle.ipc_kernel.specs.Places.{is_empty};
 ghost use Rattle.ipc_kernel.specs.Kept.{GrowsKept};
 
 mod changes;
+mod digests;
 mod objects;
 mod operands;
 mod rows;
@@ -124,7 +125,7 @@ impl Kernels {
             at: pid,
             number: tables,
         };
-        let number = self.rows.find_changed(&objects, &processes)?;
+        let number = self.rows.find_changed(kernel, &objects, &processes)?;
         Some(number)
     }
 

@@ -62,24 +62,28 @@ impl Change<'_> {
         are_same(&numbers[at + 1..], &self.numbers[at + 1..])
     }
 
-    /// A number for the numbers then, behind others.
-    pub(crate) fn digest_after(&self, digest: u64) -> u64 {
-        let mut hash = begun(digest);
-        for (at, number) in self.numbers.iter().enumerate() {
-            let number = if at == self.at { self.number } else { *number };
-            hash = joined(hash, number);
-        }
-        hash
+    /// How much the digest of the numbers, the first of which stands at a place of a row, grows.
+    pub(crate) fn growth(&self, first: usize) -> u64 {
+        let before = match self.numbers.get(self.at) {
+            Some(number) => *number,
+            None => 0,
+        };
+        let place = first.saturating_add(self.at);
+        digest_at(place, self.number).wrapping_sub(digest_at(place, before))
     }
 }
 
-/// A digest before the first of some numbers.
-pub(crate) fn begun(digest: u64) -> u64 {
-    digest.wrapping_mul(0x9E37_79B9_7F4A_7C15)
+/// What a number at a place of a row adds to the digest of the row.
+fn digest_at(place: usize, number: u32) -> u64 {
+    let mixed = (((place as u64) << 32) | (number as u64)).wrapping_mul(0x9E37_79B9_7F4A_7C15);
+    (mixed ^ (mixed >> 29)).wrapping_mul(0xBF58_476D_1CE4_E5B9)
 }
 
-/// A digest with one number more.
-pub(crate) fn joined(digest: u64, number: u32) -> u64 {
-    let hash = (digest ^ (number as u64)).wrapping_mul(0x0000_0100_0000_01B3);
-    hash ^ (hash >> 29)
+/// What numbers, the first of which stands at a place of a row, add to the digest of the row.
+pub(crate) fn digest_from(first: usize, numbers: &[u32]) -> u64 {
+    let mut digest = 0_u64;
+    for (at, number) in numbers.iter().enumerate() {
+        digest = digest.wrapping_add(digest_at(first.saturating_add(at), *number));
+    }
+    digest
 }

@@ -3,8 +3,9 @@ ghost use Rattle.std.specs.Prelude.{◌≡◌, ◌<◌, ◌⊎◌, ℕ, [], Some
 ghost use Rattle.ipc_kernel.specs.Rows.{KernelRow};
 ghost use Rattle.ipc_kernel.specs.Private.KeptRows.{row_of};
 
-use super::changes::{Change, begun, joined};
-use crate::index::Index;
+use super::changes::{Change, digest_from};
+use super::digests::Digests;
+use crate::limits::OBJECT_PLACES;
 use std::alloc::{AllocError, Global};
 use std::marker::Model;
 use std::mem::size_of;
@@ -23,7 +24,7 @@ pub(crate) struct Span {
 pub(crate) struct Rows {
     numbers: Vec<u32>,
     spans: Vec<Span>,
-    index: Index,
+    digests: Digests,
 }
 
 impl Model for Rows {
@@ -38,18 +39,12 @@ impl Model for Rows {
     ghost invariant = { λ a. AreWithin a.numbers.items a.spans.items };
 }
 
-/// A number for a row.
-fn digest_of(objects: &[u32], tables: &[u32]) -> u64 {
-    digest_after(digest_after(objects.len() as u64, objects), tables)
-}
+/// The place in a digest of the first number of tables.
+const TABLES: usize = OBJECT_PLACES;
 
-/// A number for numbers behind others.
-fn digest_after(digest: u64, numbers: &[u32]) -> u64 {
-    let mut hash = begun(digest);
-    for number in numbers {
-        hash = joined(hash, *number);
-    }
-    hash
+/// The digest of a row.
+fn digest_of(objects: &[u32], tables: &[u32]) -> u64 {
+    digest_from(0, objects).wrapping_add(digest_from(TABLES, tables))
 }
 
 /// The parts of a row that stands at a place among numbers.
@@ -72,7 +67,7 @@ impl Rows {
         Ok(Rows {
             numbers: Vec::new(alloc),
             spans: Vec::new(alloc),
-            index: Index::new(alloc)?,
+            digests: Digests::new(alloc)?,
         })
     }
 
@@ -93,14 +88,14 @@ impl Rows {
         ensures found { IfSome result (λ i. slice_get self.now i
             ≡ Some (record { objects = objects.now; tables = tables.now })) }
     {
-        let mut number = self.index.newest(digest);
+        let mut number = self.digests.newest(digest);
         while number > 0 {
             if let Ok(at) = u32::try_from(number - 1) {
                 if self.is_at(at, objects, tables) {
                     return Some(at);
                 }
             }
-            number = self.index.older(number);
+            number = self.digests.older(number);
         }
         None
     }
@@ -116,23 +111,30 @@ impl Rows {
         }
     }
 
-    /// The number of the row that others make, each changed at a place, if it is kept.
-    pub(crate) fn find_changed(&self, objects: &Change<'_>, tables: &Change<'_>) -> Option<u32>
+    /// The number of the row that those of a row make, each changed at a place, if it is kept.
+    pub(crate) fn find_changed(
+        &self,
+        row: u32,
+        objects: &Change<'_>,
+        tables: &Change<'_>,
+    ) -> Option<u32>
         ensures found { IfSome result (λ i. slice_get self.now i ≡ Some (record {
           objects = slice_set objects.now.numbers.now objects.now.at objects.now.number;
           tables = slice_set tables.now.numbers.now tables.now.at tables.now.number;
         })) }
         ensures range { IfSome result (λ i. objects.now.at < length objects.now.numbers.now) }
     {
-        let digest = objects.digest_after(objects.numbers.len() as u64);
-        let mut number = self.index.newest(tables.digest_after(digest));
+        let growth = objects.growth(0).wrapping_add(tables.growth(TABLES));
+        let mut number = self
+            .digests
+            .newest(self.digests.get(row).wrapping_add(growth));
         while number > 0 {
             if let Ok(at) = u32::try_from(number - 1) {
                 if self.is_changed(at, objects, tables) {
                     return Some(at);
                 }
             }
-            number = self.index.older(number);
+            number = self.digests.older(number);
         }
         None
     }
@@ -202,7 +204,7 @@ impl Rows {
             objects: count_of(objects.len())?,
             tables: count_of(tables.len())?,
         };
-        self.index.add(digest)?;
+        self.digests.add(digest)?;
         self.numbers.extend_from_slice(objects)?;
         self.numbers.extend_from_slice(tables)?;
         self.spans.push(span)?;
@@ -211,7 +213,7 @@ impl Rows {
 
     /// About how many bytes the rows take.
     pub(crate) fn size(&self) -> usize {
-        let row = size_of::<Span>().saturating_add(Index::ENTRY);
+        let row = size_of::<Span>() + Digests::ENTRY;
         size_of::<u32>()
             .saturating_mul(self.numbers.len())
             .saturating_add(row.saturating_mul(self.spans.len()))
@@ -221,7 +223,7 @@ impl Rows {
     pub(crate) fn forget(&mut self, alloc: Global)
         ensures same { self.new ≡ self.old }
     {
-        self.index = Index::none(alloc);
+        self.digests = Digests::none(alloc);
     }
 }
 

@@ -1,0 +1,62 @@
+//! The digests of rows, and what finds rows by them. Nothing that is proved rests on what stands here.
+ghost use Rattle.std.specs.Prelude.{◌<◌};
+
+use crate::index::Index;
+use std::alloc::{AllocError, Global};
+use std::mem::size_of;
+
+/// For each row its digest, and the rows by their digests.
+#[derive(Drop)]
+pub(crate) struct Digests {
+    digests: Vec<u64>,
+    index: Index,
+}
+
+impl Digests {
+    /// About how many bytes each row takes.
+    pub(crate) const ENTRY: usize = size_of::<u64>() + Index::ENTRY;
+
+    /// No row.
+    pub(crate) fn new(alloc: Global) -> Result<Digests, AllocError> {
+        Ok(Digests {
+            digests: Vec::new(alloc),
+            index: Index::new(alloc)?,
+        })
+    }
+
+    /// No row, and no room for any.
+    pub(crate) fn none(alloc: Global) -> Digests {
+        Digests {
+            digests: Vec::new(alloc),
+            index: Index::none(alloc),
+        }
+    }
+
+    /// The digest of a row, or 0.
+    pub(crate) fn get(&self, row: u32) -> u64 {
+        match self.digests.get(row as usize) {
+            Some(digest) => *digest,
+            None => 0,
+        }
+    }
+
+    /// The number after that of the newest row that may have a digest, or 0.
+    pub(crate) fn newest(&self, digest: u64) -> usize {
+        self.index.newest(digest)
+    }
+
+    /// The number after that of the next older such row, or 0.
+    pub(crate) fn older(&self, number: usize) -> usize
+        ensures less { 0 < number → result < number }
+    {
+        self.index.older(number)
+    }
+
+    /// Adds the digest of the next row. Where memory is refused none is added.
+    pub(crate) fn add(&mut self, digest: u64) -> Result<(), AllocError> {
+        self.digests.reserve(1)?;
+        self.index.add(digest)?;
+        self.digests.push_reserved(digest);
+        Ok(())
+    }
+}
