@@ -4,15 +4,23 @@ use Rattle.std.specs.Option.{option_map, option_and_then}
 use Rattle.serde_json.specs.Data.{string}
 use Rattle.serde_json.specs.View.{items_of}
 use Rattle.serde_json.specs.Written.{has_float, items_have_float}
+use Rattle.lc3_asm.specs.declared.assembled.Row.{Row}
 use Rattle.lab_page.specs.Values.{naturals, or_null}
-use Rattle.lab_page.specs.Sources.{Source, row_data, source_data, name_at, source_at, program_at, programs}
+use Rattle.lab_page.specs.States.{call_names}
+use Rattle.lab_page.specs.Sources.{Source, row_words, first_call, row_data, source_data, name_at, source_at, program_at, programs}
 use Rattle.lab_page.proofs.PlainLemmas.{IsPlain, both, plain-one, plain-below, plain-map, plain-naturals}
+use Rattle.lab_page.proofs.StateLemmas.{names-plain}
+
+row-plain : (s : Source) (r : Row) → IsPlain (row_data s r)
+unfolding row_data
+row-plain s r =
+    let words = row_words s r in
+    both (has_float (naturals words)) (items_have_float (items_of (call_names (first_call words)))) (plain-naturals words) (names-plain (first_call words))
 
 source-plain : (s : Source) → IsPlain (source_data s)
 unfolding source_data
 source-plain s =
-    both (items_have_float (items_of (map row_data s.rows))) (has_float (naturals s.words) || false) (plain-map row_data s.rows (λ r. refl))
-    (both (has_float (naturals s.words)) false (plain-naturals s.words) refl)
+    both (items_have_float (items_of (map (row_data s) s.rows))) false (plain-map (row_data s) s.rows (row-plain s)) refl
 
 name-plain : (o : Option (List ℕ)) → IsPlain (or_null (option_map string o))
 name-plain None = refl

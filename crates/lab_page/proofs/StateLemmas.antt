@@ -5,13 +5,19 @@ use Rattle.serde_json.specs.View.{items_of}
 use Rattle.serde_json.specs.Written.{items_have_float}
 use Rattle.lc3_machine.specs.Process.{Process as Machine, reg}
 use Rattle.lab_sched.specs.Worlds.{Process, WorldState, machine_of}
+use Rattle.lab_trace.specs.Services.{service_of_word}
+use Rattle.lab_trace.specs.declared.service.Service.{Service}
 use Rattle.lab_page.specs.Values.{natural}
-use Rattle.lab_page.specs.States.{word_data, shown_count, words_from, registers, state_data, state_of, state_in, states}
+use Rattle.lab_page.specs.States.{call_names, word_data, shown_count, words_from, registers, state_data, state_of, state_in, states}
 use Rattle.lab_page.proofs.PlainLemmas.{IsPlain, ArePlain, both, plain-one, plain-below}
+
+pub names-plain : (s : Option Service) → ArePlain (call_names s)
+names-plain None = refl
+names-plain (Some x) = refl
 
 word-plain : (word : ℕ) → IsPlain (word_data word)
 unfolding word_data
-word-plain word = refl
+word-plain word = names-plain (service_of_word word)
 
 registers-plain : (m : Machine) → ArePlain (registers m)
 registers-plain m = plain-below 8 (λ r. natural (reg m r) ∷ []) (λ r. refl)

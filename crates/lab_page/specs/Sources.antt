@@ -1,29 +1,46 @@
 -- The programs of a page.
-use Rattle.std.specs.Prelude.{ℕ, Option, List, [], ◌∷◌, map, slice_get, string_bytes}
+use Rattle.std.specs.Prelude.{ℕ, ◌-◌, Option, List, [], ◌∷◌, map, take, drop, slice_get, string_bytes}
 use Rattle.std.specs.Option.{option_map, option_and_then}
 use Rattle.serde_json.specs.Data.{Data, string}
 use Rattle.lc3_asm.specs.Texts.{Program}
 use Rattle.lc3_asm.specs.declared.assembled.Row.{Row}
+use Rattle.lab_trace.specs.Services.{service_of_word}
+use Rattle.lab_trace.specs.declared.service.Service.{Service}
+use Rattle.lab_page.specs.States.{call_names}
 use Rattle.lab_page.specs.Values.{list, natural, naturals, or_null, all_below}
 use Rattle.lab_page.specs.declared.source.Source.{Source as HeldSource}
 
--- a source: its text, the lines that have words, and these words
+-- a source: its text, the lines that have words, the address of the first of these words, and the words
 pub record Source : Type 0 where
   pub text : List ℕ
   pub rows : List Row
+  pub origin : ℕ
   pub words : List ℕ
 
 -- the source with this text, by what it is assembled to
 abbrev pub source_of : List ℕ → Program → Source
-source_of text p = record { text = text; rows = p.rows; words = p.image.words }
+source_of text p = record { text = text; rows = p.rows; origin = p.image.origin; words = p.image.words }
 
--- a line of a source that has words: its number, the address of its first word, and how many it has
-abbrev pub row_data : Row → Data
-row_data r = list (natural r.line ∷ natural r.address ∷ natural r.count ∷ [])
+-- the words of a line
+abbrev pub row_words : Source → Row → List ℕ
+row_words s r = take r.count (drop (r.address - s.origin) s.words)
 
--- a source
+-- the call that the first of some words makes, where it makes one
+abbrev pub first_call : List ℕ → Option Service
+first_call words = option_and_then service_of_word (slice_get words 0)
+
+-- a line with these words: its number, the address of the first of them, the words, and the name of the call that the first makes,
+-- where it makes one
+abbrev pub row_with : Row → List ℕ → Data
+row_with r words = list (natural r.line ∷ natural r.address ∷ naturals words ∷ call_names (first_call words))
+
+-- a line of a source that has words
+unfoldable pub row_data : Source → Row → Data
+row_data s r = row_with r (row_words s r)
+
+-- a source: its text, and the lines of it that have words
 unfoldable pub source_data : Source → Data
-source_data s = list (string s.text ∷ list (map row_data s.rows) ∷ naturals s.words ∷ [])
+source_data s = list (string s.text ∷ list (map (row_data s) s.rows) ∷ [])
 
 -- the name of process p, where one is given
 abbrev pub name_at : List (List ℕ) → ℕ → Data
@@ -43,7 +60,7 @@ programs count names sources = list (all_below count (λ p. program_at names sou
 
 -- the source that is kept as a text
 abbrev pub source_shown : HeldSource → Source
-source_shown s = record { text = string_bytes s.text; rows = s.rows.items; words = s.words.items }
+source_shown s = record { text = string_bytes s.text; rows = s.rows.items; origin = s.origin; words = s.words.items }
 
 -- the sources that are kept as texts, each where there is one
 abbrev pub sources_shown : List (Option HeldSource) → List (Option Source)

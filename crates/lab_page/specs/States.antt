@@ -1,16 +1,23 @@
 -- A process at a moment.
 use Rattle.std.specs.Prelude.{ℕ, ◌+◌, ◌-◌, min, Option, Some, None, List, [], ◌∷◌, slice_get, slice_index, length}
+use Rattle.std.specs.Option.{option_map, option_to_list}
 use Rattle.serde_json.specs.Data.{Data, null, string}
 use Rattle.lc3_word.specs.Segment.{first_device}
 use Rattle.lc3_table.specs.Text.{word_text}
 use Rattle.lc3_machine.specs.Process.{Process as Machine, reg}
 use Rattle.lab_sched.specs.Worlds.{Process, WorldState, machine_of}
 use Rattle.lab_texts.specs.Texts.{code_text}
+use Rattle.lab_trace.specs.Services.{service_name, service_of_word}
+use Rattle.lab_trace.specs.declared.service.Service.{Service}
 use Rattle.lab_page.specs.Values.{list, natural, all_below}
 
--- a word and the text of its instruction
+-- the name of a call, where there is one
+abbrev pub call_names : Option Service → List Data
+call_names s = option_to_list (option_map (λ x. string (service_name x)) s)
+
+-- a word, the text of its instruction, and the name of the call that it makes, where it makes one
 unfoldable pub word_data : ℕ → Data
-word_data word = list (natural word ∷ string (word_text word) ∷ [])
+word_data word = list (natural word ∷ string (word_text word) ∷ call_names (service_of_word word))
 
 -- how many words are shown around a program counter: three before it, and five from it on, below the device registers
 abbrev pub shown_count : ℕ → ℕ

@@ -2,9 +2,10 @@
 ghost use Rattle.std.specs.Prelude.{◌≡◌, IfOk, map, slice_get, string_bytes};
 ghost use Rattle.std.specs.Option.{option_map, option_and_then};
 ghost use Rattle.serde_json.specs.View.{view};
-ghost use Rattle.lab_page.specs.Sources.{source_of, row_data, source_data, name_at, source_at, program_at, programs, source_shown, sources_shown};
+ghost use Rattle.lab_page.specs.Sources.{source_of, row_words, first_call, row_data, source_data, name_at, source_at, program_at, programs, source_shown, sources_shown};
 
 use crate::values::words_value;
+use lab_trace::{Service, service_of_word};
 use lc3_asm::{Assembled, Row};
 use serde_json::{Value, json};
 use std::alloc::{AllocError, Global};
@@ -16,6 +17,8 @@ pub struct Source {
     pub text: String,
     /// Its lines that have words, in order; they follow each other in memory.
     pub rows: Vec<Row>,
+    /// The address of the first of their words.
+    pub origin: u16,
     /// Their words, in order.
     pub words: Vec<u16>,
 }
@@ -28,25 +31,56 @@ pub fn source_of(alloc: Global, text: String, assembled: &Assembled) -> Result<S
     Ok(Source {
         text,
         rows: assembled.rows().to_vec(alloc)?,
+        origin: assembled.image().origin(),
         words: assembled.image().words().to_vec(alloc)?,
     })
 }
 
-/// A line that has words.
-fn row_value(alloc: Global, row: &Row) -> Result<Value, AllocError>
-    ensures value { IfOk result (λ v. view v ≡ row_data row.now) }
+/// The words of a line.
+fn row_words<'a>(source: &'a Source, row: &Row) -> &'a [u16]
+    ensures words { result.now ≡ row_words (source_shown source.now) row.now }
 {
-    let (line, address, count) = (row.line, row.address, row.count);
-    json!(in alloc; [line, address, count])
+    let words = source.words.as_slice();
+    let before = row.address.saturating_sub(source.origin) as usize;
+    let rest = &words[before.min(words.len())..];
+    &rest[..row.count.min(rest.len())]
 }
 
-/// The lines of a source that have words.
-fn row_values(alloc: Global, rows: &[Row]) -> Result<Vec<Value>, AllocError>
-    ensures values { IfOk result (λ v. map view v.items ≡ map row_data rows.now) }
+/// The call that the first of some words makes, where it makes one.
+fn first_call(words: &[u16]) -> Option<Service>
+    ensures service { result ≡ first_call words.now }
+{
+    match words.first() {
+        Some(word) => service_of_word(*word),
+        None => None,
+    }
+}
+
+/// A line that has words.
+#[tactic(auto, unfolding(crate::specs::Sources::row_data))]
+fn row_value(alloc: Global, source: &Source, row: &Row) -> Result<Value, AllocError>
+    ensures value { IfOk result (λ v. view v ≡ row_data (source_shown source.now) row.now) }
+{
+    let (line, address) = (row.line, row.address);
+    let held = row_words(source, row);
+    let words = words_value(alloc, held)?;
+    match first_call(held) {
+        Some(service) => {
+            let name = service.name();
+            json!(in alloc; [line, address, words, name])
+        }
+        None => json!(in alloc; [line, address, words]),
+    }
+}
+
+/// Lines of a source that have words.
+fn row_values(alloc: Global, source: &Source, rows: &[Row]) -> Result<Vec<Value>, AllocError>
+    ensures values { IfOk result (λ v. map view v.items
+        ≡ map (row_data (source_shown source.now)) rows.now) }
 {
     let mut values = Vec::new(alloc);
     for row in rows {
-        values.push(row_value(alloc, row)?)?;
+        values.push(row_value(alloc, source, row)?)?;
     }
     Ok(values)
 }
@@ -56,9 +90,8 @@ fn row_values(alloc: Global, rows: &[Row]) -> Result<Vec<Value>, AllocError>
 fn source_value(alloc: Global, source: &Source) -> Result<Value, AllocError>
     ensures value { IfOk result (λ v. view v ≡ source_data (source_shown source.now)) }
 {
-    let rows = row_values(alloc, &source.rows)?;
-    let words = words_value(alloc, &source.words)?;
-    json!(in alloc; [&source.text, rows, words])
+    let rows = row_values(alloc, source, &source.rows)?;
+    json!(in alloc; [&source.text, rows])
 }
 
 /// The name of a process, where one is given.

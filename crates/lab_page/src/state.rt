@@ -8,6 +8,7 @@ ghost use Rattle.lab_texts.specs.Texts.{code_text};
 ghost use Rattle.lab_page.specs.States.{word_data, shown_count, words_from, registers, state_data, state_in, states};
 
 use lab_sched::{Process, World};
+use lab_trace::service_of_word;
 use lc3_table::text;
 use lc3_word::{Cc, FIRST_DEVICE, Reg};
 use serde_json::{Value, json};
@@ -18,13 +19,19 @@ const BEFORE: u16 = 3;
 /// How many words are shown from the next instruction on.
 const FROM: u32 = 5;
 
-/// A word and the text of its instruction.
+/// A word, the text of its instruction, and the name of the call that it makes, where it makes one.
 #[tactic(auto, unfolding(crate::specs::States::word_data))]
 fn word_value(alloc: Global, word: u16) -> Result<Value, AllocError>
     ensures value { IfOk result (λ v. view v ≡ word_data word) }
 {
     let text = text(alloc, word)?;
-    json!(in alloc; [word, text])
+    match service_of_word(word) {
+        Some(service) => {
+            let name = service.name();
+            json!(in alloc; [word, text, name])
+        }
+        None => json!(in alloc; [word, text]),
+    }
 }
 
 /// So many words of the memory of a process, from an address on.

@@ -13,6 +13,10 @@ abbrev pub service_of : Option Instr → Option Service
 service_of (Some (Trap vector)) = service_in vector
 service_of other = None
 
+-- the call that a word makes as an instruction
+abbrev pub service_of_word : ℕ → Option Service
+service_of_word word = service_of (instruction_at word)
+
 -- the call that a process stands before; none in the device registers
 unfoldable pub service_at : Machine → Option Service
-service_at m = if nat_lt m.pc first_device then service_of (instruction_at (slice_index m.memory m.pc)) else None
+service_at m = if nat_lt m.pc first_device then service_of_word (slice_index m.memory m.pc) else None

@@ -33,7 +33,7 @@ pub use form::Form;
 pub use handles::Level;
 pub use lines::{columns_text, event_text, step_line};
 pub use origins::Origin;
-pub use service::service_at;
+pub use service::{service_at, service_of_word};
 pub use step::trace_step;
 pub use tally::{Account, Tally};
 pub use text::{Bytes, Text};

@@ -2,7 +2,7 @@
 ghost use Rattle.std.specs.Prelude.{◌≡◌};
 ghost use Rattle.lab_sched.specs.Held.{process_view};
 ghost use Rattle.lab_sched.specs.Worlds.{machine_of};
-ghost use Rattle.lab_trace.specs.Services.{service_of, service_at};
+ghost use Rattle.lab_trace.specs.Services.{service_of, service_of_word, service_at};
 
 use ipc_traps::Service;
 use lab_sched::Process;
@@ -19,6 +19,13 @@ fn service_of(instruction: Option<Instr>) -> Option<Service>
     }
 }
 
+/// The call that a word makes as an instruction.
+pub fn service_of_word(word: u16) -> Option<Service>
+    ensures service { result ≡ service_of_word word }
+{
+    service_of(decode(word))
+}
+
 /// The call that a process stands before.
 #[tactic(auto, unfolding(crate::specs::Services::service_at))]
 pub fn service_at(process: &Process) -> Option<Service>
@@ -26,7 +33,7 @@ pub fn service_at(process: &Process) -> Option<Service>
 {
     let pc = process.machine().pc();
     if pc < FIRST_DEVICE {
-        service_of(decode(process.machine().word(pc)))
+        service_of_word(process.machine().word(pc))
     } else {
         None
     }

@@ -27,16 +27,15 @@ function codeLine(isNext, place, text, call) {
   return `<span class="${isNext ? 'here' : 'line'}">${isNext ? '&gt;' : ' '} <i>${place}</i> ${esc(text)}${named}</span>`;
 }
 function codeLines({ pc, first, code }) {         // the words around the next instruction
-  return code.map(([word, text], i) =>
-    codeLine(first + i === pc, hex(first + i) + ' ' + hex(word), text, trapOf(word))).join('');
+  return code.map(([word, text, call], i) =>
+    codeLine(first + i === pc, hex(first + i) + ' ' + hex(word), text, call)).join('');
 }
 const BEFORE = 4, AFTER = 5;                      // how many lines of a source stand around that of the next instruction
 function sourceLines(p, next) {                   // the lines of the source around that of the next instruction
   const { lines } = SOURCES[p.process], first = Math.max(0, next.at - BEFORE), most = String(next.at + AFTER + 1).length;
-  return lines.slice(first, next.at + AFTER + 1).map(({ text, address, words }, i) => {
-    const call = words && !text.includes(';') ? trapOf(words[0]) : undefined;
+  return lines.slice(first, next.at + AFTER + 1).map(({ text, address, words, call }, i) => {
     const place = String(first + i + 1).padStart(most) + ' ' + (words ? hex(address) : '     ');
-    return codeLine(first + i === next.at, place, text, call);
+    return codeLine(first + i === next.at, place, text, text.includes(';') ? undefined : call);
   }).join('');
 }
 function around(p) {

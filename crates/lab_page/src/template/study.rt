@@ -3,12 +3,9 @@
 pub const STUDY: &str = r##"
 // ---- the lines of a source, where the data have one
 
-function readSource([text, rows, words]) {        // the lines, and those of them that have words
+function readSource([text, rows]) {               // the lines, and those of them that have words
   const lines = text.replace(/\n$/, '').split('\n').map((line, at) => ({ at, text: visible(line.trimEnd()) }));
-  const placed = rows.map(([line, address, count]) => {
-    const from = address - rows[0][1];
-    return Object.assign(lines[line - 1], { address, words: words.slice(from, from + count) });
-  });
+  const placed = rows.map(([line, address, words, call]) => Object.assign(lines[line - 1], { address, words, call }));
   return { lines, placed };
 }
 const SOURCES = DATA.processes.map(([, source]) => source && readSource(source));

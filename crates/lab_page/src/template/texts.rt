@@ -33,10 +33,6 @@ function cutName(text, most) {                    // of a name with an input fil
   if (!tail || width(text) <= most || width(tail) > most - 4) return cut(text, most);
   return cut(text.slice(0, at), most - width(tail)) + tail;
 }
-const TRAPS = { 0x40: 'mq_open', 0x41: 'mq_close', 0x42: 'mq_unlink', 0x43: 'mq_send', 0x44: 'mq_receive',
-  0x45: 'mq_getattr', 0x46: 'mq_setattr', 0x50: 'sem_open', 0x51: 'sem_close', 0x52: 'sem_unlink', 0x53: 'sem_wait',
-  0x54: 'sem_trywait', 0x55: 'sem_post', 0x56: 'sem_getvalue' };
-const trapOf = w => w >> 8 === 0xF0 ? TRAPS[w & 255] : undefined;
 const nameOf = object => object.name === null ? '#' + object.place : object.name;
 const listOf = processes => processes.map(p => 'P' + p).join(' ');
 
