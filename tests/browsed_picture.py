@@ -2,6 +2,18 @@
 import re
 
 
+def givers(lines):
+    """The steps of the last post to its semaphore, or receive from its queue, and of a call that waited; not of receives."""
+    last, found = {}, []
+    for it in lines:
+        call = re.match(r"(mq|sem)_(\w+)\(-?\d+<([^ ]*)>[,)]", it.what)
+        if call and call[2] != "receive" and re.search(r"waited since \d+$", it.what):
+            found.append([last.get((call[1], call[3])), it.step])
+        if call and call[2] in ("post", "receive") and re.search(r"\) = \d", it.what):
+            last[call[1], call[3]] = it.step
+    return sorted(found)
+
+
 def compare_picture(run, picture):
     """The picture beside the lines of the trace."""
     lines, wrong = run.lines, []
@@ -13,9 +25,11 @@ def compare_picture(run, picture):
         "boxes": [f"step {it.step}, P{it.process}: {it.what}" for it in lines],
         "waits": sorted([f"P{it.process} waits for {name.search(it.what)[1]}", it.step, after(at)] for at, it in waits),
         "arrows": sorted([int(it.origin), it.step] for it in lines if it.origin),
+        "wakes": givers(lines),
         "stuck": sorted(f"P{it.process} waits for ever for {name.search(it.what)[1]}" for it in ends),
     }
     found = {**picture, "waits": sorted(picture["waits"]), "arrows": sorted(picture["arrows"]),
+             "wakes": sorted(picture["wakes"]),
              "stuck": sorted(it.rsplit(": ", 1)[0] for it in picture["stuck"])}
     for it, label in zip(lines, found.pop("labels")):
         refused = re.match(r'(\w+)\((?:(-?\d+), |"([^"]*)").* = (E[A-Z]+)', it.what)

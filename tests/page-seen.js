@@ -66,11 +66,12 @@ const seen = (() => {
       const isSem = dot.matches('.holds'), shown = isSem ? `${what} ${value}` : text.split(/[ \u2026]/)[0];
       return [isSem ? 'sem' : 'mq', name, shown, stepAt(Number(dot.getAttribute('cy')))];
     };
+    const ends = a => [stepOf(b => b.k === a.dataset.from), stepOf(b => b.k === a.dataset.to)];
     const found = {
       boxes: boxes.map(b => b.title),
       waits: list(document, '#pic rect.waitbar').map(wait),
-      arrows: list(document, '#pic path.arrow[data-from]').map(a =>
-        [stepOf(b => b.k === a.dataset.from), stepOf(b => b.k === a.dataset.to)]),
+      arrows: list(document, '#pic path.arrow[data-from]').map(ends),
+      wakes: list(document, '#pic path.wake[data-from]').map(ends),
       unreceived: list(document, '#pic circle.kept').length,
       levels: list(document, '#pic circle:not(.kept)').map(level),
       taken: list(document, '#pic rect.holds').map(taken),

@@ -9,7 +9,6 @@ use Rattle.lab_trace.specs.Forms.{Form}
 use Rattle.lab_trace.specs.Tallies.{TallyState}
 use Rattle.lab_trace.specs.declared.answers.Outcome.{Outcome}
 use Rattle.lab_trace.specs.declared.answers.Outcome.TheVariants.{Waits, Refused, Gives}
-use Rattle.lab_trace.specs.declared.origins.Origin.{Origin}
 use Rattle.lab_trace.specs.declared.told.Act.{Act}
 use Rattle.lab_trace.specs.declared.told.Act.TheVariants.{Calls, Writes, Ends}
 use Rattle.lab_trace.specs.declared.told.Called.{Called}
@@ -25,17 +24,13 @@ use Rattle.lab_page.proofs.PlainLemmas.{IsPlain, ArePlain, both, plain-one, plai
 use Rattle.lab_page.proofs.StateLemmas.{in-plain}
 use Rattle.lab_page.proofs.ObjectLemmas.{object-plain, objects-plain, open-plain}
 
-place-plain : (o : Option ℕ) → IsPlain (or_null (option_map natural o))
-place-plain None = refl
-place-plain (Some n) = refl
+number-plain : (o : Option ℕ) → IsPlain (or_null (option_map natural o))
+number-plain None = refl
+number-plain (Some n) = refl
 
 words-plain : (o : Option (List ℕ)) → IsPlain (or_null (option_map naturals o))
 words-plain None = refl
 words-plain (Some ns) = plain-naturals ns
-
-sender-plain : (o : Option Origin) → IsPlain (or_null (option_map (λ x. natural x.step) o))
-sender-plain None = refl
-sender-plain (Some x) = refl
 
 outcome-plain : (o : Outcome) → IsPlain (outcome_data o)
 outcome-plain Waits = refl
@@ -47,11 +42,14 @@ unfolding called_data
 called-plain c =
     let place = has_float (or_null (option_map natural c.place)) in
     let words = has_float (or_null (option_map naturals (words_of c.outcome c.sent))) in
-    let sender = has_float (or_null (option_map (λ o. natural o.step) c.origin)) in
+    let step : Option ℕ = option_map (λ o. o.step) c.origin in
+    let sender = has_float (or_null (option_map natural step)) in
+    let giver = has_float (or_null (option_map natural c.giver)) in
     let outcome = has_float (outcome_data c.outcome) in
-    both place (outcome || (words || (sender || false))) (place-plain c.place)
-    (both outcome (words || (sender || false)) (outcome-plain c.outcome)
-    (both words (sender || false) (words-plain (words_of c.outcome c.sent)) (both sender false (sender-plain c.origin) refl)))
+    both place (outcome || (words || (sender || (giver || false)))) (number-plain c.place)
+    (both outcome (words || (sender || (giver || false))) (outcome-plain c.outcome)
+    (both words (sender || (giver || false)) (words-plain (words_of c.outcome c.sent))
+    (both sender (giver || false) (number-plain step) (both giver false (number-plain c.giver) refl))))
 
 act-plain : (act : Act) → IsPlain (act_data act)
 act-plain (Calls c) = called-plain c

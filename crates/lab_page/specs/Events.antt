@@ -32,13 +32,13 @@ abbrev pub words_of : Outcome → Option (List ℕ) → Option (List ℕ)
 words_of (Gives result (Received words priority)) sent = Some words
 words_of other sent = sent
 
--- a call: its name, its object by place and by name, its answer as the trace has it and as a value, the words of its message, and
--- the step that sent the message that it received
+-- a call: its name, its object by place and by name, its answer as the trace has it and as a value, the words of its message, the
+-- step that sent the message that it received, and the step that last gave to its object where it had waited
 unfoldable pub called_data : Called → Data
 called_data c =
     list (string (codes "call") ∷ string (service_name c.service) ∷ or_null (option_map natural c.place) ∷ string c.object
     ∷ string (outcome_text c.outcome) ∷ outcome_data c.outcome ∷ or_null (option_map naturals (words_of c.outcome c.sent))
-    ∷ or_null (option_map (λ o. natural o.step) c.origin) ∷ [])
+    ∷ or_null (option_map natural (option_map (λ o. o.step) c.origin)) ∷ or_null (option_map natural c.giver) ∷ [])
 
 -- what a process did
 abbrev pub act_data : Act → Data

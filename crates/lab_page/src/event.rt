@@ -57,13 +57,23 @@ fn place_value(place: Option<u8>) -> Value
     }
 }
 
+/// The number of a step, where there is one.
+fn step_value(step: Option<u32>) -> Value
+    ensures value { view result ≡ or_null (option_map natural step) }
+{
+    match step {
+        Some(step) => Value::from(step),
+        None => Value::Null,
+    }
+}
+
 /// The step that sent a message, where one was received.
-fn sender_value(origin: Option<Origin>) -> Value
-    ensures value { view result ≡ or_null (option_map (λ o. natural o.step) origin) }
+fn sender(origin: Option<Origin>) -> Option<u32>
+    ensures step { result ≡ option_map (λ o. o.step) origin }
 {
     match origin {
-        Some(origin) => Value::from(origin.step),
-        None => Value::Null,
+        Some(origin) => Some(origin.step),
+        None => None,
     }
 }
 
@@ -78,9 +88,10 @@ fn called_value(alloc: Global, call: &Called) -> Result<Value, AllocError>
     push_outcome(&mut answer, &call.outcome)?;
     let outcome = outcome_value(alloc, &call.outcome)?;
     let words = message_words(alloc, call)?;
-    let sender = sender_value(call.origin);
     let place = place_value(call.place);
-    json!(in alloc; ["call", name, place, object, answer, outcome, words, sender])
+    let sender = step_value(sender(call.origin));
+    let giver = step_value(call.giver);
+    json!(in alloc; ["call", name, place, object, answer, outcome, words, sender, giver])
 }
 
 /// What a process did.

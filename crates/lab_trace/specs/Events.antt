@@ -7,6 +7,7 @@ use Rattle.lab_sched.specs.Worlds.{Process, Running, Waiting, Ended}
 use Rattle.lab_trace.specs.Answers.{outcome_of, result_of}
 use Rattle.lab_trace.specs.Objects.{held_place, level_at}
 use Rattle.ipc_traps.specs.Services.{is_open, is_on_level}
+use Rattle.lab_trace.specs.Givers.{giver_by}
 use Rattle.lab_trace.specs.Origins.{origin_by}
 use Rattle.lab_trace.specs.Tallies.{TallyState, account_of}
 use Rattle.lab_trace.specs.declared.answers.Outcome.{Outcome}
@@ -48,6 +49,7 @@ call_with k t p q o = record {
   level = level_by k q.service (place_by k p q.service q.place (result_of o));
   origin = origin_by q.service q.place (result_of o) t.origins;
   since = (account_of t p).since;
+  giver = giver_by q.service (account_of t p).since q.place t.givers;
 }
 
 -- the same by its result, which it has where it doesn't wait

@@ -8,6 +8,7 @@ pub mod Answers
 pub mod Questions
 pub mod Origins
 pub mod Units
+pub mod Givers
 pub mod Tallies
 pub mod Events
 pub mod Forms

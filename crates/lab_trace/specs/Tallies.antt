@@ -1,6 +1,7 @@
 -- What a trace keeps beside the world.
 use Rattle.std.specs.Prelude.{ℕ, ◌+◌, ◌<◌, replicate, slice_set, Option, Some, None, List, [], slice_get, unwrap_or}
 use Rattle.ipc_kernel.specs.Kernel.{KernelState}
+use Rattle.lab_trace.specs.Givers.{no_givers, givers_after}
 use Rattle.lab_trace.specs.Origins.{origins_after}
 use Rattle.lab_trace.specs.Units.{units_after}
 use Rattle.lab_trace.specs.declared.origins.Origin.{Origin}
@@ -14,11 +15,13 @@ use Rattle.lab_trace.specs.declared.told.Told.{Told}
 use Rattle.lab_trace.specs.declared.told.Told.TheVariants.{Nothing, Counted, Shown}
 
 -- of each process its counted steps since its last line, and since when it waits; of each message in
--- a queue where it comes from; of each process and semaphore how many units it took and gave
+-- a queue where it comes from; of each process and semaphore how many units it took and gave; of each
+-- place the step that last gave to its object
 pub record TallyState : Type 0 where
   pub accounts : List Account
   pub origins : List Origin
   pub units : List UnitCount
+  pub givers : List (Option ℕ)
 
 -- an account before the first step
 abbrev pub new_account : Account
@@ -26,7 +29,7 @@ new_account = record { local = 0; since = None }
 
 -- the tally of so many processes before the first step
 abbrev pub new_tally : ℕ → TallyState
-new_tally count = record { accounts = replicate count new_account; origins = []; units = [] }
+new_tally count = record { accounts = replicate count new_account; origins = []; units = []; givers = no_givers }
 
 -- the account of process p
 abbrev pub account_in : List Account → ℕ → Account
@@ -65,6 +68,7 @@ tally_with k n p act t =
       accounts = slice_set t.accounts p (account_after n act);
       origins = origins_after k n p act t.origins;
       units = units_after k p act t.units;
+      givers = givers_after n act t.givers;
     }
 
 -- the tally after step n of process p, by what is told of it

@@ -10,6 +10,7 @@ mod ends;
 mod fault;
 mod flags;
 mod form;
+mod givers;
 mod handles;
 pub mod laws;
 mod lines;

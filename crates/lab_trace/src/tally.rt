@@ -1,11 +1,13 @@
 //! What a trace keeps of each process beside the world.
 ghost use Rattle.std.specs.Prelude.{◌≡◌, ◌<◌, IfOk, OnOk, length, slice_set};
+ghost use Rattle.lab_trace.specs.Givers.{giver_at};
 ghost use Rattle.lab_trace.specs.Origins.{first};
 ghost use Rattle.lab_trace.specs.Units.{units_of, balance, AreFew};
 ghost use Rattle.lab_trace.specs.Tallies.{new_tally, account_of, account_counted, waits_from, tally_with, tally_after};
 ghost use Rattle.lab_trace.specs.Private.Room.{most_units, HasRoom};
 
 use crate::answers::Outcome;
+use crate::givers::Givers;
 use crate::origins::{Origin, Origins};
 use crate::told::{Act, Told};
 use crate::units::Units;
@@ -22,12 +24,14 @@ pub struct Account {
     pub since: Option<u32>,
 }
 
-/// An account of each process, where the messages in queues come from, and who took and gave units of semaphores.
+/// An account of each process, where the messages in queues come from, who took and gave units of semaphores, and which
+/// step last gave to each object.
 #[derive(Drop)]
 pub struct Tally {
     accounts: Vec<Account>,
     origins: Origins,
     units: Units,
+    givers: Givers,
 }
 
 impl Model for Tally {
@@ -39,6 +43,7 @@ impl Model for Tally {
       accounts = t.accounts.items;
       origins = t.origins;
       units = t.units;
+      givers = t.givers;
     } };
 }
 
@@ -74,6 +79,7 @@ impl Tally {
             accounts,
             origins: Origins::new(alloc),
             units: Units::new(alloc),
+            givers: Givers::new(alloc)?,
         })
     }
 
@@ -108,6 +114,13 @@ impl Tally {
         self.units.of(place, pid).balance()
     }
 
+    /// The step that last posted to the semaphore in a place, or last received from the queue there.
+    pub fn giver(&self, place: u8) -> Option<u32>
+        ensures value { result ≡ giver_at place self.now.givers }
+    {
+        self.givers.at(place)
+    }
+
     /// Keeps what process `pid` did in step `number`, by the kernel after it.
     fn keep_act(
         &mut self,
@@ -125,6 +138,7 @@ impl Tally {
             local: 0,
             since: waits_from(number, act),
         };
+        self.givers.keep(number, act);
         self.origins.keep(kernel, number, pid, act)?;
         self.units.keep(kernel, pid, act)
     }

@@ -2,6 +2,7 @@
 ghost use Rattle.std.specs.Prelude.{◌≡◌, ◌<◌, IfOk, length, slice_get, drop};
 ghost use Rattle.lab_sched.specs.Held.{process_view};
 ghost use Rattle.lab_sched.specs.Worlds.{machine_of};
+ghost use Rattle.lab_trace.specs.Givers.{giver_by};
 ghost use Rattle.lab_trace.specs.Origins.{origin_by};
 ghost use Rattle.lab_trace.specs.Events.{place_by, level_by, call_by, wrote, act_by, told_by};
 
@@ -41,6 +42,9 @@ pub struct Called {
     pub origin: Option<Origin>,
     /// The step since which the process waited.
     pub since: Option<u32>,
+    /// Where it waited, the last step that posted to its semaphore or received from its queue; none of mq_receive, which has
+    /// an origin.
+    pub giver: Option<u32>,
 }
 
 /// What a process did in a step.
@@ -121,6 +125,16 @@ fn origin_by(
     }
 }
 
+/// The giver of a call that waited since that step, if it did, by the tally before it.
+fn giver_by(tally: &Tally, service: Service, since: Option<u32>, place: Option<u8>) -> Option<u32>
+    ensures value { result ≡ giver_by service since place tally.now.givers }
+{
+    match (service, since) {
+        (Service::MqReceive, _) | (_, None) => None,
+        (_, Some(_)) => tally.giver(place?),
+    }
+}
+
 /// A call of process `pid` with this result, which it has where it doesn't wait, and what became of it, by the kernel after
 /// it and the tally before it.
 #[tactic(auto, unfolding(crate::specs::Events::call_by))]
@@ -146,6 +160,7 @@ fn call_by(
     let outcome = outcome_of(result_word, given);
     let given_result = result_of(&outcome);
     let place = place_by(kernel, pid, service, before, given_result);
+    let since = tally.account(pid).since;
     Called {
         service,
         arguments,
@@ -156,7 +171,8 @@ fn call_by(
         outcome,
         level: level_by(kernel, service, place),
         origin: origin_by(tally, service, before, given_result),
-        since: tally.account(pid).since,
+        since,
+        giver: giver_by(tally, service, since, before),
     }
 }
 

@@ -9,7 +9,7 @@ const limited = (least, value, most) => Math.max(least, Math.min(value, most));
 
 function laneWidth(room) { return Math.floor(Math.max(N > 32 ? 17 : N > 4 ? 26 : 66, Math.min(room / N, 290))); }
 function betweenBoxes(lane) {                     // arrows need more room between the boxes
-  if (arrows.length + wakes.length > 0) return limited(8, lane * .36, 120);
+  if (arrows.length + wakes.length + kept.length > 0) return limited(8, lane * .36, 120);
   return limited(6, lane * .06 + (lane - 200) * .5, 60);
 }
 function layout() {
@@ -28,8 +28,8 @@ function layout() {
   route();
 }
 function route() {                                // each arrow runs down a track of its own between two lanes
-  const used = new Map(), drawn = arrows.concat(wakes).filter(a => a.to !== null);
-  for (const a of drawn.sort((x, y) => x.from - y.from || x.to - y.to)) {
+  const used = new Map();
+  for (const a of [...arrows, ...wakes].sort((x, y) => x.from - y.from || x.to - y.to)) {
     const from = R[a.from].process, to = R[a.to].process;
     a.left = to < from; a.gap = a.left ? from - 1 : from; a.track = 0;
     const side = a.gap + (a.left ? 'l' : 'r');

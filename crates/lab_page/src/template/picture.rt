@@ -117,18 +117,16 @@ function drawHeld(parts) {
 
 // ---- messages, and who let a waiting process go on
 
-function drawUnreceived(parts, a) {
-  const x = midX(R[a.from].process) + lay.box / 2, y = midY(a.from);
+function drawUnreceived(parts, { process, k }) {
+  const x = midX(process) + lay.box / 2, y = midY(k);
   const dot = `<circle class="kept" cx="${x + 9}" cy="${y}" r="3.5"/>`;
   parts.push(titled('never received', `<path class="arrow" d="M${x},${y} h6"/>` + dot));
 }
 function drawLinks(parts) {
-  const isNear = a => touches(midY(a.from), midY(a.to === null ? a.from : a.to));
+  const isNear = a => touches(midY(a.from), midY(a.to));
   for (const a of wakes.filter(isNear)) parts.push(link(a, 'wake', 'tipw'));
-  for (const a of arrows.filter(isNear)) {
-    if (a.to === null) drawUnreceived(parts, a);
-    else parts.push(link(a, 'arrow', 'tipm'));
-  }
+  for (const a of arrows.filter(isNear)) parts.push(link(a, 'arrow', 'tipm'));
+  for (const e of kept.filter(e => touches(midY(e.k), midY(e.k)))) drawUnreceived(parts, e);
 }
 
 // ---- the end

@@ -20,8 +20,8 @@ function objectOf([kind, place, name, ...rest]) {
 }
 function didOf([what, ...rest]) {                 // ends, output or call
   if (what !== 'call') return { [what]: rest[0] };
-  const [call, on, name, answer, result, words, origin] = rest, refused = typeof result === 'string' ? result : '';
-  return { call, on, name, answer, result, words, origin, refused, waits: result === null };
+  const [call, on, name, answer, result, words, origin, giver] = rest, refused = typeof result === 'string' ? result : '';
+  return { call, on, name, answer, result, words, origin, giver, refused, waits: result === null };
 }
 
 // ---- each process after its moments, each object after its changes

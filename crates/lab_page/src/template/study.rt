@@ -24,7 +24,7 @@ function didText(e) {                             // the instruction that a step
 
 const EVENT = 27, GAP = 18, FOOT = 62;            // heights: of an event, of a row between events, of the foot
 const rows = [], rowOf = [], posY = [0];          // the rows; of each record its row; of each moment its height
-const waits = [], arrows = [], wakes = [], holds = [], cols = [];
+const holds = [], cols = [];
 let height = 8, done = 0, block = -1, left = 0;   // so many steps are behind the last row, and the block has so many more
 
 function take(most) {                             // the next steps of a block: their process, and how many
@@ -65,17 +65,15 @@ function addEvent({ step, k }) {
 
 // ---- waits, messages, and who let a waiting process go on
 
-const sent = new Map();                           // of the step of each send its arrow
-const given = new Map();                          // of each place the last post or receive
-function followCall(e) {
-  const { step, k, process: p, call, on, name, result, origin } = e, isWoken = wasOf(e).state === 'waiting';
-  if (e.waits) waits.push({ p, k, end: null, name });
-  if (isWoken) waits.findLast(w => w.p === p).end = k;
-  if (isWoken && call !== 'mq_receive' && given.has(on)) wakes.push({ from: given.get(on), to: k });
-  if (call === 'mq_send' && result === 0) { sent.set(step, { from: k, to: null }); arrows.push(sent.get(step)); }
-  if (origin) sent.get(origin).to = k;
-  if (call === 'sem_post' && result === 0 || origin) given.set(on, k);
+const recordOf = new Map(EVENTS.map(({ step, k }) => [step, k]));
+const arrowsBy = stepOf => EVENTS.filter(stepOf).map(e => ({ from: recordOf.get(stepOf(e)), to: e.k }));
+const arrows = arrowsBy(e => e.origin), wakes = arrowsBy(e => e.giver), received = new Set(arrows.map(a => a.from));
+const kept = EVENTS.filter(e => e.call === 'mq_send' && e.result === 0 && !received.has(e.k));  // messages that nobody received
+function waitOf({ process: p, k, name }) {        // to the next moment of its process, where it has one
+  const [, next] = lives[p].slice(lastIndex(lives[p], it => it.k <= k));
+  return { p, k, name, end: next ? next.k : null };
 }
+const waits = EVENTS.filter(e => e.waits).map(waitOf);
 
 // ---- what the objects did, and what is held
 
@@ -113,8 +111,5 @@ function followObject(e, place) {
   cols[e.column].at.push(object ? levelAt(object, k, text) : { k, text: 'gone', title: 'gone' });
   followHeld(e, place, object);
 }
-for (const e of EVENTS) {
-  followCall(e);
-  for (const place of e.changed) followObject(e, place);
-}
+for (const e of EVENTS) for (const place of e.changed) followObject(e, place);
 "##;

@@ -3,11 +3,16 @@ use Rattle.std.specs.Io.KnownBytes.{Appends}
 use Rattle.std.proofs.KnownBytes.{Appends-trans}
 use Rattle.lab_io.proofs.Prefixes.{AppendsPrefix-after}
 use Rattle.lab_sched.specs.Schedules.{steps_of}
-use Rattle.lab_trace.specs.Scenes.{Scene, scene_at, events}
+use Rattle.lab_trace.specs.Scenes.{Scene, scene_at, events, IsKept}
 use Rattle.lab_trace.specs.Tallies.{new_tally}
-use Rattle.lab_trace.proofs.SceneLemmas.{scene-world}
+use Rattle.lab_trace.proofs.SceneLemmas.{scene-world, kept-first}
 use Rattle.lab_trace.proofs.WrittenLemmas.{on_err, on_ok, on_err-map, on_ok-map, trace-whole, lines-prefix, prefix-lines, form-is}
 use Rattle.lab_trace.proofs.tracing.trace.Goals as goal
+
+pub trace_blocks-requires-clause-kept : goal.trace_blocks-requires-clause-kept
+trace_blocks-requires-clause-kept g c =
+    let first = c.in_ok-tally.ensures.empty ∙ ap new_tally c.count-2.ensures.count in
+    subst (λ t. IsKept (scene_at 1 c.args.world.now t)) (sym first) (kept-first c.args.world.now)
 
 pub returns-in_err-trace_blocks-clause-prefix : goal.returns-in_err-trace_blocks-clause-prefix
 returns-in_err-trace_blocks-clause-prefix g c =
