@@ -14,6 +14,20 @@ def givers(lines):
     return sorted(found)
 
 
+def steps_between(run):
+    """How many steps of each process lie before each line, and behind the last one: local, or without effect while it waits."""
+    lines, kinds, counts, found = {it.step: it.what for it in run.lines}, {}, {}, []
+    for step, process in enumerate((p for p, count in run.blocks for _ in range(count)), 1):
+        kind, what = kinds.get(process, "local steps"), lines.get(step)
+        if what is None:
+            counts[process, kind] = counts.get((process, kind), 0) + 1
+            continue
+        found += [[f"P{p}: {count} {kind}", step] for (p, kind), count in counts.items() if kind]
+        waits = "steps without effect" if re.search(r"\) waits( ;|$)", what) else "local steps"
+        kinds[process], counts = "" if what.startswith("ends ") else waits, {}
+    return sorted(found + [[f"P{p}: {count} {kind}", None] for (p, kind), count in counts.items() if kind], key=str)
+
+
 def compare_picture(run, picture):
     """The picture beside the lines of the trace."""
     lines, wrong = run.lines, []
@@ -26,10 +40,11 @@ def compare_picture(run, picture):
         "waits": sorted([f"P{it.process} waits for {name.search(it.what)[1]}", it.step, after(at)] for at, it in waits),
         "arrows": sorted([int(it.origin), it.step] for it in lines if it.origin),
         "wakes": givers(lines),
+        "between": steps_between(run),
         "stuck": sorted(f"P{it.process} waits for ever for {name.search(it.what)[1]}" for it in ends),
     }
     found = {**picture, "waits": sorted(picture["waits"]), "arrows": sorted(picture["arrows"]),
-             "wakes": sorted(picture["wakes"]),
+             "wakes": sorted(picture["wakes"]), "between": sorted(picture["between"], key=str),
              "stuck": sorted(it.rsplit(": ", 1)[0] for it in picture["stuck"])}
     for it, label in zip(lines, found.pop("labels")):
         refused = re.match(r'(\w+)\((?:(-?\d+), |"([^"]*)").* = (E[A-Z]+)', it.what)

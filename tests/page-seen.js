@@ -66,9 +66,15 @@ const seen = (() => {
       const isSem = dot.matches('.holds'), shown = isSem ? `${what} ${value}` : text.split(/[ \u2026]/)[0];
       return [isSem ? 'sem' : 'mq', name, shown, stepAt(Number(dot.getAttribute('cy')))];
     };
+    const isGap = title => /^P\d+: \d+ (local steps|steps without effect)$/.test(title.textContent);
+    const gap = title => {                        // its text, and the step of the box below it
+      const { y } = title.parentElement.getBBox();
+      return [title.textContent, stepOf(b => b.top > y)];
+    };
     const ends = a => [stepOf(b => b.k === a.dataset.from), stepOf(b => b.k === a.dataset.to)];
     const found = {
       boxes: boxes.map(b => b.title),
+      between: list(document, '#pic g > title').filter(isGap).map(gap),
       waits: list(document, '#pic rect.waitbar').map(wait),
       arrows: list(document, '#pic path.arrow[data-from]').map(ends),
       wakes: list(document, '#pic path.wake[data-from]').map(ends),

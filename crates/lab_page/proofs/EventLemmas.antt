@@ -19,9 +19,12 @@ use Rattle.lab_page.specs.Values.{natural, naturals, or_null}
 use Rattle.lab_page.specs.States.{state_in}
 use Rattle.lab_page.specs.Objects.{objects, open_data}
 use Rattle.lab_page.specs.Events.{outcome_data, words_of, called_data, act_data, tells_all, place_changed, object_in, objects_told, open_told, event_data}
+use Rattle.lab_page.specs.Between.{between_data}
+use Rattle.lab_page.specs.declared.between.StepCount.{StepCount}
 use Rattle.lab_page.specs.Moments.{counted_moment, shown_moment, moment_by}
 use Rattle.lab_page.proofs.PlainLemmas.{IsPlain, ArePlain, both, plain-one, plain-naturals, plain-if}
 use Rattle.lab_page.proofs.StateLemmas.{in-plain}
+use Rattle.lab_page.proofs.BetweenLemmas.{between-plain}
 use Rattle.lab_page.proofs.ObjectLemmas.{object-plain, objects-plain, open-plain}
 
 number-plain : (o : Option ℕ) → IsPlain (or_null (option_map natural o))
@@ -86,14 +89,17 @@ pub counted-plain : (n p : ℕ) (w : WorldState) → IsPlain (counted_moment n p
 unfolding counted_moment
 counted-plain n p w = both (has_float (state_in w p)) false (in-plain w p) refl
 
-pub shown-plain : (v : Form) (n p : ℕ) (e : Event) (w : WorldState) (t : TallyState) → IsPlain (shown_moment v n p e w t)
+pub shown-plain : (v : Form) (n p : ℕ) (e : Event) (w : WorldState) (t : TallyState) (b : List StepCount) → IsPlain (shown_moment v n p e w t b)
 unfolding shown_moment
-shown-plain v n p e w t =
-    both (has_float (state_in w p)) (has_float (event_data v n p e w t) || false) (in-plain w p)
-    (both (has_float (event_data v n p e w t)) false (event-plain v n p e w t) refl)
+shown-plain v n p e w t b =
+    let event = has_float (event_data v n p e w t) in
+    let between = has_float (between_data b) in
+    both (has_float (state_in w p)) (event || (between || false)) (in-plain w p)
+    (both event (between || false) (event-plain v n p e w t) (both between false (between-plain b) refl))
 
 -- the moment of a step
-pub moment-plain : (v : Form) (whole : Bool) (n p : ℕ) (told : Told) (w : WorldState) (t : TallyState) → ArePlain (moment_by v whole n p told w t)
-moment-plain v whole n p Nothing w t = refl
-moment-plain v whole n p Counted w t = plain-if whole (counted_moment n p w ∷ []) [] (plain-one (counted_moment n p w) (counted-plain n p w)) refl
-moment-plain v whole n p (Shown e) w t = plain-one (shown_moment v n p e w t) (shown-plain v n p e w t)
+pub moment-plain : (v : Form) (whole : Bool) (n p : ℕ) (told : Told) (w : WorldState) (t : TallyState) (b : List StepCount)
+    → ArePlain (moment_by v whole n p told w t b)
+moment-plain v whole n p Nothing w t b = refl
+moment-plain v whole n p Counted w t b = plain-if whole (counted_moment n p w ∷ []) [] (plain-one (counted_moment n p w) (counted-plain n p w)) refl
+moment-plain v whole n p (Shown e) w t b = plain-one (shown_moment v n p e w t b) (shown-plain v n p e w t b)

@@ -7,6 +7,8 @@ use Rattle.lab_sched.specs.declared.schedule.block.Block.{Block}
 use Rattle.lab_sched.proofs.ScheduleRuns.{steps-split}
 use Rattle.lab_trace.specs.Scenes.{Scene, next, scene_after}
 use Rattle.lab_trace.specs.Forms.{Form}
+use Rattle.lab_page.specs.Between.{next_between, between_then}
+use Rattle.lab_page.specs.declared.between.StepCount.{StepCount}
 use Rattle.lab_page.specs.Moments.{moment, moments}
 use Rattle.lab_page.specs.Private.Json.{more_json}
 use Rattle.lab_page.specs.Faults.{IsFault}
@@ -22,26 +24,31 @@ fault-longer TooLarge xs ys h = omega (arith, h, length-append xs ys)
 fault-longer NoMemory xs ys h = tt
 
 -- the moments of a block from its step number k on
-moments-from : (v : Form) (b : Bool) (s : Scene) (n k p : ℕ) → k ≤ n
-    → moments v b s (replicate n p) ≡ moments v b s (replicate k p) ++ moments v b (scene_after s (replicate k p)) (replicate (n - k) p)
-moments-from v b s n k p h =
+moments-from : (v : Form) (whole : Bool) (s : Scene) (b : List StepCount) (n k p : ℕ) → k ≤ n
+    → moments v whole s b (replicate n p)
+    ≡ moments v whole s b (replicate k p) ++ moments v whole (scene_after s (replicate k p)) (between_then s (replicate k p) b) (replicate (n - k) p)
+moments-from v whole s b n k p h =
     let parts : k + (n - k) ≡ n = omega arith in
-    ap (λ (m : ℕ). moments v b s (replicate m p)) (sym parts) ∙ ap (moments v b s) (sym (replicate-append-replicate k (n - k) p))
-    ∙ moments-append v b s (replicate k p) (replicate (n - k) p)
+    ap (λ (m : ℕ). moments v whole s b (replicate m p)) (sym parts) ∙ ap (moments v whole s b) (sym (replicate-append-replicate k (n - k) p))
+    ∙ moments-append v whole s b (replicate k p) (replicate (n - k) p)
 
-moments-first : (v : Form) (b : Bool) (s : Scene) (n p : ℕ) → moments v b s (replicate (suc n) p) ≡ moment v b s p ++ moments v b (next s p) (replicate n p)
+moments-first : (v : Form) (whole : Bool) (s : Scene) (b : List StepCount) (n p : ℕ)
+    → moments v whole s b (replicate (suc n) p) ≡ moment v whole s b p ++ moments v whole (next s p) (next_between s p b) (replicate n p)
 unfolding moments
-moments-first v b s n p = refl
+moments-first v whole s b n p = refl
 
 -- the moment of step number k of a block, and those behind it
-moments-at : (v : Form) (b : Bool) (s u : Scene) (n k p : ℕ) → k < n → u ≡ scene_after s (replicate k p)
-    → moments v b s (replicate n p) ≡ moments v b s (replicate k p) ++ (moment v b u p ++ moments v b (next u p) (replicate (n - k - 1) p))
-moments-at v b s u n k p h is =
+moments-at : (v : Form) (whole : Bool) (s u : Scene) (b c : List StepCount) (n k p : ℕ) → k < n → u ≡ scene_after s (replicate k p)
+    → c ≡ between_then s (replicate k p) b → moments v whole s b (replicate n p)
+    ≡ moments v whole s b (replicate k p) ++ (moment v whole u c p ++ moments v whole (next u p) (next_between u p c) (replicate (n - k - 1) p))
+moments-at v whole s u b c n k p h is between =
+    let first : List Data = moments v whole s b (replicate k p) in
     let parts : n - k ≡ suc (n - k - 1) = omega arith in
-    moments-from v b s n k p (omega arith)
-    ∙ ap (λ (x : Scene). moments v b s (replicate k p) ++ moments v b x (replicate (n - k) p)) (sym is)
-    ∙ ap (λ (m : ℕ). moments v b s (replicate k p) ++ moments v b u (replicate m p)) parts
-    ∙ ap (λ (l : List Data). moments v b s (replicate k p) ++ l) (moments-first v b u (n - k - 1) p)
+    moments-from v whole s b n k p (omega arith)
+    ∙ ap (λ (x : Scene). first ++ moments v whole x (between_then s (replicate k p) b) (replicate (n - k) p)) (sym is)
+    ∙ ap (λ (x : List StepCount). first ++ moments v whole u x (replicate (n - k) p)) (sym between)
+    ∙ ap (λ (m : ℕ). first ++ moments v whole u c (replicate m p)) parts
+    ∙ ap (λ (l : List Data). first ++ l) (moments-first v whole u c (n - k - 1) p)
 
 -- the JSON before, that of the steps so far, that of the next steps, and that of those behind them
 regrouped : (old was : List ℕ) (first more rest all : List Data) → was ≡ old ++ more_json first → all ≡ first ++ (more ++ rest)
@@ -53,27 +60,31 @@ regrouped old was first more rest all was-is all-is =
     ∙ ap (λ (l : List ℕ). old ++ l) (sym (more-append first (more ++ rest)) ∙ ap more_json (sym all-is))
 
 -- a step of a block that has too many
-pub fault-step : (v : Form) (b : Bool) (s u : Scene) (n k p : ℕ) (old was : List ℕ) (e : PageFault) → k < n → u ≡ scene_after s (replicate k p)
-    → was ≡ old ++ more_json (moments v b s (replicate k p)) → IsFault e (was ++ more_json (moment v b u p)) → IsFault e (old ++ more_json (moments v b s (replicate n p)))
-fault-step v b s u n k p old was e h is was-is fault =
-    let rest : List Data = moments v b (next u p) (replicate (n - k - 1) p) in
+pub fault-step : (v : Form) (whole : Bool) (s u : Scene) (b c : List StepCount) (n k p : ℕ) (old was : List ℕ) (e : PageFault) → k < n
+    → u ≡ scene_after s (replicate k p) → c ≡ between_then s (replicate k p) b → was ≡ old ++ more_json (moments v whole s b (replicate k p))
+    → IsFault e (was ++ more_json (moment v whole u c p)) → IsFault e (old ++ more_json (moments v whole s b (replicate n p)))
+fault-step v whole s u b c n k p old was e h is between was-is fault =
+    let rest : List Data = moments v whole (next u p) (next_between u p c) (replicate (n - k - 1) p) in
     subst (λ (l : List ℕ). IsFault e l)
-    (regrouped old was (moments v b s (replicate k p)) (moment v b u p) rest (moments v b s (replicate n p)) was-is (moments-at v b s u n k p h is))
-    (fault-longer e (was ++ more_json (moment v b u p)) (more_json rest) fault)
+    (regrouped old was (moments v whole s b (replicate k p)) (moment v whole u c p) rest (moments v whole s b (replicate n p)) was-is
+    (moments-at v whole s u b c n k p h is between))
+    (fault-longer e (was ++ more_json (moment v whole u c p)) (more_json rest) fault)
 
 -- a block that has too many
-pub fault-block : (v : Form) (b : Bool) (s u : Scene) (bs : List Block) (i : ℕ) (d : Block) (old was : List ℕ) (e : PageFault) → i < length bs
-    → u ≡ scene_after s (steps_of (take i bs)) → was ≡ old ++ more_json (moments v b s (steps_of (take i bs)))
-    → IsFault e (was ++ more_json (moments v b u (replicate (get_or bs i d).count (get_or bs i d).pid))) → IsFault e (old ++ more_json (moments v b s (steps_of bs)))
-fault-block v b s u bs i d old was e within is was-is fault =
+pub fault-block : (v : Form) (whole : Bool) (s u : Scene) (b c : List StepCount) (bs : List Block) (i : ℕ) (d : Block) (old was : List ℕ) (e : PageFault) → i < length bs
+    → u ≡ scene_after s (steps_of (take i bs)) → c ≡ between_then s (steps_of (take i bs)) b → was ≡ old ++ more_json (moments v whole s b (steps_of (take i bs)))
+    → IsFault e (was ++ more_json (moments v whole u c (replicate (get_or bs i d).count (get_or bs i d).pid)))
+    → IsFault e (old ++ more_json (moments v whole s b (steps_of bs)))
+fault-block v whole s u b c bs i d old was e within is between was-is fault =
     let steps : List ℕ = replicate (get_or bs i d).count (get_or bs i d).pid in
     let behind : List ℕ = steps_of (drop (suc i) bs) in
-    let first : List Data = moments v b s (steps_of (take i bs)) in
-    let rest : List Data = moments v b (scene_after u steps) behind in
-    let all : moments v b s (steps_of bs) ≡ first ++ (moments v b u steps ++ rest) =
-    ap (moments v b s) (steps-split bs i d within) ∙ moments-append v b s (steps_of (take i bs)) (steps ++ behind)
-    ∙ ap (λ (x : Scene). first ++ moments v b x (steps ++ behind)) (sym is)
-    ∙ ap (λ (l : List Data). first ++ l) (moments-append v b u steps behind) in
+    let first : List Data = moments v whole s b (steps_of (take i bs)) in
+    let rest : List Data = moments v whole (scene_after u steps) (between_then u steps c) behind in
+    let all : moments v whole s b (steps_of bs) ≡ first ++ (moments v whole u c steps ++ rest) =
+    ap (moments v whole s b) (steps-split bs i d within) ∙ moments-append v whole s b (steps_of (take i bs)) (steps ++ behind)
+    ∙ ap (λ (x : Scene). first ++ moments v whole x (between_then s (steps_of (take i bs)) b) (steps ++ behind)) (sym is)
+    ∙ ap (λ (x : List StepCount). first ++ moments v whole u x (steps ++ behind)) (sym between)
+    ∙ ap (λ (l : List Data). first ++ l) (moments-append v whole u c steps behind) in
     subst (λ (l : List ℕ). IsFault e l)
-    (regrouped old was first (moments v b u steps) rest (moments v b s (steps_of bs)) was-is all)
-    (fault-longer e (was ++ more_json (moments v b u steps)) (more_json rest) fault)
+    (regrouped old was first (moments v whole u c steps) rest (moments v whole s b (steps_of bs)) was-is all)
+    (fault-longer e (was ++ more_json (moments v whole u c steps)) (more_json rest) fault)

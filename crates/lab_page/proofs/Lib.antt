@@ -2,6 +2,7 @@ pub mod ValueLemmas
 pub mod PlainLemmas
 pub mod StateLemmas
 pub mod ObjectLemmas
+pub mod BetweenLemmas
 pub mod EventLemmas
 pub mod JsonLemmas
 pub mod MomentLemmas

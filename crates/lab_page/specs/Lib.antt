@@ -3,6 +3,7 @@ pub mod Values
 pub mod States
 pub mod Objects
 pub mod Events
+pub mod Between
 pub mod Moments
 pub mod Sources
 pub mod Runs

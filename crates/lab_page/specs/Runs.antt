@@ -12,6 +12,8 @@ use Rattle.lab_texts.specs.Reports.{report_text}
 use Rattle.lab_trace.specs.Ends.{end_lines}
 use Rattle.lab_trace.specs.Forms.{Form, form_for}
 use Rattle.lab_trace.specs.Scenes.{Scene, first_scene, scene_after}
+use Rattle.lab_page.specs.Between.{none_between, between_then, between_data}
+use Rattle.lab_page.specs.declared.between.StepCount.{StepCount}
 use Rattle.lab_page.specs.Limits.{most_whole}
 use Rattle.lab_page.specs.Moments.{moments_of}
 use Rattle.lab_page.specs.Sources.{Source, programs}
@@ -41,15 +43,18 @@ output_of (Some s) = naturals (machine_of s).output
 abbrev pub outputs : WorldState → Data
 outputs w = list (all_below (length w.processes) (λ p. output_of (slice_get w.processes p) ∷ []))
 
--- the end of a run: the verdict, where the processes stand, the report, and what each process has written
-unfoldable pub outcome_at : Form → Scene → Data
-outcome_at v s =
+-- the end of a run: the verdict, where the processes stand, the report, what each process has written, and the steps since the
+-- last line
+unfoldable pub outcome_at : Form → Scene → List StepCount → Data
+outcome_at v s b =
     list (string (verdict_word (verdict_of s.world)) ∷ string (end_lines v s.world s.tally) ∷ string (report_text s.world)
-    ∷ outputs s.world ∷ [])
+    ∷ outputs s.world ∷ between_data b ∷ [])
 
 -- the end of the run of a world by these steps; its lines are without labels
 unfoldable pub outcome_of : WorldState → List ℕ → Data
-outcome_of w ps = outcome_at (form_for (length ps) (length w.processes) []) (scene_after (first_scene w) ps)
+outcome_of w ps =
+    outcome_at (form_for (length ps) (length w.processes) []) (scene_after (first_scene w) ps)
+    (between_then (first_scene w) ps (none_between (length w.processes)))
 
 -- whether a page of a schedule has its counted steps too
 abbrev pub is_whole : List Block → Bool

@@ -2,6 +2,7 @@
 //! the page of the ends of an exploration, each with its run.
 #![tactic(auto)]
 
+mod between;
 mod ends;
 mod event;
 mod fault;

@@ -4,6 +4,7 @@ ghost use Rattle.std.specs.Option.{option_map};
 ghost use Rattle.serde_json.specs.View.{view};
 ghost use Rattle.lab_page.specs.Moments.{counted_moment, shown_moment, moment_by};
 
+use crate::between::Between;
 use crate::event::event_value;
 use crate::state::state_in;
 use lab_sched::World;
@@ -25,12 +26,13 @@ fn counted_moment(
     json!(in alloc; [number, pid, state])
 }
 
-/// The moment after step `number` of process `pid`, which has a line.
+/// The moment after step `number` of process `pid`, which has a line, with the steps between that line and the one before.
 #[tactic(auto, unfolding(crate::specs::Moments::shown_moment))]
 fn shown_moment(
     alloc: Global,
     world: &World,
     tally: &Tally,
+    between: &Between,
     form: &Form<'_>,
     number: u32,
     pid: usize,
@@ -38,19 +40,21 @@ fn shown_moment(
 ) -> Result<Value, AllocError>
     requires process { pid < length world.now.processes }
     ensures moment { IfOk result (λ v. view v
-        ≡ shown_moment form.now number pid event.now world.now tally.now) }
+        ≡ shown_moment form.now number pid event.now world.now tally.now between.now) }
 {
     let state = state_in(alloc, world, pid)?;
     let event = event_value(alloc, world, tally, form, number, pid, event)?;
-    json!(in alloc; [number, pid, state, event])
+    let between = between.value(alloc)?;
+    json!(in alloc; [number, pid, state, event, between])
 }
 
 /// The moment after step `number` of process `pid`, by what is told of it, where it has one; the world and the tally are those
-/// after it.
+/// after it, and `between` has the steps since the last line before it.
 pub fn moment_by(
     alloc: Global,
     world: &World,
     tally: &Tally,
+    between: &Between,
     form: &Form<'_>,
     whole: bool,
     number: u32,
@@ -59,12 +63,12 @@ pub fn moment_by(
 ) -> Result<Option<Value>, AllocError>
     requires process { pid < length world.now.processes }
     ensures moment { IfOk result (λ m. option_to_list (option_map view m)
-        ≡ moment_by form.now whole number pid told.now world.now tally.now) }
+        ≡ moment_by form.now whole number pid told.now world.now tally.now between.now) }
 {
     match told {
         Told::Counted if whole => Ok(Some(counted_moment(alloc, world, number, pid)?)),
         Told::Shown(event) => {
-            let moment = shown_moment(alloc, world, tally, form, number, pid, event)?;
+            let moment = shown_moment(alloc, world, tally, between, form, number, pid, event)?;
             Ok(Some(moment))
         }
         Told::Nothing | Told::Counted => Ok(None),

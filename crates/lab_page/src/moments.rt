@@ -8,6 +8,7 @@ ghost use Rattle.lab_sched.specs.Worlds.{step};
 ghost use Rattle.lab_trace.specs.Scenes.{scene_at, scene_after, told, line, events, next_tally, IsKept};
 ghost use Rattle.lab_trace.specs.Traces.{AreThere};
 ghost use Rattle.lab_trace.specs.declared.told.Told.TheVariants.{Nothing};
+ghost use Rattle.lab_page.specs.Between.{none_between, between_after, waits_at, between_then};
 ghost use Rattle.lab_page.specs.Faults.{IsFault};
 ghost use Rattle.lab_page.specs.Limits.{most_bytes};
 ghost use Rattle.lab_page.specs.Moments.{moment, moments};
@@ -15,6 +16,7 @@ ghost use Rattle.lab_page.specs.States.{states};
 ghost use Rattle.lab_page.specs.Private.Json.{more_json};
 
 use crate::MOST_BYTES;
+use crate::between::Between;
 use crate::fault::PageFault;
 use crate::moment::moment_by;
 use crate::state::states;
@@ -25,12 +27,13 @@ use serde_json::Value;
 use std::alloc::{AllocError, Global};
 use std::marker::Model;
 
-/// The moments so far as JSON, from the beginning of the run on, and the lines of their trace. Those of a long run are refused
-/// before they take memory.
+/// The moments so far as JSON, from the beginning of the run on, the lines of their trace, and the steps since the last line.
+/// The moments of a long run are refused before they take memory.
 #[derive(Drop)]
 pub struct Moments {
     json: Vec<u8>,
     lines: Vec<u8>,
+    between: Between,
 }
 
 impl Model for Moments {
@@ -38,7 +41,11 @@ impl Model for Moments {
 
     ghost Value = { Written };
 
-    ghost view = { λ m. record { json = m.json.items; lines = m.lines.items } };
+    ghost view = { λ m. record {
+      json = m.json.items;
+      lines = m.lines.items;
+      between = m.between;
+    } };
 }
 
 impl Moments {
@@ -47,6 +54,7 @@ impl Moments {
         ensures first { IfOk result (λ m. m ≡ record {
           json = codes "{\"moments\":[" ++ compact_text (states world.now);
           lines = [];
+          between = none_between (length world.now.processes);
         }) }
     {
         let states = states(alloc, world)?;
@@ -56,12 +64,21 @@ impl Moments {
         Ok(Moments {
             json,
             lines: Vec::new(alloc),
+            between: Between::new(alloc, world.count())?,
         })
+    }
+
+    /// The steps since the last line.
+    pub fn between(&self) -> &Between
+        ensures between { result.now ≡ self.now.between }
+    {
+        &self.between
     }
 
     /// The JSON and the lines.
     pub fn into_parts(self) -> (Vec<u8>, Vec<u8>)
-        ensures parts { record { json = result.0.items; lines = result.1.items } ≡ self }
+        ensures json { result.0.items ≡ self.json }
+        ensures lines { result.1.items ≡ self.lines }
     {
         (self.json, self.lines)
     }
@@ -72,6 +89,7 @@ impl Moments {
         ensures added { OnOk result (self.new.json
             ≡ self.old.json ++ more_json (option_to_list (option_map view moment))) }
         ensures lines { self.new.lines ≡ self.old.lines }
+        ensures between { self.new.between ≡ self.old.between }
         ensures fault { IfErr result
             (λ e. IsFault e (self.old.json ++ more_json (option_to_list (option_map view moment)))) }
     {
@@ -86,7 +104,8 @@ impl Moments {
     }
 
     /// Takes step number `number`, of process `pid`, and adds the moment after it, where it has one, and its line, which `labels`
-    /// shows. The answer is how many of at most so many steps of the process it stands for.
+    /// shows. The answer is how many of at most so many steps of the process it stands for; so many are kept as steps since the
+    /// last line.
     #[tactic(auto, unfolding(crate::specs::Moments::moment))]
     fn add_step(
         &mut self,
@@ -104,9 +123,13 @@ impl Moments {
         requires kept { IsKept (scene_at number world.old tally.old) }
         requires some { 1 ≤ most }
         ensures moments { OnOk result (self.new.json ≡ self.old.json
-            ++ more_json (moment form.now whole (scene_at number world.old tally.old) pid)) }
+            ++ more_json (moment form.now whole (scene_at number world.old tally.old)
+            self.old.between pid)) }
         ensures lines { OnOk result (self.new.lines ≡ self.old.lines
             ++ line labels.now (scene_at number world.old tally.old) pid) }
+        ensures between { IfOk result (λ done. self.new.between
+            ≡ between_after done pid (waits_at (scene_at number world.old tally.old) pid)
+            (told (scene_at number world.old tally.old) pid) self.old.between) }
         ensures world { OnOk result (world.new ≡ step world.old pid) }
         ensures tally { OnOk result
             (tally.new ≡ next_tally (scene_at number world.old tally.old) pid) }
@@ -115,13 +138,20 @@ impl Moments {
         ensures some { IfOk result (λ done. 1 ≤ done) }
         ensures within { IfOk result (λ done. done ≤ most) }
         ensures fault { IfErr result (λ e. IsFault e (self.old.json
-            ++ more_json (moment form.now whole (scene_at number world.old tally.old) pid))) }
+            ++ more_json (moment form.now whole (scene_at number world.old tally.old)
+            self.old.between pid))) }
     {
+        let waits = tally.account(pid).since.is_some();
         let told = trace_step(alloc, world, tally, number, pid)?;
-        let moment = moment_by(alloc, world, tally, form, whole, number, pid, &told);
+        let between = &self.between;
+        let moment = moment_by(
+            alloc, world, tally, between, form, whole, number, pid, &told,
+        );
         let line = step_line(alloc, labels, number, pid, &told);
         let done = steps_done(&told, most);
+        let kept = self.between.keep(pid, waits, &told, done);
         drop(told);
+        kept?;
         let moment = moment?;
         self.push(moment)?;
         let line = line?;
@@ -144,18 +174,22 @@ impl Moments {
         requires process { block.pid < length world.old.processes }
         requires room { first + block.count ≤ most_steps + 1 }
         requires kept { IsKept (scene_at first world.old tally.old) }
+        requires counted { block.pid < length self.old.between }
         ensures moments { OnOk result (self.new.json ≡ self.old.json
             ++ more_json (moments form.now whole (scene_at first world.old tally.old)
-            (replicate block.count block.pid))) }
+            self.old.between (replicate block.count block.pid))) }
         ensures lines { OnOk result (self.new.lines ≡ self.old.lines
             ++ events labels.now (scene_at first world.old tally.old)
             (replicate block.count block.pid)) }
+        ensures between { OnOk result (self.new.between
+            ≡ between_then (scene_at first world.old tally.old)
+            (replicate block.count block.pid) self.old.between) }
         ensures scene { OnOk result (scene_at (first + block.count) world.new tally.new
             ≡ scene_after (scene_at first world.old tally.old)
             (replicate block.count block.pid)) }
         ensures fault { IfErr result (λ e. IsFault e (self.old.json
             ++ more_json (moments form.now whole (scene_at first world.old tally.old)
-            (replicate block.count block.pid)))) }
+            self.old.between (replicate block.count block.pid)))) }
     {
         let mut done = 0;
         while done < block.count {
@@ -182,16 +216,20 @@ impl Moments {
         requires kept { IsKept (scene_at 1 world.old tally.old) }
         requires room { total_of blocks.now ≤ most_steps }
         requires there { AreThere world.old blocks.now }
+        requires counted { length self.old.between ≡ length world.old.processes }
         ensures moments { OnOk result (self.new.json ≡ self.old.json
             ++ more_json (moments form.now whole (scene_at 1 world.old tally.old)
-            (steps_of blocks.now))) }
+            self.old.between (steps_of blocks.now))) }
         ensures lines { OnOk result (self.new.lines ≡ self.old.lines
             ++ events labels.now (scene_at 1 world.old tally.old) (steps_of blocks.now)) }
+        ensures between { OnOk result (self.new.between
+            ≡ between_then (scene_at 1 world.old tally.old) (steps_of blocks.now)
+            self.old.between) }
         ensures scene { OnOk result ((number : ℕ) × (scene_at number world.new tally.new
             ≡ scene_after (scene_at 1 world.old tally.old) (steps_of blocks.now))) }
         ensures fault { IfErr result (λ e. IsFault e (self.old.json
             ++ more_json (moments form.now whole (scene_at 1 world.old tally.old)
-            (steps_of blocks.now)))) }
+            self.old.between (steps_of blocks.now)))) }
     {
         let mut number = 1;
         for block in blocks {

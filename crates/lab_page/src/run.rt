@@ -12,6 +12,7 @@ ghost use Rattle.lab_page.specs.Runs.{block_data, schedule_data, verdict_word, o
 ghost use Rattle.lab_page.specs.declared.fault.PageFault.TheVariants.{NoProcess};
 
 use crate::MOST_WHOLE;
+use crate::between::Between;
 use crate::fault::PageFault;
 use crate::moments::Moments;
 use crate::values::{bytes_value, push_behind};
@@ -73,22 +74,25 @@ fn outputs(alloc: Global, world: &World) -> Result<Value, AllocError>
     Ok(Value::Array(outputs))
 }
 
-/// The end of a run: the verdict, where the processes stand, the report, and what each process has written.
+/// The end of a run: the verdict, where the processes stand, the report, what each process has written, and the steps since the
+/// last line.
 #[tactic(auto, unfolding(crate::specs::Runs::outcome_at))]
 fn outcome_value(
     alloc: Global,
     world: &World,
     tally: &Tally,
+    between: &Between,
     form: &Form<'_>,
 ) -> Result<Value, AllocError>
     ensures value { (number : ℕ) → IfOk result (λ v. view v
-        ≡ outcome_at form.now (scene_at number world.now tally.now)) }
+        ≡ outcome_at form.now (scene_at number world.now tally.now) between.now) }
 {
     let verdict = verdict_word(world.verdict());
     let stands = stands(alloc, world, tally, form)?;
     let report = report_text(alloc, world)?;
     let outputs = outputs(alloc, world)?;
-    json!(in alloc; [verdict, stands, report, outputs])
+    let between = between.value(alloc)?;
+    json!(in alloc; [verdict, stands, report, outputs, between])
 }
 
 /// Adds what stands behind the moments of a run.
@@ -151,7 +155,7 @@ fn take_steps(
         whole,
         schedule.blocks(),
     )?;
-    let outcome = outcome_value(alloc, world, &tally, &form)?;
+    let outcome = outcome_value(alloc, world, &tally, moments.between(), &form)?;
     let blocks = schedule_value(alloc, schedule)?;
     let (mut json, mut trace) = moments.into_parts();
     push_run_end(&mut json, &outcome, &blocks, whole)?;

@@ -6,9 +6,9 @@ const numberIn = address => Number((/^#end=(\d+)/.exec(address) || [])[1] || 0);
 const NUMBER = DATA.ends && DATA.ends[numberIn(location.hash) - 1] ? numberIn(location.hash) : 0;
 const isList = DATA.ends !== undefined && NUMBER === 0, N = DATA.processes.length;
 const NO_STEPS = [DATA.processes.map(() => [0, 'Z', [], 0, []])];
-const NO_RUN = { schedule: [], whole: true, moments: NO_STEPS, outcome: ['open', '', '', []] };
+const NO_RUN = { schedule: [], whole: true, moments: NO_STEPS, outcome: ['open', '', '', [], []] };
 const D = DATA.run || (isList ? NO_RUN : DATA.ends[NUMBER - 1][1]), [starts, ...moments] = D.moments;
-const [VERDICT, STANDS, REPORT] = D.outcome, STEPS = D.schedule.reduce((sum, [, count]) => sum + count, 0);
+const [VERDICT, STANDS, REPORT, , LAST] = D.outcome, STEPS = D.schedule.reduce((sum, [, count]) => sum + count, 0);
 const NAMES = DATA.processes.map(([name]) => visible(name).replace(/\t/g, '\\x09')), PROCESSES = [...NAMES.keys()];
 
 // ---- what stands in the arrays
@@ -52,13 +52,13 @@ function changedBy(k, objects, isAll) {           // the places of what an event
   if (isAll) places.forEach((_, place) => { if (!found.has(place)) found.set(place, null); });
   return [...found].filter(([place, object]) => keepObject(k, place, object)).map(([place]) => place);
 }
-const R = moments.map(([step, process, state, event], k) => {
+const R = moments.map(([step, process, state, event, between], k) => {
   const was = lives[process][lives[process].length - 1], { written, open } = was;
   const e = { ...stateOf(state), k, step, process, state: 'running', from: was.pc, written, open };
   lives[process].push(e);
   if (!event) return e;
   const [from, head, what, did, objects, opened] = event, changed = changedBy(k, objects, opened !== null);
-  Object.assign(e, { from, head, what, changed, open: opened || open }, didOf(did));
+  Object.assign(e, { from, head, what, changed, between, open: opened || open }, didOf(did));
   e.state = e.ends ? 'ended' : e.waits ? 'waiting' : 'running';
   if (e.output) e.written += shown(e.output);
   return e;

@@ -25,42 +25,26 @@ function didText(e) {                             // the instruction that a step
 const EVENT = 27, GAP = 18, FOOT = 62;            // heights: of an event, of a row between events, of the foot
 const rows = [], rowOf = [], posY = [0];          // the rows; of each record its row; of each moment its height
 const holds = [], cols = [];
-let height = 8, done = 0, block = -1, left = 0;   // so many steps are behind the last row, and the block has so many more
+let height = 8;
 
-function take(most) {                             // the next steps of a block: their process, and how many
-  if (left === 0) left = D.schedule[++block][1];
-  const count = Math.min(left, most);
-  left -= count; done += count;
-  return [D.schedule[block][0], count];
-}
-function stepsTo(step, k) {                       // of each process its local steps up to there, and those without effect
-  const found = new Map();
-  while (done < step - 1) {
-    const [p, count] = take(step - 1 - done), { state } = processAt(p, k), [local, idle] = found.get(p) || [0, 0];
-    if (state === 'running') found.set(p, [local + count, idle]);
-    if (state === 'waiting') found.set(p, [local, idle + count]);
-  }
-  return [...found].map(([p, counts]) => [p, ...counts]);
-}
 function addGap(between, moments) {               // the steps between two events, and the moments among them
   if (between.length === 0) return;
   moments.forEach((k, i) => { posY[k + 1] = height + GAP * (i + 1) / moments.length; rowOf[k] = rows.length; });
   rows.push({ y: height, between });
   height += GAP;
 }
-function addEvent({ step, k }) {
-  take(1);
+function addEvent(k) {
   rowOf[k] = rows.length; rows.push({ y: height, k });
   height += EVENT; posY[k + 1] = height;
 }
 (function addRows() {
-  let between = [];
+  const among = [];
   for (const e of R) {
-    if (!isEvent(e)) { between.push(e.k); continue; }
-    addGap(stepsTo(e.step, e.k), between.splice(0));
-    addEvent(e);
+    if (!isEvent(e)) { among.push(e.k); continue; }
+    addGap(e.between, among.splice(0));
+    addEvent(e.k);
   }
-  addGap(stepsTo(STEPS + 1, R.length), between);
+  addGap(LAST, among);
 })();
 
 // ---- waits, messages, and who let a waiting process go on

@@ -8,9 +8,11 @@ use Rattle.lab_trace.specs.Scenes.{Scene, scene_at, events, scene_after, IsKept}
 use Rattle.lab_trace.proofs.SceneLemmas.{scene-none, events-none, kept-after, length-scene}
 use Rattle.lab_trace.proofs.WrittenLemmas.{scene-block}
 use Rattle.serde_json.specs.Data.{Data}
+use Rattle.lab_page.specs.Between.{between_then}
 use Rattle.lab_page.specs.Moments.{moments}
 use Rattle.lab_page.specs.Private.Json.{more_json}
 use Rattle.lab_page.proofs.MomentLemmas.{moments-none, json-block, lines-block}
+use Rattle.lab_page.proofs.BetweenLemmas.{between-none, between-block, length-between}
 use Rattle.lab_page.proofs.FaultLemmas.{fault-block}
 use Rattle.lab_page.proofs.moments.Moments.add_blocks.Goals as goal
 
@@ -21,8 +23,9 @@ loop-block-init c =
     record {
       number = omega (arith, ap length steps_of-none);
       scene = sym (ap (scene_after s) steps_of-none ∙ scene-none s);
-      moments = sym (ap (λ (l : List Data). c.args.self.now.json ++ more_json l) (ap (moments v c.args.whole s) steps_of-none ∙ moments-none v c.args.whole s) ∙ append-nil c.args.self.now.json);
+      moments = sym (ap (λ (l : List Data). c.args.self.now.json ++ more_json l) (ap (moments v c.args.whole s c.args.self.now.between) steps_of-none ∙ moments-none v c.args.whole s c.args.self.now.between) ∙ append-nil c.args.self.now.json);
       lines = sym (ap (λ (l : List ℕ). c.args.self.now.lines ++ l) (ap (events c.args.labels.now s) steps_of-none ∙ events-none c.args.labels.now s) ∙ append-nil c.args.self.now.lines);
+      between = sym (ap (λ (l : List ℕ). between_then s l c.args.self.now.between) steps_of-none ∙ between-none s c.args.self.now.between);
       kept = c.requires.kept;
       count = refl;
     }
@@ -31,6 +34,18 @@ pub add_block-requires-clause-room : goal.add_block-requires-clause-room
 add_block-requires-clause-room c =
     let among = steps-among c.args.blocks.now c.loop-block.block-index (block 0 0) c.loop-block-test.true in
     omega (arith, among, length-steps c.args.blocks.now, c.requires.room, c.loop-block.invariant.number)
+
+pub add_block-requires-clause-counted : goal.add_block-requires-clause-counted
+add_block-requires-clause-counted c =
+    let s = scene_at 1 c.args.world.now c.args.tally.now in
+    let first = steps_of (take c.loop-block.block-index c.args.blocks.now) in
+    omega (
+      arith,
+      c.requires.there c.loop-block.block-index c.loop-block-test.true,
+      c.requires.counted,
+      ap length c.loop-block.invariant.between,
+      length-between s first c.args.self.now.between,
+    )
 
 pub overflow_add-number : goal.overflow_add-number
 overflow_add-number c =
@@ -51,9 +66,11 @@ loop-block-preserved c =
     record {
       number = omega (arith, more, length-replicate count (get_or bs i (block 0 0)).pid, c.loop-block.invariant.number);
       scene = told;
-      moments = json-block c.args.form.now c.args.whole s u bs i (block 0 0) _ _ _ within c.loop-block.invariant.scene
-          c.loop-block.invariant.moments c.in_ok-add_block.ensures.moments;
+      moments = json-block c.args.form.now c.args.whole s u c.args.self.now.between c.loop-block.self.between bs i (block 0 0) _ _ _ within
+          c.loop-block.invariant.scene c.loop-block.invariant.between c.loop-block.invariant.moments c.in_ok-add_block.ensures.moments;
       lines = lines-block c.args.labels.now s u bs i (block 0 0) _ _ _ within c.loop-block.invariant.scene c.loop-block.invariant.lines c.in_ok-add_block.ensures.lines;
+      between = between-block s u bs i (block 0 0) c.args.self.now.between c.loop-block.self.between _ within c.loop-block.invariant.scene
+          c.loop-block.invariant.between c.in_ok-add_block.ensures.between;
       kept = subst IsKept (sym told) (kept-after s (steps_of (take (i + 1) bs)) c.requires.kept);
       count = ap (λ (y : Scene). length y.world.processes) told ∙ length-scene s (steps_of (take (i + 1) bs));
     }
@@ -63,5 +80,5 @@ returns-in_err-add_block-clause-fault c =
     let s = scene_at 1 c.args.world.now c.args.tally.now in
     let u = scene_at c.loop-block.number c.loop-block.world c.loop-block.tally in
     let p = err_from_is_err_and c.from_residual.result c.from_residual.ensures.1 in
-    rw (p.1, p.2) (fault-block c.args.form.now c.args.whole s u c.args.blocks.now c.loop-block.block-index (block 0 0) _ _ _ c.loop-block-test.true c.loop-block.invariant.scene
-    c.loop-block.invariant.moments c.in_err-add_block.ensures.fault)
+    rw (p.1, p.2) (fault-block c.args.form.now c.args.whole s u c.args.self.now.between c.loop-block.self.between c.args.blocks.now c.loop-block.block-index (block 0 0) _ _ _
+    c.loop-block-test.true c.loop-block.invariant.scene c.loop-block.invariant.between c.loop-block.invariant.moments c.in_err-add_block.ensures.fault)
