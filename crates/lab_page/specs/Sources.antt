@@ -5,7 +5,7 @@ use Rattle.serde_json.specs.Data.{Data, string}
 use Rattle.lc3_asm.specs.Texts.{Program}
 use Rattle.lc3_asm.specs.declared.assembled.Row.{Row}
 use Rattle.lab_trace.specs.Services.{service_of_word}
-use Rattle.lab_trace.specs.declared.service.Service.{Service}
+use Rattle.ipc_traps.specs.declared.service.Service.{Service}
 use Rattle.lab_page.specs.States.{call_names}
 use Rattle.lab_page.specs.Values.{list, natural, naturals, or_null, all_below}
 use Rattle.lab_page.specs.declared.source.Source.{Source as HeldSource}

@@ -7,8 +7,9 @@ use Rattle.lc3_table.specs.Text.{word_text}
 use Rattle.lc3_machine.specs.Process.{Process as Machine, reg}
 use Rattle.lab_sched.specs.Worlds.{Process, WorldState, machine_of}
 use Rattle.lab_texts.specs.Texts.{code_text}
-use Rattle.lab_trace.specs.Services.{service_name, service_of_word}
-use Rattle.lab_trace.specs.declared.service.Service.{Service}
+use Rattle.ipc_traps.specs.Services.{service_name}
+use Rattle.lab_trace.specs.Services.{service_of_word}
+use Rattle.ipc_traps.specs.declared.service.Service.{Service}
 use Rattle.lab_page.specs.Values.{list, natural, all_below}
 
 -- the name of a call, where there is one

@@ -5,7 +5,8 @@ ghost use Rattle.serde_json.specs.View.{view};
 ghost use Rattle.lab_page.specs.Sources.{source_of, row_words, first_call, row_data, source_data, name_at, source_at, program_at, programs, source_shown, sources_shown};
 
 use crate::values::words_value;
-use lab_trace::{Service, service_of_word};
+use ipc_traps::Service;
+use lab_trace::service_of_word;
 use lc3_asm::{Assembled, Row};
 use serde_json::{Value, json};
 use std::alloc::{AllocError, Global};

@@ -6,8 +6,8 @@ use Rattle.lab_trace.specs.Answers.{result_of}
 use Rattle.lab_trace.specs.declared.told.Called.{Called}
 use Rattle.lab_trace.specs.declared.told.Act.{Act}
 use Rattle.lab_trace.specs.declared.told.Act.TheVariants.{Calls}
-use Rattle.lab_trace.specs.declared.service.Service.{Service}
-use Rattle.lab_trace.specs.declared.service.Service.TheVariants.{MqReceive, SemPost}
+use Rattle.ipc_traps.specs.declared.service.Service.{Service}
+use Rattle.ipc_traps.specs.declared.service.Service.TheVariants.{MqReceive, SemPost}
 
 -- before the first step no process gave to an object
 abbrev pub no_givers : List (Option ℕ)

@@ -1,5 +1,5 @@
 -- The call of the kernel that a process stands before.
-use Rattle.std.specs.Prelude.{nat_lt, slice_index, if◌then◌else◌, Option, Some, None}
+use Rattle.std.specs.Prelude.{ℕ, nat_lt, slice_index, if◌then◌else◌, Option, Some, None}
 use Rattle.lc3_table.specs.declared.instr.Instr.{Instr}
 use Rattle.lc3_table.specs.declared.instr.Instr.TheVariants.{Trap}
 use Rattle.lc3_table.specs.Decoding.{instruction_at}

@@ -3,9 +3,9 @@ ghost use Rattle.std.specs.Prelude.{◌≡◌, IfOk};
 ghost use Rattle.lab_trace.specs.Givers.{no_givers, giver_at, is_giving, givers_with, givers_after};
 
 use crate::answers::result_of;
-use crate::service::Service;
 use crate::told::Act;
 use ipc_kernel::OBJECT_PLACES;
+use ipc_traps::Service;
 use std::alloc::{AllocError, Global};
 use std::marker::Model;
 
