@@ -8,7 +8,10 @@ use Rattle.ipc_kernel.specs.declared.place.Place.{Place}
 use Rattle.ipc_kernel.specs.declared.process.OpenTables.{OpenTables}
 use Rattle.ipc_kernel.proofs.Alikes.{alike_itself}
 use Rattle.lab_conditions.specs.Conditions.{StandsAt}
-use Rattle.lab_sched.specs.Worlds.{Process, Running, Waiting, Ended, calls}
+use Rattle.lab_sched.specs.Worlds.{Process, Running, Waiting, Ended, calls, step_effect}
+use Rattle.lab_sched.specs.Verdicts.{HasEnded}
+use Rattle.lab_sched.specs.declared.process.Process.{Process as Kept}
+use Rattle.lab_explore.specs.Untried.{GoesOn}
 use Rattle.lab_sched.specs.Held.{process_view, step_of}
 use Rattle.lab_explore.specs.declared.store.Store.{Store}
 use Rattle.lab_explore.specs.declared.store.Next.{Next}
@@ -20,7 +23,7 @@ use Rattle.lab_explore.specs.Operands.{IsStepAlike}
 use Rattle.lab_explore.specs.Private.Stored.{IsState, IsExactly, IsNext, IsReached, IsMoveFrom, Grows}
 use Rattle.lab_explore.specs.Private.Touched.{AreParts, HasTouch, IsEffect, IsOutcome, IsTouched}
 use Rattle.lab_explore.proofs.AfterLocalSteps.{same_some}
-use Rattle.lab_explore.proofs.Growths.{state_grows}
+use Rattle.lab_explore.proofs.Growths.{state_grows, state_kept}
 use Rattle.lab_explore.proofs.StepsOnObjects.{steps_by_operand, steps_settled}
 
 -- what comes of a step over one kernel comes of it over another, where it is alike
@@ -108,3 +111,14 @@ move_by_touch t u kernel p state n touch e j g exact same has h by k s at settle
     let there = same_touch t j p touch h.0 h.1 h.2 h.3 h.4 h.5 h.6 has in
     let next = by j h.0 exact fixed (h.7 j p fixed there.0 there.1) in
     subst (λ x. IsNext u x p s n) k-is (subst (λ r. IsNext u j p r n) s-is next)
+
+-- a process that has ended does nothing, over whatever kernel
+ended_still : (k : KernelState) (p : ℕ) (s : Process) → HasEnded s → GoesOn (step_effect k p (Some s)) → ⊥
+ended_still k p (Running m) ended goes = absurd ended
+ended_still k p (Waiting m c) ended goes = absurd ended
+ended_still k p (Ended e) ended goes = goes
+
+pub move_of_ended : (t : Store) (kernel p state : ℕ) → ((s : Kept) → slice_get t.states state ≡ Some s → HasEnded (process_view s)) → IsMoveFrom t kernel p state next.Nothing
+move_of_ended t kernel p state ended k s at settled here =
+    let kept = state_kept t state s here in
+    ended_still k p s (subst HasEnded kept.2 (ended kept.0 kept.1))

@@ -1,7 +1,8 @@
 //! States of processes at calls, each of which is kept once.
-ghost use Rattle.std.specs.Prelude.{◌≡◌, [], ◌∷◌, ◌++◌, IfOk, IfSome, OnOk, Some, length, slice_get};
+ghost use Rattle.std.specs.Prelude.{◌≡◌, [], ◌∷◌, ◌++◌, IfOk, IfSome, IsTrue, OnOk, Some, length, slice_get};
 ghost use Rattle.std.specs.Option.{option_copied, option_map};
 ghost use Rattle.lab_sched.specs.Held.{process_view};
+ghost use Rattle.lab_sched.specs.Verdicts.{HasEnded};
 ghost use Rattle.lab_sched.specs.declared.process.Process.{Process as Kept};
 ghost use Rattle.lab_conditions.specs.Conditions.{StandsAt};
 ghost use Rattle.lab_explore.specs.Private.Standing.{IsStanding};
@@ -77,6 +78,14 @@ impl States {
             Some(Some(call)) => Some(call),
             _ => None,
         }
+    }
+
+    /// Whether the process has ended in the state with a number.
+    pub(crate) fn has_ended(&self, number: u32) -> bool
+        ensures ended { IsTrue result → (s : Kept) → slice_get self.now number ≡ Some s
+            → HasEnded (process_view s) }
+    {
+        matches!(self.processes.get(number as usize), Some(Process::Ended(_)))
     }
 
     /// The number of an equal state, if one is kept.

@@ -79,8 +79,8 @@ impl Store {
         Ok(self.next_by(kernel, pid, place, effect))
     }
 
-    /// What process `pid` does next in a state and over a kernel that are kept, if it stands at a
-    /// call that works on one object, whose step was made, and the kernel after it is kept.
+    /// What process `pid` does next in a state and over a kernel that are kept, if it has ended, or
+    /// stands at a call that works on one object, whose step was made, and the kernel after it is kept.
     pub(crate) fn touched_next(
         &self,
         touches: &Touches,
@@ -91,6 +91,9 @@ impl Store {
         ensures next { AreTouched self.now touches.now
             → IfSome result (λ next. IsMoveFrom self.now kernel pid state next) }
     {
+        if self.states.has_ended(state) {
+            return Some(Next::Nothing);
+        }
         let touch = self.touch_at(kernel, pid, state)?;
         let effect = touches.find(touch)?;
         let next = self.next_by(kernel, pid, touch.place, effect)?;
