@@ -1,6 +1,6 @@
 //! Kernels that are kept as their parts. That each part is kept once is in no contract, nor that kernels that are alike
-//! become equal.
-use crate::support::{kernel_of, mq_open, sem_open, succeeds};
+//! become equal, nor of which calls `Kernels::operand` tells an object.
+use crate::support::{Q, S, kernel_of, mq_open, name, sem_open, succeeds};
 use ipc_kernel::{Call, Kernel, Kernels};
 use std::alloc::Global;
 use std::process::Abort;
@@ -101,6 +101,48 @@ fn knows_the_kernel_after(rt: &impl Abort, alloc: Global) {
     assert!(rt; made == Some(after), "the kernel after the post");
 }
 
+/// The place of the object that a call of process 1 works on.
+fn operand(kernels: &Kernels, kernel: u32, call: &Call) -> Option<u8> {
+    let tables = kernels.tables_at(kernel, 1)?;
+    kernels.operand(kernel, tables, call)
+}
+
+/// Calls that make and remove no object work on one, and those that may don't.
+fn tells_operands(rt: &impl Abort, alloc: Global) {
+    let mut kernels = no_kernels(rt, alloc);
+    let number = keep(rt, alloc, &mut kernels, &made(rt, alloc));
+    let of = |call: Call| operand(&kernels, number, &call);
+    assert!(rt; of(Call::SemPost { slot: 0 }) == Some(SEMAPHORE), "a post");
+    assert!(rt; of(Call::SemPost { slot: 1 }).is_none(), "no slot");
+    assert!(rt; of(mq_open(rt, alloc, 0)) == Some(QUEUE), "an open");
+    assert!(rt; of(sem_open(rt, alloc)) == Some(SEMAPHORE), "the same name");
+    assert!(rt;
+        of(Call::SemClose { slot: 0 }) == Some(SEMAPHORE),
+        "a close"
+    );
+    assert!(rt; of(Call::Exit).is_some(), "the end");
+    let unlink = Call::MqUnlink {
+        name: name(rt, alloc, &Q),
+    };
+    assert!(rt; of(unlink).is_none(), "an unlink");
+}
+
+/// Where an object has no name, its close and the end of a process may remove it.
+fn tells_none_of_the_unnamed(rt: &impl Abort, alloc: Global) {
+    let mut kernels = no_kernels(rt, alloc);
+    let mut kernel = made(rt, alloc);
+    let unlink = Call::SemUnlink {
+        name: name(rt, alloc, &S),
+    };
+    succeeds(rt, alloc, &mut kernel, 0, unlink);
+    let number = keep(rt, alloc, &mut kernels, &kernel);
+    let of = |call: Call| operand(&kernels, number, &call);
+    assert!(rt; of(Call::SemPost { slot: 0 }) == Some(SEMAPHORE), "a post");
+    assert!(rt; of(Call::SemClose { slot: 0 }).is_none(), "a close");
+    assert!(rt; of(sem_open(rt, alloc)).is_none(), "an open");
+    assert!(rt; of(Call::Exit).is_none(), "the end");
+}
+
 /// The kernels before and after a call are given back.
 fn gives_back(rt: &impl Abort, alloc: Global) {
     let mut kernels = no_kernels(rt, alloc);
@@ -145,6 +187,16 @@ fn each_part_is_kept_once(rt: HostRuntime) {
 #[test]
 fn a_call_makes_a_kernel_with_other_parts(rt: HostRuntime) {
     knows_the_kernel_after(&rt, rt.alloc());
+}
+
+#[test]
+fn calls_work_on_one_object(rt: HostRuntime) {
+    tells_operands(&rt, rt.alloc());
+}
+
+#[test]
+fn unnamed_objects_may_be_removed(rt: HostRuntime) {
+    tells_none_of_the_unnamed(&rt, rt.alloc());
 }
 
 #[test]
