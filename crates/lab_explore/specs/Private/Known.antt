@@ -10,7 +10,7 @@ use Rattle.lab_explore.specs.Private.Touched.{AreTouched}
 abbrev pub AreMoves : Store → Moves → Type 0
 AreMoves t ms = All (λ (m : Move). IsMove t m.kernel m.pid m.state m.next) ms.made.items
 
--- so is each step at a call on an open object
+-- so is each step at a call that works on one object
 pub record AreKnown (t : Store) (ms : Moves) : Type 0 where
   pub moves : AreMoves t ms
   pub touches : AreTouched t ms.touches
