@@ -73,8 +73,8 @@ impl Kernels {
         self.tables.get(tables)?.place_of(handle)
     }
 
-    /// The object place, 0 to 63, that a call of a process works on, over a kernel and with tables that
-    /// are kept, if it makes and removes no object. For the end of a process it is place 0.
+    /// The object place, 0 to 63, that a call of a process works on, over a kernel and with tables
+    /// that are kept, if it makes and removes no object. For the end of a process it is place 0.
     pub fn operand(&self, kernel: u32, tables: u32, call: &Call) -> Option<u8>
         ensures operand { IfSome result (λ i. (k : KernelState) (t : OpenTables)
             → slice_get self.now.kernels kernel ≡ Some k
