@@ -1,6 +1,6 @@
 -- What the next step of a process asks for: the calls of POSIX.1-2017 (mq_open, mq_send, .. sem_getvalue), with their
 -- arguments in registers R0 to R3 and in memory.
-use Rattle.std.specs.Prelude.{◌≡◌, ℕ, ◌==◌, ◌&&◌, ◌||◌, not, Bool, true, List, Option, Some, None, slice_index, if◌then◌else◌, Result, Ok, Err}
+use Rattle.std.specs.Prelude.{ℕ, ◌==◌, ◌&&◌, ◌||◌, not, Bool, true, List, Option, Some, None, slice_index, if◌then◌else◌, Result, Ok, Err}
 use Rattle.lc3_machine.specs.declared.want.How.{How}
 use Rattle.lc3_machine.specs.declared.want.Want.TheVariants.{Trap, End}
 use Rattle.lc3_machine.specs.Process.{Process, Outcome, GoesOn, Stops, reg}
@@ -122,10 +122,3 @@ next_request p = outcome_request p (next_step p)
 abbrev pub request_of : Asked → Request
 request_of (asked_for.Kernel call) = Calls call
 request_of (asked_for.Refused e) = Refuses e
-
--- what is asked of the kernel, or the refusal; an end asks for Exit
-abbrev pub IsAsked : Request → Asked → Type 0
-IsAsked (Local q) a = ⊥
-IsAsked (Refuses e) a = a ≡ asked_for.Refused e
-IsAsked (Calls call) a = a ≡ asked_for.Kernel call
-IsAsked (Ends how) a = a ≡ asked_for.Kernel Exit

@@ -1,41 +1,28 @@
 //! The call that a process makes.
 
 ghost use Rattle.std.specs.Prelude.{◌≡◌, IfOk, ◌<◌, true, ℕ, Result, Ok, Err};
-ghost use Rattle.lc3_machine.specs.Process.{reg};
-ghost use Rattle.lc3_machine.specs.Steps.{AsksTrap};
+ghost use Rattle.lc3_machine.specs.Process.{reg, Stops};
+ghost use Rattle.lc3_machine.specs.Effects.{next_step};
+ghost use Rattle.lc3_machine.specs.declared.want.Want.TheVariants.{Trap};
 ghost use Rattle.ipc_kernel.specs.declared.call.Call.TheVariants.{MqUnlink, SemUnlink};
-ghost use Rattle.ipc_traps.specs.Services.{service_in};
 ghost use Rattle.ipc_traps.specs.Names.{is_in_memory, words_at};
-ghost use Rattle.ipc_traps.specs.Asked.{IsAsked, request_of, next_request, trap_request, service_request, name_at, request_by_name, has_attributes, attributes, mq_open_request, sem_open_request, mq_send_request, mq_receive_request, mq_getattr_request, mq_setattr_request, sem_getvalue_request};
+ghost use Rattle.ipc_traps.specs.Asked.{request_of, next_request, service_request, name_at, request_by_name, has_attributes, attributes, mq_open_request, sem_open_request, mq_send_request, mq_receive_request, mq_getattr_request, mq_setattr_request, sem_getvalue_request};
 
 use crate::memory::{is_in_memory, name_length, read_few, read_four, read_words, register};
 use crate::{Asked, Service};
 use ipc_kernel::Call;
 use ipc_names::{Errno, Name, O_CREAT};
 use ipc_objects::{FEW_WORDS, Words};
-use lc3_machine::{AtCall, Machine, Want};
+use lc3_machine::Machine;
 use std::alloc::{AllocError, Global};
 
-/// What a process asks of the kernel by the trap that it stands before, or the refusal; a process at its end asks for
-/// `Exit`. The arguments are as they stand in the registers and in memory, not yet tested. An error is want of memory.
+/// What a process asks of the kernel by the trap with this vector, which it stands before, or the refusal. The arguments
+/// are as they stand in the registers and in memory, not yet tested. An error is want of memory.
 #[tactic(auto, unfolding(crate::specs::Asked::next_request))]
 #[inline(always)]
-pub fn read_call(alloc: Global, call: &AtCall) -> Result<Asked, AllocError>
-    ensures asked { IfOk result (λ a. IsAsked (next_request call.now.process) a) }
-    ensures trap { AsksTrap call.now.process
-        → IfOk result (λ a. next_request call.now.process ≡ request_of a) }
-{
-    match call.want() {
-        Want::End(_) => Ok(Asked::Kernel(Call::Exit)),
-        Want::Trap(vector) => read_trap(alloc, call.machine(), vector),
-    }
-}
-
-/// What the trap with this vector asks for.
-#[inline(always)]
-fn read_trap(alloc: Global, machine: &Machine, vector: u8) -> Result<Asked, AllocError>
-    ensures request { IfOk result (λ a. request_of a
-        ≡ trap_request (service_in vector) machine.now.process) }
+pub fn read_call(alloc: Global, machine: &Machine, vector: u8) -> Result<Asked, AllocError>
+    requires trap { next_step machine.now.process ≡ Stops (Trap vector) }
+    ensures asked { IfOk result (λ a. next_request machine.now.process ≡ request_of a) }
 {
     match Service::of_vector(vector) {
         Some(service) => read_service(alloc, machine, service),

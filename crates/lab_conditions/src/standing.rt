@@ -14,7 +14,7 @@ use std::alloc::{AllocError, Global};
 
 /// The call that a running process is about to make, if its next step is one.
 pub(crate) fn call_next(alloc: Global, running: &Running) -> Result<Option<Call>, AllocError>
-    ensures call { IfOk result (λ call. call ≡ call_next (next_action running.now)) }
+    ensures call { IfOk result (λ call. call ≡ call_next (next_action running.now.process)) }
 {
     let mut process = Process::Running(running.copy(alloc)?);
     match find_next(alloc, &mut process, 1) {

@@ -13,21 +13,18 @@ use Rattle.ipc_kernel.specs.declared.call.Reply.{Reply}
 use Rattle.ipc_kernel.specs.declared.call.Answer.{Answer}
 use Rattle.ipc_kernel.specs.declared.call.Answer.TheVariants.{Done, Wait}
 use Rattle.ipc_kernel.specs.Answer.{answer}
-use Rattle.ipc_kernel.proofs.LawfulAnswers.{answer_wait}
 use Rattle.ipc_traps.specs.Asked.{Calls, next_request}
 use Rattle.ipc_traps.specs.Reply.{HasRoom, process_after_reply}
 use Rattle.ipc_traps.proofs.Laws.{room_prepared, asked_end}
 use Rattle.lab_sched.specs.declared.process.Process.{Process as Kept}
 use Rattle.lab_sched.specs.declared.process.Process.TheVariants as kept
-use Rattle.lab_sched.specs.declared.stepped.Stepped.{Stepped}
 use Rattle.lab_sched.specs.declared.stepped.Stepped.TheVariants as stepped
-use Rattle.lab_sched.specs.Worlds.{Process, Running, Waiting, Ended, WorldState, calls, next_action, action_for, process_after_answer, first_try, retry, kernel_step}
-use Rattle.lab_sched.specs.Held.{process_view, IsHeld, StepResult, step_result, HasStepped}
-use Rattle.lab_sched.specs.LocalRun.{AreLocal}
+use Rattle.lab_sched.specs.Worlds.{Process, Running, Waiting, Ended, WorldState, calls, next_action, action_for, process_after_answer, first_try, kernel_step}
+use Rattle.lab_sched.specs.Held.{process_view, IsHeld, StepResult, step_result, stepped_of, HasStepped}
+use Rattle.lab_sched.specs.LocalRun.{IsLocalStep, AreLocal}
 use Rattle.lab_sched.specs.Settling.{AsksFor}
-use Rattle.lab_sched.specs.Stepping.{CanTakeReply, StandsBefore, StopsBy, after_end, after_reply, before_wait}
+use Rattle.lab_sched.specs.Stepping.{CanTakeReply, StandsBefore, StopsBy, after_end, after_reply}
 use Rattle.lab_sched.specs.Private.Settling.{StopsByIn}
-use Rattle.lab_sched.specs.Verdicts.{IsWaiting}
 use Rattle.lab_sched.proofs.EndSteps.{act_end, end_step}
 use Rattle.lab_sched.proofs.OwnSteps.{first_local}
 use Rattle.lab_sched.proofs.ListPlaces.{get-set_same}
@@ -58,46 +55,39 @@ told_waits : (m : Machine) (c : Call) → next_request m ≡ Calls c → process
 unfolding process_after_answer
 told_waits m c is = refl
 
--- the first try of a call, by a later one
-first_try_of : (k j : KernelState) (p : ℕ) (m : Machine) (c : Call) (u : Process) (s t : Stepped) → next_request m ≡ Calls c
-    → (s ≡ stepped.Same → t ≡ stepped.Waits) → ((s ≡ stepped.Same → ⊥) → t ≡ s)
-    → HasStepped k p (Waiting m c) j u s → HasStepped k p (Running m) j u t
-first_try_of k j p m c u s t is same other told_is = go (answer k p c).0 refl
-  where
-    go : (a : Answer) → (answer k p c).0 ≡ a → HasStepped k p (Running m) j u t
-    go (Done r) at =
-        let by : record { process = u; kernel = j; told = s } ≡ step_result k p (Waiting m c) (retry m c (Done r)) = told_is ∙ ap {B = StepResult} (λ x. step_result k p (Waiting m c) (retry m c x)) at in
-        let called : s ≡ stepped.Called = ap (λ (x : StepResult). x.told) by in
-        let so : t ≡ s = other (λ e. (let no : stepped.Same ≡ stepped.Called = sym e ∙ called in cc)) in
-        ap {B = StepResult} (λ x. record { process = u; kernel = j; told = x }) so ∙ by
-        ∙ sym (ap {B = StepResult} (λ a. step_result k p (Running m) (first_try k p m a)) (asks m c is)
-        ∙ ap {B = StepResult} (λ x. step_result k p (Running m) (kernel_step m c x)) at)
-    go Wait at =
-        let by : record { process = u; kernel = j; told = s } ≡ step_result k p (Waiting m c) (retry m c Wait) = told_is ∙ ap {B = StepResult} (λ x. step_result k p (Waiting m c) (retry m c x)) at in
-        let waits : t ≡ stepped.Waits = same (ap (λ (x : StepResult). x.told) by) in
-        ap {B = StepResult} (λ x. record { process = u; kernel = j; told = x }) waits
-        ∙ ap {B = StepResult} (λ (x : StepResult). record { process = x.process; kernel = x.kernel; told = stepped.Waits }) by
-        ∙ ap {B = StepResult} (λ l. record { process = Waiting m c; kernel = l; told = stepped.Waits }) (sym (answer_wait k p c at))
-        ∙ ap {B = StepResult} (λ x. record { process = x; kernel = (answer k p c).1; told = stepped.Waits }) (sym (told_waits m c is))
-        ∙ sym (ap {B = StepResult} (λ a. step_result k p (Running m) (first_try k p m a)) (asks m c is)
-        ∙ ap {B = StepResult} (λ x. step_result k p (Running m) (kernel_step m c x)) at)
+told_reply : (m : Machine) (c : Call) (r : Reply) → next_request m ≡ Calls c → process_after_answer m c (Done r) ≡ Running (process_after_reply m r)
+unfolding process_after_answer
+told_reply m c r is = rw is refl
 
-pub first_tried : (k j : KernelState) (p : ℕ) (x : Kept) (u : Process) (s t : Stepped) → IsHeld x → IsWaiting (process_view x)
-    → (s ≡ stepped.Same → t ≡ stepped.Waits) → ((s ≡ stepped.Same → ⊥) → t ≡ s)
-    → HasStepped k p (process_view x) j u s → HasStepped k p (before_wait (process_view x)) j u t
-first_tried k j p (kept.Running m) u s t held waits same other is = absurd waits
-first_tried k j p (kept.Waiting h c) u s t held waits same other is = first_try_of k j p h.process c u s t held.0 same other is
-first_tried k j p (kept.Ended e) u s t held waits same other is = absurd waits
+-- the first try of a call, by what the kernel answers
+tried : (k j : KernelState) (p : ℕ) (m : Machine) (c : Call) (a : Answer) → next_request m ≡ Calls c → (a, j) ≡ answer k p c
+    → HasStepped k p (Running m) j (process_after_answer m c a) (stepped_of (kernel_step m c a))
+tried k j p m c a is answered =
+    ap {B = StepResult} (λ (x : Answer × KernelState). record { process = process_after_answer m c x.0; kernel = x.1; told = stepped_of (kernel_step m c x.0) }) answered
+    ∙ sym (ap {B = StepResult} (λ b. step_result k p (Running m) (first_try k p m b)) (asks m c is))
+
+-- a call that is answered at its first try
+pub tried_reply : (k j : KernelState) (p : ℕ) (m n : Machine) (c : Call) (r : Reply) → next_request m ≡ Calls c → (Done r, j) ≡ answer k p c → n ≡ process_after_reply m r
+    → HasStepped k p (Running m) j (Running n) stepped.Called
+tried_reply k j p m n c r is answered n-is =
+    ap {B = StepResult} (λ u. record { process = u; kernel = j; told = stepped.Called }) (ap Running n-is ∙ sym (told_reply m c r is))
+    ∙ tried k j p m c (Done r) is answered
+
+-- a call that must wait at its first try
+pub tried_wait : (k j : KernelState) (p : ℕ) (m : Machine) (c : Call) → next_request m ≡ Calls c → (Wait, j) ≡ answer k p c
+    → HasStepped k p (Running m) j (Waiting m c) stepped.Waits
+tried_wait k j p m c is answered =
+    ap {B = StepResult} (λ u. record { process = u; kernel = j; told = stepped.Waits }) (sym (told_waits m c is)) ∙ tried k j p m c Wait is answered
+
+-- a call that is refused without the kernel
+pub tried_refused : (k : KernelState) (p : ℕ) (m n : Machine) → IsLocalStep (Running m) (Running n) → HasStepped k p (Running m) k (Running n) stepped.Moved
+tried_refused k p m n local = local_first k p (Running m) (Running n) (Running n, local, refl)
 
 -- there is room for the reply to a process that waits
 pub reply_room : (x : Kept) (h : Held) (c : Call) (reply : Reply) → x ≡ kept.Waiting h c → IsHeld x → CanTakeReply x reply → HasRoom h reply
 reply_room x h c reply is held can =
     let so : IsHeld (kept.Waiting h c) = subst IsHeld is held in
     room_prepared h c reply so.1 so.0 (subst (λ y. CanTakeReply y reply) is can)
-
-told_reply : (m : Machine) (c : Call) (r : Reply) → next_request m ≡ Calls c → process_after_answer m c (Done r) ≡ Running (process_after_reply m r)
-unfolding process_after_answer
-told_reply m c r is = rw is refl
 
 -- a process that waits, after its reply
 pub reply_told : (x : Kept) (h : Held) (c : Call) (reply : Reply) (q : Machine) → x ≡ kept.Waiting h c → IsHeld x → q ≡ process_after_reply h.process reply → Running q ≡ after_reply (process_view x) reply
@@ -116,10 +106,10 @@ end_told k j p (Waiting m c) u how stands u-is j-is = absurd stands
 end_told k j p (Ended e) u how stands u-is j-is = absurd stands
 
 -- a process at its end asks for Exit
-pub end_asks : (x : Kept) (m : Machine) (p : Progress) (how : How) → x ≡ kept.Running m → p ≡ progress.Stopped (End how) → StopsBy (process_view x) p → AsksFor (process_view x) Exit
-end_asks x m p how is stopped stops =
-    let stands : StopsBy (Running m) (progress.Stopped (End how)) = subst (λ y. StopsBy (Running m) y) stopped (subst (λ y. StopsBy (process_view y) p) is stops) in
-    subst (λ y. AsksFor (process_view y) Exit) (sym is) (act_end m how (asked_end m how stands))
+pub end_asks : (x : Kept) (h : Held) (p : Progress) (how : How) → x ≡ kept.Running h → p ≡ progress.Stopped (End how) → StopsBy (process_view x) p → AsksFor (process_view x) Exit
+end_asks x h p how is stopped stops =
+    let stands : StopsBy (Running h.process) (progress.Stopped (End how)) = subst (λ y. StopsBy (Running h.process) y) stopped (subst (λ y. StopsBy (process_view y) p) is stops) in
+    subst (λ y. AsksFor (process_view y) Exit) (sym is) (act_end h.process how (asked_end h.process how stands))
 
 -- what keeps a process from its next local step, in the world that it was written into
 pub stops_in : (ps : List Kept) (k : KernelState) (v : WorldState) (p : ℕ) (s : Kept) (progress : Progress)

@@ -1,5 +1,5 @@
 -- The processes of a world keep their profile.
-use Rattle.std.proofs.Common.{◌≡◌, ℕ, zero, suc, ◌≤◌, Result, Ok, Err, Some, List, [], ◌∷◌, All, length, map, get_or, refl, sym, ap, ◌∙◌, subst, arith}
+use Rattle.std.proofs.Common.{◌≡◌, ℕ, zero, suc, Result, Ok, Err, Some, List, [], ◌∷◌, All, map, refl, sym, ap, ◌∙◌, subst, arith}
 use Rattle.std.specs.Prelude.{IfOk, OnErr}
 use Rattle.std.proofs.lemmas.List.Elements.{All-weaker, All-map}
 use Rattle.lc3_table.specs.declared.profile.Profile.{Profile}
@@ -13,13 +13,12 @@ use Rattle.ipc_kernel.specs.Kernel.{KernelState}
 use Rattle.ipc_kernel.specs.Answer.{answer}
 use Rattle.ipc_traps.specs.Asked.{Request, Local, Refuses, Calls, Ends, next_request}
 use Rattle.ipc_traps.proofs.Profiles.{Keeps, asked_keeps, replied_profile}
-use Rattle.lab_sched.specs.declared.process.Process.{Process as Kept}
 use Rattle.lab_sched.specs.declared.fresh.Program.{Program}
 use Rattle.lab_sched.specs.declared.stepped.Stepped.{Stepped}
 use Rattle.lab_sched.specs.declared.next.Next.{Next}
 use Rattle.lab_sched.specs.declared.next.Next.TheVariants as next
-use Rattle.lab_sched.specs.Worlds.{Process, Running, Waiting, Ended, NextAction, moves, calls, next_action, action_for, process_after_answer, process_after_reply_to, step_effect, first_try, retry, process_after, profile_of, HasProfile, first_profile, HaveOneProfile}
-use Rattle.lab_sched.specs.Held.{process_view, StepResult, HasStepped}
+use Rattle.lab_sched.specs.Worlds.{Process, Running, Waiting, Ended, NextAction, moves, calls, next_action, action_for, process_after_answer, process_after_reply_to, step_effect, first_try, retry, process_after, profile_of, HasProfile, HaveOneProfile}
+use Rattle.lab_sched.specs.Held.{StepResult, HasStepped}
 use Rattle.lab_sched.specs.LocalRun.{AreLocal, TakesAnswer, Leads, IsLocalRun}
 use Rattle.lab_sched.specs.Settling.{IsNext}
 use Rattle.lab_sched.specs.Starts.{start_of}

@@ -1,6 +1,5 @@
 -- A process is taken out of its world, takes a step, and is put back.
-use Rattle.std.proofs.Common.{ℕ, zero, suc, ◌≡◌, ◌<◌, ◌≤◌, List, [], ◌∷◌, Option, None, Some, length, slice_get, get_or, set, map, refl, ap, sym, ◌∙◌, subst, arith, All, ◌+◌, ◌++◌, take, replicate}
-use Rattle.std.specs.List.{remove, insert}
+use Rattle.std.proofs.Common.{ℕ, ◌≡◌, ◌<◌, ◌≤◌, List, [], ◌∷◌, Option, None, Some, length, slice_get, get_or, set, map, refl, ap, sym, ◌∙◌, subst, arith, All, ◌+◌, ◌++◌, take, replicate}
 use Rattle.std.specs.Option.{option_map}
 use Rattle.std.specs.Prelude.{unwrap_or}
 use Rattle.std.proofs.lemmas.List.{map-set, length-map, length-set, map-append, take_more, length-replicate}
@@ -15,7 +14,7 @@ use Rattle.lab_sched.specs.Private.Fresh.{IsFresh}
 use Rattle.lab_sched.specs.declared.stepped.Stepped.{Stepped}
 use Rattle.ipc_kernel.specs.Kernel.{empty_kernel}
 use Rattle.ipc_kernel.specs.Processes.{closed_process}
-use Rattle.lc3_machine.specs.Process.{Process as Machine, start}
+use Rattle.lc3_machine.specs.Process.{Held, start}
 use Rattle.lab_sched.specs.declared.fresh.Program.{Program}
 use Rattle.lab_sched.specs.LocalRun.{AreLocal}
 use Rattle.lab_sched.proofs.Executions.{execution_local, with_process}
@@ -125,12 +124,12 @@ ran_locally ps ps' k w p n s s' same within read ps-is local =
     ∙ sym (execution_local n v p (process_view s) (process_view s') (seen_at ps p s within read) local).leads)
 
 -- a process more at its start
-pub started_more : (profile : Profile) (ks new : List Kept) (ps : List Program) (i : ℕ) (p : Program) (m : Machine) → map process_view ks ≡ map (start_of profile) (take i ps) → i < length ps
-    → p ≡ get_or ps i p → m ≡ start profile p.image.origin p.image.words p.input.items → new ≡ ks ++ kept.Running m ∷ [] → map process_view new ≡ map (start_of profile) (take (i + 1) ps)
-started_more profile ks new ps i p m so within read is new-is =
+pub started_more : (profile : Profile) (ks new : List Kept) (ps : List Program) (i : ℕ) (p : Program) (h : Held) → map process_view ks ≡ map (start_of profile) (take i ps) → i < length ps
+    → p ≡ get_or ps i p → h.process ≡ start profile p.image.origin p.image.words p.input.items → new ≡ ks ++ kept.Running h ∷ [] → map process_view new ≡ map (start_of profile) (take (i + 1) ps)
+started_more profile ks new ps i p h so within read is new-is =
     let starts : Program → Process = start_of profile in
-    ap (λ xs. map process_view xs) new-is ∙ map-append process_view ks (kept.Running m ∷ [])
-    ∙ ap (λ xs. xs ++ Running m ∷ []) so ∙ ap (λ q. map starts (take i ps) ++ Running q ∷ []) is
+    ap (λ xs. map process_view xs) new-is ∙ map-append process_view ks (kept.Running h ∷ [])
+    ∙ ap (λ xs. xs ++ Running h.process ∷ []) so ∙ ap (λ q. map starts (take i ps) ++ Running q ∷ []) is
     ∙ sym (ap (λ xs. map starts xs) (take_more ps i p within ∙ ap (λ q. take i ps ++ q ∷ []) (sym read)) ∙ map-append starts (take i ps) (p ∷ []))
 
 -- the processes of 1 to 64 programs over their kernel

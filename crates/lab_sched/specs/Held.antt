@@ -13,13 +13,13 @@ use Rattle.lab_sched.specs.Worlds.{HaveOneProfile, Process, Running, Waiting, En
 
 -- a process without the pages of memory that are ready
 abbrev pub process_view : Kept → Process
-process_view (kept.Running m) = Running m
+process_view (kept.Running h) = Running h.process
 process_view (kept.Waiting h c) = Waiting h.process c
 process_view (kept.Ended e) = Ended e
 
 -- a process that waits asks for the call that it waits for, and all that a reply writes is ready
 abbrev pub IsHeld : Kept → Type 0
-IsHeld (kept.Running m) = Unit {0}
+IsHeld (kept.Running h) = Unit {0}
 IsHeld (kept.Waiting h c) = (next_request h.process ≡ Calls c) × IsPrepared h
 IsHeld (kept.Ended e) = Unit {0}
 

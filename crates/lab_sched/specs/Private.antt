@@ -3,3 +3,4 @@ pub mod Reading
 pub mod Fresh
 pub mod Settling
 pub mod Blocks
+pub mod Calling

@@ -1,6 +1,7 @@
 //! Worlds of processes over one kernel, run by written schedules.
 #![tactic(auto)]
 
+mod calling;
 mod entry;
 mod fresh;
 pub mod laws;

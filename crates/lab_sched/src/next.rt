@@ -1,16 +1,18 @@
 //! What a process does next.
 ghost use Rattle.std.specs.Prelude.{◌≡◌, ◌≤◌, ℕ};
 ghost use Rattle.lc3_machine.specs.declared.want.Want.TheVariants.{Trap};
+ghost use Rattle.lc3_machine.specs.Process.{Stops};
+ghost use Rattle.lc3_machine.specs.Effects.{next_step};
 ghost use Rattle.lab_sched.specs.Held.{process_view, IsHeld};
-ghost use Rattle.lab_sched.specs.Settling.{AsksFor, IsNext};
-ghost use Rattle.lab_sched.specs.Stepping.{StandsBefore, StopsBy, before_wait};
-ghost use Rattle.lab_sched.specs.Verdicts.{IsWaiting};
+ghost use Rattle.lab_sched.specs.Settling.{IsNext};
+ghost use Rattle.lab_sched.specs.Stepping.{StopsBy};
+ghost use Rattle.lab_sched.specs.Worlds.{Running as RunningSeen};
 
 use crate::Process;
-use crate::stepping::{Asking, begin_call, local_steps};
-use core::mem::replace_with;
+use crate::calling::ask;
+use crate::stepping::local_steps;
 use ipc_kernel::Call;
-use lc3_machine::{Progress, Want};
+use lc3_machine::{Progress, Running, Want};
 use std::alloc::Global;
 
 /// What a process does next.
@@ -26,33 +28,17 @@ pub enum Next {
     Short,
 }
 
-/// The process before it began to wait, and its call.
+/// What a running process does next that stands before a trap of the kernel.
 #[tactic(auto, using(crate::proofs::LocalSteps::asks))]
-fn before_wait(process: Process, (): ()) -> (Process, Call)
-    requires held { IsHeld process }
-    requires waits { IsWaiting (process_view process) }
-    ensures process { process_view result.0 ≡ before_wait (process_view process) }
-    ensures asks { AsksFor (process_view result.0) result.1 }
-    ensures held { IsHeld result.0 }
+fn next_trap(alloc: Global, running: &mut Running, vector: u8) -> Next
+    requires trap { next_step running.old.process ≡ Stops (Trap vector) }
+    ensures next { (most : ℕ) → 1 ≤ most
+        → IsNext (RunningSeen running.old.process) most result (RunningSeen running.new.process) }
 {
-    match process {
-        Process::Waiting(waiting, call) => (Process::Running(waiting.back()), call),
-        Process::Running(_) | Process::Ended(_) => unreachable!(),
-    }
-}
-
-/// What a process does next that stands before a trap of the kernel.
-fn next_trap(alloc: Global, process: &mut Process, vector: u8) -> Next
-    requires held { IsHeld process.old }
-    requires stands { StandsBefore (process_view process.old) (Trap vector) }
-    ensures next { (most : ℕ)
-        → 1 ≤ most → IsNext (process_view process.old) most result (process_view process.new) }
-    ensures held { IsHeld process.new }
-{
-    match begin_call(alloc, process, vector) {
-        Asking::Waits => Next::Asks(replace_with(process, (), before_wait)),
-        Asking::Refused => Next::Moved(1),
-        Asking::Short => Next::Short,
+    match ask(alloc, running, vector) {
+        Ok(Some(call)) => Next::Asks(call),
+        Ok(None) => Next::Moved(1),
+        Err(_) => Next::Short,
     }
 }
 
@@ -65,8 +51,8 @@ fn next_call(alloc: Global, process: &mut Process, progress: Progress) -> Next
     ensures held { IsHeld process.new }
 {
     match process {
-        Process::Running(_) => match progress {
-            Progress::Stopped(Want::Trap(vector)) => next_trap(alloc, process, vector),
+        Process::Running(running) => match progress {
+            Progress::Stopped(Want::Trap(vector)) => next_trap(alloc, running, vector),
             Progress::Stopped(Want::End(_)) => Next::Asks(Call::Exit),
             Progress::Short | Progress::Moved => Next::Short,
         },

@@ -1,21 +1,20 @@
 //! One step of one process: what it does next, and what the answer to its call makes of it.
-ghost use Rattle.std.specs.Prelude.{◌≡◌, ◌<◌, ◌≤◌, Some, length, IfOk, OnOk, OnErr};
-ghost use Rattle.lc3_machine.specs.Steps.{AsksTrap, AreOwnSteps};
+ghost use Rattle.std.specs.Prelude.{◌≡◌, ◌<◌, ◌≤◌, length, IfOk, OnErr};
+ghost use Rattle.lc3_machine.specs.Steps.{AreOwnSteps};
 ghost use Rattle.lc3_machine.specs.declared.want.Want.TheVariants.{Trap, End};
-ghost use Rattle.ipc_traps.specs.Asked.{Calls, next_request};
-ghost use Rattle.lab_sched.specs.declared.stepped.Stepped.TheVariants.{Same, Waits};
 ghost use Rattle.lab_sched.specs.Held.{process_view, HasStepped, IsHeld};
 ghost use Rattle.lab_sched.specs.LocalRun.{AreLocal};
 ghost use Rattle.lab_sched.specs.Settling.{AsksFor};
 ghost use Rattle.lab_sched.specs.Verdicts.{IsWaiting};
-ghost use Rattle.lab_sched.specs.Worlds.{Running as RunningSeen, machine_of};
+ghost use Rattle.lab_sched.specs.Worlds.{Waiting as WaitingSeen, machine_of};
+ghost use Rattle.lab_sched.specs.Private.Calling.{MayWait};
 ghost use Rattle.lab_sched.specs.Stepping.{CanTakeReply, IsAsking, StandsBefore, StopsBy, after_end, after_reply, before_wait};
 
+use crate::calling::{FirstTry, ask_with_room, first_try, give_reply};
 use crate::{Process, Stepped};
 use core::mem::replace_with;
 use ipc_kernel::{Answer, Call, Kernel, Reply};
-use ipc_traps::{Asked, effect_of, prepare, read_call};
-use lc3_machine::{AtCall, How, Progress, Want};
+use lc3_machine::{How, Progress, Want};
 use std::alloc::{AllocError, Global};
 
 /// What came of a running process that stood before a trap of the kernel.
@@ -29,11 +28,11 @@ pub enum Asking {
     Short,
 }
 
-/// The vector of a trap, and where the arguments of its call are kept.
-#[derive(Clone, Copy)]
-struct TrapAt {
-    alloc: Global,
+/// The trap that a process stands before, by its vector, and the call that it makes by it.
+#[derive(Drop)]
+struct CallAt {
     vector: u8,
+    call: Call,
 }
 
 /// Takes local steps of a process, at most so many; with how many were taken, and what kept a
@@ -54,62 +53,50 @@ pub fn local_steps(process: &mut Process, most: u32) -> (u32, Progress)
     }
 }
 
-/// The process that waits for the answer to its call, once there is room for each reply.
-#[inline(always)]
-fn wait(mut call: AtCall, request: Call) -> (Process, Asking)
-    requires trap { AsksTrap call.process }
-    requires request { next_request call.process ≡ Calls request }
-    ensures asking { IsAsking (RunningSeen call.process) result.1 (process_view result.0) }
-    ensures held { IsHeld result.0 }
-{
-    match prepare(&mut call) {
-        Ok(()) => (Process::Waiting(call.wait(), request), Asking::Waits),
-        Err(_) => (Process::Running(call.back()), Asking::Short),
-    }
-}
-
-/// What a process does that stands before a trap of the kernel.
-#[tactic(auto, using(ipc_traps::proofs::Laws::room_plain), unfolding(crate::specs::Worlds::next_action))]
-#[inline(always)]
-fn ask(alloc: Global, call: AtCall) -> (Process, Asking)
-    requires trap { AsksTrap call.process }
-    ensures asking { IsAsking (RunningSeen call.process) result.1 (process_view result.0) }
-    ensures held { IsHeld result.0 }
-{
-    match read_call(alloc, &call) {
-        Ok(Asked::Kernel(request)) => wait(call, request),
-        Ok(Asked::Refused(e)) => {
-            let reply = Reply::Plain(e.reply());
-            let effect = effect_of(&call, &reply);
-            (Process::Running(call.finish(effect)), Asking::Refused)
-        }
-        Err(_) => (Process::Running(call.back()), Asking::Short),
-    }
-}
-
-/// The same of a process that runs.
-#[inline(always)]
-fn ask_by(process: Process, trap: TrapAt) -> (Process, Asking)
-    requires stands { StandsBefore (process_view process) (Trap trap.vector) }
-    ensures asking { IsAsking (process_view process) result.1 (process_view result.0) }
+/// The process that waits for the answer to its call.
+fn waiting(process: Process, at: CallAt) -> (Process, ())
+    requires stands { StandsBefore (process_view process) (Trap at.vector) }
+    requires may { MayWait process at.call }
+    ensures waits { process_view result.0 ≡ WaitingSeen (machine_of (process_view process)) at.call }
     ensures held { IsHeld result.0 }
 {
     match process {
-        Process::Running(running) => ask(trap.alloc, running.stand(Want::Trap(trap.vector))),
+        Process::Running(running) => (Process::Waiting(running.wait(at.vector), at.call), ()),
         Process::Waiting(_, _) | Process::Ended(_) => unreachable!(),
     }
+}
+
+/// Lets a running process wait for the answer to its call.
+#[inline(always)]
+fn begin_wait(process: &mut Process, vector: u8, call: Call)
+    requires stands { StandsBefore (process_view process.old) (Trap vector) }
+    requires may { MayWait process.old call }
+    ensures waits { process_view process.new
+        ≡ WaitingSeen (machine_of (process_view process.old)) call }
+    ensures held { IsHeld process.new }
+{
+    replace_with(process, CallAt { vector, call }, waiting)
 }
 
 /// Reads the call of a process that stands before a trap of the kernel. The process waits for the
 /// answer then, and there is room for each reply; a call that is refused without the kernel is a
 /// local step.
-#[inline(always)]
 pub fn begin_call(alloc: Global, process: &mut Process, vector: u8) -> Asking
     requires stands { StandsBefore (process_view process.old) (Trap vector) }
     ensures asking { IsAsking (process_view process.old) result (process_view process.new) }
     ensures held { IsHeld process.new }
 {
-    replace_with(process, TrapAt { alloc, vector }, ask_by)
+    match process {
+        Process::Running(running) => match ask_with_room(alloc, running, vector) {
+            Ok(Some(call)) => {
+                begin_wait(process, vector, call);
+                Asking::Waits
+            }
+            Ok(None) => Asking::Refused,
+            Err(_) => Asking::Short,
+        },
+        Process::Waiting(_, _) | Process::Ended(_) => unreachable!(),
+    }
 }
 
 /// The process that the reply to its call makes of one that waits; with the call.
@@ -123,8 +110,10 @@ fn replied_with_call(process: Process, reply: &Reply) -> (Process, Call)
 {
     match process {
         Process::Waiting(waiting, call) => {
-            let effect = effect_of(waiting.at_call(), reply);
-            (Process::Running(waiting.finish(effect)), call)
+            let vector = waiting.vector();
+            let mut running = waiting.back();
+            give_reply(&mut running, vector, reply);
+            (Process::Running(running), call)
         }
         Process::Running(_) | Process::Ended(_) => unreachable!(),
     }
@@ -182,7 +171,7 @@ fn ended(process: Process, how: How) -> (Process, ())
     ensures held { IsHeld result.0 }
 {
     match process {
-        Process::Running(running) => { (Process::Ended(running.stand(Want::End(how)).end()), ()) }
+        Process::Running(running) => { (Process::Ended(running.end(how)), ()) }
         Process::Waiting(_, _) | Process::Ended(_) => unreachable!(),
     }
 }
@@ -223,41 +212,6 @@ fn retry(process: &mut Process, kernel: &mut Kernel, pid: usize) -> Result<Stepp
     }
 }
 
-/// What the first try of a call is, by what a later one would be.
-#[inline(always)]
-fn first(stepped: Stepped) -> Stepped
-    ensures same { stepped ≡ Same → result ≡ Waits }
-    ensures other { (stepped ≡ Same → ⊥) → result ≡ stepped }
-{
-    match stepped {
-        Stepped::Same => Stepped::Waits,
-        Stepped::Moved | Stepped::Called | Stepped::Waits => stepped,
-    }
-}
-
-/// Tries the call that a process has just begun to wait for; where memory is refused it runs again.
-#[inline(always)]
-fn first_try(process: &mut Process, kernel: &mut Kernel, pid: usize) -> Result<Stepped, AllocError>
-    requires process { pid < length kernel.old.processes }
-    requires held { IsHeld process.old }
-    requires waits { IsWaiting (process_view process.old) }
-    ensures ok { IfOk result (HasStepped
-        kernel.old pid (before_wait (process_view process.old)) kernel.new
-        (process_view process.new)) }
-    ensures held { IsHeld process.new }
-    ensures err { OnErr result (process_view process.new ≡ before_wait (process_view process.old)) }
-    ensures kernel { OnErr result (kernel.new ≡ kernel.old) }
-    ensures count { length kernel.new.processes ≡ length kernel.old.processes }
-{
-    match retry(process, kernel, pid) {
-        Ok(stepped) => Ok(first(stepped)),
-        Err(e) => {
-            take_back(process);
-            Err(e)
-        }
-    }
-}
-
 /// The step of a process that stands before a trap of the kernel.
 #[inline(always)]
 fn step_trap(
@@ -268,7 +222,6 @@ fn step_trap(
     pid: usize,
 ) -> Result<Stepped, AllocError>
     requires process { pid < length kernel.old.processes }
-    requires held { IsHeld process.old }
     requires stands { StandsBefore (process_view process.old) (Trap vector) }
     ensures ok { IfOk result
         (HasStepped kernel.old pid (process_view process.old) kernel.new
@@ -278,10 +231,16 @@ fn step_trap(
     ensures kernel { OnErr result (kernel.new ≡ kernel.old) }
     ensures count { length kernel.new.processes ≡ length kernel.old.processes }
 {
-    match begin_call(alloc, process, vector) {
-        Asking::Waits => first_try(process, kernel, pid),
-        Asking::Refused => Ok(Stepped::Moved),
-        Asking::Short => Err(AllocError),
+    match process {
+        Process::Running(running) => match first_try(alloc, running, vector, kernel, pid)? {
+            FirstTry::Refused => Ok(Stepped::Moved),
+            FirstTry::Answered => Ok(Stepped::Called),
+            FirstTry::Waits(call) => {
+                begin_wait(process, vector, call);
+                Ok(Stepped::Waits)
+            }
+        },
+        Process::Waiting(_, _) | Process::Ended(_) => unreachable!(),
     }
 }
 

@@ -1,13 +1,12 @@
 //! The states of a process, a type each.
 
-mod call;
 mod copies;
 mod end;
 mod run;
 mod wait;
 
 use crate::machine::Machine;
-use crate::want::{How, Want};
+use crate::want::How;
 use std::marker::Model;
 
 /// A process that runs.
@@ -22,60 +21,40 @@ impl Drop for Running {
 }
 
 impl Model for Running {
-    ghost use Rattle.lc3_machine.specs.Process.{Process};
+    ghost use Rattle.lc3_machine.specs.Process.{Held};
 
-    ghost Value = { Process };
+    ghost Value = { Held };
 
-    ghost view = { λ r. r.machine.value.process };
+    ghost view = { λ r. r.machine.value };
 }
 
-/// A process whose next instruction is a trap of the kernel, or its end. Nothing of that instruction is done.
-pub struct AtCall {
-    machine: Box<Machine>,
-    want: Want,
+/// A process that waits for the answer of the trap of the kernel that it stands before. Nothing of that instruction is
+/// done.
+pub struct Waiting {
+    running: Running,
+    vector: u8,
 }
 
-impl Drop for AtCall {
+impl Drop for Waiting {
     fn drop(self) {
-        let AtCall {
-            machine: _,
-            want: _,
+        let Waiting {
+            running: _,
+            vector: _,
         } = self;
     }
 }
 
-impl Model for AtCall {
+impl Model for Waiting {
     ghost use Rattle.std.specs.Prelude.{◌≡◌};
+    ghost use Rattle.lc3_machine.specs.declared.want.Want.TheVariants.{Trap};
     ghost use Rattle.lc3_machine.specs.Process.{Held, Stops};
     ghost use Rattle.lc3_machine.specs.Effects.{next_step};
 
     ghost Value = { Held };
 
-    ghost view = { λ a. a.machine.value };
+    ghost view = { λ w. w.running };
 
-    ghost invariant = { λ a. next_step a.machine.value.process ≡ Stops a.want };
-}
-
-/// A process that waits for the answer of the trap that it stands before.
-pub struct Waiting {
-    call: AtCall,
-}
-
-impl Drop for Waiting {
-    fn drop(self) {
-        let Waiting { call: _ } = self;
-    }
-}
-
-impl Model for Waiting {
-    ghost use Rattle.lc3_machine.specs.Process.{Held};
-    ghost use Rattle.lc3_machine.specs.Steps.{AsksTrap};
-
-    ghost Value = { Held };
-
-    ghost view = { λ w. w.call };
-
-    ghost invariant = { λ w. AsksTrap w.call.process };
+    ghost invariant = { λ w. next_step w.running.process ≡ Stops (Trap w.vector) };
 }
 
 /// A process that has ended.

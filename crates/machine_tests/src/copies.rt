@@ -1,7 +1,7 @@
 //! Copies, and pairs of processes that differ in one part alone.
 
 use crate::processes::{loaded, run, stopped};
-use lc3_machine::{AtCall, Ended, Running, Waiting, Want};
+use lc3_machine::{Ended, Running, Waiting, Want};
 use lc3_word::FIRST_DEVICE;
 use std::alloc::{AllocError, Global};
 use std::process::Abort;
@@ -9,10 +9,6 @@ use std::test::Fail;
 
 fn copy(alloc: Global, process: &Running) -> Result<Running, AllocError> {
     Ok(again!(process.copy(alloc)))
-}
-
-fn copy_of_call(alloc: Global, call: &AtCall) -> Result<AtCall, AllocError> {
-    Ok(again!(call.copy(alloc)))
 }
 
 /// Each of two processes is the other, and their digests are equal.
@@ -92,31 +88,30 @@ fn each_part_counts(rt: HostRuntime) -> Result<(), Fail> {
 }
 
 /// Makes the page of an address.
-fn make_page(call: &mut AtCall, at: u16) -> Result<(), AllocError> {
+fn make_page(process: &mut Running, at: u16) -> Result<(), AllocError> {
     if at < FIRST_DEVICE {
-        again!(call.reserve(at, 1));
+        again!(process.reserve(at, 1));
     }
     Ok(())
 }
 
 #[test]
 fn a_page_of_zeros_may_be_made_or_not(rt: HostRuntime) -> Result<(), Fail> {
-    let mut call = stopped(&rt, loaded(rt.alloc(), 0x3000, &[0xf044], b"")?);
-    let unready = copy_of_call(rt.alloc(), &call)?;
-    make_page(&mut call, 0x4000)?;
-    let ready = copy_of_call(rt.alloc(), &call)?;
+    let (mut process, want) = stopped(&rt, loaded(rt.alloc(), 0x3000, &[0xf044], b"")?);
+    assert!(rt; want == Want::Trap(0x44));
+    let unready = copy(rt.alloc(), &process)?;
+    make_page(&mut process, 0x4000)?;
+    let ready = copy(rt.alloc(), &process)?;
     assert!(rt; ready.ready(0x4000, 256) && !unready.ready(0x4000, 1));
-    assert!(rt; ready.want() == Want::Trap(0x44));
-    assert!(rt; unready.is_same(&ready) && ready.is_same(&unready));
-    assert_eq!(rt; unready.digest(), ready.digest());
-    are_same(&rt, &unready.back(), &ready.back());
+    are_same(&rt, &unready, &ready);
     Ok(())
 }
 
-/// The process, which waits for the answer of the trap that it stands before.
-fn waiting(rt: &impl Abort, call: AtCall) -> Waiting {
-    match call.want() {
-        Want::Trap(_) => call.wait(),
+/// The process, which waits for the answer of the trap that it comes to.
+fn waiting(rt: &impl Abort, process: Running) -> Waiting {
+    let (process, want) = stopped(rt, process);
+    match want {
+        Want::Trap(vector) => process.wait(vector),
         Want::End(_) => panic!(rt; "it is a trap"),
     }
 }
@@ -124,9 +119,9 @@ fn waiting(rt: &impl Abort, call: AtCall) -> Waiting {
 #[test]
 fn a_waiting_process_is_copied(rt: HostRuntime) -> Result<(), Fail> {
     let process = loaded(rt.alloc(), 0x3000, &[0xf044], b"a")?;
-    let process = waiting(&rt, stopped(&rt, process));
+    let process = waiting(&rt, process);
     let other = loaded(rt.alloc(), 0x3000, &[0xf044], b"b")?;
-    let other = waiting(&rt, stopped(&rt, other));
+    let other = waiting(&rt, other);
     let copy = again!(process.copy(rt.alloc()));
     assert!(rt; process.is_same(&copy) && !copy.is_same(&other));
     assert_eq!(rt; process.digest(), copy.digest());
@@ -134,10 +129,11 @@ fn a_waiting_process_is_copied(rt: HostRuntime) -> Result<(), Fail> {
     Ok(())
 }
 
-/// The process, which its next instruction ends.
-fn ended(rt: &impl Abort, call: AtCall) -> Ended {
-    match call.want() {
-        Want::End(_) => call.end(),
+/// The process, which has ended.
+fn ended(rt: &impl Abort, process: Running) -> Ended {
+    let (process, want) = stopped(rt, process);
+    match want {
+        Want::End(how) => process.end(how),
         Want::Trap(_) => panic!(rt; "it is an end"),
     }
 }
@@ -145,9 +141,9 @@ fn ended(rt: &impl Abort, call: AtCall) -> Ended {
 #[test]
 fn an_ended_process_is_copied(rt: HostRuntime) -> Result<(), Fail> {
     let process = loaded(rt.alloc(), 0x3000, &[0xf025], b"")?;
-    let process = ended(&rt, stopped(&rt, process));
+    let process = ended(&rt, process);
     let other = loaded(rt.alloc(), 0x3000, &[0xd000], b"")?;
-    let other = ended(&rt, stopped(&rt, other));
+    let other = ended(&rt, other);
     let copy = again!(process.copy(rt.alloc()));
     assert!(rt; copy.how() == process.how());
     assert!(rt; process.is_same(&copy) && !copy.is_same(&other));

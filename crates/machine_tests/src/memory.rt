@@ -1,7 +1,10 @@
 //! Memory in pages, beside a plain vector of 65,536 words.
 
+ghost use Rattle.std.specs.Prelude.{◌≡◌};
+ghost use Rattle.lc3_machine.specs.Steps.{AsksTrap};
+
 use crate::processes::{loaded, stopped, vec_of};
-use lc3_machine::{AtCall, Effect, Running, Want};
+use lc3_machine::{Effect, Running, Want};
 use lc3_word::FIRST_DEVICE;
 use std::alloc::{AllocError, Global};
 use std::process::Abort;
@@ -65,9 +68,11 @@ impl Plain {
 const STORES: [u16; 7] = [0x2204, 0x2404, 0x7280, 0xf044, 0x0ffb, 0, 0x0300];
 
 /// Makes a range up to the device registers writable.
-fn reserve(call: &mut AtCall, at: u16, len: u16) -> Result<(), AllocError> {
+fn reserve(process: &mut Running, at: u16, len: u16) -> Result<(), AllocError>
+    ensures process { process.new.process ≡ process.old.process }
+{
     if at < FIRST_DEVICE && len <= FIRST_DEVICE - at {
-        again!(call.reserve(at, len));
+        again!(process.reserve(at, len));
     }
     Ok(())
 }
@@ -75,25 +80,25 @@ fn reserve(call: &mut AtCall, at: u16, len: u16) -> Result<(), AllocError> {
 /// The process after its call, with these words from an address on, and a priority.
 fn answered(
     rt: &impl Abort,
-    call: AtCall,
+    mut process: Running,
     at: u16,
     words: Vec<u16>,
     prio_at: u16,
     prio: u16,
-) -> Running {
+) -> Running
+    requires trap { AsksTrap process.process }
+{
     let len = (words.len() % 0x10000) as u16;
-    match call.want() {
-        Want::Trap(_)
-            if words.len() == len as usize && call.ready(at, len) && call.ready(prio_at, 1) => {
-            call.finish(Effect::Message {
-                at,
-                words: words.as_slice(),
-                prio_at: Some(prio_at),
-                prio,
-            })
-        }
-        _ => panic!(rt; "the words fit"),
+    if words.len() == len as usize && process.ready(at, len) && process.ready(prio_at, 1) {
+        process.answer(Effect::Message {
+            at,
+            words: words.as_slice(),
+            prio_at: Some(prio_at),
+            prio,
+        });
+        return process;
     }
+    panic!(rt; "the words fit")
 }
 
 /// Some words for an address, which stand before the device registers.
@@ -106,20 +111,22 @@ fn message(alloc: Global, numbers: &mut Numbers, at: u16) -> Result<Vec<u16>, Al
     Ok(words)
 }
 
-/// Looks at some words, makes a range writable, and goes back to where the process runs.
+/// Looks at some words, and makes a range writable.
 fn disturb(
     rt: &impl Abort,
-    call: &mut AtCall,
+    process: &mut Running,
     numbers: &mut Numbers,
     plain: &Plain,
-) -> Result<(), AllocError> {
+) -> Result<(), AllocError>
+    ensures process { process.new.process ≡ process.old.process }
+{
     for _ in 0..8 {
         let address = numbers.next();
-        assert_eq!(rt; call.machine().word(address), plain.get(address));
+        assert_eq!(rt; process.machine().word(address), plain.get(address));
     }
     let at = numbers.address();
     let len = (numbers.next() % 600).min(FIRST_DEVICE.saturating_sub(at));
-    reserve(call, at, len)
+    reserve(process, at, len)
 }
 
 /// The words of the next message, and where they go: over the word and the address that the program stores, or anywhere.
@@ -139,20 +146,21 @@ fn next_words(
 /// Answers the call in both memories, with a priority.
 fn answer(
     rt: &impl Abort,
-    call: AtCall,
+    mut process: Running,
     numbers: &mut Numbers,
     plain: &mut Plain,
     at: u16,
     words: Vec<u16>,
-) -> Result<Running, AllocError> {
-    let mut call = call;
+) -> Result<Running, AllocError>
+    requires trap { AsksTrap process.process }
+{
     let prio_at = numbers.address();
     let prio = numbers.next();
-    reserve(&mut call, at, (words.len() % 0x10000) as u16)?;
-    reserve(&mut call, prio_at, 1)?;
+    reserve(&mut process, at, (words.len() % 0x10000) as u16)?;
+    reserve(&mut process, prio_at, 1)?;
     plain.write(at, &words);
     plain.set(prio_at, prio);
-    Ok(answered(rt, call, at, words, prio_at, prio))
+    Ok(answered(rt, process, at, words, prio_at, prio))
 }
 
 /// Each word of the process is that of the plain memory.
@@ -173,14 +181,14 @@ fn pages_are_a_plain_list_of_words(rt: HostRuntime) -> Result<(), Fail> {
     plain.write(0x200, &STORES);
     let mut process = loaded(rt.alloc(), 0x200, &STORES, b"")?;
     for round in 0..500 {
-        let mut call = stopped(&rt, process);
+        let (mut running, want) = stopped(&rt, process);
         plain.set(plain.get(0x206), plain.get(0x205));
-        disturb(&rt, &mut call, &mut numbers, &plain)?;
-        if numbers.next() % 4 == 0 {
-            call = stopped(&rt, call.back());
-        }
+        disturb(&rt, &mut running, &mut numbers, &plain)?;
         let (at, words) = next_words(rt.alloc(), &mut numbers, round % 2 == 1)?;
-        process = answer(&rt, call, &mut numbers, &mut plain, at, words)?;
+        process = match want {
+            Want::Trap(_) => answer(&rt, running, &mut numbers, &mut plain, at, words)?,
+            Want::End(_) => panic!(rt; "it is a trap"),
+        };
     }
     is_plain(&rt, &process, &plain);
     Ok(())

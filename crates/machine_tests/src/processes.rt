@@ -1,6 +1,10 @@
 //! Processes for the other tests: loaded, run, and stopped before a call.
 
-use lc3_machine::{AtCall, Progress, Running};
+ghost use Rattle.std.specs.Prelude.{◌≡◌};
+ghost use Rattle.lc3_machine.specs.Process.{Stops};
+ghost use Rattle.lc3_machine.specs.Effects.{next_step};
+
+use lc3_machine::{Progress, Running, Want};
 use lc3_table::Profile;
 use lc3_word::Image;
 use std::alloc::{AllocError, Global};
@@ -37,12 +41,14 @@ pub fn run(rt: &impl Abort, mut process: Running, steps: u32) -> Running {
     }
 }
 
-/// The process before the call or the end that it stands at, after a few steps.
-pub fn stopped(rt: &impl Abort, mut process: Running) -> AtCall {
+/// The process before the call or the end that it stands at, after a few steps; with that call or end.
+pub fn stopped(rt: &impl Abort, mut process: Running) -> (Running, Want)
+    ensures stands { next_step result.0.process ≡ Stops result.1 }
+{
     match process.advance(9).1 {
-        Progress::Stopped(want) => process.stand(want),
+        Progress::Stopped(want) => (process, want),
         Progress::Short => match process.advance(9).1 {
-            Progress::Stopped(want) => process.stand(want),
+            Progress::Stopped(want) => (process, want),
             _ => panic!(rt; "the process stops"),
         },
         Progress::Moved => panic!(rt; "the process stops"),

@@ -2,13 +2,13 @@
 
 ghost use Rattle.std.specs.Prelude.{◌≡◌, ◌↔◌, IfOk, IsTrue};
 
-use super::{AtCall, Ended, Running, Waiting};
+use super::{Ended, Running, Waiting};
 use crate::want::How;
 use std::alloc::{AllocError, Global};
 use std::hash::{FoldHasher, Hasher};
 
 impl Running {
-    /// An equal process.
+    /// An equal process, of which the same can be written without taking memory.
     pub fn copy(&self, alloc: Global) -> Result<Running, AllocError>
         ensures equal { IfOk result (λ copy. copy ≡ self.now) }
     {
@@ -16,33 +16,8 @@ impl Running {
         Ok(Running { machine })
     }
 
-    /// Whether two processes are the same.
-    pub fn is_same(&self, other: &Running) -> bool
-        ensures same { IsTrue result ↔ (self.now ≡ other.now) }
-    {
-        self.machine.is_same(&other.machine)
-    }
-
-    /// A number that is the same for equal processes and, as a rule, another for others.
-    pub fn digest(&self) -> u64 {
-        self.machine.digest()
-    }
-}
-
-impl AtCall {
-    /// An equal process, of which the same can be written without taking memory.
-    pub fn copy(&self, alloc: Global) -> Result<AtCall, AllocError>
-        ensures equal { IfOk result (λ copy. copy ≡ self.now) }
-    {
-        let machine = Box::new(alloc, self.machine.copy(alloc)?)?;
-        Ok(AtCall {
-            machine,
-            want: self.want,
-        })
-    }
-
     /// Whether two processes are the same, whatever of them can be written without taking memory.
-    pub fn is_same(&self, other: &AtCall) -> bool
+    pub fn is_same(&self, other: &Running) -> bool
         ensures same { IsTrue result ↔ (self.now.process ≡ other.now.process) }
     {
         self.machine.is_same(&other.machine)
@@ -59,20 +34,23 @@ impl Waiting {
     pub fn copy(&self, alloc: Global) -> Result<Waiting, AllocError>
         ensures equal { IfOk result (λ copy. copy ≡ self.now) }
     {
-        let call = self.call.copy(alloc)?;
-        Ok(Waiting { call })
+        let running = self.running.copy(alloc)?;
+        Ok(Waiting {
+            running,
+            vector: self.vector,
+        })
     }
 
     /// Whether two processes are the same, whatever of them can be written without taking memory.
     pub fn is_same(&self, other: &Waiting) -> bool
         ensures same { IsTrue result ↔ (self.now.process ≡ other.now.process) }
     {
-        self.call.is_same(&other.call)
+        self.running.is_same(&other.running)
     }
 
     /// A number that is the same for equal processes and, as a rule, another for others.
     pub fn digest(&self) -> u64 {
-        self.call.digest()
+        self.running.digest()
     }
 }
 

@@ -1,39 +1,29 @@
 //! A process that waits.
 
 ghost use Rattle.std.specs.Prelude.{◌≡◌};
-ghost use Rattle.lc3_machine.specs.Reply.{CanTake, process_after_effect};
-ghost use Rattle.lc3_machine.specs.Steps.{AsksTrap};
+ghost use Rattle.lc3_machine.specs.declared.want.Want.TheVariants.{Trap};
+ghost use Rattle.lc3_machine.specs.Process.{Stops};
+ghost use Rattle.lc3_machine.specs.Effects.{next_step};
 
-use super::{AtCall, Running, Waiting};
-use crate::effect::Effect;
+use super::{Running, Waiting};
 use crate::machine::Machine;
 
 impl Waiting {
-    /// The process as it stands before its trap.
+    /// The vector of the trap that the process stands before.
     #[inline(always)]
-    pub fn at_call(&self) -> &AtCall
-        ensures same { result.now ≡ self.now }
-        ensures trap { AsksTrap self.now.process }
+    pub fn vector(&self) -> u8
+        ensures trap { next_step self.now.process ≡ Stops (Trap result) }
     {
-        &self.call
+        self.vector
     }
 
     /// The process as it was before it began to wait.
-    pub fn back(self) -> Running
-        ensures process { result ≡ self.process }
-    {
-        let Waiting { call } = self;
-        call.back()
-    }
-
-    /// Answers the trap: the process goes on behind it, with what the effect writes. It takes no memory.
     #[inline(always)]
-    pub fn finish(self, effect: Effect<'_>) -> Running
-        requires room { CanTake self.ready effect }
-        ensures answered { result ≡ process_after_effect self.process effect.entry }
+    pub fn back(self) -> Running
+        ensures same { result ≡ self }
     {
-        let Waiting { call } = self;
-        call.finish(effect)
+        let Waiting { running, vector: _ } = self;
+        running
     }
 
     /// The machine of the process, which shows what it holds.
@@ -41,6 +31,6 @@ impl Waiting {
     pub fn machine(&self) -> &Machine
         ensures same { result.now ≡ self.now }
     {
-        self.call.machine()
+        self.running.machine()
     }
 }

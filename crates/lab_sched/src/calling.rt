@@ -1,0 +1,151 @@
+//! Calls of running processes: how they are read, and how they are tried for the first time.
+ghost use Rattle.std.specs.Prelude.{◌≡◌, ◌<◌, IfOk, IfSome, OnErr, length};
+ghost use Rattle.lc3_machine.specs.declared.want.Want.TheVariants.{Trap};
+ghost use Rattle.lc3_machine.specs.Process.{Stops};
+ghost use Rattle.lc3_machine.specs.Effects.{next_step};
+ghost use Rattle.lc3_machine.specs.Steps.{AsksTrap};
+ghost use Rattle.ipc_kernel.specs.declared.call.Reply.TheVariants.{Plain};
+ghost use Rattle.ipc_traps.specs.Asked.{Calls, next_request};
+ghost use Rattle.ipc_traps.specs.Reply.{HasRoom, IsPrepared, process_after_reply};
+ghost use Rattle.lab_sched.specs.Private.Calling.{HasAsked, HasTried};
+
+use ipc_kernel::{Answer, Call, Kernel, Reply};
+use ipc_traps::{Asked, effect_of, prepare, read_call};
+use lc3_machine::{Effect, Running};
+use std::alloc::{AllocError, Global};
+
+/// What came of the first try of a call.
+#[derive(Drop)]
+pub(crate) enum FirstTry {
+    /// The call was refused without the kernel.
+    Refused,
+    /// It was answered.
+    Answered,
+    /// The process must wait for the answer to this call.
+    Waits(Call),
+}
+
+/// Lets a plain word be the reply to the call of a running process, which goes on behind its trap.
+#[tactic(auto, unfolding(ipc_traps::specs::Reply::process_after_reply))]
+#[inline(always)]
+fn give_word(running: &mut Running, word: u16)
+    requires trap { AsksTrap running.old.process }
+    ensures replied { running.new.process
+        ≡ process_after_reply running.old.process (Plain word) }
+{
+    running.answer(Effect::Plain(word));
+}
+
+/// Lets a reply take effect on the running process that made the call, which goes on behind its
+/// trap.
+#[inline(always)]
+pub(crate) fn give_reply(running: &mut Running, vector: u8, reply: &Reply)
+    requires trap { next_step running.old.process ≡ Stops (Trap vector) }
+    requires room { HasRoom running.old reply.now }
+    ensures replied { running.new.process ≡ process_after_reply running.old.process reply.now }
+{
+    let effect = effect_of(running.machine(), vector, reply);
+    running.answer(effect);
+}
+
+/// Reads the call that a running process makes by the trap that it stands before. A call that is
+/// refused without the kernel is none: that is a local step, which the process takes.
+#[tactic(auto, unfolding(crate::specs::Worlds::next_action))]
+#[inline(always)]
+pub(crate) fn ask(
+    alloc: Global,
+    running: &mut Running,
+    vector: u8,
+) -> Result<Option<Call>, AllocError>
+    requires trap { next_step running.old.process ≡ Stops (Trap vector) }
+    ensures asked { IfOk result (λ asked. HasAsked running.old.process asked running.new.process) }
+    ensures err { OnErr result (running.new.process ≡ running.old.process) }
+{
+    match read_call(alloc, running.machine(), vector)? {
+        Asked::Kernel(call) => Ok(Some(call)),
+        Asked::Refused(e) => {
+            give_word(running, e.reply());
+            Ok(None)
+        }
+    }
+}
+
+/// The same, and there is room for each reply to the call.
+#[inline(always)]
+pub(crate) fn ask_with_room(
+    alloc: Global,
+    running: &mut Running,
+    vector: u8,
+) -> Result<Option<Call>, AllocError>
+    requires trap { next_step running.old.process ≡ Stops (Trap vector) }
+    ensures asked { IfOk result (λ asked. HasAsked running.old.process asked running.new.process) }
+    ensures room { IfOk result (λ asked. IfSome asked (λ _. IsPrepared running.new)) }
+    ensures err { OnErr result (running.new.process ≡ running.old.process) }
+{
+    match ask(alloc, running, vector)? {
+        Some(call) => {
+            prepare(running, vector)?;
+            Ok(Some(call))
+        }
+        None => Ok(None),
+    }
+}
+
+/// Tries the call of a running process, which goes on with the reply. Where the call must wait
+/// nothing has changed.
+#[inline(always)]
+fn try_call(
+    running: &mut Running,
+    vector: u8,
+    call: Call,
+    kernel: &mut Kernel,
+    pid: usize,
+) -> Result<FirstTry, AllocError>
+    requires process { pid < length kernel.old.processes }
+    requires trap { next_step running.old.process ≡ Stops (Trap vector) }
+    requires asks { next_request running.old.process ≡ Calls call }
+    requires room { IsPrepared running.old }
+    ensures tried { IfOk result
+        (HasTried kernel.old pid running.old.process kernel.new running.new) }
+    ensures err { OnErr result (running.new ≡ running.old) }
+    ensures kernel { OnErr result (kernel.new ≡ kernel.old) }
+    ensures count { length kernel.new.processes ≡ length kernel.old.processes }
+{
+    match kernel.call(pid, &call) {
+        // A plain word is the reply of most calls.
+        Ok(Answer::Done(Reply::Plain(word))) => {
+            give_word(running, word);
+            Ok(FirstTry::Answered)
+        }
+        Ok(Answer::Done(reply)) => {
+            give_reply(running, vector, &reply);
+            Ok(FirstTry::Answered)
+        }
+        Ok(Answer::Wait) => Ok(FirstTry::Waits(call)),
+        Err(e) => Err(e),
+    }
+}
+
+/// Reads the call of a running process, and tries it for the first time. Where it must wait nothing
+/// has changed.
+#[inline(always)]
+pub(crate) fn first_try(
+    alloc: Global,
+    running: &mut Running,
+    vector: u8,
+    kernel: &mut Kernel,
+    pid: usize,
+) -> Result<FirstTry, AllocError>
+    requires process { pid < length kernel.old.processes }
+    requires trap { next_step running.old.process ≡ Stops (Trap vector) }
+    ensures tried { IfOk result
+        (HasTried kernel.old pid running.old.process kernel.new running.new) }
+    ensures err { OnErr result (running.new.process ≡ running.old.process) }
+    ensures kernel { OnErr result (kernel.new ≡ kernel.old) }
+    ensures count { length kernel.new.processes ≡ length kernel.old.processes }
+{
+    match ask_with_room(alloc, running, vector)? {
+        Some(call) => try_call(running, vector, call, kernel, pid),
+        None => Ok(FirstTry::Refused),
+    }
+}
