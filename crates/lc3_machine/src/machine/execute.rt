@@ -215,7 +215,7 @@ impl Machine {
 
     /// Does at most this many steps; with how many are left, and what kept the next one from being done, if there are
     /// some. Of a loop that counts down each step takes an instruction less.
-    #[inline(never)]
+    #[inline(always)]
     pub(crate) fn run(&mut self, max: u32) -> (u32, Progress)
         ensures run { HasRun self.old.process max result.1 self.new.process (max - result.0) }
         ensures within { result.0 ≤ max }

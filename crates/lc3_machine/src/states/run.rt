@@ -39,6 +39,7 @@ impl Running {
     /// Does at most this many instructions of the process's own in place; with how many were done, and what kept the
     /// next one from being done, if they are fewer: a call or an end, which isn't counted, or refused memory, after
     /// which the instruction may be tried again.
+    #[inline(always)]
     pub fn advance(&mut self, max: u32) -> (u32, Progress)
         ensures run { HasRun self.old.process max result.1 self.new.process result.0 }
     {
