@@ -70,7 +70,7 @@ pub(crate) fn ask(
     }
 }
 
-/// The same, and there is room for each reply to the call.
+/// Reads the call as `ask` does, and makes room for each reply to it.
 #[inline(always)]
 pub(crate) fn ask_with_room(
     alloc: Global,
