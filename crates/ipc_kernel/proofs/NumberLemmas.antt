@@ -1,7 +1,7 @@
 -- Lists of the numbers of things that are kept.
-use Rattle.std.proofs.Common.{drop, arith, ◌-◌, ◌≡◌, ℕ, ◌<◌, List, [], ◌∷◌, Some, map, slice_get, unwrap_or, length, refl, ap, sym, ◌∙◌, zero, suc, ◌+◌, ◌++◌, take, get_or, set, ◌⊎◌, inl, inr}
+use Rattle.std.proofs.Common.{◌≡◌, ℕ, ◌<◌, List, [], ◌∷◌, Some, map, slice_get, unwrap_or, length, refl, ap, sym, ◌∙◌, zero, suc, ◌+◌, ◌++◌, take, get_or, set, ◌⊎◌, inl, inr}
 use Rattle.std.specs.Option.{option_map}
-use Rattle.std.proofs.lemmas.List.{map_more, map-append, take_all, length-drop}
+use Rattle.std.proofs.lemmas.List.{map_more, map-append}
 use Rattle.std.proofs.lemmas.Option.{slice_get-map}
 
 -- what is kept stays where it is while more is kept
@@ -73,22 +73,3 @@ pub kept_more : {X : Type 0} (ps qs : List X) (ns : List ℕ) (xs : List X) (i n
 kept_more ps qs ns xs i n d grows h so_far kept =
     map-append (slice_get qs) ns (n ∷ []) ∙ ap (λ ys. ys ++ slice_get qs n ∷ []) (there_still ps qs ns (take i xs) grows so_far)
     ∙ ap (λ y. map Some (take i xs) ++ y ∷ []) kept ∙ sym (map_more Some xs i d h)
-
--- lists are the same from a place on where they are up to their ends
-pub changed_rest : (xs ys : List ℕ) (k : ℕ) → take (length ys - k) (drop k ys) ≡ take (length xs - k) (drop k xs) → drop k ys ≡ drop k xs
-changed_rest xs ys k h =
-    let first = length-drop k ys in
-    let second = length-drop k xs in
-    sym (take_all (length ys - k) (drop k ys) (omega (arith, first))) ∙ h ∙ take_all (length xs - k) (drop k xs) (omega (arith, second))
-
--- a list is another one with a number at a place where it has that number there, and else is the same
-pub changed_parts : (xs ys : List ℕ) (i n : ℕ) → i < length ys → get_or ys i 0 ≡ n → take i ys ≡ take i xs → drop (suc i) ys ≡ drop (suc i) xs → length ys ≡ length xs → ys ≡ set xs i n
-changed_parts [] [] i n below at first rest all = refl
-changed_parts [] (y ∷ ys) i n below at first rest all = absurd (omega (arith, all))
-changed_parts (x ∷ xs) [] i n below at first rest all = absurd (omega (arith, all))
-changed_parts (x ∷ xs) (y ∷ ys) zero n below at first rest all = ap (λ z. z ∷ ys) at ∙ ap (λ zs. n ∷ zs) rest
-changed_parts (x ∷ xs) (y ∷ ys) (suc i) n below at first rest all =
-    let head : y ≡ x = cc in
-    let front : take i ys ≡ take i xs = cc in
-    let more = changed_parts xs ys i n (omega (arith, below)) at front rest (omega (arith, all)) in
-    ap (λ z. z ∷ ys) head ∙ ap (λ zs. x ∷ zs) more

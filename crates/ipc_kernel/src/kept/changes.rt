@@ -1,6 +1,7 @@
 //! Numbers of rows.
 ghost use Rattle.std.specs.Prelude.{◌≡◌, ◌<◌, length, slice_get, slice_set, IfOk, IfSome, IsTrue, IfNone, None};
 
+use crate::numbers::are_with;
 use std::alloc::{AllocError, Global};
 
 /// The number at a place, if there is one.
@@ -30,13 +31,6 @@ pub(crate) fn with_number(
     Ok(Some(changed))
 }
 
-/// Whether these are the same numbers.
-fn are_same(numbers: &[u32], others: &[u32]) -> bool
-    ensures same { IsTrue result → numbers.now ≡ others.now }
-{
-    numbers == others
-}
-
 /// Numbers with another one at a place.
 #[derive(Drop)]
 pub(crate) struct Change<'a> {
@@ -52,14 +46,7 @@ impl Change<'_> {
             → numbers.now ≡ slice_set self.now.numbers.now self.now.at self.now.number }
         ensures range { IsTrue result → self.now.at < length self.now.numbers.now }
     {
-        let at = self.at;
-        if numbers.len() != self.numbers.len() || at >= numbers.len() {
-            return false;
-        }
-        if numbers[at] != self.number || !are_same(&numbers[..at], &self.numbers[..at]) {
-            return false;
-        }
-        are_same(&numbers[at + 1..], &self.numbers[at + 1..])
+        are_with(numbers, self.numbers, self.at, self.number)
     }
 
     /// How much the digest of the numbers, the first of which stands at a place of a row, grows.

@@ -6,6 +6,7 @@ ghost use Rattle.ipc_kernel.specs.Private.KeptRows.{row_of};
 use super::changes::{Change, digest_from};
 use super::digests::Digests;
 use crate::limits::OBJECT_PLACES;
+use crate::numbers::are_same;
 use std::alloc::{AllocError, Global};
 use std::marker::Model;
 use std::mem::size_of;
@@ -106,7 +107,7 @@ impl Rows {
             ≡ Some (record { objects = objects.now; tables = tables.now }) }
     {
         match self.row(number) {
-            Some(row) => row.0 == objects && row.1 == tables,
+            Some(row) => are_same(row.0, objects) && are_same(row.1, tables),
             None => false,
         }
     }
