@@ -79,7 +79,7 @@ next_grows t u k p s Limit g h = h
 next_grows t u k p s (To kernel state taken) g h = (h.0, kernel_grows t u kernel _ g h.1, state_grows t u state h.0 g h.2, h.3, h.4)
 
 pub move_grows : (t u : Store) (kernel p state : ℕ) (n : Next) → Grows t u → IsMove t kernel p state n → IsMove u kernel p state n
-move_grows t u kernel p state n g h = (h.0, h.1, g.kernels.kernels kernel h.0 h.2, state_grows t u state h.1 g h.3, next_grows t u h.0 p h.1 n g h.4)
+move_grows t u kernel p state n g h = (h.0, h.1, g.kernels.kernels kernel h.0 h.2, state_grows t u state h.1 g h.3, λ settled. next_grows t u h.0 p h.1 n g (h.4 settled))
 
 edge_grows : (t u : Store) (i : ℕ) (w : WorldState) (p : ℕ) → Grows t u → HasEdge t i w p → HasEdge u i w p
 edge_grows t u i w p g h = (h.0, h.1, h.2, g.edges h.0 h.1 h.3, h.4, at_grows t u h.1.to h.2 g h.5, h.6, h.7)

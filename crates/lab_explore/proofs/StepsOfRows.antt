@@ -3,9 +3,10 @@ use Rattle.std.proofs.Common.{ℕ, zero, ◌≡◌, ◌<◌, ◌≤◌, length, 
 use Rattle.std.specs.Option.{option_map}
 use Rattle.std.proofs.lemmas.Bool.{cases_lt}
 use Rattle.std.proofs.lemmas.Option.{slice_get_past}
-use Rattle.ipc_kernel.specs.Kernel.{KernelState}
+use Rattle.ipc_kernel.specs.Kernel.{KernelState, IsSettled}
 use Rattle.lab_sched.specs.Worlds.{Process, WorldState, StepEffect, step_effect, step_effect_in, process_after, kernel_after, after, step}
 use Rattle.lab_sched.specs.Held.{process_view, StepResult, HasStepped}
+use Rattle.lab_sched.specs.declared.process.Process.{Process as Kept}
 use Rattle.lab_sched.specs.declared.stepped.Stepped.{Stepped}
 use Rattle.lab_explore.specs.declared.trying.Made.{Made}
 use Rattle.lab_sched.proofs.WorldLemmas.{after_effect}
@@ -62,7 +63,13 @@ pub move_from : (t : Store) (kernel p state : ℕ) (n : Next) → IsMove t kerne
 move_from t kernel p state n m k s at settled here =
     let k-is : m.0 ≡ k = same_some m.0 k (slice_get t.kernels.kernels kernel) m.2 at in
     let s-is : m.1 ≡ s = same_some m.1 s (option_map process_view (slice_get t.states state)) m.3 here in
-    subst (λ j. IsNext t j p s n) k-is (subst (λ x. IsNext t m.0 p x n) s-is m.4)
+    subst (λ j. IsNext t j p s n) k-is (subst (λ x. IsNext t m.0 p x n) s-is (m.4 (subst IsSettled (sym k-is) settled)))
+
+-- the move from a kernel and a state that are kept
+pub move_kept : (t : Store) (kernel p state : ℕ) (n : Next) (x : Kept) → (k : KernelState) × IsExactly t kernel k → slice_get t.states state ≡ Some x → IsMoveFrom t kernel p state n
+    → IsMove t kernel p state n
+move_kept t kernel p state n x k is m =
+    let here : IsState t state (process_view x) = ap (option_map process_view) is in (k.0, process_view x, k.1, here, λ settled. m k.0 (process_view x) k.1 settled here)
 
 -- the world after a step, by its row
 pub moved : (t : Store) (r r' : Row) (w : WorldState) (p kernel state taken : ℕ) (s : Process) → IsStore t → IsRow t r w → slice_get w.processes p ≡ Some s

@@ -4,7 +4,6 @@ ghost use Rattle.lab_explore.specs.declared.store.Store.{Store as Kept};
 ghost use Rattle.lab_explore.specs.Private.Stored.{IsMove};
 ghost use Rattle.lab_explore.specs.Private.Known.{AreMoves, HasNone};
 
-use crate::row::digest_of;
 use crate::store::Next;
 use crate::touches::Touches;
 use ipc_kernel::Index;
@@ -29,6 +28,12 @@ pub(crate) struct Moves {
     index: Index,
 }
 
+/// A digest by which the moves over a kernel stand beside each other.
+#[inline(always)]
+fn digest_of(kernel: u32, pid: u32) -> u64 {
+    ((kernel as u64) << 3) + pid as u64
+}
+
 impl Moves {
     /// No move.
     pub(crate) fn new(alloc: Global) -> Result<Moves, AllocError>
@@ -46,7 +51,7 @@ impl Moves {
         ensures known { (t : Kept) → AreMoves t self.now
             → IfSome result (λ next. IsMove t kernel pid state next) }
     {
-        let mut number = self.index.newest(digest_of(&[kernel, pid, state]));
+        let mut number = self.index.newest(digest_of(kernel, pid));
         while number > 0 {
             let at = number - 1;
             if let Some(made) = self.made.get(at) {
@@ -71,7 +76,7 @@ impl Moves {
         ensures known { OnOk result ((t : Kept) → AreMoves t self.old
             → IsMove t kernel pid state next → AreMoves t self.new) }
     {
-        self.index.add(digest_of(&[kernel, pid, state]))?;
+        self.index.add(digest_of(kernel, pid))?;
         self.made.push(Move {
             kernel,
             pid,

@@ -12,7 +12,7 @@ use crate::known::Moves;
 use crate::store::{Next, Store};
 use crate::touches::{Effect, Touch, Touches};
 use crate::trying::{Made, Tried, discard, try_step};
-use std::alloc::Global;
+use std::alloc::{AllocError, Global};
 
 impl Store {
     /// What comes of a step of process `pid` in a state that is kept, over a kernel that is kept.
@@ -222,6 +222,27 @@ impl Store {
         Ok(next)
     }
 
+    /// Keeps a move over a kernel that is kept, if its state is.
+    fn keep_move(
+        &self,
+        moves: &mut Moves,
+        kernel: u32,
+        pid: u32,
+        state: u32,
+        next: Next,
+    ) -> Result<(), AllocError>
+        requires known { AreKnown self.now moves.old }
+        requires kernel { (k : KernelState) × IsExactly self.now kernel k }
+        requires next { IsMoveFrom self.now kernel pid state next }
+        ensures known { OnOk result (AreKnown self.now moves.new) }
+    {
+        let Some(_) = self.states.get(state as usize) else {
+            return Ok(());
+        };
+        moves.keep(kernel, pid, state, next)?;
+        Ok(())
+    }
+
     /// What process `pid` does next in a state and over a kernel that are kept. Each such move, and
     /// each step at a call that works on one object, is made once.
     pub(crate) fn make_move(
@@ -243,6 +264,7 @@ impl Store {
     {
         let touches = &mut moves.touches;
         if let Some(next) = self.make_touched(alloc, touches, kernel, pid, state, most)? {
+            self.keep_move(moves, kernel, pid, state, next)?;
             return Ok(next);
         }
         let next = self.make_next(alloc, kernel, pid, state, most)?;

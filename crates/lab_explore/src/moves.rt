@@ -45,10 +45,10 @@ impl Store {
             → IfSome result (λ next. IsNextAt self.now at pid next) }
     {
         let (kernel, state) = self.places(at, pid)?;
-        if let Some(next) = self.touched_next(&moves.touches, kernel, pid, state) {
+        if let Some(next) = self.made_next(moves, kernel, pid, state) {
             return Some(next);
         }
-        let next = moves.find(kernel, pid, state)?;
+        let next = self.touched_next(&moves.touches, kernel, pid, state)?;
         Some(next)
     }
 
@@ -83,12 +83,12 @@ impl Store {
         ensures grows { OnOk result (Grows self.old self.new) }
         ensures next { IfOk result (λ next. IsNextAt self.new at pid next) }
     {
-        if let Some(next) = self.known_next(moves, at, pid) {
-            return Ok(next);
-        }
         let Some((kernel, state)) = self.places(at, pid) else {
             return Err(ExploreFault::Unvouched);
         };
+        if let Some(next) = self.made_next(moves, kernel, pid, state) {
+            return Ok(next);
+        }
         let next = self.make_move(alloc, moves, kernel, pid, state, most)?;
         Ok(next)
     }

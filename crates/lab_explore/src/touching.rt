@@ -2,9 +2,11 @@
 ghost use Rattle.std.specs.Prelude.{◌≡◌, IfOk, IfSome, OnOk};
 ghost use Rattle.ipc_kernel.specs.Kernel.{KernelState, IsSettled};
 ghost use Rattle.lab_sched.specs.Worlds.{Process as Seen};
+ghost use Rattle.lab_explore.specs.Private.Known.{AreKnown};
 ghost use Rattle.lab_explore.specs.Private.Stored.{IsExactly, IsStore, Grows, IsNext, IsMoveFrom};
 ghost use Rattle.lab_explore.specs.Private.Touched.{HasTouch, IsEffect, AreTouched};
 
+use crate::known::Moves;
 use crate::store::{Next, Store};
 use crate::touches::{Effect, Touch, Touches};
 use std::alloc::AllocError;
@@ -72,6 +74,9 @@ impl Store {
             → IsExactly self.old kernel k → IsSettled k
             → IsEffect self.old k pid s place effect → IsNext self.new k pid s next)) }
     {
+        if let Some(next) = self.next_by(kernel, pid, place, effect) {
+            return Ok(Some(next));
+        }
         if let Effect::To { tables, object, .. } = effect {
             self.kernels
                 .keep_with(kernel, pid as usize, place, object, tables)?;
@@ -79,8 +84,27 @@ impl Store {
         Ok(self.next_by(kernel, pid, place, effect))
     }
 
-    /// What process `pid` does next in a state and over a kernel that are kept, if it has ended, or
-    /// stands at a call that works on one object, whose step was made, and the kernel after it is kept.
+    /// What process `pid` does next in a state and over a kernel that are kept, if it has ended or this
+    /// move was made.
+    pub(crate) fn made_next(
+        &self,
+        moves: &Moves,
+        kernel: u32,
+        pid: u32,
+        state: u32,
+    ) -> Option<Next>
+        ensures next { AreKnown self.now moves.now
+            → IfSome result (λ next. IsMoveFrom self.now kernel pid state next) }
+    {
+        if self.states.has_ended(state) {
+            return Some(Next::Nothing);
+        }
+        let next = moves.find(kernel, pid, state)?;
+        Some(next)
+    }
+
+    /// What process `pid` does next in a state and over a kernel that are kept, if it stands at a call
+    /// that works on one object, whose step was made, and the kernel after it is kept.
     pub(crate) fn touched_next(
         &self,
         touches: &Touches,
@@ -91,9 +115,6 @@ impl Store {
         ensures next { AreTouched self.now touches.now
             → IfSome result (λ next. IsMoveFrom self.now kernel pid state next) }
     {
-        if self.states.has_ended(state) {
-            return Some(Next::Nothing);
-        }
         let touch = self.touch_at(kernel, pid, state)?;
         let effect = touches.find(touch)?;
         let next = self.next_by(kernel, pid, touch.place, effect)?;

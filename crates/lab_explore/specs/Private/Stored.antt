@@ -84,10 +84,11 @@ IsNext t k p s (To kernel state taken) =
     (u : Process) × IsKernel t kernel (step_of k p s).kernel × IsState t state u
     × IsReached (step_of k p s).process u × GoesOn (step_effect k p (Some s))
 
--- the same where the kernel and the process are given by their places
+-- the same where the kernel, if it is settled, and the process are given by their places
 abbrev pub IsMove : Store → ℕ → ℕ → ℕ → Next → Type 0
 IsMove t kernel p state next =
-    (k : KernelState) × (s : Process) × IsExactly t kernel k × IsState t state s × IsNext t k p s next
+    (k : KernelState) × (s : Process) × IsExactly t kernel k × IsState t state s
+    × (IsSettled k → IsNext t k p s next)
 
 -- the same of whatever settled kernel, and whatever process, have these places
 abbrev pub IsMoveFrom : Store → ℕ → ℕ → ℕ → Next → Type 0

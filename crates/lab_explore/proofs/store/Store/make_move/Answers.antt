@@ -3,11 +3,14 @@ use Rattle.lab_explore.specs.Private.Touched.{AreTouched}
 use Rattle.lab_explore.proofs.Growths.{moves_grow, touches_grow}
 use Rattle.lab_explore.proofs.store.Store.make_move.Goals as goal
 
-pub returns-in-Some-clause-known : goal.returns-in-Some-clause-known
-returns-in-Some-clause-known c = record {
+pub keep_move-requires-clause-known : goal.keep_move-requires-clause-known
+keep_move-requires-clause-known c = record {
   moves = moves_grow c.args.self.now c.make_touched.new.self c.args.moves.now c.in_ok-next.ensures.grows c.requires.known.moves;
   touches = c.in_ok-next.ensures.touches;
 }
+
+pub keep_move-requires-clause-kernel : goal.keep_move-requires-clause-kernel
+keep_move-requires-clause-kernel c = let k = c.requires.kernel in (k.0, c.in_ok-next.ensures.grows.kernels.kernels c.args.kernel k.0 k.1)
 
 pub returns-clause-known : goal.returns-clause-known
 returns-clause-known c =

@@ -12,5 +12,5 @@ returns-in_ok-next-in-Ok-Came-clause-next c =
       h.1,
       g.kernels.kernels c.args.kernel h.0 h.2,
       state_grows c.args.self.now c.keep_made.new.self c.args.state h.1 g h.4,
-      c.in_ok-next-in-Ok-Came.ensures.next h.0 c.args.pid h.1 stepped,
+      λ settled. c.in_ok-next-in-Ok-Came.ensures.next h.0 c.args.pid h.1 stepped,
     )

@@ -1,5 +1,5 @@
 use Rattle.lab_explore.proofs.Growths.{grows_same}
-use Rattle.lab_explore.proofs.TouchLemmas.{move_by_touch, move_of_ended}
+use Rattle.lab_explore.proofs.TouchLemmas.{move_by_touch}
 use Rattle.lab_explore.proofs.store.Store.touched_next.Goals as goal
 
 pub returns : goal.returns
@@ -9,6 +9,3 @@ returns c = record {
       move_by_touch t t c.args.kernel c.args.pid c.args.state c.in_ok-next.next c.in_ok-touch.touch c.in_ok-effect.effect k (grows_same t) at c.in_ok-touch.ensures.state
       (c.in_ok-touch.ensures.operand k at) (c.in_ok-effect.ensures.known t known) c.in_ok-next.ensures.next k s at settled here;
 }
-
-pub returns-then-has_ended : goal.returns-then-has_ended
-returns-then-has_ended c = record { next = λ known. move_of_ended c.args.self.now c.args.kernel c.args.pid c.args.state (c.has_ended.ensures.ended c.if-has_ended.true) }

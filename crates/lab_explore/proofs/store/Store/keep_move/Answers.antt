@@ -1,0 +1,15 @@
+use Rattle.std.proofs.Common.{sym, subst}
+use Rattle.lab_explore.specs.Private.Touched.{AreTouched}
+use Rattle.lab_explore.proofs.StepsOfRows.{move_kept}
+use Rattle.lab_explore.proofs.store.Store.keep_move.Goals as goal
+
+pub returns : goal.returns
+returns c = record {
+  known =
+      let t = c.args.self.now in
+      record {
+        moves = c.in_ok-keep.ensures.known t c.requires.known.moves
+            (move_kept t c.args.kernel c.args.pid c.args.state c.args.next c.in-Some.field-0.now c.requires.kernel (sym c.in-Some.ensures.state) c.requires.next);
+        touches = subst (λ ts. AreTouched t ts) (sym c.in_ok-keep.ensures.touches) c.requires.known.touches;
+      };
+}
