@@ -65,6 +65,10 @@ move_from t kernel p state n m k s at settled here =
     let s-is : m.1 ≡ s = same_some m.1 s (option_map process_view (slice_get t.states state)) m.3 here in
     subst (λ j. IsNext t j p s n) k-is (subst (λ x. IsNext t m.0 p x n) s-is (m.4 (subst IsSettled (sym k-is) settled)))
 
+-- what a process does next, where that is a step
+pub next_to : (t : Store) (i p kernel state taken : ℕ) (n : Next) → n ≡ To kernel state taken → IsNextAt t i p n → (k : ℕ) × IsNextAt t i p (To kernel state k)
+next_to t i p kernel state taken n is next = (taken, subst (λ m. IsNextAt t i p m) is next)
+
 -- the move from a kernel and a state that are kept
 pub move_kept : (t : Store) (kernel p state : ℕ) (n : Next) (x : Kept) → (k : KernelState) × IsExactly t kernel k → slice_get t.states state ≡ Some x → IsMoveFrom t kernel p state n
     → IsMove t kernel p state n

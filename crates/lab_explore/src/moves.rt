@@ -1,6 +1,7 @@
 //! What each process does next.
-ghost use Rattle.std.specs.Prelude.{◌≡◌, IsTrue, IfOk, IfSome, OnOk};
+ghost use Rattle.std.specs.Prelude.{◌≡◌, ℕ, IsTrue, IfOk, IfSome, OnOk};
 ghost use Rattle.lab_sched.specs.Worlds.{WorldState, step};
+ghost use Rattle.lab_explore.specs.declared.store.Next.TheVariants.{To};
 ghost use Rattle.lab_explore.specs.Private.Known.{AreKnown};
 ghost use Rattle.lab_explore.specs.Private.Rows.{row_of};
 ghost use Rattle.lab_explore.specs.Private.Stored.{IsRow, IsStore, Grows, AreReached, HasEdge, IsNextAt, IsAt, IsTried, IsExpanded};
@@ -95,6 +96,25 @@ impl Store {
 }
 
 impl Store {
+    /// Keeps the edge to a row by a step of process `pid` from the world of another; with whether it
+    /// is kept now.
+    fn add_edge(&mut self, at: usize, pid: u32, to: usize) -> Result<bool, AllocError>
+        requires store { IsStore self.old }
+        ensures store { OnOk result (IsStore self.new) }
+        ensures grows { OnOk result (Grows self.old self.new) }
+        ensures edge { IfOk result (λ kept. IsTrue kept → (w v : WorldState)
+            → IsAt self.old to v → AreReached (step w pid) v → HasEdge self.new at w pid) }
+    {
+        let Some(edge) = edge_of(at, to, pid) else {
+            return Ok(false);
+        };
+        let pushed = self.edges.push(edge)?;
+        if !pushed {
+            return Ok(false);
+        }
+        Ok(true)
+    }
+
     /// Keeps the world of a row, and the edge to it by a step of process `pid` from the world of
     /// another, if there are fewer worlds than `most`; with whether both are kept now.
     fn keep_edge(&mut self, at: usize, pid: u32, row: &[u32], most: u32) -> Result<bool, AllocError>
@@ -112,14 +132,35 @@ impl Store {
         let Some(to) = self.keep_row(row, parent, most)? else {
             return Ok(false);
         };
-        let Some(edge) = edge_of(at, to, pid) else {
-            return Ok(false);
-        };
-        let pushed = self.edges.push(edge)?;
-        if !pushed {
-            return Ok(false);
+        let kept = self.add_edge(at, pid, to)?;
+        Ok(kept)
+    }
+
+    /// Keeps the world to which process `pid` goes on from that of a row, to this kernel and this state
+    /// of it, and the edge to that world, if there are fewer than `most`; with whether both are kept now.
+    fn keep_next(
+        &mut self,
+        alloc: Global,
+        at: usize,
+        pid: u32,
+        kernel: u32,
+        state: u32,
+        most: u32,
+    ) -> Result<bool, ExploreFault>
+        requires store { IsStore self.old }
+        requires next { (taken : ℕ) × IsNextAt self.old at pid (To kernel state taken) }
+        ensures store { OnOk result (IsStore self.new) }
+        ensures grows { OnOk result (Grows self.old self.new) }
+        ensures edge { IfOk result (λ kept. IsTrue kept → (w : WorldState)
+            → IsAt self.old at w → HasEdge self.new at w pid) }
+    {
+        if let Some(to) = self.find_after(at, pid, kernel, state) {
+            let kept = self.add_edge(at, pid, to)?;
+            return Ok(kept);
         }
-        Ok(true)
+        let row = self.row_after(alloc, at, pid, kernel, state)?;
+        let kept = self.keep_edge(at, pid, row.as_slice(), most)?;
+        Ok(kept)
     }
 
     /// Tries process `pid` from the world of a row, and keeps the world where it comes; with
@@ -144,8 +185,7 @@ impl Store {
             Next::Nothing => Ok(true),
             Next::Limit => Ok(false),
             Next::To { kernel, state, .. } => {
-                let row = self.row_after(alloc, at, pid, kernel, state)?;
-                let kept = self.keep_edge(at, pid, row.as_slice(), limits.worlds)?;
+                let kept = self.keep_next(alloc, at, pid, kernel, state, limits.worlds)?;
                 Ok(kept)
             }
         }

@@ -7,12 +7,28 @@ use std::alloc::{AllocError, Global};
 use std::marker::Model;
 use std::mem::size_of;
 
+/// The digest of some numbers with one number more.
+#[inline(always)]
+fn digest_with(digest: u64, number: u32) -> u64 {
+    let mixed = (digest ^ (number as u64)).wrapping_mul(0x9E37_79B9_7F4A_7C15);
+    mixed ^ (mixed >> 29)
+}
+
 /// A digest that depends on some numbers alone.
 pub(crate) fn digest_of(numbers: &[u32]) -> u64 {
     let mut digest = 0_u64;
     for number in numbers {
-        digest = (digest ^ (*number as u64)).wrapping_mul(0x9E37_79B9_7F4A_7C15);
-        digest ^= digest >> 29;
+        digest = digest_with(digest, *number);
+    }
+    digest
+}
+
+/// The digest of a row: the number of a kernel, and states with another one of process `pid`.
+pub(crate) fn digest_after(kernel: u32, states: &[u32], pid: usize, state: u32) -> u64 {
+    let mut digest = digest_with(0, kernel);
+    for (at, kept) in states.iter().enumerate() {
+        let number = if at == pid { state } else { *kept };
+        digest = digest_with(digest, number);
     }
     digest
 }

@@ -6,8 +6,9 @@ ghost use Rattle.lab_explore.specs.Private.Stored.{IsRow, IsAt, IsStore, Grows};
 
 use crate::ExploreFault;
 use crate::parents::Parent;
-use crate::row::digest_of;
+use crate::row::{digest_after, digest_of};
 use crate::store::{Store, place_of};
+use ipc_kernel::{are_same, are_with};
 use std::alloc::{AllocError, Global};
 
 impl Store {
@@ -20,6 +21,46 @@ impl Store {
             let at = number - 1;
             if self.is_row_at(at, row) {
                 return Some(at);
+            }
+            number = self.row_index.older(number);
+        }
+        None
+    }
+
+    /// Whether the row with a number is the one at another place with this kernel and this state of
+    /// process `pid`.
+    fn is_after(&self, number: usize, states: &[u32], pid: u32, kernel: u32, state: u32) -> bool
+        ensures same { IsTrue result → slice_get self.now.rows number
+            ≡ Some (record { kernel = kernel; states = slice_set states.now pid state }) }
+    {
+        match self.rows.get(number) {
+            Some((first, others)) => {
+                first == kernel && are_with(others, states, pid as usize, state)
+            }
+            None => false,
+        }
+    }
+
+    /// The number of the row that the one at a place is with this kernel and this state of process
+    /// `pid`, if it is kept.
+    pub(crate) fn find_after(
+        &self,
+        at: usize,
+        pid: u32,
+        kernel: u32,
+        state: u32,
+    ) -> Option<usize>
+        ensures found { IfSome result (λ i. (r : Row) × (slice_get self.now.rows at ≡ Some r)
+            × (slice_get self.now.rows i
+            ≡ Some (record { kernel = kernel; states = slice_set r.states pid state }))) }
+    {
+        let (_, states) = self.rows.get(at)?;
+        let hash = digest_after(kernel, states, pid as usize, state);
+        let mut number = self.row_index.newest(hash);
+        while number > 0 {
+            let row = number - 1;
+            if self.is_after(row, states, pid, kernel, state) {
+                return Some(row);
             }
             number = self.row_index.older(number);
         }
@@ -63,7 +104,7 @@ impl Store {
         ensures same { IsTrue result → slice_get self.now.rows at ≡ Some (row_of row.now) }
     {
         match self.rows.numbers(at) {
-            Some(kept) => kept == row,
+            Some(kept) => are_same(kept, row),
             None => false,
         }
     }
