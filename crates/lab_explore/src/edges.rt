@@ -155,6 +155,15 @@ impl Edges {
         self.first_of(row)..self.end_of(row)
     }
 
+    /// The rows to which the edges from a row lead.
+    pub(crate) fn tos_from(&self, row: usize) -> &[u32] {
+        let places = self.places_from(row);
+        match self.tos().get(places) {
+            Some(tos) => tos,
+            None => &[],
+        }
+    }
+
     /// About how many bytes they take.
     pub(crate) fn size(&self) -> usize {
         let edge = size_of::<u32>() + size_of::<u8>();

@@ -59,14 +59,12 @@ fn release(
     numbers: &mut Vec<u32>,
     rows: &mut Vec<u32>,
 ) -> Result<(), AllocError> {
-    for at in edges.places_from(row) {
-        if let Some(edge) = edges.get_after(at, row) {
-            let to = edge.to as usize;
-            let number = number_at(numbers, to);
-            put(numbers, to, number.saturating_sub(1));
-            if number == 1 {
-                rows.push(edge.to)?;
-            }
+    for to in edges.tos_from(row) {
+        let at = *to as usize;
+        let number = number_at(numbers, at);
+        put(numbers, at, number.saturating_sub(1));
+        if number == 1 {
+            rows.push(*to)?;
         }
     }
     Ok(())
