@@ -7,6 +7,7 @@ ghost use Rattle.ipc_kernel.specs.Places.{place_at, is_empty, has_name, is_name,
 
 use super::rows::number_of;
 use crate::index::Index;
+use crate::limits::OBJECT_PLACES;
 use crate::place::Place;
 use ipc_names::Name;
 use std::alloc::{AllocError, Global};
@@ -183,7 +184,7 @@ impl Objects {
         Ok(numbers)
     }
 
-    /// Copies of the objects with these numbers, if there are all.
+    /// Copies of the objects with these numbers, if there are all, with room for those of a kernel.
     pub(crate) fn copies(
         &self,
         alloc: Global,
@@ -192,7 +193,7 @@ impl Objects {
         ensures equal { IfOk result (λ found. IfSome found (λ copies.
             map (slice_get self.now) numbers.now ≡ map Some copies.items)) }
     {
-        let mut copies = Vec::with_capacity(alloc, numbers.len())?;
+        let mut copies = Vec::with_capacity(alloc, OBJECT_PLACES)?;
         for number in numbers {
             let Some(object) = self.get(*number) else {
                 return Ok(None);

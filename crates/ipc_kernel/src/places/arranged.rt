@@ -3,6 +3,7 @@ ghost use Rattle.ipc_kernel.specs.Private.Renamings.{Permutes};
 
 use super::Places;
 use crate::arrangement::Arrangement;
+use crate::limits::OBJECT_PLACES;
 use crate::place::Place;
 use std::alloc::{AllocError, Global};
 
@@ -42,14 +43,14 @@ fn arrange(places: &[Place], arrangement: &mut Arrangement)
     }
 }
 
-/// The objects of so many places, each from where a list has it.
+/// The objects of so many places, each from where a list has it, with room for those of a kernel.
 fn renamed(
     alloc: Global,
     places: &[Place],
     from: &[u8],
     count: u8,
 ) -> Result<Vec<Place>, AllocError> {
-    let mut objects = Vec::with_capacity(alloc, count as usize)?;
+    let mut objects = Vec::with_capacity(alloc, OBJECT_PLACES)?;
     for at in 0..count {
         let object = match from.get(at as usize) {
             Some(place) => places.get(*place as usize),
