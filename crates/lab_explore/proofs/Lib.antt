@@ -20,6 +20,7 @@ mod Bounds
 mod Passes
 mod FairRounds
 mod Cycles
+mod OnwardRows
 mod KeptConditions
 mod KeptLosses
 mod LossesOfRows

@@ -1,7 +1,7 @@
 //! The order of worlds along the edges between them, and cycles. That an order is one is checked; a
 //! cycle is run again (`rounds`).
-ghost use Rattle.std.specs.Prelude.{◌<◌, Some, IsTrue};
-ghost use Rattle.lab_explore.specs.Private.Rising.{IsRising, Rises};
+ghost use Rattle.std.specs.Prelude.{◌<◌, All, Some, IsTrue};
+ghost use Rattle.lab_explore.specs.Private.Rising.{IsRising, IsOnward, Rises, AreRising};
 
 use crate::edges::Edges;
 use crate::store::{Edge, place_of};
@@ -126,6 +126,37 @@ pub(crate) fn is_order(order: &[u32], edges: &Edges) -> bool
         row = edge.from as usize;
     }
     true
+}
+
+/// Whether an edge leads from a row to one after it, of so many.
+fn is_onward(edge: &Edge, count: usize) -> bool
+    ensures yes { IsTrue result → IsOnward count edge.now }
+{
+    edge.from < edge.to && (edge.to as usize) < count
+}
+
+/// Whether each edge does.
+fn are_onward(edges: &Edges, count: usize) -> bool
+    ensures yes { IsTrue result → All (IsOnward count) edges.now }
+{
+    let mut row = 0;
+    for at in 0..edges.len() {
+        let Some(edge) = edges.get_after(at, row) else {
+            return false;
+        };
+        if !is_onward(&edge, count) {
+            return false;
+        }
+        row = edge.from as usize;
+    }
+    true
+}
+
+/// Whether the rows, of which there are so many, are in order by their own numbers.
+pub(crate) fn is_order_by_number(edges: &Edges, count: usize) -> bool
+    ensures yes { IsTrue result → AreRising edges.now }
+{
+    are_onward(edges, count)
 }
 
 /// Puts down a row, plus 1, as the one before each to which it leads and that has none.

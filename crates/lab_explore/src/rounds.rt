@@ -9,7 +9,7 @@ ghost use Rattle.lab_explore.specs.Rounds.{IsRound};
 ghost use Rattle.lab_explore.specs.Private.Rising.{AreRising};
 
 use crate::ExploreFault;
-use crate::graph::{Cycle, cycle_of, is_order, order_of};
+use crate::graph::{Cycle, cycle_of, is_order, is_order_by_number, order_of};
 use crate::search::Search;
 use crate::trying::discard;
 use crate::walking::Walk;
@@ -107,6 +107,9 @@ impl Search {
         ensures none { IfOk result (λ round. round ≡ None → AreRising self.now.store.edges) }
     {
         let edges = &self.store.edges;
+        if is_order_by_number(edges, self.store.rows.len()) {
+            return Ok(None);
+        }
         let order = order_of(alloc, edges, self.store.rows.len())?;
         if is_order(order.as_slice(), edges) {
             return Ok(None);

@@ -16,6 +16,11 @@ pub record IsRising (order : List ℕ) (e : Edge) : Type 0 where
 abbrev pub Rises : List ℕ → List Edge → Type 0
 Rises order edges = All (IsRising order) edges
 
+-- the edge leads from a row to one after it, of so many
+pub record IsOnward (count : ℕ) (e : Edge) : Type 0 where
+  pub less : e.from < e.to
+  pub within : e.to < count
+
 -- the rows have such numbers
 abbrev pub AreRising : List Edge → Type 0
 AreRising edges = (order : List ℕ) × Rises order edges
