@@ -43,13 +43,7 @@ impl Store {
 
     /// The number of the row that the one at a place is with this kernel and this state of process
     /// `pid`, if it is kept.
-    pub(crate) fn find_after(
-        &self,
-        at: usize,
-        pid: u32,
-        kernel: u32,
-        state: u32,
-    ) -> Option<usize>
+    pub(crate) fn find_after(&self, at: usize, pid: u32, kernel: u32, state: u32) -> Option<usize>
         ensures found { IfSome result (λ i. (r : Row) × (slice_get self.now.rows at ≡ Some r)
             × (slice_get self.now.rows i
             ≡ Some (record { kernel = kernel; states = slice_set r.states pid state }))) }

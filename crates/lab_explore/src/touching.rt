@@ -86,13 +86,7 @@ impl Store {
 
     /// What process `pid` does next in a state and over a kernel that are kept, if it has ended or this
     /// move was made.
-    pub(crate) fn made_next(
-        &self,
-        moves: &Moves,
-        kernel: u32,
-        pid: u32,
-        state: u32,
-    ) -> Option<Next>
+    pub(crate) fn made_next(&self, moves: &Moves, kernel: u32, pid: u32, state: u32) -> Option<Next>
         ensures next { AreKnown self.now moves.now
             → IfSome result (λ next. IsMoveFrom self.now kernel pid state next) }
     {
