@@ -25,7 +25,7 @@ pub use shown::Shown;
 pub const MOST_STEPS_EACH: u32 = 10_000_000;
 
 /// The most worlds that can be asked for.
-pub const MOST_WORLDS: u32 = 10_000_000;
+pub const MOST_WORLDS: u32 = 100_000_000;
 
 /// The most megabytes of memory that can be asked for.
 pub const MOST_MEMORY: u32 = 1_000_000;
