@@ -33,7 +33,7 @@ _lc3lab() {
         COMPREPLY=($(compgen -W 'bad' -- "$word"))
         return
         ;;
-    --limit | --mix | --worlds | --memory | --random | --seed | --may-wait | --never)
+    --limit | --mix | --worlds | --memory | --threads | --random | --seed | --may-wait | --never)
         compopt +o bashdefault +o default 2>/dev/null
         return
         ;;
@@ -45,7 +45,7 @@ _lc3lab() {
     step | debug) options='--profile --help -h' ;;
     trace) options='--profile --page --source --help -h' ;;
     run) options='--profile --limit --mix --page --help -h' ;;
-    explore) options='--profile --limit --worlds --memory --random --seed --require --may-wait --never --fair --show --first --schedule --json --page --help -h' ;;
+    explore) options='--profile --limit --worlds --memory --threads --random --seed --require --may-wait --never --fair --show --first --schedule --json --page --help -h' ;;
     help) options=$commands ;;
     esac
     case $command:$word in

@@ -15,7 +15,7 @@ use crate::request::{Refusal, Request};
 use crate::requirements::{Requirements, requirements_of};
 use crate::showing::{Show, show_of};
 use crate::walks::{walks_of, with_walks, worlds_of};
-use crate::{MOST_LOCAL_STEPS, MOST_MEMORY, MOST_WORLDS, examples};
+use crate::{MOST_LOCAL_STEPS, MOST_MEMORY, MOST_THREADS, MOST_WORLDS, examples};
 use clap::{ArgMatches, Command};
 use std::alloc::{AllocError, Global};
 
@@ -30,9 +30,11 @@ pub(crate) fn explore<'a>(alloc: Global) -> Result<Command<'a>, AllocError> {
 fn with_limits<'a>(alloc: Global, command: Command<'a>) -> Result<Command<'a>, AllocError> {
     let steps = "The most steps of a process without a call";
     let memory = "The most memory to take, in megabytes";
+    let threads = "How many threads look steps up [default: 1]";
     command
         .arg(limit(alloc, "limit", "N", MOST_LOCAL_STEPS, steps))?
-        .arg(number(alloc, "memory", "MB", MOST_MEMORY, memory).default_value("2048"))
+        .arg(number(alloc, "memory", "MB", MOST_MEMORY, memory).default_value("2048"))?
+        .arg(number(alloc, "threads", "N", MOST_THREADS, threads))
 }
 
 /// The command with the options that say what is asked, and how the answers are printed.
@@ -140,6 +142,11 @@ fn question_of<'a>(alloc: Global, words: &ArgMatches<'a>) -> Result<Question<'a>
     ensures steps { IfOk result (λ q. (text : List ℕ) (n : ℕ)
         → one_text (found_of words.now) (codes "limit") ≡ Some text
         → IsNumber text n → q.steps ≡ n) }
+    ensures all_threads { IfOk result (λ q.
+        one_text (found_of words.now) (codes "threads") ≡ None → q.threads ≡ None) }
+    ensures threads { IfOk result (λ q. (text : List ℕ) (n : ℕ)
+        → one_text (found_of words.now) (codes "threads") ≡ Some text
+        → IsNumber text n → q.threads ≡ Some n) }
     ensures schedule { IfOk result (λ q. (text : List ℕ) (n : ℕ)
         → one_text (found_of words.now) (codes "schedule") ≡ Some text
         → IsNumber text n → q.schedule ≡ Some (End n)) }
@@ -162,6 +169,7 @@ fn question_of<'a>(alloc: Global, words: &ArgMatches<'a>) -> Result<Question<'a>
         worlds: worlds_of(words, random),
         memory: limit_of(words, "memory", MOST_MEMORY),
         steps: limit_of(words, "limit", MOST_LOCAL_STEPS),
+        threads: number_of(words, "threads"),
         required,
         waiters: values_of(alloc, words, "may-wait")?,
         never: values_of(alloc, words, "never")?,

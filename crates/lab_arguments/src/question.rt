@@ -10,6 +10,8 @@ pub struct Question<'a> {
     pub memory: u32,
     /// The most local steps of a process in a row.
     pub steps: u32,
+    /// How many threads look steps up; none stands for one.
+    pub threads: Option<u32>,
     /// What each end must be like.
     pub required: Requirements,
     /// The words that name processes which may wait for ever, each `P`, `P at A` or `P at A-B`.
@@ -36,6 +38,7 @@ impl Drop for Question<'_> {
             worlds: _,
             memory: _,
             steps: _,
+            threads: _,
             required: _,
             waiters: _,
             never: _,

@@ -15,10 +15,11 @@ use lab_sched::{Program, World};
 use std::alloc::{AllocError, Global};
 use std::io::Write;
 use std::rt::Files;
+use std::thread::Threads;
 
 /// Visits every interleaving of programs, writes the ends, with what else is asked, and then the page of them, where one is
 /// asked for.
-pub fn explore_and_show<'a, T: Files, W: Write, P: Progress>(
+pub fn explore_and_show<'a, T: Files + Threads + Sync, W: Write, P: Progress>(
     rt: &T,
     alloc: Global,
     setup: &Setup<'a>,
@@ -37,7 +38,7 @@ pub fn explore_and_show<'a, T: Files, W: Write, P: Progress>(
 
 /// Writes the page behind the text, also where the ends aren't as they have to be. A fault of the page is told before that.
 /// The page can't be a file that is read.
-fn explore_on_page<'a, T: Files, W: Write, P: Progress>(
+fn explore_on_page<'a, T: Files + Threads + Sync, W: Write, P: Progress>(
     rt: &T,
     alloc: Global,
     setup: &Setup<'a>,
@@ -54,10 +55,10 @@ fn explore_on_page<'a, T: Files, W: Write, P: Progress>(
     let Programs { programs, sources } = read_programs(rt, alloc, words, progress)?;
     let programs = programs.as_slice();
     let sources = page_sources(rt, alloc, &[], programs, sources.as_slice())?;
-    let (found, inquiry) = find_ends(alloc, programs, setup.profile, question, progress)?;
+    let (found, inquiry) = find_ends(rt, alloc, programs, setup.profile, question, progress)?;
     let told = tell_ends(alloc, &found, &inquiry, output, progress);
     let list = list_of(alloc, setup, programs, &found, page)?;
-    let worlds = worlds_of(alloc, setup, programs, &found, inquiry.limits)?;
+    let worlds = worlds_of(rt, alloc, setup, programs, &found, inquiry.limits)?;
     let names = names_of(alloc, words).at("run")?;
     let endless = endless_of(found.exploration());
     let extent = extent_of(found.exploration(), found.schedules().len(), &inquiry);

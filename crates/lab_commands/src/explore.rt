@@ -9,7 +9,7 @@ use crate::progress::{Progress, WalkCount, WorldCount};
 use crate::stages::{has_more, stages_of};
 use crate::telling::tell_answers;
 use lab_arguments::{Choice, Question, Setup};
-use lab_explore::{Exploration, ExploreFault, Walks};
+use lab_explore::{Exploration, ExploreFault, Walks, Workers};
 use lab_findings::{Findings, Shortfall, find};
 use lab_io::Output;
 use lab_questions::{Answers, Waiter, Word, ask, ask_walks};
@@ -18,6 +18,7 @@ use lc3_table::Profile;
 use std::alloc::Global;
 use std::io::Write;
 use std::rt::Files;
+use std::thread::Threads;
 
 /// What an exploration found.
 #[derive(Drop)]
@@ -49,7 +50,7 @@ impl Found {
 /// Reads the files of the programs, visits every interleaving of them as far as the limits allow, and writes the ends
 /// that they can have, with what else is asked, or one schedule alone. Where memory was refused on the way, what was
 /// found till then is written.
-pub fn explore_programs<'a, T: Files, W: Write, P: Progress>(
+pub fn explore_programs<'a, T: Files + Threads + Sync, W: Write, P: Progress>(
     rt: &T,
     alloc: Global,
     setup: &Setup<'a>,
@@ -63,6 +64,7 @@ pub fn explore_programs<'a, T: Files, W: Write, P: Progress>(
     asked_of(alloc, question, words.len())?;
     let Programs { programs, .. } = read_programs(rt, alloc, words, progress)?;
     let (found, inquiry) = find_ends(
+        rt,
         alloc,
         programs.as_slice(),
         setup.profile,
@@ -75,7 +77,8 @@ pub fn explore_programs<'a, T: Files, W: Write, P: Progress>(
 /// Visits every interleaving of programs, as far as the limits allow, or takes walks, if these are asked for, and judges what
 /// is asked. Where the search is to end with what is found, it begins with fewer worlds, or walks, and goes further as long as
 /// nothing is found. Told with it is how far it was to go.
-pub fn find_ends<'a, P: Progress>(
+pub fn find_ends<'a, T: Threads + Sync, P: Progress>(
+    rt: &T,
     alloc: Global,
     programs: &[Program],
     profile: Profile,
@@ -84,21 +87,22 @@ pub fn find_ends<'a, P: Progress>(
 ) -> Result<(Found, Inquiry), Complaint<'a>> {
     let inquiry = inquiry_of(question);
     if !question.first {
-        let found = search(alloc, programs, profile, question, &inquiry, progress)?;
+        let found = search(rt, alloc, programs, profile, question, &inquiry, progress)?;
         return Ok((found, inquiry));
     }
     for stage in &stages_of(alloc, &inquiry).at("run")? {
-        let found = search(alloc, programs, profile, question, stage, progress)?;
+        let found = search(rt, alloc, programs, profile, question, stage, progress)?;
         if !has_more(&found, stage) {
             return Ok((found, *stage));
         }
     }
-    let found = search(alloc, programs, profile, question, &inquiry, progress)?;
+    let found = search(rt, alloc, programs, profile, question, &inquiry, progress)?;
     Ok((found, inquiry))
 }
 
 /// Visits every interleaving of programs, as far as an inquiry goes, or takes its walks, and judges what a question asks.
-fn search<'a, P: Progress>(
+fn search<'a, T: Threads + Sync, P: Progress>(
+    rt: &T,
     alloc: Global,
     programs: &[Program],
     profile: Profile,
@@ -110,7 +114,7 @@ fn search<'a, P: Progress>(
     let fresh = laboratory(alloc, programs, profile)?;
     let outcome = match inquiry.walks {
         Some(walks) => take_walks(alloc, fresh, inquiry, &asked, walks, progress),
-        None => visit_all(alloc, fresh, inquiry, asked, progress),
+        None => visit_all(rt, alloc, fresh, inquiry, asked, progress),
     };
     outcome.at("run")
 }
@@ -144,7 +148,8 @@ fn take_walks<P: Progress>(
 }
 
 /// Visits every interleaving of the programs of a laboratory, as far as the limits allow, and judges what is asked.
-fn visit_all<P: Progress>(
+fn visit_all<T: Threads + Sync, P: Progress>(
+    rt: &T,
     alloc: Global,
     fresh: Fresh,
     inquiry: &Inquiry,
@@ -152,10 +157,11 @@ fn visit_all<P: Progress>(
     progress: &P,
 ) -> Result<Found, ExploreFault> {
     let mut count = WorldCount::new(alloc, progress);
+    let workers = Workers::new(rt, inquiry.threads.unwrap_or(1) as usize);
     let limits = inquiry.limits;
     let outcome = match asked {
         Asked::Verdict(required) => {
-            find(alloc, fresh, limits, required, &mut count).map(Found::Ends)
+            find(alloc, fresh, limits, required, &mut count, &workers).map(Found::Ends)
         }
         Asked::More {
             words,
@@ -172,6 +178,7 @@ fn visit_all<P: Progress>(
             fair,
             inquiry.show,
             &mut count,
+            &workers,
         )
         .map(Found::Answers),
     };

@@ -16,6 +16,8 @@ const MEGABYTE: usize = 1_048_576;
 #[derive(Clone, Copy)]
 pub struct Inquiry {
     pub limits: Limits,
+    /// How many threads look steps up; none stands for one.
+    pub threads: Option<u32>,
     /// The walks that are taken in place of every interleaving.
     pub walks: Option<Walks>,
     /// What is told of each end.
@@ -54,6 +56,7 @@ pub fn inquiry_of(question: &Question<'_>) -> Inquiry {
             steps: question.steps,
             memory: (question.memory as usize).saturating_mul(MEGABYTE),
         },
+        threads: question.threads,
         walks: question.random.map(|walks| Walks {
             count: walks.count,
             seed: walks.seed,

@@ -7,6 +7,7 @@ mod StepsToCalls
 mod Pushes
 mod Growths
 mod StepsOfRows
+mod LookupLemmas
 mod StandingStates
 mod TouchLemmas
 mod RowTables

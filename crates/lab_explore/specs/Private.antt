@@ -6,6 +6,7 @@ pub mod Stored
 pub mod Touched
 pub mod Wholes
 pub mod Known
+pub mod Lookups
 pub mod Depths
 pub mod Walked
 pub mod Rising

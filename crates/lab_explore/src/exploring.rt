@@ -18,11 +18,12 @@ use crate::fair::Rounds;
 use crate::moves::both;
 use crate::search::{Search, search_all};
 use crate::trying::discard;
-use crate::{End, ExploreFault, Limits, Observer, Round};
+use crate::{End, ExploreFault, Limits, Observer, Round, Workers};
 use ipc_kernel::Kernel;
 use lab_conditions::Never;
 use lab_sched::{Fresh, Process, Schedule};
 use std::alloc::Global;
+use std::thread::Threads;
 
 /// What the programs of a laboratory can come to: their ends, for each thing that must never be so
 /// steps to it, if there are any, a round, if they can go on for ever, how many worlds were visited,
@@ -59,14 +60,15 @@ fn room_for_ends(limits: Limits, taken: usize) -> usize {
 /// some number of them. If only fair rounds are asked for, each process takes a step in a round or has
 /// no effective one at some world along it; where the exploration is complete and has none, no more
 /// than some number of such passes can follow each other. The observer is told of the worlds as they
-/// are visited.
-pub fn explore<O: Observer>(
+/// are visited; workers do parts of the search side by side, and what is found doesn't depend on them.
+pub fn explore<O: Observer, R: Threads + Sync>(
     alloc: Global,
     fresh: Fresh,
     limits: Limits,
     nevers: &[Never],
     fair: bool,
     observer: &mut O,
+    workers: &Workers<'_, R>,
 ) -> Result<Exploration, ExploreFault>
     ensures sound { IfOk result (λ found. AreEnds fresh found.ends.items) }
     ensures ordered { IfOk result (λ found. IsNonDecreasingBy (λ e. e.calls) found.ends.items) }
@@ -94,7 +96,7 @@ pub fn explore<O: Observer>(
 {
     let processes = fresh.processes();
     let kernel = Kernel::new(alloc, processes.len())?;
-    let search = search_all(alloc, &processes, &kernel, limits, observer)?;
+    let search = search_all(alloc, &processes, &kernel, limits, observer, workers)?;
     let room = room_for_ends(limits, search.size());
     match search.report(alloc, &processes, room, nevers, fair) {
         Ok(found) => {

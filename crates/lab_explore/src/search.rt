@@ -8,14 +8,16 @@ ghost use Rattle.lab_explore.specs.Private.Stored.{IsState, IsReady, IsAt, IsSto
 
 use crate::advance::{Ahead, advance};
 use crate::known::Moves;
+use crate::lookups::Lookups;
 use crate::moves::both;
 use crate::parents::Parent;
 use crate::store::Store;
 use crate::trying::discard;
-use crate::{ExploreFault, Limits, Observer};
+use crate::{ExploreFault, Limits, Observer, Workers};
 use ipc_kernel::Kernel;
 use lab_sched::Process;
 use std::alloc::{AllocError, Global};
+use std::thread::Threads;
 
 /// The state that a process comes to by so many local steps, by its place.
 #[derive(Clone, Copy, Drop)]
@@ -113,12 +115,13 @@ impl Store {
     }
 
     /// Tries each process from each world; with whether that could be done.
-    fn expand_all<O: Observer>(
+    fn expand_all<O: Observer, R: Threads + Sync>(
         &mut self,
         alloc: Global,
         moves: &mut Moves,
         limits: Limits,
         observer: &mut O,
+        workers: &Workers<'_, R>,
     ) -> Result<bool, ExploreFault>
         requires store { IsStore self.old }
         requires known { AreKnown self.old moves.old }
@@ -129,6 +132,7 @@ impl Store {
     {
         let most = limits.worlds as usize;
         let mut whole = true;
+        let mut lookups = Lookups::until(alloc, 0);
         for at in 0..most {
             if at >= self.rows.len() {
                 return Ok(whole);
@@ -137,7 +141,10 @@ impl Store {
                 return Ok(false);
             }
             observer.see(at, self.rows.len() - at);
-            let expanded = self.expand(alloc, moves, at, limits)?;
+            if at >= lookups.end {
+                lookups = self.look_ahead(alloc, moves, at, workers)?;
+            }
+            let expanded = self.expand(alloc, moves, &mut lookups, at, limits)?;
             whole = both(whole, expanded);
         }
         Ok(both(whole, self.rows.len() <= most))
@@ -209,11 +216,12 @@ impl Search {
     }
 
     /// Tries each process from each world, as far as the limits and the memory allow.
-    fn go_on<O: Observer>(
+    fn go_on<O: Observer, R: Threads + Sync>(
         &mut self,
         alloc: Global,
         limits: Limits,
         observer: &mut O,
+        workers: &Workers<'_, R>,
     ) -> Result<(), ExploreFault>
         requires store { IsStore self.old.store }
         requires none { HasNone self.old.moves }
@@ -227,7 +235,7 @@ impl Search {
     {
         match self
             .store
-            .expand_all(alloc, &mut self.moves, limits, observer)
+            .expand_all(alloc, &mut self.moves, limits, observer, workers)
         {
             Ok(true) => {
                 self.store.close(alloc);
@@ -249,13 +257,14 @@ impl Search {
 
     /// Keeps every world that processes over a kernel can come to, as far as the limits and the memory
     /// allow.
-    fn fill<O: Observer>(
+    fn fill<O: Observer, R: Threads + Sync>(
         &mut self,
         alloc: Global,
         processes: &[Process],
         kernel: &Kernel,
         limits: Limits,
         observer: &mut O,
+        workers: &Workers<'_, R>,
     ) -> Result<(), ExploreFault>
         requires store { IsStore self.old.store }
         requires none { HasNone self.old.moves }
@@ -272,18 +281,19 @@ impl Search {
         if !kept {
             return Ok(());
         }
-        self.go_on(alloc, limits, observer)?;
+        self.go_on(alloc, limits, observer, workers)?;
         Ok(())
     }
 }
 
 /// Searches every world that processes over a kernel can come to, as far as the limits allow.
-pub(crate) fn search_all<O: Observer>(
+pub(crate) fn search_all<O: Observer, R: Threads + Sync>(
     alloc: Global,
     processes: &[Process],
     kernel: &Kernel,
     limits: Limits,
     observer: &mut O,
+    workers: &Workers<'_, R>,
 ) -> Result<Search, ExploreFault>
     requires held { All IsHeld processes.now }
     ensures store { IfOk result (λ s. IsTrue s.complete → IsStore s.store) }
@@ -292,7 +302,7 @@ pub(crate) fn search_all<O: Observer>(
         (record { processes = map process_view processes.now; kernel = kernel.now }) s.store) }
 {
     let mut search = Search::new(alloc, processes.len())?;
-    match search.fill(alloc, processes, kernel, limits, observer) {
+    match search.fill(alloc, processes, kernel, limits, observer, workers) {
         Ok(()) => Ok(search),
         Err(fault) => {
             discard(search);

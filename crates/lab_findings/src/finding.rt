@@ -12,9 +12,10 @@ use crate::shortfall::shortfall_of;
 use crate::texts::{push_extent, push_round};
 use crate::told::{Told, told_of};
 use crate::{Shortfall, Show};
-use lab_explore::{Exploration, ExploreFault, Limits, Observer, explore};
+use lab_explore::{Exploration, ExploreFault, Limits, Observer, Workers, explore};
 use lab_sched::{Fresh, Verdict};
 use std::alloc::{AllocError, Global};
+use std::thread::Threads;
 
 /// What was found of the programs of a laboratory, the text that tells it, the texts of the
 /// schedules of the ends that are told, and why the programs may come to another verdict than the
@@ -43,13 +44,15 @@ fn tell(alloc: Global, found: &Exploration) -> Result<Told, AllocError>
 /// end once, as a number, the report on it and a schedule that leads to it; a round, if there is
 /// one; and whether these are all ends. If they are, no steps lead to rest with a report that isn't
 /// told, or by fewer calls than the schedule that is. The shortfall is none exactly where no verdict
-/// is required, or the exploration shows that the programs always come to the one that is.
-pub fn find<O: Observer>(
+/// is required, or the exploration shows that the programs always come to the one that is. Workers do
+/// parts of the search side by side.
+pub fn find<O: Observer, R: Threads + Sync>(
     alloc: Global,
     fresh: Fresh,
     limits: Limits,
     required: Option<Verdict>,
     observer: &mut O,
+    workers: &Workers<'_, R>,
 ) -> Result<Findings, ExploreFault>
     ensures text { IfOk result (λ f. string_bytes f.text ≡ findings_text f.exploration) }
     ensures schedules { IfOk result (λ f. map string_bytes f.schedules.items
@@ -71,7 +74,7 @@ pub fn find<O: Observer>(
     ensures passes { IfOk result (λ f.
         IfSome required (λ verdict. f.shortfall ≡ None → ComeTo verdict fresh)) }
 {
-    let exploration = explore(alloc, fresh, limits, &[], false, observer)?;
+    let exploration = explore(alloc, fresh, limits, &[], false, observer, workers)?;
     let told = tell(alloc, &exploration)?;
     let shortfall = shortfall_of(&exploration, required);
     Ok(Findings {

@@ -18,10 +18,11 @@ use crate::presence::{presences_of, unopened_in};
 use crate::texts::tell;
 use crate::{Answer, Failure, Object, Waiter, Word};
 use lab_conditions::Never;
-use lab_explore::{Exploration, ExploreFault, Limits, Observer, explore};
+use lab_explore::{Exploration, ExploreFault, Limits, Observer, Workers, explore};
 use lab_findings::Show;
 use lab_sched::Fresh;
 use std::alloc::Global;
+use std::thread::Threads;
 
 /// What was found of the programs of a laboratory, what must never be so, the answer on each word that
 /// is required, the text that tells both, the texts of the schedules of the ends that are told, and why
@@ -47,8 +48,8 @@ pub struct Answers {
 /// queues that conditions name are unopened which no steps lead to. They are told once, in the order in
 /// which the conditions name them first. If only fair rounds are asked for, a
 /// round that is told is fair; where the exploration is complete and has none, no more than some number
-/// of passes that serve each process can follow each other.
-pub fn ask<O: Observer>(
+/// of passes that serve each process can follow each other. Workers do parts of the search side by side.
+pub fn ask<O: Observer, R: Threads + Sync>(
     alloc: Global,
     fresh: Fresh,
     limits: Limits,
@@ -58,6 +59,7 @@ pub fn ask<O: Observer>(
     fair: bool,
     show: Show,
     observer: &mut O,
+    workers: &Workers<'_, R>,
 ) -> Result<Answers, ExploreFault>
     ensures text { IfOk result (λ a.
         string_bytes a.text ≡ answers_text show conditions.items a.exploration a.answers.items) }
@@ -109,7 +111,7 @@ pub fn ask<O: Observer>(
     let objects = named_in(alloc, &conditions)?;
     let mut presences = presences_of(alloc, &objects)?;
     conditions.append(&mut presences)?;
-    let mut exploration = explore(alloc, fresh, limits, &conditions, fair, observer)?;
+    let mut exploration = explore(alloc, fresh, limits, &conditions, fair, observer, workers)?;
     conditions.truncate(asked);
     let seen = exploration.reached.split_off(asked)?;
     let unopened = unopened_in(alloc, exploration.complete, &objects, &seen)?;

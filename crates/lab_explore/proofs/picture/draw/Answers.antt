@@ -9,10 +9,10 @@ use Rattle.lab_explore.proofs.DrawnRows.{some_both}
 use Rattle.lab_explore.proofs.picture.draw.Goals as goal
 
 pub search_all-requires : goal.search_all-requires
-search_all-requires c = record { held = starts_held c.processes-processes.result.items c.deref.result.now c.deref.ensures.value c.processes-processes.ensures.starts }
+search_all-requires g c = (record { shared = c.type_bounds.sync-R.shared }, starts_held c.processes-processes.result.items c.deref.result.now c.deref.ensures.value c.processes-processes.ensures.starts)
 
 pub picture-requires : goal.picture-requires
-picture-requires c = record {
+picture-requires g c = record {
   starts = subst AreStarts (sym c.deref-2.ensures.value) c.processes-processes.ensures.starts;
   store = c.in_ok-search.ensures.store;
   known = c.in_ok-search.ensures.known;
@@ -20,7 +20,7 @@ picture-requires c = record {
 }
 
 pub returns-in-Ok : goal.returns-in-Ok
-returns-in-Ok c =
+returns-in-Ok g c =
     let qs = c.processes-processes.result.items in
     let ps = c.deref.result.now in
     let t = c.in_ok-search.search.store in

@@ -1,5 +1,6 @@
 use Rattle.std.proofs.Common.{ℕ, ◌<◌, IsTrue}
 use Rattle.lab_explore.specs.Private.Known.{AreKnown}
+use Rattle.lab_explore.specs.Private.Lookups.{AreLookups}
 use Rattle.lab_explore.specs.Private.Stored.{IsStore, Grows, IsExpanded}
 use Rattle.lab_explore.proofs.store.Store.expand_all.Given as goal
 
@@ -7,6 +8,7 @@ abbrev pub invariant-loop-at : goal.invariant-loop-at
 invariant-loop-at g l = record {
   store : IsStore l.self;
   known : AreKnown l.self l.moves;
+  lookups : AreLookups l.self l.lookups;
   grows : Grows l.fn.self l.self;
   all : IsTrue l.whole → (i : ℕ) → i < l.at → IsExpanded l.self i;
 }
