@@ -1,7 +1,6 @@
 -- What is known of steps before the search comes to them.
 use Rattle.std.specs.Prelude.{ℕ, ◌≡◌, Some, All, slice_get, slice_set}
 use Rattle.lab_explore.specs.declared.store.Store.{Store}
-use Rattle.lab_explore.specs.declared.store.Next.{Next}
 use Rattle.lab_explore.specs.declared.store.Next.TheVariants.{To}
 use Rattle.lab_explore.specs.declared.lookups.Known.{Known}
 use Rattle.lab_explore.specs.declared.lookups.Known.TheVariants as known
