@@ -1,4 +1,5 @@
-//! Steps that are looked up among what is kept before the search comes to them, by several threads side by side.
+//! Steps that are looked up among what is kept before the search comes to them, by several threads
+//! side by side.
 ghost use Rattle.std.specs.Prelude.{◌≡◌, [], All, Some, IfOk, IfSome, OnOk, slice_get};
 ghost use Rattle.lab_explore.specs.declared.store.Store.{Store as Kept};
 ghost use Rattle.lab_explore.specs.Private.Known.{AreKnown};
@@ -28,7 +29,8 @@ pub(crate) struct Lookup {
     pub known: Known,
 }
 
-/// What is known of steps, in the order in which the search comes to them, from worlds of rows up to one.
+/// What is known of steps, in the order in which the search comes to them, from worlds of rows up to
+/// one.
 #[derive(Drop)]
 pub(crate) struct Lookups {
     pub steps: Vec<Lookup>,

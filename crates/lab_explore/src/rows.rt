@@ -1,6 +1,7 @@
 //! The worlds that a search keeps.
 ghost use Rattle.std.specs.Prelude.{◌≡◌, Some, IsTrue, length, slice_get, slice_set, IfOk, IfSome, OnOk};
 ghost use Rattle.lab_sched.specs.Worlds.{WorldState};
+ghost use Rattle.lab_explore.specs.Private.Lookups.{IsAfter};
 ghost use Rattle.lab_explore.specs.Private.Rows.{Row, row_of};
 ghost use Rattle.lab_explore.specs.Private.Stored.{IsRow, IsAt, IsStore, Grows};
 
@@ -44,9 +45,7 @@ impl Store {
     /// The number of the row that the one at a place is with this kernel and this state of process
     /// `pid`, if it is kept.
     pub(crate) fn find_after(&self, at: usize, pid: u32, kernel: u32, state: u32) -> Option<usize>
-        ensures found { IfSome result (λ i. (r : Row) × (slice_get self.now.rows at ≡ Some r)
-            × (slice_get self.now.rows i
-            ≡ Some (record { kernel = kernel; states = slice_set r.states pid state }))) }
+        ensures found { IfSome result (λ i. IsAfter self.now at pid kernel state i) }
     {
         let (_, states) = self.rows.get(at)?;
         let hash = digest_after(kernel, states, pid as usize, state);

@@ -3,8 +3,8 @@ ghost use Rattle.std.specs.Prelude.{◌≡◌};
 
 use std::thread::Threads;
 
-/// So many threads, which look up steps side by side. What a search finds depends neither on how many they are nor on the order
-/// in which they work.
+/// So many threads, which look up steps side by side. What a search finds depends neither on how many
+/// they are nor on the order in which they work.
 #[derive(Clone, Copy, Drop)]
 pub struct Workers<'a, R> {
     pub(crate) rt: &'a R,

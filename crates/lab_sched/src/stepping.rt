@@ -57,7 +57,8 @@ pub fn local_steps(process: &mut Process, most: u32) -> (u32, Progress)
 fn waiting(process: Process, at: CallAt) -> (Process, ())
     requires stands { StandsBefore (process_view process) (Trap at.vector) }
     requires may { MayWait process at.call }
-    ensures waits { process_view result.0 ≡ WaitingSeen (machine_of (process_view process)) at.call }
+    ensures waits { process_view result.0
+        ≡ WaitingSeen (machine_of (process_view process)) at.call }
     ensures held { IsHeld result.0 }
 {
     match process {
