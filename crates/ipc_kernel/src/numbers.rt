@@ -4,6 +4,7 @@ ghost use Rattle.std.specs.Prelude.{◌≡◌, ◌<◌, length, slice_index, sli
 /// Whether these are the same numbers.
 pub fn are_same(numbers: &[u32], others: &[u32]) -> bool
     ensures same { IsTrue result → numbers.now ≡ others.now }
+    ensures other { numbers.now ≡ others.now → IsTrue result }
 {
     if numbers.len() != others.len() {
         return false;
@@ -29,6 +30,8 @@ fn changed_at(numbers: &[u32], at: usize, place: usize, number: u32) -> u32
 pub fn are_with(numbers: &[u32], others: &[u32], place: usize, number: u32) -> bool
     ensures changed { IsTrue result → numbers.now ≡ slice_set others.now place number }
     ensures range { IsTrue result → place < length others.now }
+    ensures other { numbers.now ≡ slice_set others.now place number → place < length others.now
+        → IsTrue result }
 {
     if numbers.len() != others.len() || place >= others.len() {
         return false;
