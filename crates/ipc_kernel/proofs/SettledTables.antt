@@ -77,7 +77,7 @@ pub settled_more : (ps qs : List OpenTables) (places : List Place) → ((n : ℕ
 settled_more ps qs places more s = settled_by qs places (λ n h. place_more ps qs n (get_or places n Empty) (more n) (settled_at ps places s n Empty h))
 
 -- a place with a name is left as it was
-place_named : (ps : List OpenTables) (n : ℕ) (x : Place) → has_name x ≡ true → place_or_empty ps n x ≡ x
+pub place_named : (ps : List OpenTables) (n : ℕ) (x : Place) → has_name x ≡ true → place_or_empty ps n x ≡ x
 place_named ps n x e = rw e refl
 
 -- other references to a place with a name leave each as it was

@@ -1,7 +1,7 @@
--- Calls that make and remove no object: on which one each works, what it depends on, and what it changes.
+-- Calls that remove no object: on which one each works, what it depends on, and what it changes.
 use Rattle.std.specs.Prelude.{ℕ, ◌≡◌, Bool, ◌||◌, List, Option, Some, None, slice_get, slice_set, unwrap_or, if◌then◌else◌}
-use Rattle.std.specs.Option.{option_map, option_and_then}
-use Rattle.std.specs.List.{list_all}
+use Rattle.std.specs.Option.{option_map, option_and_then, option_or}
+use Rattle.std.specs.List.{list_all, position}
 use Rattle.ipc_kernel.specs.declared.call.Call.{Call}
 use Rattle.ipc_kernel.specs.declared.call.Call.TheVariants.{MqOpen, MqClose, MqSend, MqReceive, MqGetattr, MqSetattr, SemOpen, SemClose, SemWait, SemTrywait, SemPost, SemGetvalue, Exit}
 use Rattle.ipc_kernel.specs.declared.call.Handle.{Handle}
@@ -37,12 +37,12 @@ if_named ps i = if has_name (place_at ps i) then Some i else None
 abbrev pub are_named : List Place → Bool
 are_named ps = list_all (λ p. is_empty p || has_name p) ps
 
--- the object place that a call of a process with these tables works on, if it makes and removes no object: it is open, or is
--- opened by its name, or is closed and has a name; the end of a process removes none where each has a name, and no place is
--- its own then
+-- the object place that a call of a process with these tables works on, if it removes no object: its object is open, or is
+-- opened by its name, or is closed and has a name; an open of a name that no object has works on the least empty place; the end
+-- of a process removes none where each has a name, and no place is its own then
 abbrev pub operand_in : KernelState → OpenTables → Call → Option ℕ
-operand_in k t (MqOpen name flags attr) = queue_named k.places name
-operand_in k t (SemOpen name flags value) = semaphore_named k.places name
+operand_in k t (MqOpen name flags attr) = option_or (queue_named k.places name) (position is_empty k.places)
+operand_in k t (SemOpen name flags value) = option_or (semaphore_named k.places name) (position is_empty k.places)
 operand_in k t (MqClose d) = option_and_then (if_named k.places) (place_of t (Mqd d))
 operand_in k t (SemClose s) = option_and_then (if_named k.places) (place_of t (Sem s))
 operand_in k t Exit = if are_named k.places then Some 0 else None
@@ -63,8 +63,8 @@ pub record IsAnsweredAlike (k j : KernelState) (p q : ℕ) (c : Call) (i : ℕ) 
   pub answers : (answer k p c).0 ≡ (answer j q c).0
   pub kernels : (t : OpenTables) (o : Place) → HasOperand (answer j q c).1 q i t o → (answer k p c).1 ≡ with_operand k p i o t
 
--- a call that works on one object depends on the tables of its process and on that object alone, and changes nothing else,
--- where the kernels are settled
+-- a call that works on one object place depends on the tables of its process and on what is in that place alone, and changes
+-- nothing else, where the kernels are settled
 abbrev pub AnswersByOperand : Type 0
 AnswersByOperand = (k j : KernelState) (p q : ℕ) (c : Call) (i : ℕ) (t : OpenTables) (o : Place) → IsSettled k → IsSettled j
     → operand_in k t c ≡ Some i → operand_in j t c ≡ Some i → HasOperand k p i t o → HasOperand j q i t o

@@ -44,7 +44,7 @@ pub fn consistent_law()
     ensures consistent { StaysConsistent }
 {}
 
-/// A call that makes and removes no object depends on the tables of its process and on the object
+/// A call that removes no object depends on the tables of its process and on what is in the place
 /// that it works on alone, and changes nothing else.
 #[tactic(auto, using(crate::proofs::OperandAnswers::answers_by_operand))]
 pub fn operand_law()
