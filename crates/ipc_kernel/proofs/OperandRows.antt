@@ -1,7 +1,9 @@
--- The places of objects with a name in kernels that are kept as rows.
-use Rattle.std.proofs.Common.{◌≡◌, ℕ, ◌<◌, ◌+◌, ◌-◌, Bool, true, false, cond, not, nat_lt, ◌||◌, ◌&&◌, List, [], ◌∷◌, ◌++◌, zero, suc, length, map, replicate, position, slice_get, Option, Some, None, unwrap_or, option_and_then, refl, sym, ap, subst, ◌∙◌, arith}
+-- The places of objects with a name, and empty ones, in kernels that are kept as rows.
+use Rattle.std.proofs.Common.{◌≡◌, ℕ, ◌<◌, ◌≤◌, ◌+◌, ◌-◌, Bool, true, false, cond, not, nat_lt, ◌||◌, ◌&&◌, List, [], ◌∷◌, ◌++◌, zero, suc, length, map, replicate, position, slice_get, Option, Some, None, unwrap_or, option_and_then, refl, sym, ap, ◌∙◌, arith}
 use Rattle.std.specs.List.{list_all, position_or_len}
-use Rattle.std.proofs.lemmas.List.{length-map, length-append}
+use Rattle.std.specs.Option.{option_or}
+use Rattle.std.proofs.lemmas.List.{length-map, length-append, length-replicate}
+use Rattle.std.proofs.lemmas.Bool.{le-ltb, ltb-false}
 use Rattle.std.proofs.lemmas.Bool.Decides.{Decides-ltb}
 use Rattle.ipc_kernel.specs.declared.place.Place.{Place}
 use Rattle.ipc_kernel.specs.declared.place.Place.TheVariants.{Empty}
@@ -47,17 +49,91 @@ position_before p xs ys i e = by (nat_lt (position_or_len p xs) (length xs)) ref
         rw (more, still) g
     by false f g = absurd (cc)
 
-named_in_row : (name_of : Place → Option (List ℕ)) (os : List Place) (ns n : List ℕ) (i : ℕ) → position (λ m. is_name n (name_of (place_at os m))) ns ≡ Some i
-    → place_named name_of (padded 64 (map (place_at os) ns)) n ≡ Some i
-unfolding padded
-named_in_row name_of os ns n i e =
-    position_before (λ p. is_name n (name_of p)) (map (place_at os) ns) (replicate (64 - length (map (place_at os) ns)) Empty) i (position_of_map (λ p. is_name n (name_of p)) (place_at os) ns ∙ e)
+first_behind : (p : Place → Bool) (xs ys : List Place) → length xs ≤ position_or_len p xs → position_or_len p (xs ++ ys) ≡ length xs + position_or_len p ys
+first_behind p [] ys h = omega arith
+first_behind p (x ∷ xs) ys h = by (p x) (λ g. first_behind p xs ys g) h
+  where
+    by : (b : Bool) → (length xs ≤ position_or_len p xs → position_or_len p (xs ++ ys) ≡ length xs + position_or_len p ys) → suc (length xs) ≤ cond (not b) (1 + position_or_len p xs) 0
+        → cond (not b) (1 + position_or_len p (xs ++ ys)) 0 ≡ suc (length xs) + position_or_len p ys
+    by true rest g = absurd (omega arith)
+    by false rest g = let more = rest (omega (arith, g)) in omega (arith, more)
 
--- the place of the object with a name in a kernel that is kept
-pub named_there : (name_of : Place → Option (List ℕ)) (os : List Place) (ts : List OpenTables) (rows : List KernelRow) (kernel : ℕ) (ns ms n : List ℕ) (k : KernelState) (i : ℕ) → slice_get rows kernel ≡ Some (row ns ms)
-    → slice_get (map (kernel_of os ts) rows) kernel ≡ Some k → position (λ m. is_name n (name_of (place_at os m))) ns ≡ Some i → place_named name_of k.places n ≡ Some i
-named_there name_of os ts rows kernel ns ms n k i at_kernel is e =
-    ap (λ (x : KernelState). place_named name_of x.places n) (sym (kernel_of_row os ts rows kernel (row ns ms) k at_kernel is)) ∙ named_in_row name_of os ns n i e
+-- where there is no first it is the first of the others behind
+none_before : (p : Place → Bool) (xs ys : List Place) → position p xs ≡ None → position_or_len p (xs ++ ys) ≡ length xs + position_or_len p ys
+none_before p xs ys e = by (nat_lt (position_or_len p xs) (length xs)) refl e
+  where
+    by : (b : Bool) → nat_lt (position_or_len p xs) (length xs) ≡ b → cond b (Some (position_or_len p xs)) None ≡ None → position_or_len p (xs ++ ys) ≡ length xs + position_or_len p ys
+    by true f g = absurd (cc)
+    by false f g = first_behind p xs ys (ltb-false (position_or_len p xs) (length xs) f)
+
+first_is : (p : Place → Bool) (xs : List Place) (n : ℕ) → position_or_len p xs ≡ n → n < length xs → position p xs ≡ Some n
+first_is p xs n e h = rw (e, (Decides-ltb n (length xs)).1 h) refl
+
+first_is_none : (p : Place → Bool) (xs : List Place) → length xs ≤ position_or_len p xs → position p xs ≡ None
+first_is_none p xs h = rw (le-ltb (position_or_len p xs) (length xs) h) refl
+
+none_of_empty : (p : Place → Bool) (m : ℕ) → p Empty ≡ false → position_or_len p (replicate m Empty) ≡ m
+none_of_empty p zero e = refl
+none_of_empty p (suc m) e = ap (λ b. cond (not b) (1 + position_or_len p (replicate m Empty)) 0) e ∙ (let rest = none_of_empty p m e in omega (arith, rest))
+
+first_of_empty : (m : ℕ) → position_or_len is_empty (replicate m Empty) ≡ 0
+first_of_empty zero = refl
+first_of_empty (suc m) = refl
+
+-- a test that an empty place fails finds the first that is kept, if one is
+padded_first : (p : Place → Bool) (n : ℕ) (ps : List Place) → p Empty ≡ false → position p (padded n ps) ≡ position p ps
+unfolding padded
+padded_first p n ps e = by (position p ps) refl
+  where
+    by : (x : Option ℕ) → position p ps ≡ x → position p (ps ++ replicate (n - length ps) Empty) ≡ x
+    by (Some i) f = position_before p ps (replicate (n - length ps) Empty) i f
+    by None f =
+        let first = none_before p ps (replicate (n - length ps) Empty) f in
+        let behind = none_of_empty p (n - length ps) e in
+        first_is_none p (ps ++ replicate (n - length ps) Empty) (omega (arith, first, behind, length-append ps (replicate (n - length ps) Empty), length-replicate (n - length ps) Empty))
+
+-- the least empty place is among those that are kept, or the first behind them, or there is none
+padded_empty : (n : ℕ) (ps : List Place) (i : ℕ) → position is_empty ps ≡ Some i → position is_empty (padded n ps) ≡ Some i
+unfolding padded
+padded_empty n ps i e = position_before is_empty ps (replicate (n - length ps) Empty) i e
+
+padded_empty_behind : (n : ℕ) (ps : List Place) → position is_empty ps ≡ None → length ps < n → position is_empty (padded n ps) ≡ Some (length ps)
+unfolding padded
+padded_empty_behind n ps e h =
+    let first = none_before is_empty ps (replicate (n - length ps) Empty) e in
+    let behind = first_of_empty (n - length ps) in
+    first_is is_empty (ps ++ replicate (n - length ps) Empty) (length ps) (omega (arith, first, behind))
+    (omega (arith, h, length-append ps (replicate (n - length ps) Empty), length-replicate (n - length ps) Empty))
+
+padded_full : (n : ℕ) (ps : List Place) → position is_empty ps ≡ None → n ≤ length ps → position is_empty (padded n ps) ≡ None
+unfolding padded
+padded_full n ps e h =
+    let first = none_before is_empty ps (replicate (n - length ps) Empty) e in
+    first_is_none is_empty (ps ++ replicate (n - length ps) Empty)
+    (omega (arith, h, first, length-append ps (replicate (n - length ps) Empty), length-replicate (n - length ps) Empty))
+
+-- the same by the numbers of a row
+pub empty_in_row : (os : List Place) (ns : List ℕ) (i : ℕ) → Some i ≡ position (λ n. is_empty (place_at os n)) ns → Some i ≡ position is_empty (padded 64 (map (place_at os) ns))
+empty_in_row os ns i e = sym (padded_empty 64 (map (place_at os) ns) i (position_of_map is_empty (place_at os) ns ∙ sym e))
+
+pub empty_behind_row : (os : List Place) (ns : List ℕ) → None ≡ position (λ n. is_empty (place_at os n)) ns → length ns < 64 → Some (length ns) ≡ position is_empty (padded 64 (map (place_at os) ns))
+empty_behind_row os ns e h =
+    let same = length-map ns (place_at os) in
+    ap Some (sym same) ∙ sym (padded_empty_behind 64 (map (place_at os) ns) (position_of_map is_empty (place_at os) ns ∙ sym e) (omega (arith, h, same)))
+
+pub full_row : (os : List Place) (ns : List ℕ) → None ≡ position (λ n. is_empty (place_at os n)) ns → 64 ≤ length ns → None ≡ position is_empty (padded 64 (map (place_at os) ns))
+full_row os ns e h = sym (padded_full 64 (map (place_at os) ns) (position_of_map is_empty (place_at os) ns ∙ sym e) (omega (arith, h, length-map ns (place_at os))))
+
+-- the place that an open works on in a kernel that is kept
+pub opened_there : (name_of : Place → Option (List ℕ)) (os : List Place) (ts : List OpenTables) (rows : List KernelRow) (kernel : ℕ) (ns ms n : List ℕ) (k : KernelState) (named : Option ℕ) (i : ℕ)
+    → name_of Empty ≡ None → slice_get rows kernel ≡ Some (row ns ms) → slice_get (map (kernel_of os ts) rows) kernel ≡ Some k
+    → named ≡ position (λ m. is_name n (name_of (place_at os m))) ns → Some i ≡ option_or named (position is_empty (padded 64 (map (place_at os) ns)))
+    → option_or (place_named name_of k.places n) (position is_empty k.places) ≡ Some i
+opened_there name_of os ts rows kernel ns ms n k named i none at_kernel is found place =
+    ap (λ (x : KernelState). option_or (place_named name_of x.places n) (position is_empty x.places)) (sym (kernel_of_row os ts rows kernel (row ns ms) k at_kernel is))
+    ∙ ap (λ x. option_or x (position is_empty (padded 64 (map (place_at os) ns))))
+    (padded_first (λ p. is_name n (name_of p)) 64 (map (place_at os) ns) (ap (is_name n) none) ∙ position_of_map (λ p. is_name n (name_of p)) (place_at os) ns ∙ sym found)
+    ∙ sym place
 
 none_behind : (m : ℕ) → are_named (replicate m Empty) ≡ true
 none_behind zero = refl

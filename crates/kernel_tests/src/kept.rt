@@ -10,6 +10,9 @@ const QUEUE: u8 = 0;
 
 const SEMAPHORE: u8 = 1;
 
+/// The least empty place of `made`.
+const EMPTY: u8 = 2;
+
 /// A kernel of two processes, of which process 0 has made the queue `/q`, and process 1 the semaphore `/s`.
 fn made(rt: &impl Abort, alloc: Global) -> Kernel {
     let mut kernel = kernel_of(rt, alloc, 2);
@@ -107,7 +110,7 @@ fn operand(kernels: &Kernels, kernel: u32, call: &Call) -> Option<u8> {
     kernels.operand(kernel, tables, call)
 }
 
-/// Calls that make and remove no object work on one, and those that may don't.
+/// Calls that remove no object work on one place, and those that may don't.
 fn tells_operands(rt: &impl Abort, alloc: Global) {
     let mut kernels = no_kernels(rt, alloc);
     let number = keep(rt, alloc, &mut kernels, &made(rt, alloc));
@@ -127,7 +130,8 @@ fn tells_operands(rt: &impl Abort, alloc: Global) {
     assert!(rt; of(unlink).is_none(), "an unlink");
 }
 
-/// Where an object has no name, its close and the end of a process may remove it.
+/// Where an object has no name, its close and the end of a process may remove it, and an open works
+/// on the least empty place.
 fn tells_none_of_the_unnamed(rt: &impl Abort, alloc: Global) {
     let mut kernels = no_kernels(rt, alloc);
     let mut kernel = made(rt, alloc);
@@ -139,8 +143,23 @@ fn tells_none_of_the_unnamed(rt: &impl Abort, alloc: Global) {
     let of = |call: Call| operand(&kernels, number, &call);
     assert!(rt; of(Call::SemPost { slot: 0 }) == Some(SEMAPHORE), "a post");
     assert!(rt; of(Call::SemClose { slot: 0 }).is_none(), "a close");
-    assert!(rt; of(sem_open(rt, alloc)).is_none(), "an open");
+    assert!(rt; of(sem_open(rt, alloc)) == Some(EMPTY), "an open");
     assert!(rt; of(Call::Exit).is_none(), "the end");
+}
+
+/// Where a place before that of an object is empty, it is the least one.
+fn tells_the_least_empty_place(rt: &impl Abort, alloc: Global) {
+    let mut kernels = no_kernels(rt, alloc);
+    let mut kernel = made(rt, alloc);
+    let unlink = Call::MqUnlink {
+        name: name(rt, alloc, &Q),
+    };
+    succeeds(rt, alloc, &mut kernel, 0, unlink);
+    succeeds(rt, alloc, &mut kernel, 0, Call::MqClose { mqd: 0 });
+    let number = keep(rt, alloc, &mut kernels, &kernel);
+    let of = |call: Call| operand(&kernels, number, &call);
+    assert!(rt; of(mq_open(rt, alloc, 0)) == Some(QUEUE), "an open");
+    assert!(rt; of(sem_open(rt, alloc)) == Some(SEMAPHORE), "a name");
 }
 
 /// The kernels before and after a call are given back.
@@ -192,6 +211,11 @@ fn a_call_makes_a_kernel_with_other_parts(rt: HostRuntime) {
 #[test]
 fn calls_work_on_one_object(rt: HostRuntime) {
     tells_operands(&rt, rt.alloc());
+}
+
+#[test]
+fn opens_work_on_the_least_empty_place(rt: HostRuntime) {
+    tells_the_least_empty_place(&rt, rt.alloc());
 }
 
 #[test]

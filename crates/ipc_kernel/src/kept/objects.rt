@@ -1,9 +1,11 @@
 //! Objects, each once.
 ghost use Rattle.std.specs.Prelude.{◌≡◌, ◌||◌, ℕ, [], Some, map, position, slice_get, IfOk, IfSome};
 ghost use Rattle.std.specs.List.{list_all};
-ghost use Rattle.std.specs.Option.{option_copied};
+ghost use Rattle.std.specs.Option.{option_copied, option_or};
 ghost use Rattle.ipc_kernel.specs.declared.place.Place.{Place};
+ghost use Rattle.ipc_kernel.specs.Limits.{object_places};
 ghost use Rattle.ipc_kernel.specs.Places.{place_at, is_empty, has_name, is_name, queue_name, semaphore_name};
+ghost use Rattle.ipc_kernel.specs.Rows.{padded};
 
 use super::rows::number_of;
 use crate::index::Index;
@@ -90,6 +92,16 @@ impl Objects {
         }
     }
 
+    /// Whether an object is none.
+    fn is_empty(&self, number: u32) -> bool
+        ensures empty { result ≡ is_empty (place_at self.now number) }
+    {
+        match self.get(number) {
+            Some(object) => object.is_empty(),
+            None => true,
+        }
+    }
+
     /// Whether an object is none, or has a name.
     fn is_empty_or_named(&self, number: u32) -> bool
         ensures named { result
@@ -119,6 +131,35 @@ impl Objects {
         numbers
             .iter()
             .position(|number| self.is_semaphore(*number, name))
+    }
+
+    /// The first that is none among objects, which are given by their numbers.
+    fn first_empty(&self, numbers: &[u32]) -> Option<usize>
+        ensures first { result ≡ position (λ n. is_empty (place_at self.now n)) numbers.now }
+    {
+        numbers.iter().position(|number| self.is_empty(*number))
+    }
+
+    /// The least empty place of a kernel, whose objects are given by their numbers, up to the last.
+    fn empty_place(&self, numbers: &[u32]) -> Option<usize>
+        ensures place { result ≡ position is_empty
+            (padded object_places (map (place_at self.now) numbers.now)) }
+    {
+        if let Some(place) = self.first_empty(numbers) {
+            return Some(place);
+        }
+        if numbers.len() < OBJECT_PLACES {
+            return Some(numbers.len());
+        }
+        None
+    }
+
+    /// The place that is named, if there is one, or else the least empty place.
+    pub(crate) fn named_or_empty(&self, numbers: &[u32], named: Option<usize>) -> Option<usize>
+        ensures place { result ≡ option_or named (position is_empty
+            (padded object_places (map (place_at self.now) numbers.now))) }
+    {
+        named.or_else(|| self.empty_place(numbers))
     }
 
     /// Whether each of some objects, which are given by their numbers, has a name.

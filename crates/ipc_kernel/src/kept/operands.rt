@@ -1,8 +1,9 @@
-//! The places of the objects that calls work on, in kernels that are kept.
-ghost use Rattle.std.specs.Prelude.{◌≡◌, Some, slice_get, IfSome, IsTrue};
+//! The object places that calls work on, in kernels that are kept.
+ghost use Rattle.std.specs.Prelude.{◌≡◌, Some, position, slice_get, IfSome, IsTrue};
+ghost use Rattle.std.specs.Option.{option_or};
 ghost use Rattle.ipc_kernel.specs.declared.process.OpenTables.{OpenTables};
 ghost use Rattle.ipc_kernel.specs.Kernel.{KernelState};
-ghost use Rattle.ipc_kernel.specs.Places.{queue_named, semaphore_named};
+ghost use Rattle.ipc_kernel.specs.Places.{is_empty, queue_named, semaphore_named};
 ghost use Rattle.ipc_kernel.specs.Operands.{place_of, if_named, are_named, operand_in};
 
 use super::Kernels;
@@ -17,26 +18,29 @@ fn as_place(at: usize) -> Option<u8>
 }
 
 impl Kernels {
-    /// The place of the queue with a name in a kernel, if there is one.
-    fn queue_named(&self, kernel: u32, name: &Name) -> Option<u8>
+    /// The place of the queue with a name in a kernel, or else the least empty one.
+    fn queue_opened(&self, kernel: u32, name: &Name) -> Option<u8>
         ensures place { IfSome result (λ i. (k : KernelState)
             → slice_get self.now.kernels kernel ≡ Some k
-            → queue_named k.places name.now ≡ Some i) }
+            → option_or (queue_named k.places name.now) (position is_empty k.places) ≡ Some i) }
     {
         let (objects, _) = self.rows.row(kernel)?;
-        let first = self.objects.queue_named(objects, name)?;
+        let named = self.objects.queue_named(objects, name);
+        let first = self.objects.named_or_empty(objects, named)?;
         let place = as_place(first)?;
         Some(place)
     }
 
-    /// The place of the semaphore with a name in a kernel, if there is one.
-    fn semaphore_named(&self, kernel: u32, name: &Name) -> Option<u8>
+    /// The place of the semaphore with a name in a kernel, or else the least empty one.
+    fn semaphore_opened(&self, kernel: u32, name: &Name) -> Option<u8>
         ensures place { IfSome result (λ i. (k : KernelState)
             → slice_get self.now.kernels kernel ≡ Some k
-            → semaphore_named k.places name.now ≡ Some i) }
+            → option_or (semaphore_named k.places name.now) (position is_empty k.places)
+            ≡ Some i) }
     {
         let (objects, _) = self.rows.row(kernel)?;
-        let first = self.objects.semaphore_named(objects, name)?;
+        let named = self.objects.semaphore_named(objects, name);
+        let first = self.objects.named_or_empty(objects, named)?;
         let place = as_place(first)?;
         Some(place)
     }
@@ -74,7 +78,8 @@ impl Kernels {
     }
 
     /// The object place, 0 to 63, that a call of a process works on, over a kernel and with tables
-    /// that are kept, if it makes and removes no object. For the end of a process it is place 0.
+    /// that are kept, if it removes no object. For an open of a name that no object has it is the
+    /// least empty place, and for the end of a process place 0.
     pub fn operand(&self, kernel: u32, tables: u32, call: &Call) -> Option<u8>
         ensures operand { IfSome result (λ i. (k : KernelState) (t : OpenTables)
             → slice_get self.now.kernels kernel ≡ Some k
@@ -85,8 +90,8 @@ impl Kernels {
             return self.place_of(tables, handle);
         }
         match call {
-            Call::MqOpen { name, .. } => self.queue_named(kernel, name),
-            Call::SemOpen { name, .. } => self.semaphore_named(kernel, name),
+            Call::MqOpen { name, .. } => self.queue_opened(kernel, name),
+            Call::SemOpen { name, .. } => self.semaphore_opened(kernel, name),
             Call::MqClose { mqd } => {
                 let place = self.place_of(tables, Handle::Mqd(*mqd))?;
                 self.if_named(kernel, place)

@@ -1,4 +1,3 @@
-use Rattle.std.proofs.Common.{sym, ◌∙◌}
 use Rattle.std.proofs.lemmas.Option.{IfSome_then}
 use Rattle.ipc_kernel.proofs.OperandRows.{operand_by_handle}
 use Rattle.ipc_kernel.proofs.kept.Kernels.operand.Goals as goal
