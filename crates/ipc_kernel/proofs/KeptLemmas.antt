@@ -1,5 +1,5 @@
 -- Kernels that are kept as rows.
-use Rattle.std.proofs.Common.{◌≡◌, ℕ, ◌-◌, ◌<◌, ◌⊎◌, inl, inr, List, [], ◌∷◌, ◌++◌, length, map, set, slice_get, unwrap_or, Option, Some, None, sym, ap, ◌∙◌, arith, replicate, IfSome, false, zero, suc}
+use Rattle.std.proofs.Common.{◌≡◌, ℕ, ◌+◌, ◌-◌, refl, ◌<◌, ◌⊎◌, inl, inr, List, [], ◌∷◌, ◌++◌, length, map, set, slice_get, unwrap_or, Option, Some, None, sym, ap, ◌∙◌, arith, replicate, IfSome, false, zero, suc}
 use Rattle.std.proofs.lemmas.Option.{slice_get_within, slice_get-map}
 use Rattle.std.specs.Option.{option_map}
 use Rattle.std.proofs.lemmas.List.{map-set, length-set, length-map, set-append_left}
@@ -77,7 +77,7 @@ pub kernel_of_row : (os : List Place) (ts : List OpenTables) (rows : List Kernel
 kernel_of_row os ts rows i r k at_i e =
     let f = map_at (kernel_of os ts) rows i r at_i in cc
 
-padded_has : (n : ℕ) (ps : List Place) (i : ℕ) (x : Place) → slice_get ps i ≡ Some x → slice_get (padded n ps) i ≡ Some x
+pub padded_has : (n : ℕ) (ps : List Place) (i : ℕ) (x : Place) → slice_get ps i ≡ Some x → slice_get (padded n ps) i ≡ Some x
 unfolding padded
 padded_has n ps i x e = slice_get-append_here ps (replicate (n - length ps) Empty) i (slice_get_within ps i x e) ∙ e
 
@@ -168,9 +168,30 @@ behind [] m i o none e = all_empty m i o e
 behind (p ∷ ps) m zero o none e = cc
 behind (p ∷ ps) m (suc i) o none e = behind ps m i o none e
 
-padded_behind : (n : ℕ) (ps : List Place) (i : ℕ) (o : Place) → slice_get ps i ≡ None → slice_get (padded n ps) i ≡ Some o → o ≡ Empty
+pub padded_behind : (n : ℕ) (ps : List Place) (i : ℕ) (o : Place) → slice_get ps i ≡ None → slice_get (padded n ps) i ≡ Some o → o ≡ Empty
 unfolding padded
 padded_behind n ps i o none e = behind ps (n - length ps) i o none e
+
+none_empty : (m i : ℕ) → i < m → slice_get (replicate m Empty) i ≡ Some Empty
+none_empty zero i h = absurd (omega arith)
+none_empty (suc m) zero h = refl
+none_empty (suc m) (suc i) h = none_empty m i (omega arith)
+
+behind_empty : (ps : List Place) (m i : ℕ) → slice_get ps i ≡ None → i < length ps + m → slice_get (ps ++ replicate m Empty) i ≡ Some Empty
+behind_empty [] m i none h = none_empty m i (omega arith)
+behind_empty (p ∷ ps) m zero none h = cc
+behind_empty (p ∷ ps) m (suc i) none h = behind_empty ps m i none (omega arith)
+
+padded_empty : (n : ℕ) (ps : List Place) (i : ℕ) → slice_get ps i ≡ None → i < n → slice_get (padded n ps) i ≡ Some Empty
+unfolding padded
+padded_empty n ps i none h = behind_empty ps (n - length ps) i none (omega arith)
+
+-- where a row has no number the place of its kernel is empty, if there is that place
+pub empty_there : (os : List Place) (ts : List OpenTables) (rows : List KernelRow) (i place n : ℕ) (ns ms : List ℕ) → slice_get rows i ≡ Some (row ns ms) → slice_get ns place ≡ None
+    → place < 64 → slice_get os n ≡ Some Empty → (k : KernelState) → slice_get (map (kernel_of os ts) rows) i ≡ Some k → (o : Place) × (slice_get os n ≡ Some o) × (slice_get k.places place ≡ Some o)
+empty_there os ts rows i place n ns ms at_i none inside empty k e =
+    let past : slice_get (map (place_at os) ns) place ≡ None = slice_get-map (place_at os) ns place ∙ ap (option_map (place_at os)) none in
+    (Empty, empty, sym (ap (λ (x : KernelState). slice_get x.places place) (kernel_of_row os ts rows i (row ns ms) k at_i e)) ∙ padded_empty 64 (map (place_at os) ns) place past inside)
 
 -- where a row has no number the place of its kernel is empty
 pub no_object : (os : List Place) (ts : List OpenTables) (rows : List KernelRow) (i place : ℕ) (ns ms : List ℕ) (k : KernelState) (o : Place) → slice_get rows i ≡ Some (row ns ms)

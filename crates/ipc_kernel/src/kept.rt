@@ -8,6 +8,7 @@ ghost use Rattle.ipc_kernel.specs.Operands.{with_operand, HasOperand};
 ghost use Rattle.ipc_kernel.specs.Places.{is_empty};
 ghost use Rattle.ipc_kernel.specs.Kept.{GrowsKept};
 
+mod arranged;
 mod changes;
 mod digests;
 mod objects;
@@ -16,6 +17,7 @@ mod rows;
 mod tables;
 
 use crate::kernel::Kernel;
+use crate::limits::OBJECT_PLACES;
 use crate::place::Place;
 use crate::process::OpenTables;
 use changes::{Change, number_at, with_number};
@@ -52,8 +54,10 @@ impl Kernels {
     pub fn new(alloc: Global) -> Result<Kernels, AllocError>
         ensures none { IfOk result (λ t. t.kernels ≡ []) }
     {
+        let mut objects = Objects::new(alloc)?;
+        objects.keep(alloc, &Place::Empty)?;
         Ok(Kernels {
-            objects: Objects::new(alloc)?,
+            objects,
             tables: Tables::new(alloc)?,
             rows: Rows::new(alloc)?,
             alloc,
@@ -172,7 +176,7 @@ impl Kernels {
         Ok(Some(number))
     }
 
-    /// The number of the object in a place of a kernel, if there is one.
+    /// The number of what a place of a kernel holds, an object or none, if there is that place.
     pub fn object_at(&self, kernel: u32, place: u8) -> Option<u32>
         ensures object { IfSome result (λ n. (k : KernelState)
             → slice_get self.now.kernels kernel ≡ Some k
@@ -182,7 +186,13 @@ impl Kernels {
             → slice_get k.places place ≡ Some o → is_empty o ≡ false → IsSome result }
     {
         let (objects, _) = self.rows.row(kernel)?;
-        let number = number_at(objects, place as usize)?;
+        if let Some(number) = number_at(objects, place as usize) {
+            return Some(number);
+        }
+        if place as usize >= OBJECT_PLACES {
+            return None;
+        }
+        let number = self.objects.empty()?;
         Some(number)
     }
 

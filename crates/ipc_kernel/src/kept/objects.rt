@@ -3,6 +3,7 @@ ghost use Rattle.std.specs.Prelude.{◌≡◌, ◌||◌, ℕ, [], Some, map, pos
 ghost use Rattle.std.specs.List.{list_all};
 ghost use Rattle.std.specs.Option.{option_copied, option_or};
 ghost use Rattle.ipc_kernel.specs.declared.place.Place.{Place};
+ghost use Rattle.ipc_kernel.specs.declared.place.Place.TheVariants.{Empty};
 ghost use Rattle.ipc_kernel.specs.Limits.{object_places};
 ghost use Rattle.ipc_kernel.specs.Places.{place_at, is_empty, has_name, is_name, queue_name, semaphore_name};
 ghost use Rattle.ipc_kernel.specs.Rows.{padded};
@@ -186,6 +187,13 @@ impl Objects {
             number = self.index.older(number);
         }
         None
+    }
+
+    /// The number of no object, which an empty place holds, if it is kept.
+    pub(crate) fn empty(&self) -> Option<u32>
+        ensures empty { IfSome result (λ i. slice_get self.now i ≡ Some Empty) }
+    {
+        self.find(&Place::Empty, Place::Empty.digest())
     }
 
     /// Keeps an object; with its number.

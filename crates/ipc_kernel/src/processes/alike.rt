@@ -82,7 +82,8 @@ fn is_renamed_process(process: &OpenTables, other: &OpenTables, to: &[u8]) -> bo
         && are_renamed_slots(&process.slots, &other.slots, to)
 }
 
-fn are_renamed(processes: &[OpenTables], others: &[OpenTables], to: &[u8]) -> bool
+/// Whether other tables are these, with each place where a list takes it.
+pub(crate) fn are_renamed(processes: &[OpenTables], others: &[OpenTables], to: &[u8]) -> bool
     ensures renamed { IsTrue result ↔ (others.now
         ≡ map (renamed_process (renamed_by to.now)) processes.now) }
 {

@@ -63,7 +63,7 @@ fn rename_slots(slots: &mut [Option<Slot>], to: &[u8]) {
 }
 
 /// The tables of each process with the places renamed.
-fn renamed(
+pub(crate) fn renamed(
     alloc: Global,
     processes: &[OpenTables],
     to: &[u8],
