@@ -2,6 +2,7 @@
 use Rattle.std.proofs.Common.{ℕ, ◌≡◌, Some, sym, subst, ◌∙◌, slice_get}
 use Rattle.std.specs.Option.{option_map}
 use Rattle.ipc_kernel.specs.Kernel.{KernelState, IsSettled}
+use Rattle.ipc_kernel.specs.Alike.{IsAlike}
 use Rattle.ipc_kernel.specs.Operands.{HasOperand, operand_in, with_operand}
 use Rattle.ipc_kernel.specs.declared.call.Call.{Call}
 use Rattle.ipc_kernel.specs.declared.place.Place.{Place}
@@ -81,6 +82,20 @@ next_by_effect t u k p s i kernel tables object state taken g settled h there =
     let at : IsExactly u kernel (step_of k p s).kernel = subst (λ j. IsExactly u kernel j) (sym h.5) (there h.1 h.0 h.3.1 h.3.0) in (
       h.2,
       ((step_of k p s).kernel, at, alike_itself (step_of k p s).kernel, steps_settled k p s settled),
+      state_grows t u state h.2 g h.4,
+      h.6,
+      h.7,
+    )
+
+-- the same where the kernel that is kept is alike
+pub next_by_alike : (t u : Store) (k : KernelState) (p : ℕ) (s : Process) (i kernel tables object state taken : ℕ) → Grows t u → IsSettled k → IsEffect t k p s i (To tables object state taken)
+    → ((o : Place) (x : OpenTables) → slice_get t.kernels.objects object ≡ Some o → slice_get t.kernels.tables tables ≡ Some x → IsSettled (with_operand k p i o x)
+    → (j : KernelState) × IsExactly u kernel j × IsAlike (with_operand k p i o x) j × IsSettled j)
+    → IsNext u k p s (next.To kernel state taken)
+next_by_alike t u k p s i kernel tables object state taken g settled h there =
+    let kept = there h.1 h.0 h.3.1 h.3.0 (subst IsSettled h.5 (steps_settled k p s settled)) in (
+      h.2,
+      (kept.0, kept.1, subst (λ j. IsAlike j kept.0) (sym h.5) kept.2, kept.3),
       state_grows t u state h.2 g h.4,
       h.6,
       h.7,

@@ -36,8 +36,8 @@ pub fn alike_worlds_have_one_verdict()
     ensures law { OneVerdict }
 {}
 
-/// A step at a call that makes and removes no object depends on the tables of its process and on the
-/// object that it works on alone, and changes nothing else; and each step leaves a kernel settled.
+/// A step at a call that removes no object depends on the tables of its process and on what is in the
+/// place that it works on alone, and changes nothing else; and each step leaves a kernel settled.
 #[tactic(auto, using(crate::proofs::StepsOnObjects::steps_settled))]
 pub fn calls_on_objects_step_alike()
     ensures law { StepsByOperand }

@@ -14,6 +14,9 @@ use crate::touches::{Effect, Touch, Touches};
 use crate::trying::{Made, Tried, discard, try_step};
 use std::alloc::{AllocError, Global};
 
+/// How many worlds there are at least for each kernel where kernels are come to often.
+const RETURNS: usize = 4;
+
 impl Store {
     /// What comes of a step of process `pid` in a state that is kept, over a kernel that is kept.
     fn try_next(
@@ -222,7 +225,8 @@ impl Store {
         Ok(next)
     }
 
-    /// Keeps a move over a kernel that is kept, if its state is.
+    /// Keeps a move over a kernel that is kept, if its state is, where kernels are come to often or the
+    /// move isn't found by what its call touches.
     fn keep_move(
         &self,
         moves: &mut Moves,
@@ -239,6 +243,12 @@ impl Store {
         let Some(_) = self.states.get(state as usize) else {
             return Ok(());
         };
+        let is_found = self
+            .touched_next(&moves.touches, kernel, pid, state)
+            .is_some();
+        if is_found && self.rows.len() < self.kernels.len().saturating_mul(RETURNS) {
+            return Ok(());
+        }
         moves.keep(kernel, pid, state, next)?;
         Ok(())
     }

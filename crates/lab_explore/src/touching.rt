@@ -59,8 +59,8 @@ impl Store {
         }
     }
 
-    /// The same, where the kernel after it is kept if it wasn't.
-    pub(crate) fn keep_next_by(
+    /// The same, where the kernel after it is kept if it wasn't and the call makes no object.
+    fn keep_next_in(
         &mut self,
         kernel: u32,
         pid: u32,
@@ -82,6 +82,71 @@ impl Store {
                 .keep_with(kernel, pid as usize, place, object, tables)?;
         }
         Ok(self.next_by(kernel, pid, place, effect))
+    }
+
+    /// What process `pid` does next by the effect of its call that makes an object in a place, where a
+    /// kernel that is alike the one after it is kept if it wasn't.
+    fn keep_next_made(
+        &mut self,
+        kernel: u32,
+        pid: u32,
+        place: u8,
+        effect: Effect,
+    ) -> Result<Option<Next>, AllocError>
+        requires store { IsStore self.old }
+        ensures store { OnOk result (IsStore self.new) }
+        ensures grows { OnOk result (Grows self.old self.new) }
+        ensures next { IfOk result (λ found. IfSome found (λ next. (k : KernelState) (s : Seen)
+            → IsExactly self.old kernel k → IsSettled k
+            → IsEffect self.old k pid s place effect → IsNext self.new k pid s next)) }
+    {
+        let Effect::To {
+            tables,
+            object,
+            state,
+            taken,
+        } = effect
+        else {
+            return Ok(None);
+        };
+        if self.kernels.object_at(kernel, place) == Some(object) {
+            return Ok(None);
+        }
+        let pid = pid as usize;
+        let kept = self
+            .kernels
+            .keep_with_new(kernel, pid, place, object, tables)?;
+        let Some(kernel) = kept else {
+            return Ok(None);
+        };
+        Ok(Some(Next::To {
+            kernel,
+            state,
+            taken,
+        }))
+    }
+
+    /// What process `pid` does next by the effect of its call on what a place holds, where the kernel
+    /// after it, or one that is alike, is kept if it wasn't.
+    pub(crate) fn keep_next_by(
+        &mut self,
+        kernel: u32,
+        pid: u32,
+        place: u8,
+        effect: Effect,
+    ) -> Result<Option<Next>, AllocError>
+        requires store { IsStore self.old }
+        ensures store { OnOk result (IsStore self.new) }
+        ensures grows { OnOk result (Grows self.old self.new) }
+        ensures next { IfOk result (λ found. IfSome found (λ next. (k : KernelState) (s : Seen)
+            → IsExactly self.old kernel k → IsSettled k
+            → IsEffect self.old k pid s place effect → IsNext self.new k pid s next)) }
+    {
+        if let Some(next) = self.keep_next_in(kernel, pid, place, effect)? {
+            return Ok(Some(next));
+        }
+        let next = self.keep_next_made(kernel, pid, place, effect)?;
+        Ok(next)
     }
 
     /// What process `pid` does next in a state and over a kernel that are kept, if it has ended or this
