@@ -1,5 +1,5 @@
 -- Steps at calls that work on one object, from one kernel to another.
-use Rattle.std.proofs.Common.{ℕ, ◌≡◌, Some, sym, subst, ◌∙◌, slice_get}
+use Rattle.std.proofs.Common.{ℕ, ◌≡◌, Bool, true, false, not, IsTrue, Some, refl, sym, subst, ◌∙◌, slice_get}
 use Rattle.std.specs.Option.{option_map}
 use Rattle.ipc_kernel.specs.Kernel.{KernelState, IsSettled}
 use Rattle.ipc_kernel.specs.Alike.{IsAlike}
@@ -126,6 +126,24 @@ move_by_touch t u kernel p state n touch e j g exact same has h by k s at settle
     let there = same_touch t j p touch h.0 h.1 h.2 h.3 h.4 h.5 h.6 has in
     let next = by j h.0 exact fixed (h.7 j p fixed there.0 there.1) in
     subst (λ x. IsNext u x p s n) k-is (subst (λ r. IsNext u j p r n) s-is next)
+
+pub not_true : (b : Bool) → IsTrue (not b) → b ≡ false
+not_true true h = sym h
+not_true false h = refl
+
+-- a process goes on where its step isn't nothing
+pub effect_goes_on : (t : Store) (k : KernelState) (p : ℕ) (s : Process) (i : ℕ) (e : Effect) → (e ≡ Nothing → ⊥) → IsEffect t k p s i e → IsNext t k p s next.Limit
+effect_goes_on t k p s i Nothing some h = absurd (some refl)
+effect_goes_on t k p s i Limit some h = h
+effect_goes_on t k p s i (To tables object state taken) some h = h.7
+
+next_goes_on : (t : Store) (k : KernelState) (p : ℕ) (s : Process) (n : Next) → (n ≡ next.Nothing → ⊥) → IsNext t k p s n → IsNext t k p s next.Limit
+next_goes_on t k p s next.Nothing some h = absurd (some refl)
+next_goes_on t k p s next.Limit some h = h
+next_goes_on t k p s (next.To kernel state taken) some h = h.4
+
+pub move_goes_on : (t : Store) (kernel p state : ℕ) (n : Next) → (n ≡ next.Nothing → ⊥) → IsMoveFrom t kernel p state n → IsMoveFrom t kernel p state next.Limit
+move_goes_on t kernel p state n some h k s at settled here = next_goes_on t k p s n some (h k s at settled here)
 
 -- a process that has ended does nothing, over whatever kernel
 ended_still : (k : KernelState) (p : ℕ) (s : Process) → HasEnded s → GoesOn (step_effect k p (Some s)) → ⊥

@@ -110,10 +110,10 @@ impl Search {
             return Err(ExploreFault::Unvouched);
         };
         for pid in 0..count {
-            let Some(next) = self.store.known_next(&self.moves, at, pid) else {
+            let Some(goes) = self.store.goes_on(&self.moves, at, pid) else {
                 return Err(ExploreFault::Unvouched);
             };
-            if !next.is_nothing() {
+            if goes {
                 return Ok(false);
             }
         }
@@ -125,10 +125,7 @@ impl Search {
         let Some(count) = self.store.width(at) else {
             return false;
         };
-        (0..count).all(|pid| {
-            let next = self.store.known_next(&self.moves, at, pid);
-            next.is_some_and(Next::is_nothing)
-        })
+        (0..count).all(|pid| self.store.goes_on(&self.moves, at, pid) == Some(false))
     }
 
     /// Whether the world of a row may be an end. In a search that isn't complete not each move was

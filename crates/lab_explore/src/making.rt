@@ -14,6 +14,9 @@ use crate::touches::{Effect, Touch, Touches};
 use crate::trying::{Made, Tried, discard, try_step};
 use std::alloc::{AllocError, Global};
 
+/// So many worlds are few: each move between them is kept. A picture has fewer.
+const FEW: usize = 1_024;
+
 /// How many worlds there are at least for each kernel where kernels are come to often.
 const RETURNS: usize = 4;
 
@@ -225,8 +228,8 @@ impl Store {
         Ok(next)
     }
 
-    /// Keeps a move over a kernel that is kept, if its state is, where kernels are come to often or the
-    /// move isn't found by what its call touches.
+    /// Keeps a move over a kernel that is kept, if its state is, where worlds are few or kernels are come
+    /// to often.
     fn keep_move(
         &self,
         moves: &mut Moves,
@@ -243,10 +246,8 @@ impl Store {
         let Some(_) = self.states.get(state as usize) else {
             return Ok(());
         };
-        let is_found = self
-            .touched_next(&moves.touches, kernel, pid, state)
-            .is_some();
-        if is_found && self.rows.len() < self.kernels.len().saturating_mul(RETURNS) {
+        let worlds = self.rows.len();
+        if worlds > FEW && worlds < self.kernels.len().saturating_mul(RETURNS) {
             return Ok(());
         }
         moves.keep(kernel, pid, state, next)?;

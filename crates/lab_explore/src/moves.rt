@@ -1,7 +1,7 @@
 //! What each process does next.
 ghost use Rattle.std.specs.Prelude.{◌≡◌, ℕ, IsTrue, IfOk, IfSome, OnOk};
 ghost use Rattle.lab_sched.specs.Worlds.{WorldState, step};
-ghost use Rattle.lab_explore.specs.declared.store.Next.TheVariants.{To};
+ghost use Rattle.lab_explore.specs.declared.store.Next.TheVariants.{Limit, To};
 ghost use Rattle.lab_explore.specs.Private.Known.{AreKnown};
 ghost use Rattle.lab_explore.specs.Private.Lookups.{IsKnownStep, AreLookups};
 ghost use Rattle.lab_explore.specs.Private.Rows.{row_of};
@@ -63,6 +63,16 @@ impl Store {
         }
         let next = self.touched_next(&moves.touches, kernel, pid, state)?;
         Some(next)
+    }
+
+    /// Whether process `pid` goes on from the world of a row, if it is known.
+    pub(crate) fn goes_on(&self, moves: &Moves, at: usize, pid: u32) -> Option<bool>
+        ensures yes { AreKnown self.now moves.now → IfSome result (λ goes. IsTrue goes
+            → IsNextAt self.now at pid Limit) }
+    {
+        let (kernel, state) = self.places(at, pid)?;
+        let goes = self.known_to_go_on(moves, kernel, pid, state)?;
+        Some(goes)
     }
 
     /// How many local steps process `pid` takes after its step from the world of a row, as far as that

@@ -70,13 +70,10 @@ impl Search {
         let Some(pid) = keeper_at(keepers, rank_at(ranks, at)) else {
             return true;
         };
-        let Some(next) = self.store.known_next(&self.moves, at, pid as u32) else {
+        let Some(goes) = self.store.goes_on(&self.moves, at, pid as u32) else {
             return false;
         };
-        if next.is_nothing() {
-            return false;
-        }
-        true
+        goes
     }
 
     /// Whether ranks are such that no edge raises them, and the process of each goes on from each row of

@@ -1,6 +1,7 @@
 //! The steps at calls that work on one object that a search has made.
-ghost use Rattle.std.specs.Prelude.{◌≡◌, [], IfOk, IfSome, IsTrue, OnOk};
+ghost use Rattle.std.specs.Prelude.{◌≡◌, [], false, IfOk, IfSome, IsTrue, OnOk};
 ghost use Rattle.lab_explore.specs.declared.store.Store.{Store as Kept};
+ghost use Rattle.lab_explore.specs.declared.touches.Effect.TheVariants.{Nothing};
 ghost use Rattle.lab_explore.specs.Private.Touched.{IsTouched, AreTouched};
 
 use crate::row::digest_of;
@@ -66,6 +67,13 @@ impl Touch {
 }
 
 impl Effect {
+    /// Whether it is nothing.
+    pub(crate) fn is_nothing(self) -> bool
+        ensures no { result ≡ false → self ≡ Nothing → ⊥ }
+    {
+        matches!(self, Effect::Nothing)
+    }
+
     /// How many local steps the process takes then, if it goes on to its next call.
     pub(crate) fn steps(self) -> Option<u32> {
         match self {

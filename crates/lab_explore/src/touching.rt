@@ -1,7 +1,8 @@
 //! Steps at calls that work on one object, made once for what they touch.
-ghost use Rattle.std.specs.Prelude.{◌≡◌, IfOk, IfSome, OnOk};
+ghost use Rattle.std.specs.Prelude.{◌≡◌, IsTrue, IfOk, IfSome, OnOk};
 ghost use Rattle.ipc_kernel.specs.Kernel.{KernelState, IsSettled};
 ghost use Rattle.lab_sched.specs.Worlds.{Process as Seen};
+ghost use Rattle.lab_explore.specs.declared.store.Next.TheVariants.{Limit};
 ghost use Rattle.lab_explore.specs.Private.Known.{AreKnown};
 ghost use Rattle.lab_explore.specs.Private.Stored.{IsExactly, IsStore, Grows, IsNext, IsMoveFrom};
 ghost use Rattle.lab_explore.specs.Private.Touched.{HasTouch, IsEffect, AreTouched};
@@ -178,5 +179,34 @@ impl Store {
         let effect = touches.find(touch)?;
         let next = self.next_by(kernel, pid, touch.place, effect)?;
         Some(next)
+    }
+
+    /// Whether process `pid` goes on in a state and over a kernel that are kept, if it stands at a call
+    /// that works on one object, whose step was made.
+    fn touch_goes_on(&self, touches: &Touches, kernel: u32, pid: u32, state: u32) -> Option<bool>
+        ensures yes { AreTouched self.now touches.now → IfSome result (λ goes. IsTrue goes
+            → IsMoveFrom self.now kernel pid state Limit) }
+    {
+        let touch = self.touch_at(kernel, pid, state)?;
+        let effect = touches.find(touch)?;
+        Some(!effect.is_nothing())
+    }
+
+    /// Whether process `pid` goes on in a state and over a kernel that are kept, if it is known.
+    pub(crate) fn known_to_go_on(
+        &self,
+        moves: &Moves,
+        kernel: u32,
+        pid: u32,
+        state: u32,
+    ) -> Option<bool>
+        ensures yes { AreKnown self.now moves.now → IfSome result (λ goes. IsTrue goes
+            → IsMoveFrom self.now kernel pid state Limit) }
+    {
+        if let Some(goes) = self.touch_goes_on(&moves.touches, kernel, pid, state) {
+            return Some(goes);
+        }
+        let next = self.made_next(moves, kernel, pid, state)?;
+        Some(!next.is_nothing())
     }
 }

@@ -26,6 +26,9 @@ fn is_name(name: &Name, other: Option<&Name>) -> bool
     }
 }
 
+/// The number of what is kept first.
+const FIRST: u32 = 0;
+
 /// Objects, each with a number, from 0.
 #[derive(Drop)]
 pub(crate) struct Objects {
@@ -189,11 +192,14 @@ impl Objects {
         None
     }
 
-    /// The number of no object, which an empty place holds, if it is kept.
+    /// The number of no object, which an empty place holds, if it was kept first.
     pub(crate) fn empty(&self) -> Option<u32>
         ensures empty { IfSome result (λ i. slice_get self.now i ≡ Some Empty) }
     {
-        self.find(&Place::Empty, Place::Empty.digest())
+        match self.get(FIRST) {
+            Some(Place::Empty) => Some(FIRST),
+            _ => None,
+        }
     }
 
     /// Keeps an object; with its number.

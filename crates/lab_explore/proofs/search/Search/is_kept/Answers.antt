@@ -1,6 +1,7 @@
-use Rattle.std.proofs.Common.{◌≡◌, ◌∙◌, Some, ap, refl, subst}
+use Rattle.std.proofs.Common.{◌≡◌, ◌∙◌, Some, ap, subst}
 use Rattle.lab_sched.specs.Worlds.{step_effect_in}
 use Rattle.lab_explore.specs.Untried.{GoesOn}
+use Rattle.lab_explore.specs.declared.store.Next.TheVariants.{Limit}
 use Rattle.lab_explore.specs.Private.Ranked.{keeper_of}
 use Rattle.lab_explore.proofs.StepsOfRows.{goes_on}
 use Rattle.lab_explore.proofs.search.Search.is_kept.Goals as goal
@@ -11,5 +12,5 @@ returns c = record {
       let t = c.args.self.now.store in
       let found : Some c.in-Some.pid ≡ Some p = c.in-Some.ensures.keeper ∙ ap (keeper_of c.args.keepers.now) c.rank_at.ensures.rank ∙ keeper in
       let same : c.in-Some.pid ≡ p = cc in
-      subst (λ q. GoesOn (step_effect_in w q)) same (goes_on t w c.args.at c.in-Some.pid c.in-Some-known_next.next here (c.in-Some-known_next.ensures.next c.requires.known) (c.if-is_nothing.ensures.no refl));
+      subst (λ q. GoesOn (step_effect_in w q)) same (goes_on t w c.args.at c.in-Some.pid Limit here (c.in-Some-goes_on.ensures.yes c.requires.known is) (λ e. cc));
 }
