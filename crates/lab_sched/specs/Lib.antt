@@ -3,6 +3,7 @@ pub mod ScheduleTexts
 pub mod ScheduleLaws
 pub mod Worlds
 pub mod Held
+pub mod Outputs
 pub mod Starts
 pub mod Verdicts
 pub mod Execution

@@ -17,6 +17,7 @@ pub enum Process {
 
 impl Process {
     ghost use Rattle.lab_sched.specs.Held.{process_view};
+    ghost use Rattle.lab_sched.specs.Outputs.{kept_with_output};
 
     /// The machine of the process, whatever its status.
     #[inline]
@@ -50,6 +51,17 @@ impl Process {
             }
             Process::Ended(ended) => Process::Ended(ended.copy(alloc)?),
         })
+    }
+
+    /// Puts this output in the place of the process's own.
+    pub fn set_output(&mut self, output: Vec<u8>)
+        ensures output { self.new ≡ kept_with_output self.old output.items }
+    {
+        match self {
+            Process::Running(running) => running.set_output(output),
+            Process::Waiting(waiting, _) => waiting.set_output(output),
+            Process::Ended(ended) => ended.set_output(output),
+        }
     }
 
     /// Whether two processes are the same, whatever of them can be written without taking memory.

@@ -103,6 +103,10 @@ with_word p address word = record p { memory = slice_set p.memory address word }
 abbrev pub with_output : Process → List ℕ → Process
 with_output p bytes = record p { output = p.output ++ bytes }
 
+-- the process with this output in place of its own
+abbrev pub with_whole_output : Process → List ℕ → Process
+with_whole_output p bytes = record p { output = bytes }
+
 -- what happens with the word at an address; the device registers, xFE00 and above, end the process (A.1)
 abbrev pub at_word : Process → ℕ → (ℕ → Outcome) → Outcome
 at_word p address continued =

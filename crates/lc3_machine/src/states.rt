@@ -2,6 +2,7 @@
 
 mod copies;
 mod end;
+mod outputs;
 mod run;
 mod wait;
 

@@ -1,6 +1,7 @@
 //! Copies of a machine, and whether two machines are the same.
 
 ghost use Rattle.std.specs.Prelude.{◌≡◌, ◌↔◌, IfOk, IsTrue};
+ghost use Rattle.lc3_machine.specs.Process.{with_whole_output};
 
 use super::Machine;
 use crate::input::Input;
@@ -23,6 +24,14 @@ impl Machine {
             input: Input::new(alloc, self.input.left())?,
             output: Vec::from_slice(alloc, self.output.as_slice())?,
         })
+    }
+
+    /// Puts this output in the place of the machine's own.
+    pub(crate) fn set_output(&mut self, output: Vec<u8>)
+        ensures output { self.new.process ≡ with_whole_output self.old.process output.items }
+        ensures ready { self.new.ready ≡ self.old.ready }
+    {
+        self.output = output;
     }
 
     /// Whether two machines are the same process, whatever pages are ready.
