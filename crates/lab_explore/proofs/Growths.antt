@@ -1,5 +1,5 @@
 -- Stores that grow.
-use Rattle.std.proofs.Common.{All, ℕ, ◌≡◌, List, [], ◌∷◌, ◌++◌, Option, Some, None, refl, sym, ap, subst, ◌∙◌, slice_get, length}
+use Rattle.std.proofs.Common.{All, inl, inr, ℕ, ◌≡◌, [], ◌∷◌, ◌++◌, Option, Some, None, refl, sym, ap, subst, ◌∙◌, slice_get, length}
 use Rattle.std.specs.Option.{option_map}
 use Rattle.ipc_kernel.specs.Kernel.{KernelState}
 use Rattle.lab_sched.specs.declared.process.Process.{Process as Kept}
@@ -22,6 +22,7 @@ use Rattle.lab_explore.specs.declared.known.Move.{Move}
 use Rattle.ipc_kernel.specs.Kept.{GrowsKept}
 use Rattle.ipc_kernel.specs.declared.place.Place.{Place}
 use Rattle.ipc_kernel.specs.declared.process.OpenTables.{OpenTables}
+use Rattle.lab_explore.specs.Private.Shorts.{IsSameOrMore}
 use Rattle.lab_explore.specs.Private.Stored.{IsState, IsKernel, IsRow, IsAt, IsReady, IsStore, Grows, IsNext, IsMove, HasEdge, IsTried, IsExpanded}
 use Rattle.std.proofs.lemmas.List.Elements.{All-push, All-weaker}
 use Rattle.lab_explore.proofs.Pushes.{both_weaker, keeps_push, get_pushed}
@@ -118,11 +119,6 @@ states_pushed t u k s ready states kernels rows edges =
     } in
     (g, store_grows t u s g (subst (λ xs. All IsReady xs) (sym states) (All-push IsReady t.states k s.states ready)) rows)
 
-pub state_pushed : (xs ys : List Kept) (k : Kept) (i : ℕ) → ys ≡ xs ++ k ∷ [] → i ≡ length xs → option_map process_view (slice_get ys i) ≡ Some (process_view k)
-state_pushed xs ys k i states is =
-    ap (λ zs. option_map process_view (slice_get zs i)) states ∙ ap (λ n. option_map process_view (slice_get (xs ++ k ∷ []) n)) is
-    ∙ ap (λ o. option_map process_view o) (get_pushed xs k)
-
 -- more kernels
 pub kernels_grown : (t u : Store) → IsStore t → GrowsKept t.kernels u.kernels → u.states ≡ t.states → u.rows ≡ t.rows → u.edges ≡ t.edges → Grows t u × IsStore u
 kernels_grown t u s kernels states rows edges =
@@ -137,6 +133,11 @@ kernels_grown t u s kernels states rows edges =
 -- the same rows
 pub rows_same : (t u : Store) → IsStore t → u.rows ≡ t.rows → u.kernels ≡ t.kernels → u.states ≡ t.states → u.edges ≡ t.edges → Grows t u × IsStore u
 rows_same t u s rows kernels states edges = kernels_grown t u s (same_kernels t u kernels) states rows edges
+
+-- a state that is kept
+pub states_kept : (t u : Store) (k : Kept) → IsStore t → IsReady k → IsSameOrMore t.states u.states k → u.kernels ≡ t.kernels → u.rows ≡ t.rows → u.edges ≡ t.edges → Grows t u × IsStore u
+states_kept t u k s ready (inl same) kernels rows edges = rows_same t u s rows kernels same edges
+states_kept t u k s ready (inr more) kernels rows edges = states_pushed t u k s ready more kernels rows edges
 
 -- one row more
 pub rows_pushed : (t u : Store) (r : Row) → IsStore t → ((w : WorldState) × IsRow t r w) → u.rows ≡ t.rows ++ r ∷ [] → u.kernels ≡ t.kernels → u.states ≡ t.states

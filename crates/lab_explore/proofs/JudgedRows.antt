@@ -1,7 +1,8 @@
 -- Rows whose worlds are judged, and what is found among them.
-use Rattle.std.proofs.Common.{ℕ, zero, suc, ◌≡◌, ◌+◌, ◌++◌, ◌<◌, ◌≤◌, ◌↔◌, Bool, IsTrue, arith, List, [], ◌∷◌, Option, Some, None, refl, sym, ap, subst, ◌∙◌, slice_get, length, take, get_or, IfSome}
+use Rattle.std.proofs.Common.{ℕ, zero, suc, ◌≡◌, ◌+◌, ◌++◌, ◌<◌, ◌≤◌, ◌↔◌, Bool, IsTrue, arith, List, [], ◌∷◌, Option, Some, None, refl, sym, ap, subst, ◌∙◌, slice_get, length, map, take, get_or, IfSome}
 use Rattle.std.specs.Option.{option_map}
-use Rattle.std.proofs.lemmas.List.{take_all, take_more}
+use Rattle.std.proofs.lemmas.List.{length-map, take_all, take_more}
+use Rattle.std.proofs.lemmas.Option.{slice_get-map}
 use Rattle.ipc_kernel.specs.Kernel.{KernelState}
 use Rattle.ipc_kernel.proofs.Consistents.{consistent_empty}
 use Rattle.lab_sched.specs.declared.process.Process.{Process as Kept}
@@ -22,6 +23,7 @@ use Rattle.lab_explore.specs.declared.store.Store.{Store}
 use Rattle.lab_explore.specs.Calls.{Both, Alongside}
 use Rattle.lab_explore.specs.Untried.{untried, AskAgain}
 use Rattle.lab_explore.specs.Reached.{LeadsTo, LeadsToLoss, Violates, IsKept, ViolatesIfSome, KeptIfNone, AreKept, AreReached}
+use Rattle.lab_explore.specs.Private.Shorts.{silent, IsButForOutput}
 use Rattle.lab_explore.specs.Private.Stored.{IsState, IsRow, IsAt, IsLike, IsSearched}
 use Rattle.lab_explore.specs.declared.walking.Walk.{Walk}
 use Rattle.lab_explore.specs.Private.Walked.{IsWalk}
@@ -31,6 +33,7 @@ use Rattle.lab_explore.proofs.AfterLocalSteps.{same_some}
 use Rattle.lab_explore.proofs.Pushes.{both_weaker, alongside_push}
 use Rattle.lab_explore.proofs.KeptConditions.{holds_alike, never_holds}
 use Rattle.lab_explore.proofs.KeptLosses.{never_loses}
+use Rattle.lab_explore.proofs.SilentProcesses.{holds_silently}
 
 -- the process at a place of a row's world
 row_process : (t : Store) (state : ℕ) (k : Kept) (a : Option ℕ) (b : Option Process) → a ≡ Some state → slice_get t.states state ≡ Some k → Both (IsState t) a b → b ≡ Some (process_view k)
@@ -49,11 +52,13 @@ take_next (y ∷ ys) (suc n) x at =
     let same : suc n + 1 ≡ suc (n + 1) = omega arith in
     ap (λ k. take k (y ∷ ys)) same ∙ ap (λ zs. y ∷ zs) (take_next ys n x at)
 
-pub states_more : (t : Store) (states : List ℕ) (ss seen more : List Process) (n state : ℕ) (k : Kept) → Alongside (IsState t) states ss → slice_get states n ≡ Some state → slice_get t.states state ≡ Some k
-    → seen ≡ take n ss → more ≡ seen ++ process_view k ∷ [] → more ≡ take (n + 1) ss
-states_more t states ss seen more n state k row place at so pushed =
+-- processes that are the same but for their outputs as those of a row's world, and one more
+pub states_more : (t : Store) (states : List ℕ) (ss seen more : List Process) (n state : ℕ) (k : Kept) (s : Process) → Alongside (IsState t) states ss → slice_get states n ≡ Some state → slice_get t.states state ≡ Some k
+    → IsButForOutput s (process_view k) → seen ≡ take n (map silent ss) → more ≡ seen ++ silent s ∷ [] → more ≡ take (n + 1) (map silent ss)
+states_more t states ss seen more n state k s row place at same so pushed =
     let here = row_process t state k (slice_get states n) (slice_get ss n) place at (row n) in
-    pushed ∙ ap (λ xs. xs ++ process_view k ∷ []) so ∙ sym (take_next ss n (process_view k) here)
+    let there : slice_get (map silent ss) n ≡ Some (silent s) = slice_get-map silent ss n ∙ ap (option_map silent) here ∙ ap (λ x. Some x) (sym same) in
+    pushed ∙ ap (λ xs. xs ++ silent s ∷ []) so ∙ sym (take_next (map silent ss) n (silent s) there)
 
 -- as many as the row has places
 same_length : {A B : Type 0} (R : A → B → Type 0) (xs : List A) (ys : List B) → Alongside R xs ys → length ys ≤ length xs
@@ -62,20 +67,29 @@ same_length R [] (y ∷ ys) h = absurd (h 0)
 same_length R (x ∷ xs) [] h = omega arith
 same_length R (x ∷ xs) (y ∷ ys) h = let rest = same_length R xs ys (λ p. h (suc p)) in omega (arith, rest)
 
-pub states_all : (t : Store) (states : List ℕ) (ss seen : List Process) (n : ℕ) → Alongside (IsState t) states ss → length states ≤ n → seen ≡ take n ss → seen ≡ ss
+pub states_all : (t : Store) (states : List ℕ) (ss seen : List Process) (n : ℕ) → Alongside (IsState t) states ss → length states ≤ n → seen ≡ take n (map silent ss) → seen ≡ map silent ss
 states_all t states ss seen n row past so =
     let few = same_length (IsState t) states ss row in
-    so ∙ take_all n ss (omega (arith, few, past))
+    let count = length-map ss silent in
+    so ∙ take_all n (map silent ss) (omega (arith, few, past, count))
+
+-- two functions, one after the other
+pub map_twice : {A B C : Type 0} (f : B → C) (g : A → B) (xs : List A) → map f (map g xs) ≡ map (λ x. f (g x)) xs
+map_twice f g [] = refl
+map_twice f g (x ∷ xs) = ap (λ ys. f (g x) ∷ ys) (map_twice f g xs)
 
 -- what is judged of a row's parts is judged of its world
 pub row_judged : (t : Store) (r : Row) (at : ℕ) (c : Condition) (k : KernelState) (ps : List Process) (holds : Bool) → slice_get t.rows at ≡ Some r → slice_get t.kernels.kernels r.kernel ≡ Some k
-    → ((ss : List Process) → Alongside (IsState t) r.states ss → ps ≡ ss) → (IsTrue holds ↔ Holds c (world_of k ps)) → (w : WorldState) → IsAt t at w → (IsTrue holds ↔ Holds c w)
+    → ((ss : List Process) → Alongside (IsState t) r.states ss → map silent ps ≡ map silent ss) → (IsTrue holds ↔ Holds c (world_of k ps)) → (w : WorldState) → IsAt t at w → (IsTrue holds ↔ Holds c w)
 row_judged t r at c k ps holds there kernel processes judged w row =
     let same : row.0 ≡ r = same_some row.0 r (slice_get t.rows at) row.1 there in
     let is : IsRow t r w = subst (λ r. IsRow t r w) same row.2 in
     let first : k ≡ w.kernel = same_some k w.kernel (slice_get t.kernels.kernels r.kernel) kernel is.kernel in
-    let world : world_of k ps ≡ w = ap (λ j. world_of j ps) first ∙ ap (λ ss. world_of w.kernel ss) (processes w.processes is.states) in
-    subst (λ v. IsTrue holds ↔ Holds c v) world judged
+    let alike = processes w.processes is.states in (
+      λ h. subst (λ j. Holds c (world_of j w.processes)) first (holds_silently c k ps w.processes alike (judged.0 h)),
+      λ h.
+          judged.1 (holds_silently c k w.processes ps (sym alike) (subst (λ j. Holds c (world_of j w.processes)) (sym first) h)),
+    )
 
 -- one condition more
 pub next_along : {A B : Type 0} (R : A → B → Type 0) (xs : List A) (ys zs : List B) (n : ℕ) (x : A) (y : B) → Alongside R (take n xs) ys → n < length xs → x ≡ get_or xs n x → R x y → zs ≡ ys ++ y ∷ []

@@ -8,6 +8,9 @@ mod Pushes
 mod Growths
 mod StepsOfRows
 mod LookupLemmas
+mod PieceLemmas
+mod SilentProcesses
+mod ShortStates
 mod StandingStates
 mod TouchLemmas
 mod RowTables

@@ -1,16 +1,16 @@
 -- States that are kept with the calls at which they stand.
 use Rattle.std.proofs.Common.{ℕ, ◌≡◌, List, Option, Some, None, refl, subst, slice_get}
 use Rattle.ipc_kernel.specs.declared.call.Call.{Call}
-use Rattle.lab_sched.specs.declared.process.Process.{Process as Kept}
 use Rattle.lab_sched.specs.Held.{process_view}
 use Rattle.lab_conditions.specs.Conditions.{StandsAt}
 use Rattle.lab_explore.specs.Calls.{Both}
+use Rattle.lab_explore.specs.declared.shorts.Short.{Short}
 use Rattle.lab_explore.specs.Private.Standing.{IsStanding, AreStanding}
 
 -- the state beside a call
-pub standing_at : (ss : List Kept) (cs : List (Option Call)) (i : ℕ) (c : Call) → AreStanding ss cs → slice_get cs i ≡ Some (Some c) → (s : Kept) × (slice_get ss i ≡ Some s) × StandsAt (process_view s) c
+pub standing_at : (ss : List Short) (cs : List (Option Call)) (i : ℕ) (c : Call) → AreStanding ss cs → slice_get cs i ≡ Some (Some c) → (s : Short) × (slice_get ss i ≡ Some s) × StandsAt (process_view s.process) c
 standing_at ss cs i c are e = by (slice_get ss i) refl (subst (λ o. Both IsStanding (slice_get ss i) o) e (are i))
   where
-    by : (o : Option Kept) → slice_get ss i ≡ o → Both IsStanding (slice_get ss i) (Some (Some c)) → (s : Kept) × (slice_get ss i ≡ Some s) × StandsAt (process_view s) c
+    by : (o : Option Short) → slice_get ss i ≡ o → Both IsStanding (slice_get ss i) (Some (Some c)) → (s : Short) × (slice_get ss i ≡ Some s) × StandsAt (process_view s.process) c
     by None f b = absurd (subst (λ x. Both IsStanding x (Some (Some c))) f b)
     by (Some s) f b = (s, f, subst (λ x. Both IsStanding x (Some (Some c))) f b)

@@ -1,6 +1,8 @@
 -- Definitions that only contracts inside the crate cite.
 pub mod Rows
 pub mod Edges
+pub mod Outputs
+pub mod Shorts
 pub mod Standing
 pub mod Stored
 pub mod Touched

@@ -83,7 +83,7 @@ impl Store {
         ensures same { IfOk result (λ same. IsTrue same
             → IsState self.now state (before_wait (process_view process.now))) }
     {
-        let Some(kept) = self.states.get(state as usize) else {
+        let Some(kept) = self.states.get(alloc, state as usize)? else {
             return Ok(false);
         };
         let process = copy_before_wait(alloc, process)?;

@@ -6,6 +6,7 @@ ghost use Rattle.lab_conditions.specs.Conditions.{Holds};
 ghost use Rattle.lab_explore.specs.Calls.{Alongside};
 ghost use Rattle.lab_explore.specs.Private.Stored.{IsExactly, IsState, IsAt};
 ghost use Rattle.lab_explore.specs.Private.Wholes.{AreWholes};
+ghost use Rattle.lab_explore.specs.Private.Shorts.{silent};
 
 use crate::ExploreFault;
 use crate::store::Store;
@@ -16,15 +17,16 @@ use lab_sched::Process;
 use std::alloc::Global;
 
 impl Store {
-    /// The processes in states that are kept, in order.
+    /// The processes in states that are kept, in order, but for their outputs, of which no condition
+    /// speaks.
     fn processes_in(&self, alloc: Global, states: &[u32]) -> Result<Vec<&Process>, ExploreFault>
         ensures processes { IfOk result (λ processes. (ss : List Seen)
             → Alongside (IsState self.now) states.now ss
-            → map (λ s. process_view s.now) processes.items ≡ ss) }
+            → map (λ s. silent (process_view s.now)) processes.items ≡ map silent ss) }
     {
         let mut processes = Vec::new(alloc);
         for state in states {
-            let Some(process) = self.states.get(*state as usize) else {
+            let Some(process) = self.states.short(*state as usize) else {
                 return Err(ExploreFault::Unvouched);
             };
             processes.push(process)?;

@@ -9,7 +9,7 @@ ghost use Rattle.lab_explore.specs.Private.Judged.{IsLoss, NoEdgeLoses};
 use crate::ExploreFault;
 use crate::store::{Edge, Store, place_of};
 use lab_conditions::{is_receiving, messages_in};
-use std::alloc::{AllocError, Global};
+use std::alloc::Global;
 
 impl Store {
     /// How many messages are in the queues of each kernel.
@@ -30,12 +30,15 @@ impl Store {
     }
 
     /// Whether the process of each state is about to receive a message.
-    fn receiving(&self, alloc: Global) -> Result<Vec<bool>, AllocError>
+    fn receiving(&self, alloc: Global) -> Result<Vec<bool>, ExploreFault>
         ensures receiving { IfOk result (λ receiving. receiving.items
             ≡ map (λ s. is_receiving (process_view s)) self.now.states) }
     {
         let mut receiving = Vec::with_capacity(alloc, self.states.len())?;
-        for process in self.states.as_slice() {
+        for number in 0..self.states.len() {
+            let Some(process) = self.states.short(number) else {
+                return Err(ExploreFault::Unvouched);
+            };
             let receives = is_receiving(alloc, process)?;
             receiving.push(receives)?;
         }

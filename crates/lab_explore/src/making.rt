@@ -33,13 +33,20 @@ impl Store {
         requires store { IsStore self.now }
         ensures tried { IfOk result (λ tried. IsKeptStep self.now kernel pid state tried) }
     {
-        let Some(process) = self.states.get(state as usize) else {
-            return Err(ExploreFault::Unvouched);
-        };
         let Some(kernel) = self.kernels.get(alloc, kernel)? else {
             return Err(ExploreFault::Unvouched);
         };
-        try_step(alloc, kernel, process, pid as usize, most)
+        match self.states.get(alloc, state as usize) {
+            Ok(Some(process)) => try_step(alloc, kernel, process, pid as usize, most),
+            Ok(None) => {
+                discard(kernel);
+                Err(ExploreFault::Unvouched)
+            }
+            Err(_) => {
+                discard(kernel);
+                Err(ExploreFault::NoMemory)
+            }
+        }
     }
 
     /// Keeps the kernel, but for the numbers of its places, and the state that came of a step.
@@ -243,7 +250,7 @@ impl Store {
         requires next { IsMoveFrom self.now kernel pid state next }
         ensures known { OnOk result (AreKnown self.now moves.new) }
     {
-        let Some(_) = self.states.get(state as usize) else {
+        let Some(_) = self.states.short(state as usize) else {
             return Ok(());
         };
         let worlds = self.rows.len();

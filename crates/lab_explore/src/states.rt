@@ -1,38 +1,75 @@
 //! States of processes at calls, each of which is kept once.
-ghost use Rattle.std.specs.Prelude.{◌≡◌, [], ◌∷◌, ◌++◌, IfOk, IfSome, IsTrue, OnOk, Some, length, slice_get};
-ghost use Rattle.std.specs.Option.{option_copied, option_map};
+ghost use Rattle.std.specs.Prelude.{◌≡◌, [], IfOk, IfSome, IsTrue, OnOk, Some, length, slice_get};
+ghost use Rattle.std.specs.Option.{option_map};
 ghost use Rattle.lab_sched.specs.Held.{process_view};
 ghost use Rattle.lab_sched.specs.Verdicts.{HasEnded};
 ghost use Rattle.lab_sched.specs.declared.process.Process.{Process as Kept};
 ghost use Rattle.lab_conditions.specs.Conditions.{StandsAt};
-ghost use Rattle.lab_explore.specs.Private.Standing.{IsStanding};
+ghost use Rattle.lab_explore.specs.Private.Outputs.{Extends};
+ghost use Rattle.lab_explore.specs.Private.Shorts.{whole_of, IsSameOrMore, IsButForOutput, IsWithin};
 
-use crate::store::place_of;
-use ipc_kernel::{Call, Index};
+use crate::outputs::{Outputs, PIECE};
+use crate::shorts::{Short, Shorts};
+use ipc_kernel::Call;
 use lab_sched::Process;
 use std::alloc::{AllocError, Global};
 use std::marker::Model;
 
-/// States of processes, each with a number, from 0, and with the call at which it stands.
+/// States of processes, each with a number, from 0, and with the call at which it stands. What the
+/// outputs of processes have in common is kept once.
 #[derive(Drop)]
 pub(crate) struct States {
-    processes: Vec<Process>,
-    calls: Vec<Option<Call>>,
-    index: Index,
-    /// About how many bytes the processes take.
-    held: usize,
+    shorts: Shorts,
+    outputs: Outputs,
 }
 
 impl Model for States {
-    ghost use Rattle.std.specs.Prelude.{List};
+    ghost use Rattle.std.specs.Prelude.{All, List, map};
     ghost use Rattle.lab_sched.specs.declared.process.Process.{Process};
-    ghost use Rattle.lab_explore.specs.Private.Standing.{AreStanding};
+    ghost use Rattle.lab_explore.specs.Private.Shorts.{whole_of, AreWithin};
 
     ghost Value = { List Process };
 
-    ghost view = { λ a. a.processes.items };
+    ghost view = { λ a. map (whole_of a.outputs) a.shorts };
 
-    ghost invariant = { λ a. AreStanding a.processes.items a.calls.items };
+    ghost invariant = { λ a. AreWithin a.outputs a.shorts };
+}
+
+/// A process without the part of its output that is kept among outputs.
+fn shortened(
+    alloc: Global,
+    outputs: &mut Outputs,
+    mut process: Process,
+) -> Result<Short, AllocError>
+    requires empty { slice_get outputs.old 0 ≡ Some [] }
+    ensures extends { Extends outputs.old outputs.new }
+    ensures whole { IfOk result (λ short. whole_of outputs.new short ≡ process) }
+    ensures within { IfOk result (λ short. IsWithin outputs.new short) }
+{
+    let output = process.machine().output();
+    if output.len() < PIECE {
+        return Ok(Short { before: 0, process });
+    }
+    let shared = outputs.keep(output)?;
+    let rest = Vec::from_slice(alloc, &output[shared.len..])?;
+    process.set_output(rest);
+    Ok(Short {
+        before: shared.number,
+        process,
+    })
+}
+
+/// The process of a state, with its whole output.
+fn whole_of(alloc: Global, outputs: &Outputs, short: &Short) -> Result<Process, AllocError>
+    requires empty { slice_get outputs.now 0 ≡ Some [] }
+    ensures whole { IfOk result (λ process. process ≡ whole_of outputs.now short.now) }
+{
+    let mut process = short.process.copy(alloc)?;
+    if short.before > 0 {
+        let output = outputs.whole(alloc, short.before, process.machine().output())?;
+        process.set_output(output);
+    }
+    Ok(process)
 }
 
 impl States {
@@ -41,10 +78,8 @@ impl States {
         ensures none { IfOk result (λ states. states ≡ []) }
     {
         Ok(States {
-            processes: Vec::new(alloc),
-            calls: Vec::new(alloc),
-            index: Index::new(alloc)?,
-            held: 0,
+            shorts: Shorts::new(alloc)?,
+            outputs: Outputs::new(alloc)?,
         })
     }
 
@@ -52,21 +87,27 @@ impl States {
     pub(crate) fn len(&self) -> usize
         ensures count { result ≡ length self.now }
     {
-        self.processes.len()
-    }
-
-    /// The states.
-    pub(crate) fn as_slice(&self) -> &[Process]
-        ensures states { result.now ≡ self.now }
-    {
-        self.processes.as_slice()
+        self.shorts.len()
     }
 
     /// The state with a number, if there is one.
-    pub(crate) fn get(&self, number: usize) -> Option<&Process>
-        ensures state { option_copied result ≡ slice_get self.now number }
+    pub(crate) fn get(&self, alloc: Global, number: usize) -> Result<Option<Process>, AllocError>
+        ensures state { IfOk result (λ process. process ≡ slice_get self.now number) }
     {
-        self.processes.get(number)
+        match self.shorts.get(number) {
+            Some(short) => Ok(Some(whole_of(alloc, &self.outputs, short)?)),
+            None => Ok(None),
+        }
+    }
+
+    /// The process of the state with a number, if there is one, but for its output.
+    pub(crate) fn short(&self, number: usize) -> Option<&Process>
+        ensures state { IfSome result (λ process. (s : Kept)
+            × (slice_get self.now number ≡ Some s)
+            × IsButForOutput (process_view process.now) (process_view s)) }
+    {
+        let short = self.shorts.get(number)?;
+        Some(&short.process)
     }
 
     /// The call at which the state with a number stands, if it does.
@@ -74,10 +115,8 @@ impl States {
         ensures stands { IfSome result (λ call. (s : Kept) × (slice_get self.now number ≡ Some s)
             × StandsAt (process_view s) call.now) }
     {
-        match self.calls.get(number as usize) {
-            Some(Some(call)) => Some(call),
-            _ => None,
-        }
+        let call = self.shorts.call(number)?;
+        Some(call)
     }
 
     /// Whether the process has ended in the state with a number.
@@ -85,57 +124,30 @@ impl States {
         ensures ended { IsTrue result → (s : Kept) → slice_get self.now number ≡ Some s
             → HasEnded (process_view s) }
     {
-        matches!(self.processes.get(number as usize), Some(Process::Ended(_)))
+        self.shorts.has_ended(number)
     }
 
-    /// The number of an equal state, if one is kept.
-    pub(crate) fn find(&self, process: &Process, digest: u64) -> Option<usize>
-        ensures found { IfSome result (λ i. option_map process_view (slice_get self.now i)
-            ≡ Some (process_view process.now)) }
+    /// Keeps the state of a process; with its number.
+    pub(crate) fn keep(&mut self, alloc: Global, process: Process) -> Result<u32, AllocError>
+        ensures kept { OnOk result (IsSameOrMore self.old self.new process) }
+        ensures state { IfOk result (λ i. option_map process_view (slice_get self.new i)
+            ≡ Some (process_view process)) }
     {
-        let mut number = self.index.newest(digest);
-        while number > 0 {
-            let at = number - 1;
-            if let Some(kept) = self.get(at) {
-                if kept.is_same(process) {
-                    return Some(at);
-                }
-            }
-            number = self.index.older(number);
-        }
-        None
-    }
-
-    /// Adds a state with the call at which it stands, if it does; with its number.
-    pub(crate) fn add(
-        &mut self,
-        process: Process,
-        call: Option<Call>,
-        digest: u64,
-    ) -> Result<u32, AllocError>
-        requires stands { IsStanding process call }
-        ensures added { OnOk result (self.new ≡ self.old ++ process ∷ []) }
-        ensures number { IfOk result (λ i. i ≡ length self.old) }
-    {
-        let number = place_of(self.processes.len())?;
-        self.processes.reserve(1)?;
-        self.calls.reserve(1)?;
-        self.index.add(digest)?;
-        self.held = self.held.saturating_add(process.machine().size());
-        self.processes.push_reserved(process);
-        self.calls.push_reserved(call);
+        let short = shortened(alloc, &mut self.outputs, process)?;
+        let number = self.shorts.keep(alloc, short)?;
         Ok(number)
     }
 
     /// About how many bytes they take.
     pub(crate) fn size(&self) -> usize {
-        self.held
+        self.shorts.size().saturating_add(self.outputs.size())
     }
 
-    /// Lets go of what only `find` and `add` need.
+    /// Lets go of what only `keep` needs.
     pub(crate) fn forget(&mut self, alloc: Global)
         ensures same { self.new ≡ self.old }
     {
-        self.index = Index::none(alloc);
+        self.shorts.forget(alloc);
+        self.outputs.forget(alloc);
     }
 }

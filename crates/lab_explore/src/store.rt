@@ -11,7 +11,6 @@ use crate::parents::Parents;
 use crate::row::Rows;
 use crate::states::States;
 use ipc_kernel::{Index, Kernel, Kernels};
-use lab_conditions::call_of;
 use lab_sched::Process;
 use std::alloc::{AllocError, Global};
 
@@ -125,13 +124,7 @@ impl Store {
         ensures grows { OnOk result (Grows self.old self.new) }
         ensures state { IfOk result (λ i. IsState self.new i (process_view process)) }
     {
-        let digest = process.digest();
-        if let Some(at) = self.states.find(&process, digest) {
-            let place = place_of(at)?;
-            return Ok(place);
-        }
-        let call = call_of(alloc, &process)?;
-        let place = self.states.add(process, call, digest)?;
+        let place = self.states.keep(alloc, process)?;
         Ok(place)
     }
 

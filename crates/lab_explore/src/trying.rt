@@ -130,27 +130,21 @@ fn step_on(
     }
 }
 
-/// Takes a step of a copy of a process, and its local steps after it, over a kernel.
+/// Takes a step of a process, and its local steps after it, over a kernel.
 pub(crate) fn try_step(
     alloc: Global,
     kernel: Kernel,
-    process: &Process,
+    process: Process,
     pid: usize,
     most: u32,
 ) -> Result<Tried, ExploreFault>
-    requires held { IsHeld process.now }
-    ensures stepped { IfOk result
-        (λ tried. IsStepped kernel pid (process_view process.now) tried) }
+    requires held { IsHeld process }
+    ensures stepped { IfOk result (λ tried. IsStepped kernel pid (process_view process) tried) }
 {
     if pid >= kernel.count() {
         discard(kernel);
+        discard(process);
         return Err(ExploreFault::Unvouched);
     }
-    match process.copy(alloc) {
-        Ok(process) => step_on(alloc, kernel, process, pid, most),
-        Err(_) => {
-            discard(kernel);
-            Err(ExploreFault::NoMemory)
-        }
-    }
+    step_on(alloc, kernel, process, pid, most)
 }

@@ -7,9 +7,10 @@ pub returns : goal.returns
 returns c = record {
   known =
       let t = c.args.self.now in
+      let here = c.in-Some.ensures.state in
       record {
         moves = c.in_ok-keep.ensures.known t c.requires.known.moves
-            (move_kept t c.args.kernel c.args.pid c.args.state c.args.next c.in-Some.field-0.now c.requires.kernel (sym c.in-Some.ensures.state) c.requires.next);
+            (move_kept t c.args.kernel c.args.pid c.args.state c.args.next here.0 c.requires.kernel here.1 c.requires.next);
         touches = subst (λ ts. AreTouched t ts) (sym c.in_ok-keep.ensures.touches) c.requires.known.touches;
       };
 }

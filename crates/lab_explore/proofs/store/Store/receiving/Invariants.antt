@@ -3,5 +3,5 @@ use Rattle.lab_sched.specs.Held.{process_view}
 use Rattle.lab_conditions.specs.Losses.{is_receiving}
 use Rattle.lab_explore.proofs.store.Store.receiving.Given as goal
 
-abbrev pub invariant-loop-process : goal.invariant-loop-process
-invariant-loop-process l = l.receiving.items ≡ map (λ s. is_receiving (process_view s)) (take l.process-index l.self.states)
+abbrev pub invariant-loop-number : goal.invariant-loop-number
+invariant-loop-number l = l.receiving.items ≡ map (λ s. is_receiving (process_view s)) (take l.number l.self.states)

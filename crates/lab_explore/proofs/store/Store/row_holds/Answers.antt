@@ -1,7 +1,8 @@
-use Rattle.std.proofs.Common.{◌↔◌, IsTrue, map, subst}
+use Rattle.std.proofs.Common.{◌↔◌, ◌∙◌, IsTrue, map, subst}
 use Rattle.lab_sched.specs.Held.{process_view}
 use Rattle.lab_conditions.specs.Conditions.{Holds, world_of}
-use Rattle.lab_explore.proofs.JudgedRows.{row_judged}
+use Rattle.lab_explore.specs.Private.Shorts.{silent}
+use Rattle.lab_explore.proofs.JudgedRows.{row_judged, map_twice}
 use Rattle.lab_explore.proofs.store.Store.row_holds.Goals as goal
 
 pub returns-clause-holds : goal.returns-clause-holds
@@ -12,7 +13,7 @@ returns-clause-holds c =
     let holds = c.in_ok-holds.holds in
     let processes = c.in_ok-processes.processes.items in
     row_judged t _ c.args.at condition kernel (map (λ s. process_view s.now) processes) holds c.in-Some.ensures.row c.in_ok-kernel.ensures.exactly
-    c.in_ok-processes.ensures.processes
+    (λ ss along. map_twice silent (λ s. process_view s.now) processes ∙ c.in_ok-processes.ensures.processes ss along)
     (subst (λ xs. IsTrue holds ↔ Holds condition (world_of kernel (map (λ s. process_view s.now) xs))) c.as_slice.ensures.value c.in_ok-holds.ensures.holds)
 
 pub returns-clause-wholes : goal.returns-clause-wholes

@@ -1,0 +1,37 @@
+-- States of processes without the parts of their outputs that others share.
+use Rattle.std.specs.Prelude.{◌≡◌, ◌<◌, ◌⊎◌, ℕ, All, List, [], ◌∷◌, ◌++◌, get_or, length}
+use Rattle.lab_sched.specs.declared.process.Process.{Process as Kept}
+use Rattle.lab_sched.specs.Worlds.{Process, machine_of}
+use Rattle.lab_sched.specs.Held.{process_view}
+use Rattle.lab_sched.specs.Outputs.{with_output, kept_with_output}
+use Rattle.lab_explore.specs.declared.shorts.Short.{Short}
+
+-- the process of a state: its output is one of some outputs, and what stands behind that
+abbrev pub whole_of : List (List ℕ) → Short → Kept
+whole_of os s = kept_with_output s.process (get_or os s.before [] ++ (machine_of (process_view s.process)).output)
+
+-- a state's output is one of some outputs, and what stands behind that
+abbrev pub IsWithin : List (List ℕ) → Short → Type 0
+IsWithin os s = s.before < length os
+
+-- the same of each state, where the first of the outputs is empty
+pub record AreWithin (os : List (List ℕ)) (ss : List Short) : Type 0 where
+  pub empty : (more : List (List ℕ)) × (os ≡ [] ∷ more)
+  pub each : All (IsWithin os) ss
+
+-- two states of which one is as good as the other
+pub record AreSame (s t : Short) : Type 0 where
+  pub before : s.before ≡ t.before
+  pub process : process_view s.process ≡ process_view t.process
+
+-- the same list, or one with this element more
+abbrev pub IsSameOrMore : {A : Type 0} → List A → List A → A → Type 0
+IsSameOrMore xs ys x = (ys ≡ xs) ⊎ (ys ≡ xs ++ x ∷ [])
+
+-- a process whose output is left out
+abbrev pub silent : Process → Process
+silent s = with_output s []
+
+-- processes that are the same but for their outputs
+abbrev pub IsButForOutput : Process → Process → Type 0
+IsButForOutput s t = silent s ≡ silent t
