@@ -1,5 +1,6 @@
 //! Outputs of processes, which share what they have in common.
-ghost use Rattle.std.specs.Prelude.{◌≡◌, ◌<◌, ◌≤◌, ◌+◌, [], ◌∷◌, ◌++◌, Some, IfOk, IfSome, IsTrue, get_or, length, map, slice_get, take};
+ghost use Rattle.std.specs.Prelude.{◌≡◌, ◌<◌, ◌≤◌, ◌+◌, [], ◌∷◌, ◌++◌, Some, IfOk, IfSome, IsTrue, drop, get_or, length, map, slice_get, take};
+ghost use Rattle.std.specs.Int.{w64, to_le_bytes};
 ghost use Rattle.lab_explore.specs.Private.Outputs.{AreChained, Extends, joined, outputs_of};
 
 use crate::store::place_of;
@@ -56,19 +57,44 @@ fn piece_from(before: u32, output: &[u8], at: usize) -> Piece
     Piece { before, bytes }
 }
 
+/// The eight bytes from a place on, as a word.
+#[inline(always)]
+fn word_at(bytes: &[u8], at: usize) -> u64
+    requires within { at + 8 ≤ length bytes.now }
+    ensures bytes { to_le_bytes w64 result ≡ take 8 (drop at bytes.now) }
+{
+    let mut word = [0; 8];
+    word.copy_from_slice(&bytes[at..at + 8]);
+    u64::from_le_bytes(word)
+}
+
 /// A digest that depends on a piece alone.
 fn digest_of(piece: &Piece) -> u64 {
     let mut hasher = FoldHasher::default();
     hasher.write_u32(piece.before);
-    hasher.write(&piece.bytes);
+    for word in 0..PIECE / 8 {
+        hasher.write_u64(word_at(&piece.bytes, word * 8));
+    }
     hasher.finish()
+}
+
+/// Whether pieces have the same bytes, which are compared as words.
+fn are_same(bytes: &[u8; PIECE], others: &[u8; PIECE]) -> bool
+    ensures same { IsTrue result → bytes.now ≡ others.now }
+{
+    for word in 0..PIECE / 8 {
+        if word_at(bytes, word * 8) != word_at(others, word * 8) {
+            return false;
+        }
+    }
+    true
 }
 
 /// Whether two pieces are the same.
 fn is_same(piece: &Piece, other: &Piece) -> bool
     ensures same { IsTrue result → piece.now ≡ other.now }
 {
-    piece.before == other.before && piece.bytes == other.bytes
+    piece.before == other.before && are_same(&piece.bytes, &other.bytes)
 }
 
 /// The pieces of an output, the last first.
