@@ -1,7 +1,6 @@
 -- Outputs that are made of pieces.
-use Rattle.std.proofs.Common.{◌≡◌, ◌+◌, ◌*◌, ◌<◌, ◌≤◌, ℕ, zero, suc, List, [], ◌∷◌, ◌++◌, ◌⊎◌, inl, inr, Some, None, refl, sym, ap, subst, ◌∙◌, arith, append_assoc, drop, get_or, length, slice_get, take}
-use Rattle.std.specs.Int.{w64, to_le_bytes}
-use Rattle.std.proofs.lemmas.List.{append-nil, drop-take, get_or_default, get_or_past, get_or_append_left, get_or_at, length_push, take-append-drop, take-take, take_all}
+use Rattle.std.proofs.Common.{◌≡◌, ◌+◌, ◌<◌, ◌≤◌, ℕ, zero, suc, List, [], ◌∷◌, ◌++◌, ◌⊎◌, inl, inr, Some, None, refl, sym, ap, subst, ◌∙◌, arith, append_assoc, drop, get_or, length, slice_get, take}
+use Rattle.std.proofs.lemmas.List.{append-nil, drop-take, get_or_default, get_or_past, get_or_append_left, get_or_at, length_push, take-append-drop, take-take}
 use Rattle.std.proofs.lemmas.Option.{slice_get_read, slice_get_within, get_or_from_slice_get}
 use Rattle.lab_explore.specs.declared.outputs.Piece.{Piece}
 use Rattle.lab_explore.specs.Private.Outputs.{with_piece, with_pieces, outputs_of, AreChained, Extends, joined}
@@ -175,32 +174,3 @@ path_past ps at past = let n = outputs_length ps in get_or_past (outputs_of ps) 
 pub joined_less : (path less : List Piece) (p : Piece) (bytes more whole : List ℕ) → path ≡ less ++ p ∷ [] → bytes ++ joined path ≡ whole → more ≡ bytes ++ p.bytes → more ++ joined less ≡ whole
 joined_less path less p bytes more whole taken so pushed =
     ap (λ bs. bs ++ joined less) pushed ∙ append_assoc bytes p.bytes (joined less) ∙ ap (λ bs. bytes ++ bs) (sym (ap joined taken ∙ joined_more less p)) ∙ so
-
--- one word more of bytes that are the same so far
-pub words_more : (xs ys : List ℕ) (n a b : ℕ) → take (n * 8) xs ≡ take (n * 8) ys → a ≡ b → to_le_bytes w64 a ≡ take 8 (drop (n * 8) xs) → to_le_bytes w64 b ≡ take 8 (drop (n * 8) ys)
-    → take ((n + 1) * 8) xs ≡ take ((n + 1) * 8) ys
-words_more xs ys n a b so same x y =
-    let next : (n + 1) * 8 ≡ n * 8 + 8 = omega arith in
-    let parts : take 8 (drop (n * 8) xs) ≡ take 8 (drop (n * 8) ys) = sym x ∙ ap (to_le_bytes w64) same ∙ y in
-    ap (λ k. take k xs) next ∙ take_parts xs (n * 8) 8 (take 8 (drop (n * 8) xs)) refl ∙ ap (λ front. front ++ take 8 (drop (n * 8) xs)) so ∙ ap (λ part. take (n * 8) ys ++ part) parts
-    ∙ sym (take_parts ys (n * 8) 8 (take 8 (drop (n * 8) ys)) refl) ∙ sym (ap (λ k. take k ys) next)
-
--- all words
-pub words_all : (xs ys : List ℕ) (n : ℕ) → length xs ≤ n * 8 → length ys ≤ n * 8 → take (n * 8) xs ≡ take (n * 8) ys → xs ≡ ys
-words_all xs ys n few some so = sym (take_all (n * 8) xs few) ∙ so ∙ take_all (n * 8) ys some
-
--- bytes are below 256, and so are those of a part
-take_below : (xs : List ℕ) (n : ℕ) → ((i : ℕ) → get_or xs i 0 < 256) → (i : ℕ) → get_or (take n xs) i 0 < 256
-take_below [] zero below i = below i
-take_below [] (suc n) below i = below i
-take_below (x ∷ xs) zero below i = omega arith
-take_below (x ∷ xs) (suc n) below zero = below zero
-take_below (x ∷ xs) (suc n) below (suc i) = take_below xs n (λ j. below (suc j)) i
-
-drop_below : (xs : List ℕ) (at : ℕ) → ((i : ℕ) → get_or xs i 0 < 256) → (i : ℕ) → get_or (drop at xs) i 0 < 256
-drop_below xs zero below i = below i
-drop_below [] (suc at) below i = below i
-drop_below (x ∷ xs) (suc at) below i = drop_below xs at (λ j. below (suc j)) i
-
-pub part_below : (xs bs : List ℕ) (at n : ℕ) → ((i : ℕ) → get_or xs i 0 < 256) → bs ≡ take n (drop at xs) → (i : ℕ) → get_or bs i 0 < 256
-part_below xs bs at n below is i = subst (λ ys. get_or ys i 0 < 256) (sym is) (take_below (drop at xs) n (drop_below xs at below) i)

@@ -1,6 +1,5 @@
 //! Outputs of processes, which share what they have in common.
-ghost use Rattle.std.specs.Prelude.{◌≡◌, ◌<◌, ◌≤◌, ◌+◌, [], ◌∷◌, ◌++◌, Some, IfOk, IfSome, IsTrue, drop, get_or, length, map, slice_get, take};
-ghost use Rattle.std.specs.Int.{w64, to_le_bytes};
+ghost use Rattle.std.specs.Prelude.{◌≡◌, ◌<◌, ◌≤◌, ◌+◌, [], ◌∷◌, ◌++◌, Some, IfOk, IfSome, IsTrue, get_or, length, map, slice_get, take};
 ghost use Rattle.lab_explore.specs.Private.Outputs.{AreChained, Extends, joined, outputs_of};
 
 use crate::store::place_of;
@@ -10,8 +9,8 @@ use std::hash::{FoldHasher, Hasher};
 use std::marker::Model;
 use std::mem::size_of;
 
-/// How many bytes a piece has.
-pub(crate) const PIECE: usize = 64;
+/// How many bytes a piece has: with the number of the output before it, it takes 64.
+pub(crate) const PIECE: usize = 60;
 
 /// A piece of an output: it stands behind the output with a number.
 #[derive(Clone, Copy, Drop)]
@@ -48,53 +47,28 @@ impl Model for Outputs {
 
 /// The piece of an output from a place on.
 fn piece_from(before: u32, output: &[u8], at: usize) -> Piece
-    requires within { at + 64 ≤ length output.now }
+    requires within { at + PIECE ≤ length output.now }
     ensures before { result.before ≡ before }
-    ensures bytes { take (at + 64) output.now ≡ take at output.now ++ result.bytes }
+    ensures bytes { take (at + PIECE) output.now ≡ take at output.now ++ result.bytes }
 {
     let mut bytes = [0; PIECE];
     bytes.copy_from_slice(&output[at..at + PIECE]);
     Piece { before, bytes }
 }
 
-/// The eight bytes from a place on, as a word.
-#[inline(always)]
-fn word_at(bytes: &[u8], at: usize) -> u64
-    requires within { at + 8 ≤ length bytes.now }
-    ensures bytes { to_le_bytes w64 result ≡ take 8 (drop at bytes.now) }
-{
-    let mut word = [0; 8];
-    word.copy_from_slice(&bytes[at..at + 8]);
-    u64::from_le_bytes(word)
-}
-
 /// A digest that depends on a piece alone.
 fn digest_of(piece: &Piece) -> u64 {
     let mut hasher = FoldHasher::default();
     hasher.write_u32(piece.before);
-    for word in 0..PIECE / 8 {
-        hasher.write_u64(word_at(&piece.bytes, word * 8));
-    }
+    hasher.write(&piece.bytes);
     hasher.finish()
-}
-
-/// Whether pieces have the same bytes, which are compared as words.
-fn are_same(bytes: &[u8; PIECE], others: &[u8; PIECE]) -> bool
-    ensures same { IsTrue result → bytes.now ≡ others.now }
-{
-    for word in 0..PIECE / 8 {
-        if word_at(bytes, word * 8) != word_at(others, word * 8) {
-            return false;
-        }
-    }
-    true
 }
 
 /// Whether two pieces are the same.
 fn is_same(piece: &Piece, other: &Piece) -> bool
     ensures same { IsTrue result → piece.now ≡ other.now }
 {
-    piece.before == other.before && are_same(&piece.bytes, &other.bytes)
+    piece.before == other.before && piece.bytes == other.bytes
 }
 
 /// The pieces of an output, the last first.
