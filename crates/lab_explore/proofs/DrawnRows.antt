@@ -52,7 +52,7 @@ row_at_calls t r w is row p s at = by (slice_get r.states p) (subst (λ o. Both 
   where
     by : (o : Option ℕ) → Both (IsState t) o (Some s) → IsAtCall s
     by None h = absurd h
-    by (Some i) h = let k = state_kept t i s h in subst IsAtCall k.2 (all_at IsReady t.states i k.0 is.states k.1).1
+    by (Some i) h = let k = state_kept t i s h in subst IsAtCall k.2 (all_at IsReady t.states.processes i k.0 is.states k.1).1
 
 like_at_calls : (t : Store) (i : ℕ) (w : WorldState) → IsStore t → IsLike t i w → AreAtCalls w
 like_at_calls t i w is like p s at = row_at_calls t like.1.0 like.0 is like.1.2 p s (subst (λ ps. slice_get ps p ≡ Some s) like.2.processes at)

@@ -63,7 +63,7 @@ same_state t None None (Some y) h k = absurd k
 same_state t None (Some x) b h k = absurd h
 same_state t (Some i) None b h k = absurd h
 same_state t (Some i) (Some x) None h k = absurd k
-same_state t (Some i) (Some x) (Some y) h k = ap (λ z. Some z) (same_some x y (option_map process_view (slice_get t.states i)) h k)
+same_state t (Some i) (Some x) (Some y) h k = ap (λ z. Some z) (same_some x y (option_map process_view (slice_get t.states.processes i)) h k)
 
 -- a row stands for one world
 pub row_unique : (t : Store) (r : Row) (w v : WorldState) → IsRow t r w → IsRow t r v → w ≡ v

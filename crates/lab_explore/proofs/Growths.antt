@@ -22,7 +22,7 @@ use Rattle.lab_explore.specs.declared.known.Move.{Move}
 use Rattle.ipc_kernel.specs.Kept.{GrowsKept}
 use Rattle.ipc_kernel.specs.declared.place.Place.{Place}
 use Rattle.ipc_kernel.specs.declared.process.OpenTables.{OpenTables}
-use Rattle.lab_explore.specs.Private.Shorts.{IsSameOrMore}
+use Rattle.lab_explore.specs.Private.Shorts.{Sharing, IsSameOrMore}
 use Rattle.lab_explore.specs.Private.Stored.{IsState, IsKernel, IsRow, IsAt, IsReady, IsStore, Grows, IsNext, IsMove, HasEdge, IsTried, IsExpanded}
 use Rattle.std.proofs.lemmas.List.Elements.{All-push, All-weaker}
 use Rattle.lab_explore.proofs.Pushes.{both_weaker, keeps_push, get_pushed}
@@ -53,8 +53,8 @@ kept_at None s e = absurd (cc)
 kept_at (Some k) s e = let same : process_view k ≡ s = cc in (k, refl, same)
 
 -- the state that is kept at a place
-pub state_kept : (t : Store) (i : ℕ) (s : Process) → IsState t i s → (k : Kept) × (slice_get t.states i ≡ Some k) × (process_view k ≡ s)
-state_kept t i s h = kept_at (slice_get t.states i) s h
+pub state_kept : (t : Store) (i : ℕ) (s : Process) → IsState t i s → (k : Kept) × (slice_get t.states.processes i ≡ Some k) × (process_view k ≡ s)
+state_kept t i s h = kept_at (slice_get t.states.processes i) s h
 
 pub state_grows : (t u : Store) (i : ℕ) (s : Process) → Grows t u → IsState t i s → IsState u i s
 state_grows t u i s g h =
@@ -97,7 +97,7 @@ rows_grow t u s g =
     All-weaker (λ r. (w : WorldState) × IsRow t r w) (λ r. (w : WorldState) × IsRow u r w) (λ r h. (h.0, row_grows t u r h.0 g h.1)) t.rows s.rows
 
 -- a store that has more kernels, or more states
-pub store_grows : (t u : Store) → IsStore t → Grows t u → All IsReady u.states → u.rows ≡ t.rows → IsStore u
+pub store_grows : (t u : Store) → IsStore t → Grows t u → All IsReady u.states.processes → u.rows ≡ t.rows → IsStore u
 store_grows t u s g ready same = record {
   states = ready;
   rows = subst (λ xs. All (λ r. (w : WorldState) × IsRow u r w) xs) (sym same) (rows_grow t u s g);
@@ -108,35 +108,46 @@ same_kernels : (t u : Store) → u.kernels ≡ t.kernels → GrowsKept t.kernels
 same_kernels t u same = subst (λ ks. GrowsKept t.kernels ks) (sym same) (record { objects = λ i x e. e; tables = λ i x e. e; kernels = λ i x e. e })
 
 -- one state more
-pub states_pushed : (t u : Store) (k : Kept) → IsStore t → IsReady k → u.states ≡ t.states ++ k ∷ [] → u.kernels ≡ t.kernels → u.rows ≡ t.rows
+pub states_pushed : (t u : Store) (k : Kept) → IsStore t → IsReady k → u.states.processes ≡ t.states.processes ++ k ∷ [] → u.kernels ≡ t.kernels → u.rows ≡ t.rows
     → u.edges ≡ t.edges → Grows t u × IsStore u
 states_pushed t u k s ready states kernels rows edges =
     let g : Grows t u = record {
       kernels = same_kernels t u kernels;
-      states = λ i x e. subst (λ xs. slice_get xs i ≡ Some x) (sym states) (keeps_push t.states k i x e);
+      states = λ i x e. subst (λ xs. slice_get xs i ≡ Some x) (sym states) (keeps_push t.states.processes k i x e);
       rows = λ i x e. subst (λ xs. slice_get xs i ≡ Some x) (sym rows) e;
       edges = λ i x e. subst (λ xs. slice_get xs i ≡ Some x) (sym edges) e;
     } in
-    (g, store_grows t u s g (subst (λ xs. All IsReady xs) (sym states) (All-push IsReady t.states k s.states ready)) rows)
+    (g, store_grows t u s g (subst (λ xs. All IsReady xs) (sym states) (All-push IsReady t.states.processes k s.states ready)) rows)
 
--- more kernels
-pub kernels_grown : (t u : Store) → IsStore t → GrowsKept t.kernels u.kernels → u.states ≡ t.states → u.rows ≡ t.rows → u.edges ≡ t.edges → Grows t u × IsStore u
-kernels_grown t u s kernels states rows edges =
+-- the same states, among other outputs
+states_same : (t u : Store) → IsStore t → u.states.processes ≡ t.states.processes → u.kernels ≡ t.kernels → u.rows ≡ t.rows → u.edges ≡ t.edges → Grows t u × IsStore u
+states_same t u s states kernels rows edges =
     let g : Grows t u = record {
-      kernels = kernels;
+      kernels = same_kernels t u kernels;
       states = λ i x e. subst (λ xs. slice_get xs i ≡ Some x) (sym states) e;
       rows = λ i x e. subst (λ xs. slice_get xs i ≡ Some x) (sym rows) e;
       edges = λ i x e. subst (λ xs. slice_get xs i ≡ Some x) (sym edges) e;
     } in
     (g, store_grows t u s g (subst (λ xs. All IsReady xs) (sym states) s.states) rows)
 
+-- more kernels
+pub kernels_grown : (t u : Store) → IsStore t → GrowsKept t.kernels u.kernels → u.states ≡ t.states → u.rows ≡ t.rows → u.edges ≡ t.edges → Grows t u × IsStore u
+kernels_grown t u s kernels states rows edges =
+    let g : Grows t u = record {
+      kernels = kernels;
+      states = λ i x e. subst (λ (xs : Sharing). slice_get xs.processes i ≡ Some x) (sym states) e;
+      rows = λ i x e. subst (λ xs. slice_get xs i ≡ Some x) (sym rows) e;
+      edges = λ i x e. subst (λ xs. slice_get xs i ≡ Some x) (sym edges) e;
+    } in
+    (g, store_grows t u s g (subst (λ (xs : Sharing). All IsReady xs.processes) (sym states) s.states) rows)
+
 -- the same rows
 pub rows_same : (t u : Store) → IsStore t → u.rows ≡ t.rows → u.kernels ≡ t.kernels → u.states ≡ t.states → u.edges ≡ t.edges → Grows t u × IsStore u
 rows_same t u s rows kernels states edges = kernels_grown t u s (same_kernels t u kernels) states rows edges
 
 -- a state that is kept
-pub states_kept : (t u : Store) (k : Kept) → IsStore t → IsReady k → IsSameOrMore t.states u.states k → u.kernels ≡ t.kernels → u.rows ≡ t.rows → u.edges ≡ t.edges → Grows t u × IsStore u
-states_kept t u k s ready (inl same) kernels rows edges = rows_same t u s rows kernels same edges
+pub states_kept : (t u : Store) (k : Kept) → IsStore t → IsReady k → IsSameOrMore t.states.processes u.states.processes k → u.kernels ≡ t.kernels → u.rows ≡ t.rows → u.edges ≡ t.edges → Grows t u × IsStore u
+states_kept t u k s ready (inl same) kernels rows edges = states_same t u s same kernels rows edges
 states_kept t u k s ready (inr more) kernels rows edges = states_pushed t u k s ready more kernels rows edges
 
 -- one row more
@@ -145,7 +156,7 @@ pub rows_pushed : (t u : Store) (r : Row) → IsStore t → ((w : WorldState) ×
 rows_pushed t u r s stands rows kernels states edges =
     let g : Grows t u = record {
       kernels = same_kernels t u kernels;
-      states = λ i x e. subst (λ xs. slice_get xs i ≡ Some x) (sym states) e;
+      states = λ i x e. subst (λ (xs : Sharing). slice_get xs.processes i ≡ Some x) (sym states) e;
       rows = λ i x e. subst (λ xs. slice_get xs i ≡ Some x) (sym rows) (keeps_push t.rows r i x e);
       edges = λ i x e. subst (λ xs. slice_get xs i ≡ Some x) (sym edges) e;
     } in
@@ -153,7 +164,7 @@ rows_pushed t u r s stands rows kernels states edges =
     let old = rows_grow t u s g in (
       g,
       record {
-        states = subst (λ xs. All IsReady xs) (sym states) s.states;
+        states = subst (λ (xs : Sharing). All IsReady xs.processes) (sym states) s.states;
         rows = subst (λ xs. All (λ q. (w : WorldState) × IsRow u q w) xs) (sym rows) (All-push (λ q. (w : WorldState) × IsRow u q w) t.rows r old here);
       },
     )
@@ -168,11 +179,11 @@ pub edges_pushed : (t u : Store) (e : Edge) → IsStore t → u.edges ≡ t.edge
 edges_pushed t u e s edges kernels states rows =
     let g : Grows t u = record {
       kernels = same_kernels t u kernels;
-      states = λ i x h. subst (λ xs. slice_get xs i ≡ Some x) (sym states) h;
+      states = λ i x h. subst (λ (xs : Sharing). slice_get xs.processes i ≡ Some x) (sym states) h;
       rows = λ i x h. subst (λ xs. slice_get xs i ≡ Some x) (sym rows) h;
       edges = λ i x h. subst (λ xs. slice_get xs i ≡ Some x) (sym edges) (keeps_push t.edges e i x h);
     } in
-    (g, store_grows t u s g (subst (λ xs. All IsReady xs) (sym states) s.states) rows)
+    (g, store_grows t u s g (subst (λ (xs : Sharing). All IsReady xs.processes) (sym states) s.states) rows)
 
 -- tables and an object stay what they are
 parts_grow : (t u : Store) (tables object : ℕ) (x : OpenTables) (o : Place) → Grows t u → AreParts t tables object x o → AreParts u tables object x o

@@ -36,13 +36,13 @@ use Rattle.lab_explore.proofs.KeptLosses.{never_loses}
 use Rattle.lab_explore.proofs.SilentProcesses.{holds_silently}
 
 -- the process at a place of a row's world
-row_process : (t : Store) (state : ℕ) (k : Kept) (a : Option ℕ) (b : Option Process) → a ≡ Some state → slice_get t.states state ≡ Some k → Both (IsState t) a b → b ≡ Some (process_view k)
+row_process : (t : Store) (state : ℕ) (k : Kept) (a : Option ℕ) (b : Option Process) → a ≡ Some state → slice_get t.states.processes state ≡ Some k → Both (IsState t) a b → b ≡ Some (process_view k)
 row_process t state k None b e at h = let none : None ≡ Some state = e in absurd (cc)
 row_process t state k (Some i) None e at h = absurd h
 row_process t state k (Some i) (Some s) e at h =
     let is : Some i ≡ Some state = e in
     let same : i ≡ state = cc in
-    sym h ∙ ap (λ j. option_map process_view (slice_get t.states j)) same ∙ ap (λ o. option_map process_view o) at
+    sym h ∙ ap (λ j. option_map process_view (slice_get t.states.processes j)) same ∙ ap (λ o. option_map process_view o) at
 
 -- one element more
 take_next : {A : Type 0} (xs : List A) (n : ℕ) (x : A) → slice_get xs n ≡ Some x → take (n + 1) xs ≡ take n xs ++ x ∷ []
@@ -53,7 +53,7 @@ take_next (y ∷ ys) (suc n) x at =
     ap (λ k. take k (y ∷ ys)) same ∙ ap (λ zs. y ∷ zs) (take_next ys n x at)
 
 -- processes that are the same but for their outputs as those of a row's world, and one more
-pub states_more : (t : Store) (states : List ℕ) (ss seen more : List Process) (n state : ℕ) (k : Kept) (s : Process) → Alongside (IsState t) states ss → slice_get states n ≡ Some state → slice_get t.states state ≡ Some k
+pub states_more : (t : Store) (states : List ℕ) (ss seen more : List Process) (n state : ℕ) (k : Kept) (s : Process) → Alongside (IsState t) states ss → slice_get states n ≡ Some state → slice_get t.states.processes state ≡ Some k
     → IsButForOutput s (process_view k) → seen ≡ take n (map silent ss) → more ≡ seen ++ silent s ∷ [] → more ≡ take (n + 1) (map silent ss)
 states_more t states ss seen more n state k s row place at same so pushed =
     let here = row_process t state k (slice_get states n) (slice_get ss n) place at (row n) in

@@ -41,7 +41,7 @@ both_views None = refl
 both_views (Some s) = refl
 
 -- what a process of the world of a row is about to do
-pub received_at : (t : Store) (receiving : List Bool) (at pid state : ℕ) (b : Bool) → receiving ≡ map (λ s. is_receiving (process_view s)) t.states
+pub received_at : (t : Store) (receiving : List Bool) (at pid state : ℕ) (b : Bool) → receiving ≡ map (λ s. is_receiving (process_view s)) t.states.processes
     → ((r : Row) × (slice_get t.rows at ≡ Some r) × (slice_get r.states pid ≡ Some state)) → slice_get receiving state ≡ Some b
     → (w : WorldState) (s : Process) → IsAt t at w → slice_get w.processes pid ≡ Some s → b ≡ is_receiving s
 received_at t receiving at pid state b same place read w s here there =
@@ -50,6 +50,6 @@ received_at t receiving at pid state b same place read w s here there =
     let both : Both (IsState t) (Some state) (Some s) =
     subst (λ o. Both (IsState t) o (Some s)) place.2 (subst (λ o. Both (IsState t) (slice_get place.0.states pid) o) there (world.states pid)) in
     let value : slice_get receiving state ≡ Some (is_receiving s) =
-    ap (λ bs. slice_get bs state) same ∙ slice_get-map (λ k. is_receiving (process_view k)) t.states state ∙ both_views (slice_get t.states state)
+    ap (λ bs. slice_get bs state) same ∙ slice_get-map (λ k. is_receiving (process_view k)) t.states.processes state ∙ both_views (slice_get t.states.processes state)
     ∙ ap (option_map is_receiving) both in
     same_some b (is_receiving s) (slice_get receiving state) read value

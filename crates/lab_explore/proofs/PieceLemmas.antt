@@ -151,6 +151,13 @@ part_kept os qs n m before front bytes more kept is parts added =
     let front_is : get_or os before [] ≡ front = ap (λ k. get_or os k []) is ∙ get_or_from_slice_get os n front [] kept in
     added ∙ ap (λ bs. Some (bs ++ bytes)) front_is ∙ ap (λ bs. Some bs) (sym parts)
 
+pub no_more : (os : List (List ℕ)) → Extends os os
+no_more os = ([], sym (append-nil os))
+
+-- what stands in a place, with nothing of another behind it
+pub none_kept : (os : List (List ℕ)) (n : ℕ) (out : List ℕ) → n < length os → slice_get os n ≡ Some (get_or os n [] ++ take 0 out)
+none_kept os n out within = stands os n (get_or os n [] ++ take 0 out) within (sym (append-nil (get_or os n [])))
+
 pub extends_more : (os ps qs : List (List ℕ)) → Extends os ps → Extends ps qs → Extends os qs
 extends_more os ps qs e f = (e.0 ++ f.0, f.1 ∙ ap (λ xs. xs ++ f.0) e.1 ∙ append_assoc os e.0 f.0)
 

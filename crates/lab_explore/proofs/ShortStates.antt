@@ -1,5 +1,5 @@
 -- States without the parts of their outputs that others share.
-use Rattle.std.proofs.Common.{◌≡◌, ◌-◌, ◌<◌, inl, inr, ℕ, All, List, [], ◌∷◌, ◌++◌, Option, Some, None, refl, sym, ap, subst, ◌∙◌, arith, drop, get_or, length, map, slice_get, take}
+use Rattle.std.proofs.Common.{◌≡◌, ◌-◌, ◌<◌, inl, inr, ℕ, All, List, [], ◌∷◌, ◌++◌, Option, Some, None, refl, sym, ap, subst, ◌∙◌, append_assoc, arith, drop, get_or, length, map, slice_get, take}
 use Rattle.std.specs.Option.{option_map}
 use Rattle.std.proofs.lemmas.List.{length-append, length-drop, map-append, take-append-drop, take_all}
 use Rattle.std.proofs.lemmas.List.Elements.{All-push, All-tail, All-weaker}
@@ -13,7 +13,7 @@ use Rattle.ipc_kernel.specs.declared.call.Call.{Call}
 use Rattle.lab_conditions.specs.Conditions.{StandsAt}
 use Rattle.lab_explore.specs.declared.shorts.Short.{Short}
 use Rattle.lab_explore.specs.Private.Outputs.{Extends}
-use Rattle.lab_explore.specs.Private.Shorts.{whole_of, IsWithin, AreWithin, AreSame, IsSameOrMore, silent, IsButForOutput}
+use Rattle.lab_explore.specs.Private.Shorts.{kept_behind, whole_of, IsWithin, AreWithin, AreSame, IsSameOrMore, silent, IsButForOutput}
 use Rattle.lab_explore.proofs.PieceLemmas.{extended}
 use Rattle.lab_explore.proofs.SilentProcesses.{seen_output, own_output, last_output, put_output, silent_output, stands_same, ended_same}
 
@@ -41,14 +41,16 @@ whole_alone os k s e before process =
 pub rest_of : (out : List ℕ) (len : ℕ) → take (length out - len) (drop len out) ≡ drop len out
 rest_of out len = let count = length-drop len out in take_all (length out - len) (drop len out) (omega (arith, count))
 
--- a process whose output was taken apart
-pub whole_apart : (os : List (List ℕ)) (k p : Kept) (n len : ℕ) (out rest : List ℕ) → get_or os n [] ≡ take len out → rest ≡ drop len out → out ≡ (machine_of (process_view k)).output → p ≡ kept_with_output k rest
-    → kept_with_output p (get_or os n [] ++ (machine_of (process_view p)).output) ≡ k
-whole_apart os k p n len out rest front back is set =
+-- a process whose output was taken apart, behind another output
+pub whole_apart : (os qs : List (List ℕ)) (before n len : ℕ) (k p : Kept) (out rest : List ℕ) → get_or qs n [] ≡ get_or os before [] ++ take len out → rest ≡ drop len out → out ≡ (machine_of (process_view k)).output
+    → p ≡ kept_with_output k rest → kept_behind (get_or qs n []) p ≡ kept_behind (get_or os before []) k
+whole_apart os qs before n len k p out rest front back is set =
+    let first = get_or os before [] in
     let own_rest : (machine_of (process_view p)).output ≡ rest = ap (λ x. (machine_of (process_view x)).output) set ∙ put_output k rest in
-    let all : get_or os n [] ++ (machine_of (process_view p)).output ≡ (machine_of (process_view k)).output =
-    ap (λ bs. bs ++ (machine_of (process_view p)).output) front ∙ ap (λ bs. take len out ++ bs) (own_rest ∙ back) ∙ take-append-drop len out ∙ is in
-    ap (kept_with_output p) all ∙ ap (λ x. kept_with_output x (machine_of (process_view k)).output) set ∙ last_output k rest _ ∙ own_output k
+    let all : get_or qs n [] ++ (machine_of (process_view p)).output ≡ first ++ (machine_of (process_view k)).output =
+    ap (λ bs. bs ++ (machine_of (process_view p)).output) front ∙ ap (λ bs. (first ++ take len out) ++ bs) (own_rest ∙ back) ∙ append_assoc first (take len out) (drop len out)
+    ∙ ap (λ bs. first ++ bs) (take-append-drop len out ∙ is) in
+    ap (kept_with_output p) all ∙ ap (λ x. kept_with_output x (first ++ (machine_of (process_view k)).output)) set ∙ last_output k rest _
 
 -- as it is seen
 whole_seen : (os : List (List ℕ)) (s : Short) → process_view (whole_of os s) ≡ with_output (process_view s.process) (get_or os s.before [] ++ own s)

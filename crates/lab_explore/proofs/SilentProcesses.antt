@@ -47,7 +47,7 @@ same_service service.SemTrywait p o = refl
 same_service service.SemPost p o = refl
 same_service service.SemGetvalue p o = refl
 
-same_trap : (s : Option Service) (p : Machine) (o : List ℕ) → trap_request s (with_whole_output p o) ≡ trap_request s p
+pub same_trap : (s : Option Service) (p : Machine) (o : List ℕ) → trap_request s (with_whole_output p o) ≡ trap_request s p
 same_trap None p o = refl
 same_trap (Some s) p o = same_service s p o
 

@@ -43,7 +43,7 @@ own_at t is None (Some y) h = absurd h
 own_at t is (Some i) None h = absurd h
 own_at t is (Some i) (Some s) h =
     let k = state_kept t i s h in
-    let ahead : IsAhead s s = record { taken = zero; local = refl; at_call = subst IsAtCall k.2 (all_at IsReady t.states i k.0 is.states k.1).1 } in
+    let ahead : IsAhead s s = record { taken = zero; local = refl; at_call = subst IsAtCall k.2 (all_at IsReady t.states.processes i k.0 is.states k.1).1 } in
     record { ahead = ahead; few = omega arith }
 
 -- a world that a row stands for is its own advance
@@ -62,7 +62,7 @@ next_of t i p kernel state n placed move w here =
 pub move_from : (t : Store) (kernel p state : ℕ) (n : Next) → IsMove t kernel p state n → IsMoveFrom t kernel p state n
 move_from t kernel p state n m k s at settled here =
     let k-is : m.0 ≡ k = same_some m.0 k (slice_get t.kernels.kernels kernel) m.2 at in
-    let s-is : m.1 ≡ s = same_some m.1 s (option_map process_view (slice_get t.states state)) m.3 here in
+    let s-is : m.1 ≡ s = same_some m.1 s (option_map process_view (slice_get t.states.processes state)) m.3 here in
     subst (λ j. IsNext t j p s n) k-is (subst (λ x. IsNext t m.0 p x n) s-is (m.4 (subst IsSettled (sym k-is) settled)))
 
 -- what a process does next, where that is a step
@@ -70,7 +70,7 @@ pub next_to : (t : Store) (i p kernel state taken : ℕ) (n : Next) → n ≡ To
 next_to t i p kernel state taken n is next = (taken, subst (λ m. IsNextAt t i p m) is next)
 
 -- the move from a kernel and a state that are kept
-pub move_kept : (t : Store) (kernel p state : ℕ) (n : Next) (x : Kept) → (k : KernelState) × IsExactly t kernel k → slice_get t.states state ≡ Some x → IsMoveFrom t kernel p state n
+pub move_kept : (t : Store) (kernel p state : ℕ) (n : Next) (x : Kept) → (k : KernelState) × IsExactly t kernel k → slice_get t.states.processes state ≡ Some x → IsMoveFrom t kernel p state n
     → IsMove t kernel p state n
 move_kept t kernel p state n x k is m =
     let here : IsState t state (process_view x) = ap (option_map process_view) is in (k.0, process_view x, k.1, here, λ settled. m k.0 (process_view x) k.1 settled here)

@@ -44,7 +44,7 @@ stands_once (Ended e) c d a b = absurd a
 same_touch : (t : Store) (k : KernelState) (p : ℕ) (touch : Touch) (s : Process) (x : OpenTables) (o : Place) (c : Call) → IsState t touch.state s → AreParts t touch.tables touch.object x o → StandsAt s c
     → HasTouch t k p touch → HasOperand k p touch.place x o × (operand_in k x c ≡ Some touch.place)
 same_touch t k p touch s x o c state parts stands has =
-    let s-is : has.process ≡ s = same_some has.process s (option_map process_view (slice_get t.states touch.state)) has.state state in
+    let s-is : has.process ≡ s = same_some has.process s (option_map process_view (slice_get t.states.processes touch.state)) has.state state in
     let x-is : has.tables ≡ x = same_some has.tables x (slice_get t.kernels.tables touch.tables) has.parts.0 parts.0 in
     let o-is : has.object ≡ o = same_some has.object o (slice_get t.kernels.objects touch.object) has.parts.1 parts.1 in
     let c-is : has.call ≡ c = stands_once s has.call c (subst (λ r. StandsAt r has.call) s-is has.stands) stands in (
@@ -59,7 +59,7 @@ touched_made t u k p s touch e g settled state has made =
     let x = has.tables in
     let o = has.object in
     let c = has.call in
-    let s-is : has.process ≡ s = same_some has.process s (option_map process_view (slice_get t.states touch.state)) has.state state in
+    let s-is : has.process ≡ s = same_some has.process s (option_map process_view (slice_get t.states.processes touch.state)) has.state state in
     let stands : StandsAt s c = subst (λ r. StandsAt r c) s-is has.stands in (
       s,
       x,
@@ -121,7 +121,7 @@ pub move_by_touch : (t u : Store) (kernel p state : ℕ) (n : Next) (touch : Tou
 move_by_touch t u kernel p state n touch e j g exact same has h by k s at settled here =
     let k-is : j ≡ k = same_some j k (slice_get u.kernels.kernels kernel) (g.kernels.kernels kernel j exact) at in
     let state-is : IsState u touch.state s = subst (λ i. IsState u i s) (sym same) here in
-    let s-is : h.0 ≡ s = same_some h.0 s (option_map process_view (slice_get u.states touch.state)) (state_grows t u touch.state h.0 g h.4) state-is in
+    let s-is : h.0 ≡ s = same_some h.0 s (option_map process_view (slice_get u.states.processes touch.state)) (state_grows t u touch.state h.0 g h.4) state-is in
     let fixed : IsSettled j = subst IsSettled (sym k-is) settled in
     let there = same_touch t j p touch h.0 h.1 h.2 h.3 h.4 h.5 h.6 has in
     let next = by j h.0 exact fixed (h.7 j p fixed there.0 there.1) in
@@ -151,7 +151,7 @@ ended_still k p (Running m) ended goes = absurd ended
 ended_still k p (Waiting m c) ended goes = absurd ended
 ended_still k p (Ended e) ended goes = goes
 
-pub move_of_ended : (t : Store) (kernel p state : ℕ) → ((s : Kept) → slice_get t.states state ≡ Some s → HasEnded (process_view s)) → IsMoveFrom t kernel p state next.Nothing
+pub move_of_ended : (t : Store) (kernel p state : ℕ) → ((s : Kept) → slice_get t.states.processes state ≡ Some s → HasEnded (process_view s)) → IsMoveFrom t kernel p state next.Nothing
 move_of_ended t kernel p state ended k s at settled here =
     let kept = state_kept t state s here in
     ended_still k p s (subst HasEnded kept.2 (ended kept.0 kept.1))

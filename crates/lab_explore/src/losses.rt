@@ -32,7 +32,7 @@ impl Store {
     /// Whether the process of each state is about to receive a message.
     fn receiving(&self, alloc: Global) -> Result<Vec<bool>, ExploreFault>
         ensures receiving { IfOk result (λ receiving. receiving.items
-            ≡ map (λ s. is_receiving (process_view s)) self.now.states) }
+            ≡ map (λ s. is_receiving (process_view s)) self.now.states.processes) }
     {
         let mut receiving = Vec::with_capacity(alloc, self.states.len())?;
         for number in 0..self.states.len() {
@@ -63,7 +63,7 @@ impl Store {
     /// Whether process `pid` is about to receive a message in the world of a row.
     fn receives_at(&self, receiving: &[bool], at: u32, pid: u32) -> Result<bool, ExploreFault>
         requires receiving { receiving.now
-            ≡ map (λ s. is_receiving (process_view s)) self.now.states }
+            ≡ map (λ s. is_receiving (process_view s)) self.now.states.processes }
         ensures receives { IfOk result (λ receives. (w : WorldState) (s : Seen)
             → IsAt self.now at w → slice_get w.processes pid ≡ Some s
             → receives ≡ is_receiving s) }
@@ -86,7 +86,7 @@ impl Store {
     ) -> Result<bool, ExploreFault>
         requires counts { counts.now ≡ map messages self.now.kernels.kernels }
         requires receiving { receiving.now
-            ≡ map (λ s. is_receiving (process_view s)) self.now.states }
+            ≡ map (λ s. is_receiving (process_view s)) self.now.states.processes }
         ensures no { IfOk result (λ loses. loses ≡ false → IsLoss self.now edge.now → ⊥) }
     {
         let before = self.messages_at(counts, edge.from)?;

@@ -1,17 +1,21 @@
 //! Steps that a search makes, and what it keeps of them.
-ghost use Rattle.std.specs.Prelude.{ℕ, IfOk, IfSome, OnOk};
+ghost use Rattle.std.specs.Prelude.{ℕ, ◌<◌, IfOk, IfSome, OnOk, length};
 ghost use Rattle.ipc_kernel.specs.Kernel.{KernelState};
 ghost use Rattle.lab_sched.specs.Worlds.{Process as Seen};
+ghost use Rattle.lab_sched.specs.Held.{process_view, IsHeld};
 ghost use Rattle.lab_explore.specs.declared.trying.Tried.TheVariants.{Came};
 ghost use Rattle.lab_explore.specs.Private.Known.{AreKnown};
-ghost use Rattle.lab_explore.specs.Private.Stored.{IsExactly, IsReady, IsStore, Grows, IsNext, IsMove, IsMoveFrom, IsStepped, IsKeptStep};
+ghost use Rattle.lab_explore.specs.Private.Shorts.{behind};
+ghost use Rattle.lab_explore.specs.Private.Stored.{IsExactly, IsReady, IsStore, Grows, IsNext, IsMove, IsMoveFrom, IsStepped, IsKeptStep, output_at};
 ghost use Rattle.lab_explore.specs.Private.Touched.{HasTouch, IsOutcome, IsTouched, AreTouched};
 
 use crate::ExploreFault;
 use crate::known::Moves;
+use crate::shorts::Short;
 use crate::store::{Next, Store};
 use crate::touches::{Effect, Touch, Touches};
 use crate::trying::{Made, Tried, discard, try_step};
+use lab_sched::Process;
 use std::alloc::{AllocError, Global};
 
 /// So many worlds are few: each move between them is kept. A picture has fewer.
@@ -21,27 +25,24 @@ const FEW: usize = 1_024;
 const RETURNS: usize = 4;
 
 impl Store {
-    /// What comes of a step of process `pid` in a state that is kept, over a kernel that is kept.
+    /// What comes of a step of process `pid`, over a kernel that is kept.
     fn try_next(
         &self,
         alloc: Global,
         kernel: u32,
         pid: u32,
-        state: u32,
+        process: &Process,
         most: u32,
     ) -> Result<Tried, ExploreFault>
-        requires store { IsStore self.now }
-        ensures tried { IfOk result (λ tried. IsKeptStep self.now kernel pid state tried) }
+        requires held { IsHeld process.now }
+        ensures tried { IfOk result (λ tried.
+            IsKeptStep self.now kernel pid (process_view process.now) tried) }
     {
         let Some(kernel) = self.kernels.get(alloc, kernel)? else {
             return Err(ExploreFault::Unvouched);
         };
-        match self.states.get(alloc, state as usize) {
-            Ok(Some(process)) => try_step(alloc, kernel, process, pid as usize, most),
-            Ok(None) => {
-                discard(kernel);
-                Err(ExploreFault::Unvouched)
-            }
+        match process.copy(alloc) {
+            Ok(process) => try_step(alloc, kernel, process, pid as usize, most),
             Err(_) => {
                 discard(kernel);
                 Err(ExploreFault::NoMemory)
@@ -49,31 +50,33 @@ impl Store {
         }
     }
 
-    /// Keeps the kernel, but for the numbers of its places, and the state that came of a step.
-    fn keep_made(&mut self, alloc: Global, made: Made) -> Result<Next, ExploreFault>
+    /// Keeps the kernel, but for the numbers of its places, and the state that came of a step, where
+    /// the process has written an output that is kept before its own.
+    fn keep_made(&mut self, alloc: Global, before: u32, made: Made) -> Result<Next, ExploreFault>
         requires store { IsStore self.old }
+        requires within { before < length self.old.states.outputs }
         requires ready { IsReady made.process }
         ensures store { OnOk result (IsStore self.new) }
         ensures grows { OnOk result (Grows self.old self.new) }
         ensures next { IfOk result (λ next. (k : KernelState) (p : ℕ) (s : Seen)
-            → IsStepped k p s (Came made) → IsNext self.new k p s next) }
+            → IsStepped k p s (Came made)
+            → IsNext self.new k p (behind (output_at self.old before) s) next) }
     {
         let Made {
             kernel,
             process,
             taken,
         } = made;
-        let number = self.keep_alike(alloc, &kernel);
-        discard(kernel);
-        match number {
+        match self.keep_behind(alloc, Short { before, process }) {
             Err(_) => {
-                discard(process);
+                discard(kernel);
                 Err(ExploreFault::NoMemory)
             }
-            Ok(kernel) => {
-                let state = self.keep_state(alloc, process)?;
+            Ok(state) => {
+                let number = self.keep_alike(alloc, &kernel);
+                discard(kernel);
                 Ok(Next::To {
-                    kernel,
+                    kernel: number?,
                     state,
                     taken,
                 })
@@ -95,47 +98,54 @@ impl Store {
         ensures grows { OnOk result (Grows self.old self.new) }
         ensures next { IfOk result (λ next. IsMove self.new kernel pid state next) }
     {
-        match self.try_next(alloc, kernel, pid, state, most) {
+        let Some(short) = self.states.parts(state as usize) else {
+            return Err(ExploreFault::Unvouched);
+        };
+        let before = short.before;
+        match self.try_next(alloc, kernel, pid, &short.process, most) {
             Ok(Tried::Still) => Ok(Next::Nothing),
             Ok(Tried::Runs) => Ok(Next::Limit),
             Ok(Tried::Came(made)) => {
-                let next = self.keep_made(alloc, made)?;
+                let next = self.keep_made(alloc, before, made)?;
                 Ok(next)
             }
             Err(fault) => Err(fault),
         }
     }
 
-    /// Keeps the kernel and the state that came of a step of process `pid`; with the numbers of its
-    /// tables and of the object in a place.
+    /// Keeps the kernel and the state that came of a step of process `pid`, where it has written an
+    /// output that is kept before its own; with the numbers of its tables and of the object in a place.
     fn keep_parts(
         &mut self,
         alloc: Global,
+        before: u32,
         made: Made,
         pid: u32,
         place: u8,
     ) -> Result<Effect, ExploreFault>
         requires store { IsStore self.old }
+        requires within { before < length self.old.states.outputs }
         requires ready { IsReady made.process }
         ensures store { OnOk result (IsStore self.new) }
         ensures grows { OnOk result (Grows self.old self.new) }
         ensures effect { IfOk result (λ effect. (k : KernelState) (s : Seen)
-            → IsStepped k pid s (Came made) → IsOutcome self.new k pid s place effect) }
+            → IsStepped k pid s (Came made)
+            → IsOutcome self.new k pid (behind (output_at self.old before) s) place effect) }
     {
         let Made {
             kernel,
             process,
             taken,
         } = made;
-        let number = self.keep_kernel(alloc, &kernel);
-        discard(kernel);
-        match number {
+        match self.keep_behind(alloc, Short { before, process }) {
             Err(_) => {
-                discard(process);
+                discard(kernel);
                 Err(ExploreFault::NoMemory)
             }
-            Ok(kernel) => {
-                let state = self.keep_state(alloc, process)?;
+            Ok(state) => {
+                let number = self.keep_kernel(alloc, &kernel);
+                discard(kernel);
+                let kernel = number?;
                 let Some(tables) = self.kernels.tables_at(kernel, pid as usize) else {
                     return Err(ExploreFault::Unvouched);
                 };
@@ -168,11 +178,15 @@ impl Store {
         ensures grows { OnOk result (Grows self.old self.new) }
         ensures touched { IfOk result (λ effect. IsTouched self.new touch effect) }
     {
-        match self.try_next(alloc, kernel, pid, touch.state, most) {
+        let Some(short) = self.states.parts(touch.state as usize) else {
+            return Err(ExploreFault::Unvouched);
+        };
+        let before = short.before;
+        match self.try_next(alloc, kernel, pid, &short.process, most) {
             Ok(Tried::Still) => Ok(Effect::Nothing),
             Ok(Tried::Runs) => Ok(Effect::Limit),
             Ok(Tried::Came(made)) => {
-                let effect = self.keep_parts(alloc, made, pid, touch.place)?;
+                let effect = self.keep_parts(alloc, before, made, pid, touch.place)?;
                 Ok(effect)
             }
             Err(fault) => Err(fault),

@@ -1,5 +1,5 @@
 //! Outputs of processes, which share what they have in common.
-ghost use Rattle.std.specs.Prelude.{◌≡◌, ◌<◌, ◌≤◌, ◌+◌, [], ◌∷◌, ◌++◌, Some, IfOk, IfSome, IsTrue, get_or, length, map, slice_get, take};
+ghost use Rattle.std.specs.Prelude.{◌≡◌, ◌<◌, ◌≤◌, ◌+◌, [], ◌∷◌, ◌++◌, Some, IfOk, IfSome, IsTrue, drop, get_or, length, map, slice_get, take};
 ghost use Rattle.lab_explore.specs.Private.Outputs.{AreChained, Extends, joined, outputs_of};
 
 use crate::store::place_of;
@@ -19,7 +19,7 @@ pub(crate) struct Piece {
     pub bytes: [u8; PIECE],
 }
 
-/// The number of an output, and how many bytes it has.
+/// The number of an output, and how many bytes of it are new.
 #[derive(Clone, Copy, Drop)]
 pub(crate) struct Shared {
     pub number: u32,
@@ -171,15 +171,15 @@ impl Outputs {
         place_of(number)
     }
 
-    /// Keeps as much of an output as is made of whole pieces.
-    pub(crate) fn keep(&mut self, output: &[u8]) -> Result<Shared, AllocError>
-        requires empty { slice_get self.old 0 ≡ Some [] }
+    /// Keeps the output with a number and behind it as much of another as is made of whole pieces.
+    pub(crate) fn keep(&mut self, before: u32, output: &[u8]) -> Result<Shared, AllocError>
+        requires before { before < length self.old }
         ensures extends { Extends self.old self.new }
         ensures kept { IfOk result (λ shared. slice_get self.new shared.number
-            ≡ Some (take shared.len output.now)) }
+            ≡ Some (get_or self.old before [] ++ take shared.len output.now)) }
         ensures within { IfOk result (λ shared. shared.len ≤ length output.now) }
     {
-        let mut number = 0;
+        let mut number = before;
         let mut len = 0;
         while output.len() - len >= PIECE {
             number = self.keep_piece(piece_from(number, output, len))?;

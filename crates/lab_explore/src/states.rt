@@ -24,34 +24,31 @@ pub(crate) struct States {
 }
 
 impl Model for States {
-    ghost use Rattle.std.specs.Prelude.{All, List, map};
-    ghost use Rattle.lab_sched.specs.declared.process.Process.{Process};
-    ghost use Rattle.lab_explore.specs.Private.Shorts.{whole_of, AreWithin};
+    ghost use Rattle.std.specs.Prelude.{map};
+    ghost use Rattle.lab_explore.specs.Private.Shorts.{whole_of, AreWithin, Sharing};
 
-    ghost Value = { List Process };
+    ghost Value = { Sharing };
 
-    ghost view = { λ a. map (whole_of a.outputs) a.shorts };
+    ghost view = { λ a.
+        record { processes = map (whole_of a.outputs) a.shorts; outputs = a.outputs } };
 
     ghost invariant = { λ a. AreWithin a.outputs a.shorts };
 }
 
-/// A process without the part of its output that is kept among outputs.
-fn shortened(
-    alloc: Global,
-    outputs: &mut Outputs,
-    mut process: Process,
-) -> Result<Short, AllocError>
-    requires empty { slice_get outputs.old 0 ≡ Some [] }
+/// The same state, of whose output each whole piece is kept among outputs.
+fn shortened(alloc: Global, outputs: &mut Outputs, short: Short) -> Result<Short, AllocError>
+    requires within { IsWithin outputs.old short }
     ensures extends { Extends outputs.old outputs.new }
-    ensures whole { IfOk result (λ short. whole_of outputs.new short ≡ process) }
-    ensures within { IfOk result (λ short. IsWithin outputs.new short) }
+    ensures whole { IfOk result (λ kept. whole_of outputs.new kept ≡ whole_of outputs.old short) }
+    ensures within { IfOk result (λ kept. IsWithin outputs.new kept) }
 {
-    let output = process.machine().output();
+    let output = short.process.machine().output();
     if output.len() < PIECE {
-        return Ok(Short { before: 0, process });
+        return Ok(short);
     }
-    let shared = outputs.keep(output)?;
+    let shared = outputs.keep(short.before, output)?;
     let rest = Vec::from_slice(alloc, &output[shared.len..])?;
+    let mut process = short.process;
     process.set_output(rest);
     Ok(Short {
         before: shared.number,
@@ -75,7 +72,7 @@ fn whole_of(alloc: Global, outputs: &Outputs, short: &Short) -> Result<Process, 
 impl States {
     /// No state.
     pub(crate) fn new(alloc: Global) -> Result<States, AllocError>
-        ensures none { IfOk result (λ states. states ≡ []) }
+        ensures none { IfOk result (λ states. states.processes ≡ []) }
     {
         Ok(States {
             shorts: Shorts::new(alloc)?,
@@ -85,14 +82,14 @@ impl States {
 
     /// How many there are.
     pub(crate) fn len(&self) -> usize
-        ensures count { result ≡ length self.now }
+        ensures count { result ≡ length self.now.processes }
     {
         self.shorts.len()
     }
 
     /// The state with a number, if there is one.
     pub(crate) fn get(&self, alloc: Global, number: usize) -> Result<Option<Process>, AllocError>
-        ensures state { IfOk result (λ process. process ≡ slice_get self.now number) }
+        ensures state { IfOk result (λ process. process ≡ slice_get self.now.processes number) }
     {
         match self.shorts.get(number) {
             Some(short) => Ok(Some(whole_of(alloc, &self.outputs, short)?)),
@@ -100,10 +97,19 @@ impl States {
         }
     }
 
+    /// The state with a number, if there is one: the number of an output, and the process behind it.
+    pub(crate) fn parts(&self, number: usize) -> Option<&Short>
+        ensures whole { IfSome result (λ short. slice_get self.now.processes number
+            ≡ Some (whole_of self.now.outputs short.now)) }
+        ensures within { IfSome result (λ short. IsWithin self.now.outputs short.now) }
+    {
+        self.shorts.get(number)
+    }
+
     /// The process of the state with a number, if there is one, but for its output.
     pub(crate) fn short(&self, number: usize) -> Option<&Process>
         ensures state { IfSome result (λ process. (s : Kept)
-            × (slice_get self.now number ≡ Some s)
+            × (slice_get self.now.processes number ≡ Some s)
             × IsButForOutput (process_view process.now) (process_view s)) }
     {
         let short = self.shorts.get(number)?;
@@ -112,7 +118,8 @@ impl States {
 
     /// The call at which the state with a number stands, if it does.
     pub(crate) fn call(&self, number: u32) -> Option<&Call>
-        ensures stands { IfSome result (λ call. (s : Kept) × (slice_get self.now number ≡ Some s)
+        ensures stands { IfSome result (λ call. (s : Kept)
+            × (slice_get self.now.processes number ≡ Some s)
             × StandsAt (process_view s) call.now) }
     {
         let call = self.shorts.call(number)?;
@@ -121,19 +128,34 @@ impl States {
 
     /// Whether the process has ended in the state with a number.
     pub(crate) fn has_ended(&self, number: u32) -> bool
-        ensures ended { IsTrue result → (s : Kept) → slice_get self.now number ≡ Some s
+        ensures ended { IsTrue result → (s : Kept) → slice_get self.now.processes number ≡ Some s
             → HasEnded (process_view s) }
     {
         self.shorts.has_ended(number)
     }
 
+    /// Keeps a state, which is the process behind an output that is kept; with its number.
+    pub(crate) fn keep_behind(&mut self, alloc: Global, short: Short) -> Result<u32, AllocError>
+        requires within { IsWithin self.old.outputs short }
+        ensures kept { OnOk result (IsSameOrMore self.old.processes self.new.processes
+            (whole_of self.old.outputs short)) }
+        ensures state { IfOk result (λ i. option_map process_view
+            (slice_get self.new.processes i)
+            ≡ Some (process_view (whole_of self.old.outputs short))) }
+    {
+        let short = shortened(alloc, &mut self.outputs, short)?;
+        let number = self.shorts.keep(alloc, short)?;
+        Ok(number)
+    }
+
     /// Keeps the state of a process; with its number.
     pub(crate) fn keep(&mut self, alloc: Global, process: Process) -> Result<u32, AllocError>
-        ensures kept { OnOk result (IsSameOrMore self.old self.new process) }
-        ensures state { IfOk result (λ i. option_map process_view (slice_get self.new i)
+        ensures kept { OnOk result (IsSameOrMore self.old.processes self.new.processes process) }
+        ensures state { IfOk result (λ i. option_map process_view
+            (slice_get self.new.processes i)
             ≡ Some (process_view process)) }
     {
-        let short = shortened(alloc, &mut self.outputs, process)?;
+        let short = shortened(alloc, &mut self.outputs, Short { before: 0, process })?;
         let number = self.shorts.keep(alloc, short)?;
         Ok(number)
     }

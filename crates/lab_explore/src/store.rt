@@ -3,12 +3,14 @@ ghost use Rattle.std.specs.Prelude.{◌≡◌, ◌<◌, false, Some, IsTrue, IfO
 ghost use Rattle.ipc_kernel.specs.Kernel.{IsSettled};
 ghost use Rattle.lab_sched.specs.Held.{process_view};
 ghost use Rattle.lab_explore.specs.declared.store.Next.TheVariants.{Nothing};
+ghost use Rattle.lab_explore.specs.Private.Shorts.{whole_of, IsWithin};
 ghost use Rattle.lab_explore.specs.Private.Stored.{IsExactly, IsState, IsKernel, IsReady, IsStore, Grows};
 
 use crate::edges::Edges;
 use crate::known::Moves;
 use crate::parents::Parents;
 use crate::row::Rows;
+use crate::shorts::Short;
 use crate::states::States;
 use ipc_kernel::{Index, Kernel, Kernels};
 use lab_sched::Process;
@@ -125,6 +127,22 @@ impl Store {
         ensures state { IfOk result (λ i. IsState self.new i (process_view process)) }
     {
         let place = self.states.keep(alloc, process)?;
+        Ok(place)
+    }
+
+    /// Keeps the state of a process at a call, which has written an output that is kept and its own
+    /// behind that; with its place.
+    pub(crate) fn keep_behind(&mut self, alloc: Global, short: Short) -> Result<u32, AllocError>
+        requires store { IsStore self.old }
+        requires within { IsWithin self.old.states.outputs short }
+        requires ready { IsReady (whole_of self.old.states.outputs short) }
+        ensures store { OnOk result (IsStore self.new) }
+        ensures grows { OnOk result (Grows self.old self.new) }
+        ensures kernels { self.new.kernels ≡ self.old.kernels }
+        ensures state { IfOk result (λ i.
+            IsState self.new i (process_view (whole_of self.old.states.outputs short))) }
+    {
+        let place = self.states.keep_behind(alloc, short)?;
         Ok(place)
     }
 

@@ -17,7 +17,7 @@ pub enum Process {
 
 impl Process {
     ghost use Rattle.lab_sched.specs.Held.{process_view};
-    ghost use Rattle.lab_sched.specs.Outputs.{kept_with_output};
+    ghost use Rattle.lab_sched.specs.Outputs.{kept_with_output, with_output};
 
     /// The machine of the process, whatever its status.
     #[inline]
@@ -56,6 +56,7 @@ impl Process {
     /// Puts this output in the place of the process's own.
     pub fn set_output(&mut self, output: Vec<u8>)
         ensures output { self.new ≡ kept_with_output self.old output.items }
+        ensures seen { process_view self.new ≡ with_output (process_view self.old) output.items }
     {
         match self {
             Process::Running(running) => running.set_output(output),

@@ -6,9 +6,22 @@ use Rattle.lab_sched.specs.Held.{process_view}
 use Rattle.lab_sched.specs.Outputs.{with_output, kept_with_output}
 use Rattle.lab_explore.specs.declared.shorts.Short.{Short}
 
+-- a process that has written these bytes before its own output
+abbrev pub behind : List ℕ → Process → Process
+behind o s = with_output s (o ++ (machine_of s).output)
+
+-- the same of a process that is kept
+abbrev pub kept_behind : List ℕ → Kept → Kept
+kept_behind o k = kept_with_output k (o ++ (machine_of (process_view k)).output)
+
 -- the process of a state: its output is one of some outputs, and what stands behind that
 abbrev pub whole_of : List (List ℕ) → Short → Kept
-whole_of os s = kept_with_output s.process (get_or os s.before [] ++ (machine_of (process_view s.process)).output)
+whole_of os s = kept_behind (get_or os s.before []) s.process
+
+-- the processes in states that are kept, and the outputs that they share
+pub record Sharing : Type 0 where
+  pub processes : List Kept
+  pub outputs : List (List ℕ)
 
 -- a state's output is one of some outputs, and what stands behind that
 abbrev pub IsWithin : List (List ℕ) → Short → Type 0

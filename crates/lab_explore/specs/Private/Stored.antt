@@ -1,5 +1,5 @@
 -- What a search keeps: kernels, states of processes, and worlds as places among these.
-use Rattle.std.specs.Prelude.{ℕ, ◌≡◌, ◌<◌, ◌^◌, List, Option, Some, None, All, length, slice_get}
+use Rattle.std.specs.Prelude.{ℕ, ◌≡◌, ◌<◌, ◌^◌, List, [], Option, Some, None, All, get_or, length, slice_get}
 use Rattle.std.specs.Option.{option_map}
 use Rattle.ipc_kernel.specs.Kernel.{KernelState, IsSettled}
 use Rattle.ipc_kernel.specs.Kept.{GrowsKept}
@@ -25,7 +25,11 @@ Keeps {A} xs ys = (i : ℕ) (x : A) → slice_get xs i ≡ Some x → slice_get 
 
 -- the state at a place
 abbrev pub IsState : Store → ℕ → Process → Type 0
-IsState t i s = option_map process_view (slice_get t.states i) ≡ Some s
+IsState t i s = option_map process_view (slice_get t.states.processes i) ≡ Some s
+
+-- the output with this number
+abbrev pub output_at : Store → ℕ → List ℕ
+output_at t n = get_or t.states.outputs n []
 
 -- the kernel with this number
 abbrev pub IsExactly : Store → ℕ → KernelState → Type 0
@@ -51,13 +55,13 @@ IsReady s = IsHeld s × IsAtCall (process_view s)
 
 -- each row stands for a world
 pub record IsStore (t : Store) : Type 0 where
-  pub states : All IsReady t.states
+  pub states : All IsReady t.states.processes
   pub rows : All (λ r. (w : WorldState) × IsRow t r w) t.rows
 
 -- nothing is lost
 pub record Grows (t u : Store) : Type 0 where
   pub kernels : GrowsKept t.kernels u.kernels
-  pub states : Keeps t.states u.states
+  pub states : Keeps t.states.processes u.states.processes
   pub rows : Keeps t.rows u.rows
   pub edges : Keeps t.edges u.edges
 
@@ -136,11 +140,10 @@ IsStepped k p s (Came made) =
     × IsReached (step_of k p s).process (process_view made.process)
     × GoesOn (step_effect k p (Some s))
 
--- the same where the kernel and the process are given by their places
-abbrev pub IsKeptStep : Store → ℕ → ℕ → ℕ → Tried → Type 0
-IsKeptStep t kernel p state tried =
-    (k : KernelState) × (s : Process) × IsExactly t kernel k × IsSettled k × IsState t state s
-    × IsStepped k p s tried
+-- the same where the kernel is given by its place
+abbrev pub IsKeptStep : Store → ℕ → ℕ → Process → Tried → Type 0
+IsKeptStep t kernel p s tried =
+    (k : KernelState) × IsExactly t kernel k × IsSettled k × IsStepped k p s tried
 
 -- all local steps of a process, if it may take so many
 abbrev pub IsRun : KernelState → Process → Option Made → Type 0

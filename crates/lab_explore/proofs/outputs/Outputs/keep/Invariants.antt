@@ -1,4 +1,4 @@
-use Rattle.std.proofs.Common.{◌≡◌, ◌≤◌, ◌-◌, Some, length, slice_get, take}
+use Rattle.std.proofs.Common.{◌≡◌, ◌≤◌, ◌-◌, ◌++◌, [], Some, get_or, length, slice_get, take}
 use Rattle.lab_explore.specs.Private.Outputs.{Extends}
 use Rattle.lab_explore.proofs.outputs.Outputs.keep.Given as goal
 
@@ -6,7 +6,7 @@ abbrev pub invariant-loop-len : goal.invariant-loop-len
 invariant-loop-len l = record {
   extends : Extends l.fn.self l.self;
   within : l.len ≤ length l.output;
-  kept : slice_get l.self l.number ≡ Some (take l.len l.output);
+  kept : slice_get l.self l.number ≡ Some (get_or l.fn.self l.before [] ++ take l.len l.output);
 }
 
 abbrev pub decreases-loop-len : goal.decreases-loop-len

@@ -4,4 +4,4 @@ use Rattle.lab_conditions.specs.Losses.{is_receiving}
 use Rattle.lab_explore.proofs.store.Store.receiving.Given as goal
 
 abbrev pub invariant-loop-number : goal.invariant-loop-number
-invariant-loop-number l = l.receiving.items ≡ map (λ s. is_receiving (process_view s)) (take l.number l.self.states)
+invariant-loop-number l = l.receiving.items ≡ map (λ s. is_receiving (process_view s)) (take l.number l.self.states.processes)
