@@ -1,22 +1,22 @@
 -- Steps of a process, and which of them have an effect.
 use Rattle.std.proofs.Common.{◌≡◌, ℕ, zero, suc, ◌+◌, ◌-◌, ◌<◌, ◌||◌, ◌++◌, List, [], ◌∷◌, Bool, true, false, replicate, slice_get, refl, sym, ap, ◌∙◌, arith, append-nil}
 use Rattle.lab_sched.specs.Worlds.{WorldState, StepEffect, nothing, local_step, kernel_step, step_effect_in, step, after, run}
-use Rattle.lab_sched.specs.Held.{stepped_of}
-use Rattle.ipc_kernel.specs.declared.call.Answer.TheVariants.{Done, Wait}
+use Rattle.lab_sched.specs.Held.{asked_by, told_in}
+use Rattle.lab_sched.proofs.Runs.{told_nothing, nothing_told}
 use Rattle.lab_sched.specs.declared.stepped.Stepped.TheVariants.{Same}
 use Rattle.lab_debug.specs.Sessions.{is_at, halts, steps_until, effective}
 use Rattle.lab_sched.specs.Verdicts.{is_nothing}
 
-pub nothing-from : (t : StepEffect) → stepped_of t ≡ Same → is_nothing t ≡ true
-nothing-from nothing e = refl
-nothing-from (local_step n) e = cc
-nothing-from (kernel_step m c (Done r)) e = cc
-nothing-from (kernel_step m c Wait) e = cc
+pub nothing-from : (w : WorldState) (pid : ℕ) → told_in w pid ≡ Same → is_nothing (step_effect_in w pid) ≡ true
+nothing-from w pid e = ap is_nothing (told_nothing (asked_by (slice_get w.processes pid)) (step_effect_in w pid) e)
 
-pub something-from : (t : StepEffect) → (stepped_of t ≡ Same → ⊥) → is_nothing t ≡ false
-something-from nothing e = absurd (e refl)
-something-from (local_step n) e = refl
-something-from (kernel_step m c a) e = refl
+some-effect : (t : StepEffect) → (t ≡ nothing → ⊥) → is_nothing t ≡ false
+some-effect nothing e = absurd (e refl)
+some-effect (local_step n) e = refl
+some-effect (kernel_step m c a) e = refl
+
+pub something-from : (w : WorldState) (pid : ℕ) → (told_in w pid ≡ Same → ⊥) → is_nothing (step_effect_in w pid) ≡ false
+something-from w pid e = some-effect (step_effect_in w pid) (λ none. e (nothing_told w pid none))
 
 pub stays : (w : WorldState) (pid : ℕ) (t : StepEffect) → is_nothing t ≡ true → after w pid t ≡ w
 stays w pid nothing e = refl
@@ -46,19 +46,19 @@ run-more w v n p is =
     ap (λ x. step x p) is ∙ sym (run-same w (replicate n p) (p ∷ [])) ∙ ap (run w) (sym (replicate-more n p []) ∙ append-nil (replicate (n + 1) p))
 
 -- a step that did nothing
-pub step-same : (pid : ℕ) (w : WorldState) → stepped_of (step_effect_in w pid) ≡ Same → step w pid ≡ w
-step-same pid w e = stays w pid (step_effect_in w pid) (nothing-from (step_effect_in w pid) e)
+pub step-same : (pid : ℕ) (w : WorldState) → told_in w pid ≡ Same → step w pid ≡ w
+step-same pid w e = stays w pid (step_effect_in w pid) (nothing-from w pid e)
 
 -- at the address
 pub halted-at : (pid address : ℕ) (w : WorldState) → is_at address (slice_get w.processes pid) ≡ true → halts pid address w ≡ true
 halted-at pid address w e = rw e refl
 
-pub halted-same : (pid address : ℕ) (w : WorldState) → stepped_of (step_effect_in w pid) ≡ Same → halts pid address w ≡ true
-halted-same pid address w e = rw (nothing-from (step_effect_in w pid) e) (or-true (is_at address (slice_get w.processes pid)))
+pub halted-same : (pid address : ℕ) (w : WorldState) → told_in w pid ≡ Same → halts pid address w ≡ true
+halted-same pid address w e = rw (nothing-from w pid e) (or-true (is_at address (slice_get w.processes pid)))
 
 -- a step elsewhere that did something
-pub goes-on : (pid address : ℕ) (w : WorldState) → is_at address (slice_get w.processes pid) ≡ false → (stepped_of (step_effect_in w pid) ≡ Same → ⊥) → halts pid address w ≡ false
-goes-on pid address w e h = rw (e, something-from (step_effect_in w pid) h) refl
+pub goes-on : (pid address : ℕ) (w : WorldState) → is_at address (slice_get w.processes pid) ≡ false → (told_in w pid ≡ Same → ⊥) → halts pid address w ≡ false
+goes-on pid address w e h = rw (e, something-from w pid h) refl
 
 -- nothing more happens where the process halts
 pub until-halted : (pid address : ℕ) (w : WorldState) (i n : ℕ) (all : List ℕ) → i < n → halts pid address w ≡ true
@@ -106,20 +106,20 @@ unfolding run
 run-rests zero w p same = refl
 run-rests (suc n) w p same = ap (λ v. run v (replicate n p)) same ∙ run-rests n w p same
 
-pub effective-halted : (w : WorldState) (p i n : ℕ) (all : List ℕ) → stepped_of (step_effect_in w p) ≡ Same
+pub effective-halted : (w : WorldState) (p i n : ℕ) (all : List ℕ) → told_in w p ≡ Same
     → replicate i p ++ effective w (replicate (n - i) p) ≡ all → replicate i p ≡ all
 effective-halted w p i n all e is =
-    sym (append-nil (replicate i p)) ∙ ap (λ xs. replicate i p ++ xs) (sym (effective-rests (n - i) w p (nothing-from (step_effect_in w p) e))) ∙ is
+    sym (append-nil (replicate i p)) ∙ ap (λ xs. replicate i p ++ xs) (sym (effective-rests (n - i) w p (nothing-from w p e))) ∙ is
 
-pub run-halted : (w : WorldState) (p k : ℕ) → stepped_of (step_effect_in w p) ≡ Same → run w (replicate k p) ≡ w
+pub run-halted : (w : WorldState) (p k : ℕ) → told_in w p ≡ Same → run w (replicate k p) ≡ w
 run-halted w p k e = run-rests k w p (step-same p w e)
 
-pub effective-more : (w : WorldState) (p i n : ℕ) (all : List ℕ) → i < n → (stepped_of (step_effect_in w p) ≡ Same → ⊥)
+pub effective-more : (w : WorldState) (p i n : ℕ) (all : List ℕ) → i < n → (told_in w p ≡ Same → ⊥)
     → replicate i p ++ effective w (replicate (n - i) p) ≡ all → replicate (i + 1) p ++ effective (step w p) (replicate (n - (i + 1)) p) ≡ all
 unfolding effective
 effective-more w p i n all h e is =
     let count : n - i ≡ suc (n - (i + 1)) = omega arith in
-    let more : effective w (replicate (n - i) p) ≡ p ∷ effective (step w p) (replicate (n - (i + 1)) p) = rw (count, something-from (step_effect_in w p) e) refl in
+    let more : effective w (replicate (n - i) p) ≡ p ∷ effective (step w p) (replicate (n - (i + 1)) p) = rw (count, something-from w p e) refl in
     replicate-more i p (effective (step w p) (replicate (n - (i + 1)) p)) ∙ ap (λ xs. replicate i p ++ xs) (sym more) ∙ is
 
 pub effective-done : (w : WorldState) (p i n : ℕ) (all : List ℕ) → i ≡ n

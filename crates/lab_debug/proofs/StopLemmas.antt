@@ -1,7 +1,7 @@
 -- Steps up to a stop.
 use Rattle.std.proofs.Common.{◌≡◌, ℕ, zero, suc, ◌+◌, ◌-◌, ◌<◌, ◌++◌, List, [], ◌∷◌, Option, Some, None, Bool, true, false, replicate, refl, sym, ap, ◌∙◌, arith, append-nil, append_assoc}
 use Rattle.lab_sched.specs.Worlds.{WorldState, step_effect_in, step}
-use Rattle.lab_sched.specs.Held.{stepped_of}
+use Rattle.lab_sched.specs.Held.{told_in}
 use Rattle.lab_sched.specs.declared.stepped.Stepped.TheVariants.{Same}
 use Rattle.lab_debug.specs.Marks.{MarksSeen}
 use Rattle.lab_debug.specs.Stops.{is_stop, comes_to_stop, steps_to_stop, steps_played, stopped_process}
@@ -13,31 +13,31 @@ pub break-start : (ms : MarksSeen) (pid : ℕ) (w : WorldState) (n : ℕ) → st
 break-start ms pid w n = let all : n - 0 ≡ n = omega arith in ap (steps_to_stop ms pid w) all
 
 -- a step without effect
-pub break-rests : (ms : MarksSeen) (pid : ℕ) (w : WorldState) (i n : ℕ) (all : List ℕ) → i < n → stepped_of (step_effect_in w pid) ≡ Same
+pub break-rests : (ms : MarksSeen) (pid : ℕ) (w : WorldState) (i n : ℕ) (all : List ℕ) → i < n → told_in w pid ≡ Same
     → replicate i pid ++ steps_to_stop ms pid w (n - i) ≡ all → replicate i pid ≡ all
 unfolding steps_to_stop
 break-rests ms pid w i n all h e is =
     let count : n - i ≡ suc (n - (i + 1)) = omega arith in
-    let none : steps_to_stop ms pid w (n - i) ≡ [] = rw (count, nothing-from (step_effect_in w pid) e) refl in
+    let none : steps_to_stop ms pid w (n - i) ≡ [] = rw (count, nothing-from w pid e) refl in
     sym (append-nil (replicate i pid)) ∙ ap (λ xs. replicate i pid ++ xs) (sym none) ∙ is
 
 -- a step that is a stop
-pub break-met : (ms : MarksSeen) (pid : ℕ) (w : WorldState) (i n : ℕ) (all : List ℕ) → i < n → (stepped_of (step_effect_in w pid) ≡ Same → ⊥)
+pub break-met : (ms : MarksSeen) (pid : ℕ) (w : WorldState) (i n : ℕ) (all : List ℕ) → i < n → (told_in w pid ≡ Same → ⊥)
     → is_stop ms pid w ≡ true → replicate i pid ++ steps_to_stop ms pid w (n - i) ≡ all → replicate (i + 1) pid ≡ all
 unfolding steps_to_stop
 break-met ms pid w i n all h e met is =
     let count : n - i ≡ suc (n - (i + 1)) = omega arith in
-    let one : steps_to_stop ms pid w (n - i) ≡ pid ∷ [] = rw (count, something-from (step_effect_in w pid) e, met) refl in
+    let one : steps_to_stop ms pid w (n - i) ≡ pid ∷ [] = rw (count, something-from w pid e, met) refl in
     sym (append-nil (replicate (i + 1) pid)) ∙ replicate-more i pid [] ∙ ap (λ xs. replicate i pid ++ xs) (sym one) ∙ is
 
 -- a step that is none
-pub break-more : (ms : MarksSeen) (pid : ℕ) (w : WorldState) (i n : ℕ) (all : List ℕ) → i < n → (stepped_of (step_effect_in w pid) ≡ Same → ⊥)
+pub break-more : (ms : MarksSeen) (pid : ℕ) (w : WorldState) (i n : ℕ) (all : List ℕ) → i < n → (told_in w pid ≡ Same → ⊥)
     → is_stop ms pid w ≡ false → replicate i pid ++ steps_to_stop ms pid w (n - i) ≡ all
     → replicate (i + 1) pid ++ steps_to_stop ms pid (step w pid) (n - (i + 1)) ≡ all
 unfolding steps_to_stop
 break-more ms pid w i n all h e met is =
     let count : n - i ≡ suc (n - (i + 1)) = omega arith in
-    let more : steps_to_stop ms pid w (n - i) ≡ pid ∷ steps_to_stop ms pid (step w pid) (n - (i + 1)) = rw (count, something-from (step_effect_in w pid) e, met) refl in
+    let more : steps_to_stop ms pid w (n - i) ≡ pid ∷ steps_to_stop ms pid (step w pid) (n - (i + 1)) = rw (count, something-from w pid e, met) refl in
     replicate-more i pid (steps_to_stop ms pid (step w pid) (n - (i + 1))) ∙ ap (λ xs. replicate i pid ++ xs) (sym more) ∙ is
 
 -- all steps are done
@@ -54,8 +54,8 @@ no-effect-goes-on : (ms : MarksSeen) (p : ℕ) (w : WorldState) → is_nothing (
 no-effect-goes-on ms p w e = rw e refl
 
 -- whether a step with an effect comes to a stop
-pub comes-where : (ms : MarksSeen) (p : ℕ) (w : WorldState) (met : Bool) → (stepped_of (step_effect_in w p) ≡ Same → ⊥) → is_stop ms p w ≡ met → comes_to_stop ms p w ≡ met
-comes-where ms p w met e is = rw (something-from (step_effect_in w p) e) is
+pub comes-where : (ms : MarksSeen) (p : ℕ) (w : WorldState) (met : Bool) → (told_in w p ≡ Same → ⊥) → is_stop ms p w ≡ met → comes_to_stop ms p w ≡ met
+comes-where ms p w met e is = rw (something-from w p e) is
 
 -- where a step of a process has no effect, none of n comes to a stop
 pub rests-on : (ms : MarksSeen) (p : ℕ) (w : WorldState) (n : ℕ) → is_nothing (step_effect_in w p) ≡ true → stopped_process ms w (replicate n p) ≡ None
@@ -70,9 +70,9 @@ pub stop-start : (ms : MarksSeen) (p : ℕ) (w : WorldState) (n : ℕ) → stopp
 stop-start ms p w n = let all : n - 0 ≡ n = omega arith in ap (λ k. stopped_process ms w (replicate k p)) all
 
 -- a step without effect
-pub stop-rests : (ms : MarksSeen) (p : ℕ) (w : WorldState) (i n : ℕ) (all : Option ℕ) → stepped_of (step_effect_in w p) ≡ Same
+pub stop-rests : (ms : MarksSeen) (p : ℕ) (w : WorldState) (i n : ℕ) (all : Option ℕ) → told_in w p ≡ Same
     → stopped_process ms w (replicate (n - i) p) ≡ all → None ≡ all
-stop-rests ms p w i n all e is = sym (rests-on ms p w (n - i) (nothing-from (step_effect_in w p) e)) ∙ is
+stop-rests ms p w i n all e is = sym (rests-on ms p w (n - i) (nothing-from w p e)) ∙ is
 
 -- a step that is a stop
 pub stop-met : (ms : MarksSeen) (p : ℕ) (w : WorldState) (i n : ℕ) (all : Option ℕ) → i < n → comes_to_stop ms p w ≡ true

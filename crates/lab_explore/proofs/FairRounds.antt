@@ -11,7 +11,8 @@ use Rattle.lab_sched.specs.Worlds.{WorldState, StepEffect, nothing, local_step, 
 use Rattle.lab_sched.specs.Execution.{AreEffective}
 use Rattle.lab_sched.specs.Schedules.{steps_of}
 use Rattle.lab_sched.specs.declared.stepped.Stepped.TheVariants as stepped
-use Rattle.lab_sched.specs.Held.{stepped_of}
+use Rattle.lab_sched.specs.Held.{asked_by, told_in}
+use Rattle.lab_sched.proofs.Runs.{told_nothing}
 use Rattle.lab_sched.proofs.ListPlaces.{get-set_other, get_past}
 use Rattle.ipc_kernel.specs.declared.call.Answer.TheVariants.{Done, Wait}
 use Rattle.lab_explore.specs.declared.walking.Walk.{Walk}
@@ -25,17 +26,14 @@ use Rattle.lab_explore.proofs.Pushes.{all_at}
 use Rattle.lab_explore.proofs.AlikeWorlds.{world_itself, world_then, world_back, same_effect, run_alike, effective_alike, consistent_run}
 
 -- a step that is told as none has no effect, and changes nothing
-pub told_same : (t : StepEffect) → stepped_of t ≡ stepped.Same → t ≡ nothing
-told_same nothing e = refl
-told_same (local_step n) e = absurd (cc)
-told_same (kernel_step m c (Done r)) e = absurd (cc)
-told_same (kernel_step m c Wait) e = absurd (cc)
+told_same : (w : WorldState) (p : ℕ) → told_in w p ≡ stepped.Same → step_effect_in w p ≡ nothing
+told_same w p e = told_nothing (asked_by (slice_get w.processes p)) (step_effect_in w p) e
 
-pub told_pause : (t : StepEffect) → stepped_of t ≡ stepped.Same → IsEffective t → ⊥
-told_pause t e effective = subst IsEffective (told_same t e) effective
+pub told_pause : (w : WorldState) (p : ℕ) → told_in w p ≡ stepped.Same → IsEffective (step_effect_in w p) → ⊥
+told_pause w p e effective = subst IsEffective (told_same w p e) effective
 
-pub told_world : (w : WorldState) (p : ℕ) → stepped_of (step_effect_in w p) ≡ stepped.Same → step w p ≡ w
-told_world w p e = ap (λ t. after w p t) (told_same (step_effect_in w p) e)
+pub told_world : (w : WorldState) (p : ℕ) → told_in w p ≡ stepped.Same → step w p ≡ w
+told_world w p e = ap (λ t. after w p t) (told_same w p e)
 
 -- a process that is served is served along more steps
 contained_more : (ps qs : List ℕ) (p : ℕ) → Contains ps p → Contains (ps ++ qs) p

@@ -15,7 +15,7 @@ use Rattle.lab_explore.specs.declared.store.Store.{Store}
 use Rattle.lab_explore.specs.declared.store.Edge.{Edge}
 use Rattle.lab_explore.specs.declared.store.Next.{Next}
 use Rattle.lab_explore.specs.declared.store.Next.TheVariants.{Nothing, Limit, To}
-use Rattle.lab_sched.specs.Held.{stepped_of}
+use Rattle.lab_sched.specs.Held.{asked_by, stepped_of}
 use Rattle.lab_explore.specs.Calls.{IsAtCall, IsAhead, Both, Alongside}
 use Rattle.lab_explore.specs.Untried.{GoesOn}
 use Rattle.lab_explore.specs.Private.Stored.{IsReady, IsState, IsRow, IsAt, IsStore, Grows, IsExactly, IsNext, IsMove, IsMoveFrom, IsNextAt, IsReached, AreReached, HasEdge, IsTried, IsExpanded, IsRun}
@@ -117,7 +117,7 @@ absent t r w at p row e effective =
     left (Some y) h = absurd h
 
 -- what the step of a process is told
-pub told_of : (k j : KernelState) (p : ℕ) (s u : Process) (told : Stepped) → HasStepped k p s j u told → told ≡ stepped_of (step_effect k p (Some s))
+pub told_of : (k j : KernelState) (p : ℕ) (s u : Process) (told : Stepped) → HasStepped k p s j u told → told ≡ stepped_of (asked_by (Some s)) (step_effect k p (Some s))
 told_of k j p s u told is = ap (λ (x : StepResult). x.told) is
 
 -- a run after a step

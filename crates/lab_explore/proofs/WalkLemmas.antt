@@ -7,20 +7,23 @@ use Rattle.lab_sched.specs.declared.schedule.block.Block.{Block}
 use Rattle.lab_sched.specs.declared.stepped.Stepped.{Stepped}
 use Rattle.lab_sched.specs.declared.stepped.Stepped.TheVariants as stepped
 use Rattle.lab_sched.specs.Worlds.{WorldState, StepEffect, nothing, local_step, kernel_step, step_effect_in, step, run, entries, entry_of, IsEffective}
-use Rattle.lab_sched.specs.Held.{stepped_of}
+use Rattle.lab_sched.specs.Held.{told_in}
 use Rattle.lab_sched.specs.Execution.{AreEffective}
 use Rattle.lab_sched.specs.Schedules.{steps_of}
-use Rattle.lab_sched.proofs.Runs.{run-append, run-one}
+use Rattle.lab_sched.proofs.Runs.{run-append, run-one, nothing_told}
 use Rattle.lab_sched.proofs.Executions.{effective-append, entries-append}
 use Rattle.lab_explore.specs.declared.walking.Walk.{Walk}
 use Rattle.lab_explore.specs.Calls.{Both, Alongside}
 use Rattle.lab_explore.specs.Private.Walked.{IsWalk}
 use Rattle.lab_explore.proofs.AfterLocalSteps.{same_by_gets}
 
-told_effective : (t : StepEffect) → (stepped_of t ≡ stepped.Same → ⊥) → IsEffective t
-told_effective nothing h = absurd (h refl)
-told_effective (local_step n) h = tt
-told_effective (kernel_step m c a) h = tt
+some_effective : (t : StepEffect) → (t ≡ nothing → ⊥) → IsEffective t
+some_effective nothing h = absurd (h refl)
+some_effective (local_step n) h = tt
+some_effective (kernel_step m c a) h = tt
+
+told_effective : (w : WorldState) (p : ℕ) → (told_in w p ≡ stepped.Same → ⊥) → IsEffective (step_effect_in w p)
+told_effective w p h = some_effective (step_effect_in w p) (λ none. h (nothing_told w p none))
 
 -- the entries along one step
 one_entry : (w : WorldState) (p : ℕ) → length (entries w (p ∷ [])) ≡ length (entry_of p (step_effect_in w p))
@@ -28,10 +31,10 @@ unfolding entries
 one_entry w p = ap length (append-nil (entry_of p (step_effect_in w p)))
 
 -- one step more
-pub walk_more : (start : WorldState) (old new : Walk) (p : ℕ) (told : Stepped) → IsWalk start old → new.world ≡ step old.world p → told ≡ stepped_of (step_effect_in old.world p)
+pub walk_more : (start : WorldState) (old new : Walk) (p : ℕ) (told : Stepped) → IsWalk start old → new.world ≡ step old.world p → told ≡ told_in old.world p
     → (told ≡ stepped.Same → ⊥) → steps_of new.schedule ≡ steps_of old.schedule ++ replicate 1 p → new.calls ≡ old.calls + length (entry_of p (step_effect_in old.world p)) → IsWalk start new
 walk_more start old new p told h world-is told-is moved steps-is calls-is =
-    let one : IsEffective (step_effect_in old.world p) = told_effective (step_effect_in old.world p) (λ e. moved (told-is ∙ e)) in
+    let one : IsEffective (step_effect_in old.world p) = told_effective old.world p (λ e. moved (told-is ∙ e)) in
     let there : AreEffective (run start (steps_of old.schedule)) (p ∷ []) = subst (λ w. AreEffective w (p ∷ [])) (sym h.leads) (one, tt) in
     record {
       effective = subst (AreEffective start) (sym steps-is) (effective-append start (steps_of old.schedule) (p ∷ []) h.effective there);

@@ -1,6 +1,7 @@
 //! Steps that are tried on copies of processes.
-ghost use Rattle.std.specs.Prelude.{◌≡◌, ◌<◌, ◌^◌, ℕ, IsTrue, false, Some, length, IfOk};
+ghost use Rattle.std.specs.Prelude.{◌≡◌, ◌<◌, ◌^◌, ℕ, Option, IsTrue, false, Some, length, IfOk};
 ghost use Rattle.ipc_kernel.specs.Kernel.{KernelState};
+ghost use Rattle.ipc_traps.specs.Asked.{Request};
 ghost use Rattle.lab_sched.specs.Worlds.{Process as Seen, StepEffect, step_effect};
 ghost use Rattle.lab_sched.specs.Held.{process_view, IsHeld, step_of, stepped_of};
 ghost use Rattle.lab_sched.specs.LocalRun.{AreLocal};
@@ -95,10 +96,15 @@ fn tried_of(made: Option<Made>) -> Tried
 
 /// Whether a process goes on by a step that was told so.
 fn goes_on(stepped: Stepped) -> bool
-    ensures yes { IsTrue result → (t : StepEffect) → stepped ≡ stepped_of t → GoesOn t }
-    ensures no { result ≡ false → (t : StepEffect) → stepped ≡ stepped_of t → GoesOn t → ⊥ }
+    ensures yes { IsTrue result → (q : Option Request) (t : StepEffect)
+        → stepped ≡ stepped_of q t → GoesOn t }
+    ensures no { result ≡ false → (q : Option Request) (t : StepEffect)
+        → stepped ≡ stepped_of q t → GoesOn t → ⊥ }
 {
-    matches!(stepped, Stepped::Moved | Stepped::Called)
+    matches!(
+        stepped,
+        Stepped::Moved | Stepped::Refused(_) | Stepped::Called(_)
+    )
 }
 
 /// Takes a step of a process, and its local steps after it.

@@ -1,5 +1,6 @@
 //! Walks: effective steps from a world, one by one.
-ghost use Rattle.std.specs.Prelude.{◌≡◌, ◌≤◌, ◌+◌, ◌++◌, ◌∷◌, [], ℕ, IsTrue, false, IfOk, OnOk, length};
+ghost use Rattle.std.specs.Prelude.{◌≡◌, ◌≤◌, ◌+◌, ◌++◌, ◌∷◌, [], ℕ, Option, IsTrue, false, IfOk, OnOk, length};
+ghost use Rattle.ipc_traps.specs.Asked.{Request};
 ghost use Rattle.lab_sched.specs.Worlds.{StepEffect, IsEffective, entry_of, step_effect_in, step};
 ghost use Rattle.lab_sched.specs.Schedules.{steps_of};
 ghost use Rattle.lab_conditions.specs.Losses.{receives, Loses};
@@ -56,21 +57,21 @@ fn world_of(alloc: Global, processes: &[Process]) -> Result<World, ExploreFault>
 }
 
 /// Whether a step that was told so is effective.
-fn changes(stepped: Stepped) -> bool
-    ensures effective { IsTrue result → stepped ≡ Same → ⊥ }
-    ensures same { result ≡ false → stepped ≡ Same }
+fn changes(stepped: &Stepped) -> bool
+    ensures effective { IsTrue result → stepped.now ≡ Same → ⊥ }
+    ensures same { result ≡ false → stepped.now ≡ Same }
 {
     !matches!(stepped, Stepped::Same)
 }
 
 /// How many calls a step is that was told so.
-fn calls_of(stepped: Stepped) -> u32
-    ensures count { (p : ℕ) (t : StepEffect) → stepped ≡ stepped_of t
+fn calls_of(stepped: &Stepped) -> u32
+    ensures count { (p : ℕ) (q : Option Request) (t : StepEffect) → stepped.now ≡ stepped_of q t
         → result ≡ length (entry_of p t) }
 {
     match stepped {
-        Stepped::Called | Stepped::Waits => 1,
-        Stepped::Moved | Stepped::Same => 0,
+        Stepped::Called(_) | Stepped::Waits => 1,
+        Stepped::Moved | Stepped::Refused(_) | Stepped::Same => 0,
     }
 }
 
@@ -108,10 +109,10 @@ impl Walk {
         let Ok(stepped) = self.world.step(pid) else {
             return Err(ExploreFault::NoMemory);
         };
-        let Some(calls) = self.calls.checked_add(calls_of(stepped)) else {
+        let Some(calls) = self.calls.checked_add(calls_of(&stepped)) else {
             return Err(ExploreFault::Unvouched);
         };
-        if !changes(stepped) {
+        if !changes(&stepped) {
             return Err(ExploreFault::Unvouched);
         }
         self.calls = calls;
@@ -159,7 +160,7 @@ impl Walk {
         let Ok(stepped) = self.world.step(pid) else {
             return Err(ExploreFault::NoMemory);
         };
-        if changes(stepped) {
+        if changes(&stepped) {
             return Err(ExploreFault::Unvouched);
         }
         Ok(())

@@ -1,13 +1,11 @@
 -- The steps between two lines, one after another.
 use Rattle.std.proofs.Common.{◌≡◌, ℕ, zero, suc, ◌+◌, ◌-◌, ◌<◌, ◌≤◌, ◌==◌, ◌&&◌, Bool, true, false, List, [], ◌∷◌, ◌++◌, length, replicate, take, get_or, set, refl, sym, ap, ◌∙◌, arith}
 use Rattle.std.proofs.lemmas.List.{length-set, set-set, get_or-set_same, length-replicate, replicate-append-replicate}
-use Rattle.ipc_kernel.specs.declared.call.Answer.TheVariants.{Done, Wait}
 use Rattle.lab_sched.specs.Worlds.{StepEffect, nothing, local_step, kernel_step, step_effect_in}
-use Rattle.lab_sched.specs.Held.{stepped_of}
 use Rattle.lab_sched.specs.Schedules.{steps_of}
 use Rattle.lab_sched.specs.declared.schedule.block.Block.{Block}
 use Rattle.lab_sched.proofs.ScheduleRuns.{steps-more}
-use Rattle.lab_trace.specs.Scenes.{Scene, has_effect, told, next, scene_after}
+use Rattle.lab_trace.specs.Scenes.{Scene, told, next, scene_after}
 use Rattle.lab_trace.specs.declared.told.Told.{Told}
 use Rattle.lab_trace.specs.declared.told.Told.TheVariants.{Nothing, Counted, Shown}
 use Rattle.lab_trace.proofs.SceneLemmas.{renumbered, next-still, told-still, told-some}
@@ -87,9 +85,9 @@ between-told s p k b h some one = by (step_effect_in s.world p) refl
         ap (λ (n : ℕ). between_then s (replicate n p) b) e ∙ between-one s p b
         ∙ ap (λ (n : ℕ). between_after n p (waits_at s p) (told s p) b) (sym e)
 
-    other : (u : StepEffect) → step_effect_in s.world p ≡ u → has_effect (stepped_of u) ≡ true
+    other : (u : StepEffect) → step_effect_in s.world p ≡ u → (u ≡ nothing → ⊥)
         → between_then s (replicate k p) b ≡ between_after k p (waits_at s p) (told s p) b
-    other u at effect = single (one (told-some s p (ap (λ t. has_effect (stepped_of t)) at ∙ effect)))
+    other u at ne = single (one (told-some s p (λ e. ne (sym at ∙ e))))
 
     still : (m : ℕ) → k ≡ suc m → step_effect_in s.world p ≡ nothing → between_then s (replicate k p) b ≡ between_after k p (waits_at s p) (told s p) b
     still m e at =
@@ -99,9 +97,8 @@ between-told s p k b h some one = by (step_effect_in s.world p) refl
 
     by : (u : StepEffect) → step_effect_in s.world p ≡ u → between_then s (replicate k p) b ≡ between_after k p (waits_at s p) (told s p) b
     by nothing at = still (k - 1) (omega (arith, some)) at
-    by (local_step m) at = other (local_step m) at refl
-    by (kernel_step m c (Done r)) at = other (kernel_step m c (Done r)) at refl
-    by (kernel_step m c Wait) at = other (kernel_step m c Wait) at refl
+    by (local_step m) at = other (local_step m) at (λ e. cc)
+    by (kernel_step m c a) at = other (kernel_step m c a) at (λ e. cc)
 
 -- k steps of a block more
 pub between-more : (s u : Scene) (done k p : ℕ) (b c now : List StepCount) → u ≡ scene_after s (replicate done p) → c ≡ between_then s (replicate done p) b

@@ -8,7 +8,7 @@ use Rattle.lab_sched.specs.Worlds.{WorldState}
 use Rattle.lab_trace.specs.Forms.{Form}
 use Rattle.lab_trace.specs.Tallies.{TallyState}
 use Rattle.lab_trace.specs.declared.answers.Outcome.{Outcome}
-use Rattle.lab_trace.specs.declared.answers.Outcome.TheVariants.{Waits, Refused, Gives}
+use Rattle.lab_trace.specs.declared.answers.Outcome.TheVariants.{Waits, Refused, Replied}
 use Rattle.lab_trace.specs.declared.told.Act.{Act}
 use Rattle.lab_trace.specs.declared.told.Act.TheVariants.{Calls, Writes, Ends}
 use Rattle.lab_trace.specs.declared.told.Called.{Called}
@@ -38,7 +38,7 @@ words-plain (Some ns) = plain-naturals ns
 outcome-plain : (o : Outcome) → IsPlain (outcome_data o)
 outcome-plain Waits = refl
 outcome-plain (Refused e) = refl
-outcome-plain (Gives result given) = refl
+outcome-plain (Replied reply) = refl
 
 called-plain : (c : Called) → IsPlain (called_data c)
 unfolding called_data

@@ -2,13 +2,11 @@
 use Rattle.std.proofs.Common.{◌≡◌, ℕ, zero, suc, ◌+◌, ◌<◌, Bool, true, List, [], ◌∷◌, ◌++◌, length, replicate, take, get_or, refl, sym, ap, ◌∙◌, append_assoc, append-nil}
 use Rattle.std.proofs.lemmas.List.{replicate-append-replicate}
 use Rattle.serde_json.specs.Data.{Data}
-use Rattle.ipc_kernel.specs.declared.call.Answer.TheVariants.{Done, Wait}
 use Rattle.lab_sched.specs.Schedules.{steps_of}
 use Rattle.lab_sched.specs.Worlds.{WorldState, StepEffect, nothing, local_step, kernel_step, step_effect_in}
-use Rattle.lab_sched.specs.Held.{stepped_of}
 use Rattle.lab_sched.specs.declared.schedule.block.Block.{Block}
 use Rattle.lab_sched.proofs.ScheduleRuns.{steps-more}
-use Rattle.lab_trace.specs.Scenes.{Scene, first_scene, has_effect, told, line, next, events, scene_after}
+use Rattle.lab_trace.specs.Scenes.{Scene, first_scene, told, line, next, events, scene_after}
 use Rattle.lab_trace.specs.Forms.{Form, form_for}
 use Rattle.lab_trace.specs.declared.told.Told.{Told}
 use Rattle.lab_trace.specs.declared.told.Told.TheVariants.{Nothing}
@@ -60,14 +58,13 @@ moments-told v whole s b p k one = by (step_effect_in s.world p) refl
     single : k ≡ 1 → moments v whole s b (replicate k p) ≡ moment v whole s b p
     single e = ap (λ (n : ℕ). moments v whole s b (replicate n p)) e ∙ moments-one v whole s b p
 
-    other : (u : StepEffect) → step_effect_in s.world p ≡ u → has_effect (stepped_of u) ≡ true → moments v whole s b (replicate k p) ≡ moment v whole s b p
-    other u at effect = single (one (told-some s p (ap (λ t. has_effect (stepped_of t)) at ∙ effect)))
+    other : (u : StepEffect) → step_effect_in s.world p ≡ u → (u ≡ nothing → ⊥) → moments v whole s b (replicate k p) ≡ moment v whole s b p
+    other u at ne = single (one (told-some s p (λ e. ne (sym at ∙ e))))
 
     by : (u : StepEffect) → step_effect_in s.world p ≡ u → moments v whole s b (replicate k p) ≡ moment v whole s b p
     by nothing at = moments-still k v whole s b p at ∙ sym (moment-still v whole s b p at)
-    by (local_step m) at = other (local_step m) at refl
-    by (kernel_step m c (Done r)) at = other (kernel_step m c (Done r)) at refl
-    by (kernel_step m c Wait) at = other (kernel_step m c Wait) at refl
+    by (local_step m) at = other (local_step m) at (λ e. cc)
+    by (kernel_step m c a) at = other (kernel_step m c a) at (λ e. cc)
 
 -- k steps of a block more
 pub json-more : (v : Form) (whole : Bool) (s u : Scene) (b c : List StepCount) (done k p : ℕ) (old was now : List ℕ) → u ≡ scene_after s (replicate done p)

@@ -2,16 +2,16 @@
 use Rattle.std.specs.Prelude.{ℕ, Bool, true, false, if◌then◌else◌, Option, Some, None, List, [], ◌∷◌, codes}
 use Rattle.std.specs.Option.{option_map}
 use Rattle.serde_json.specs.Data.{Data, null, string}
+use Rattle.ipc_kernel.specs.declared.call.Reply.TheVariants.{Message}
 use Rattle.lab_sched.specs.Worlds.{WorldState}
 use Rattle.lab_texts.specs.Texts.{how_text}
-use Rattle.lab_trace.specs.Answers.{error_name, outcome_text}
+use Rattle.lab_trace.specs.Answers.{error_name, result_in, outcome_text}
 use Rattle.lab_trace.specs.Forms.{Form}
 use Rattle.lab_trace.specs.Lines.{columns, act_text}
 use Rattle.ipc_traps.specs.Services.{service_name, is_on_level}
 use Rattle.lab_trace.specs.Tallies.{TallyState}
-use Rattle.lab_trace.specs.declared.answers.Given.TheVariants.{Received}
 use Rattle.lab_trace.specs.declared.answers.Outcome.{Outcome}
-use Rattle.lab_trace.specs.declared.answers.Outcome.TheVariants.{Waits, Refused, Gives}
+use Rattle.lab_trace.specs.declared.answers.Outcome.TheVariants.{Waits, Refused, Replied}
 use Rattle.ipc_traps.specs.declared.service.Service.{Service}
 use Rattle.ipc_traps.specs.declared.service.Service.TheVariants.{MqGetattr, SemGetvalue}
 use Rattle.lab_trace.specs.declared.told.Act.{Act}
@@ -25,11 +25,11 @@ use Rattle.lab_page.specs.Objects.{object_at, objects, open_data}
 abbrev pub outcome_data : Outcome → Data
 outcome_data Waits = null
 outcome_data (Refused e) = string (error_name e)
-outcome_data (Gives result given) = natural result
+outcome_data (Replied reply) = natural (result_in reply)
 
 -- the words of a message that a call received, else those that it sends
 abbrev pub words_of : Outcome → Option (List ℕ) → Option (List ℕ)
-words_of (Gives result (Received words priority)) sent = Some words
+words_of (Replied (Message words priority)) sent = Some words
 words_of other sent = sent
 
 -- a call: its name, its object by place and by name, its answer as the trace has it and as a value, the words of its message, the

@@ -8,12 +8,13 @@ ghost use Rattle.lab_page.specs.Events.{outcome_data, words_of, called_data, act
 use crate::objects::{object_at, objects};
 use crate::open::open_value;
 use crate::values::{bytes_value, push_some, words_value};
+use ipc_kernel::Reply;
 use ipc_traps::Service;
 use lab_sched::World;
 use lab_texts::how_name;
 use lab_trace::{
-    Act, Called, Event, Form, Given, Origin, Outcome, Tally, columns_text, error_name, event_text,
-    push_outcome,
+    Act, Called, Event, Form, Origin, Outcome, Tally, columns_text, error_name, event_text,
+    push_outcome, result_in,
 };
 use serde_json::{Value, json};
 use std::alloc::{AllocError, Global};
@@ -25,7 +26,7 @@ fn outcome_value(alloc: Global, outcome: &Outcome) -> Result<Value, AllocError>
     match outcome {
         Outcome::Waits => Ok(Value::Null),
         Outcome::Refused(error) => Value::try_from_str(alloc, error_name(*error)),
-        Outcome::Gives { result, .. } => Ok(Value::from(*result)),
+        Outcome::Replied(reply) => Ok(Value::from(result_in(reply))),
     }
 }
 
@@ -34,11 +35,7 @@ fn message_words(alloc: Global, call: &Called) -> Result<Value, AllocError>
     ensures value { IfOk result (λ v. view v
         ≡ or_null (option_map naturals (words_of call.now.outcome call.now.sent))) }
 {
-    if let Outcome::Gives {
-        given: Given::Received { words, .. },
-        ..
-    } = &call.outcome
-    {
+    if let Outcome::Replied(Reply::Message { words, .. }) = &call.outcome {
         return words_value(alloc, words.as_slice());
     }
     match &call.sent {

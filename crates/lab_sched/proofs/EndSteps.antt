@@ -27,11 +27,11 @@ told_end m how r is = rw is refl
 
 -- the end of a process
 pub end_step : (k : KernelState) (p : ℕ) (m : Machine) (how : How) → next_request m ≡ Ends how
-    → HasStepped k p (Running m) (answer k p Exit).1 (Ended (record { process = process_after_end m how; how = how })) stepped.Called
+    → HasStepped k p (Running m) (answer k p Exit).1 (Ended (record { process = process_after_end m how; how = how })) (stepped.Called (Plain 0))
 unfolding answer
 end_step k p m how is =
     sym (ap {B = StepResult} (λ a. step_result k p (Running m) (first_try k p m a)) (act_end m how is)
-    ∙ ap {B = StepResult} (λ s. record { process = s; kernel = (answer k p Exit).1; told = stepped.Called }) (told_end m how (Plain 0) is))
+    ∙ ap {B = StepResult} (λ s. record { process = s; kernel = (answer k p Exit).1; told = stepped.Called (Plain 0) }) (told_end m how (Plain 0) is))
 
 -- a process that must still wait
 pub wait_step : (k j : KernelState) (p : ℕ) (m : Machine) (c : Call) → (Wait, j) ≡ answer k p c

@@ -2,6 +2,7 @@
 use Rattle.std.proofs.Common.{ℕ, ◌≡◌, ◌<◌, Some, List, refl, sym, ap, ◌∙◌, subst, option_map, length, set, map, slice_get, get_or}
 use Rattle.std.proofs.lemmas.Option.{slice_get-map}
 use Rattle.lc3_machine.specs.Process.{Process as Machine, Held}
+use Rattle.lc3_machine.specs.Steps.{AreOwnSteps}
 use Rattle.lc3_machine.specs.declared.want.How.{How}
 use Rattle.lc3_machine.specs.declared.want.Want.TheVariants.{End}
 use Rattle.lc3_machine.specs.declared.machine.Progress.{Progress}
@@ -9,18 +10,20 @@ use Rattle.lc3_machine.specs.declared.machine.Progress.TheVariants as progress
 use Rattle.ipc_kernel.specs.Kernel.{KernelState}
 use Rattle.ipc_kernel.specs.declared.call.Call.{Call}
 use Rattle.ipc_kernel.specs.declared.call.Call.TheVariants.{Exit}
+use Rattle.ipc_names.specs.declared.errno.Errno.{Errno}
 use Rattle.ipc_kernel.specs.declared.call.Reply.{Reply}
+use Rattle.ipc_kernel.specs.declared.call.Reply.TheVariants.{Plain}
 use Rattle.ipc_kernel.specs.declared.call.Answer.{Answer}
 use Rattle.ipc_kernel.specs.declared.call.Answer.TheVariants.{Done, Wait}
 use Rattle.ipc_kernel.specs.Answer.{answer}
-use Rattle.ipc_traps.specs.Asked.{Calls, next_request}
+use Rattle.ipc_traps.specs.Asked.{Request, Local, Refuses, Calls, next_request}
 use Rattle.ipc_traps.specs.Reply.{HasRoom, process_after_reply}
-use Rattle.ipc_traps.proofs.Laws.{room_prepared, asked_end}
+use Rattle.ipc_traps.proofs.Laws.{room_prepared, asked_end, asked_local}
 use Rattle.lab_sched.specs.declared.process.Process.{Process as Kept}
 use Rattle.lab_sched.specs.declared.process.Process.TheVariants as kept
 use Rattle.lab_sched.specs.declared.stepped.Stepped.TheVariants as stepped
-use Rattle.lab_sched.specs.Worlds.{Process, Running, Waiting, Ended, WorldState, calls, next_action, action_for, process_after_answer, first_try, kernel_step}
-use Rattle.lab_sched.specs.Held.{process_view, IsHeld, StepResult, step_result, stepped_of, HasStepped}
+use Rattle.lab_sched.specs.Worlds.{Process, Running, Waiting, Ended, machine_of, WorldState, calls, next_action, action_for, process_after_answer, first_try, kernel_step}
+use Rattle.lab_sched.specs.Held.{process_view, IsHeld, StepResult, step_result, local_told, stepped_of, HasStepped}
 use Rattle.lab_sched.specs.LocalRun.{IsLocalStep, AreLocal}
 use Rattle.lab_sched.specs.Settling.{AsksFor}
 use Rattle.lab_sched.specs.Stepping.{CanTakeReply, StandsBefore, StopsBy, after_end, after_reply}
@@ -34,17 +37,25 @@ use Rattle.lab_sched.proofs.WorldLemmas.{seen_at}
 pub local_none : (s u : Process) (n : ℕ) → AreLocal n s u → n ≡ 0 → u ≡ s
 local_none s u n h none = sym (subst (λ i. AreLocal i s u) none h)
 
--- one local step
-local_first : (k : KernelState) (p : ℕ) (s u : Process) → AreLocal 1 s u → HasStepped k p s k u stepped.Moved
-local_first k p (Running m) u h =
+-- one local step, by what was asked
+local_first : (k : KernelState) (p : ℕ) (m : Machine) (request : Request) (u : Process) → AreLocal 1 (Running m) u → next_request m ≡ request
+    → HasStepped k p (Running m) k u (local_told (Some request))
+local_first k p m request u h asked =
     let first = first_local 0 m u h in
-    ap {B = StepResult} (λ x. record { process = x; kernel = k; told = stepped.Moved }) (sym first.2)
+    ap {B = StepResult} (λ x. record { process = x; kernel = k; told = local_told (Some request) }) (sym first.2)
+    ∙ ap {B = StepResult} (λ q. record { process = Running first.0; kernel = k; told = local_told (Some q) }) (sym asked)
     ∙ sym (ap {B = StepResult} (λ a. step_result k p (Running m) (first_try k p m a)) first.1)
-local_first k p (Waiting m c) u h = absurd h.1
-local_first k p (Ended e) u h = absurd h.1
 
-pub local_one : (k : KernelState) (p : ℕ) (s u : Process) (n : ℕ) → AreLocal n s u → n ≡ 1 → HasStepped k p s k u stepped.Moved
-local_one k p s u n h one = local_first k p s u (subst (λ i. AreLocal i s u) one h)
+-- one step that a machine takes by itself
+own_first : (k : KernelState) (p : ℕ) (s u : Process) → AreLocal 1 s u → AreOwnSteps 1 (machine_of s) (machine_of u) → HasStepped k p s k u stepped.Moved
+own_first k p (Running m) u h own = local_first k p m (Local own.0) u h (asked_local m own.0 own.1)
+own_first k p (Waiting m c) u h own = absurd h.1
+own_first k p (Ended e) u h own = absurd h.1
+
+pub local_one : (k : KernelState) (p : ℕ) (s u : Process) (n : ℕ) → AreLocal n s u → AreOwnSteps n (machine_of s) (machine_of u) → n ≡ 1
+    → HasStepped k p s k u stepped.Moved
+local_one k p s u n h own one =
+    own_first k p s u (subst (λ i. AreLocal i s u) one h) (subst (λ i. AreOwnSteps i (machine_of s) (machine_of u)) one own)
 
 -- a call that is asked for is what a process does next
 pub asks : (m : Machine) (c : Call) → next_request m ≡ Calls c → next_action m ≡ calls c
@@ -61,16 +72,16 @@ told_reply m c r is = rw is refl
 
 -- the first try of a call, by what the kernel answers
 tried : (k j : KernelState) (p : ℕ) (m : Machine) (c : Call) (a : Answer) → next_request m ≡ Calls c → (a, j) ≡ answer k p c
-    → HasStepped k p (Running m) j (process_after_answer m c a) (stepped_of (kernel_step m c a))
+    → HasStepped k p (Running m) j (process_after_answer m c a) (stepped_of (Some (next_request m)) (kernel_step m c a))
 tried k j p m c a is answered =
-    ap {B = StepResult} (λ (x : Answer × KernelState). record { process = process_after_answer m c x.0; kernel = x.1; told = stepped_of (kernel_step m c x.0) }) answered
+    ap {B = StepResult} (λ (x : Answer × KernelState). record { process = process_after_answer m c x.0; kernel = x.1; told = stepped_of (Some (next_request m)) (kernel_step m c x.0) }) answered
     ∙ sym (ap {B = StepResult} (λ b. step_result k p (Running m) (first_try k p m b)) (asks m c is))
 
 -- a call that is answered at its first try
 pub tried_reply : (k j : KernelState) (p : ℕ) (m n : Machine) (c : Call) (r : Reply) → next_request m ≡ Calls c → (Done r, j) ≡ answer k p c → n ≡ process_after_reply m r
-    → HasStepped k p (Running m) j (Running n) stepped.Called
+    → HasStepped k p (Running m) j (Running n) (stepped.Called r)
 tried_reply k j p m n c r is answered n-is =
-    ap {B = StepResult} (λ u. record { process = u; kernel = j; told = stepped.Called }) (ap Running n-is ∙ sym (told_reply m c r is))
+    ap {B = StepResult} (λ u. record { process = u; kernel = j; told = stepped.Called r }) (ap Running n-is ∙ sym (told_reply m c r is))
     ∙ tried k j p m c (Done r) is answered
 
 -- a call that must wait at its first try
@@ -80,8 +91,9 @@ tried_wait k j p m c is answered =
     ap {B = StepResult} (λ u. record { process = u; kernel = j; told = stepped.Waits }) (sym (told_waits m c is)) ∙ tried k j p m c Wait is answered
 
 -- a call that is refused without the kernel
-pub tried_refused : (k : KernelState) (p : ℕ) (m n : Machine) → IsLocalStep (Running m) (Running n) → HasStepped k p (Running m) k (Running n) stepped.Moved
-tried_refused k p m n local = local_first k p (Running m) (Running n) (Running n, local, refl)
+pub tried_refused : (k : KernelState) (p : ℕ) (m n : Machine) (e : Errno) → next_request m ≡ Refuses e → IsLocalStep (Running m) (Running n)
+    → HasStepped k p (Running m) k (Running n) (stepped.Refused e)
+tried_refused k p m n e asked local = local_first k p m (Refuses e) (Running n) (Running n, local, refl) asked
 
 -- there is room for the reply to a process that waits
 pub reply_room : (x : Kept) (h : Held) (c : Call) (reply : Reply) → x ≡ kept.Waiting h c → IsHeld x → CanTakeReply x reply → HasRoom h reply
@@ -97,10 +109,10 @@ reply_told x h c reply q is held q-is =
 
 -- the end of a process
 pub end_told : (k j : KernelState) (p : ℕ) (s u : Process) (how : How) → StandsBefore s (End how) → u ≡ after_end s how → j ≡ (answer k p Exit).1
-    → HasStepped k p s j u stepped.Called
+    → HasStepped k p s j u (stepped.Called (Plain 0))
 end_told k j p (Running m) u how stands u-is j-is =
-    ap {B = StepResult} (λ x. record { process = x; kernel = j; told = stepped.Called }) u-is
-    ∙ ap {B = StepResult} (λ l. record { process = after_end (Running m) how; kernel = l; told = stepped.Called }) j-is
+    ap {B = StepResult} (λ x. record { process = x; kernel = j; told = stepped.Called (Plain 0) }) u-is
+    ∙ ap {B = StepResult} (λ l. record { process = after_end (Running m) how; kernel = l; told = stepped.Called (Plain 0) }) j-is
     ∙ end_step k p m how (asked_end m how stands)
 end_told k j p (Waiting m c) u how stands u-is j-is = absurd stands
 end_told k j p (Ended e) u how stands u-is j-is = absurd stands

@@ -1,9 +1,10 @@
 -- Runs of worlds: what lists of steps do one after another.
-use Rattle.std.proofs.Common.{ℕ, zero, suc, ◌+◌, ◌≡◌, ◌++◌, List, [], ◌∷◌, refl, sym, ap, ◌∙◌, length, replicate, subst}
+use Rattle.std.proofs.Common.{ℕ, zero, suc, Option, None, Some, slice_get, ◌+◌, ◌≡◌, ◌++◌, List, [], ◌∷◌, refl, sym, ap, ◌∙◌, length, replicate, subst}
 use Rattle.std.proofs.lemmas.List.{length-set, replicate-append-replicate}
 use Rattle.lab_sched.specs.Worlds.{Running, WorldState, StepEffect, nothing, local_step, kernel_step, step_effect_in, process_after_answer, after, step, run}
 use Rattle.ipc_kernel.specs.declared.call.Answer.TheVariants.{Done, Wait}
-use Rattle.lab_sched.specs.Held.{stepped_of}
+use Rattle.lab_sched.specs.Held.{asked_by, local_told, stepped_of, told_in}
+use Rattle.ipc_traps.specs.Asked.{Request, Local, Refuses, Calls, Ends}
 use Rattle.lab_sched.specs.declared.stepped.Stepped.{Stepped}
 use Rattle.lab_sched.specs.declared.stepped.Stepped.TheVariants as stepped
 
@@ -45,17 +46,34 @@ run_rests (suc n) w p rests =
     let same : step w p ≡ w = ap (λ t. after w p t) rests in
     ap (λ v. run v (replicate n p)) same ∙ run_rests n w p rests
 
+-- only of a step without effect it is told that there was none
+local_told_some : (request : Option Request) → local_told request ≡ stepped.Same → ⊥
+local_told_some None e = cc
+local_told_some (Some (Local n)) e = cc
+local_told_some (Some (Refuses f)) e = cc
+local_told_some (Some (Calls c)) e = cc
+local_told_some (Some (Ends how)) e = cc
+
+pub told_nothing : (request : Option Request) (t : StepEffect) → stepped_of request t ≡ stepped.Same → t ≡ nothing
+told_nothing request nothing e = refl
+told_nothing request (local_step n) e = absurd (local_told_some request e)
+told_nothing request (kernel_step m c (Done r)) e = absurd cc
+told_nothing request (kernel_step m c Wait) e = absurd cc
+
+-- of a step without effect that is told
+pub nothing_told : (w : WorldState) (p : ℕ) → step_effect_in w p ≡ nothing → told_in w p ≡ stepped.Same
+nothing_told w p is = ap (λ t. stepped_of (asked_by (slice_get w.processes p)) t) is
+
 -- a step, and the steps that it stands for
-pub run_told : (w : WorldState) (p k : ℕ) (s : Stepped) → s ≡ stepped_of (step_effect_in w p) → ((s ≡ stepped.Same → ⊥) → k ≡ 1) → step w p ≡ run w (replicate k p)
+pub run_told : (w : WorldState) (p k : ℕ) (s : Stepped) → s ≡ told_in w p → ((s ≡ stepped.Same → ⊥) → k ≡ 1) → step w p ≡ run w (replicate k p)
 run_told w p k s is one = by (step_effect_in w p) refl
   where
-    other : (t : StepEffect) → step_effect_in w p ≡ t → (stepped_of t ≡ stepped.Same → ⊥) → step w p ≡ run w (replicate k p)
+    other : (t : StepEffect) → step_effect_in w p ≡ t → (t ≡ nothing → ⊥) → step w p ≡ run w (replicate k p)
     other t at ne =
-        let single : k ≡ 1 = one (λ e. ne (ap stepped_of (sym at) ∙ sym is ∙ e)) in
+        let single : k ≡ 1 = one (λ e. ne (sym at ∙ told_nothing (asked_by (slice_get w.processes p)) (step_effect_in w p) (sym is ∙ e))) in
         subst (λ m. step w p ≡ run w (replicate m p)) (sym single) (sym (run-one w p))
 
     by : (t : StepEffect) → step_effect_in w p ≡ t → step w p ≡ run w (replicate k p)
     by nothing at = ap (λ t. after w p t) at ∙ sym (run_rests k w p at)
     by (local_step m) at = other (local_step m) at (λ e. cc)
-    by (kernel_step m c (Done r)) at = other (kernel_step m c (Done r)) at (λ e. cc)
-    by (kernel_step m c Wait) at = other (kernel_step m c Wait) at (λ e. cc)
+    by (kernel_step m c a) at = other (kernel_step m c a) at (λ e. cc)

@@ -20,7 +20,7 @@ use Rattle.lab_sched.specs.LocalRun.{AreLocal}
 use Rattle.lab_sched.proofs.Executions.{execution_local, with_process}
 use Rattle.lab_sched.proofs.Runs.{run-none}
 use Rattle.lab_sched.specs.Worlds.{profile_of, HasProfile, first_profile, HaveOneProfile, Process, Running, WorldState, run, StepEffect, step_effect, step_effect_in, process_made, process_after, kernel_after, processes_with, after, step}
-use Rattle.lab_sched.specs.Held.{process_view, IsHeld, IsWorld, stepped_of, StepResult, HasStepped}
+use Rattle.lab_sched.specs.Held.{process_view, IsHeld, IsWorld, asked_by, stepped_of, told_in, StepResult, HasStepped}
 use Rattle.lab_sched.proofs.ListPlaces.{set_same}
 use Rattle.lab_sched.proofs.Profiles.{one_of, starts_profile}
 
@@ -57,10 +57,11 @@ stepped_world ps ps' k k' w p s s' told same within read ps-is is =
 pub stepped_told : (ps : List Kept) (k k' : KernelState) (w : WorldState) (p : ℕ) (s s' : Kept) (told : Stepped)
     → record { processes = map process_view ps; kernel = k } ≡ w → p < length ps → s ≡ get_or ps p s
     → HasStepped k p (process_view s) k' (process_view s') told
-    → told ≡ stepped_of (step_effect_in w p)
+    → told ≡ told_in w p
 stepped_told ps k k' w p s s' told same within read is =
     ap (λ (x : StepResult). x.told) is
-    ∙ subst (λ x. stepped_of (step_effect k p (Some (process_view s))) ≡ stepped_of (step_effect_in x p)) same (ap (λ o. stepped_of (step_effect k p o)) (sym (seen_at ps p s within read)))
+    ∙ subst (λ x. stepped_of (asked_by (Some (process_view s))) (step_effect k p (Some (process_view s))) ≡ told_in x p) same
+    (ap (λ o. stepped_of (asked_by o) (step_effect k p o)) (sym (seen_at ps p s within read)))
 
 -- a process that is put back as it was
 pub same_world : (ps ps' : List Kept) (k k' : KernelState) (w : WorldState) (p : ℕ) (s s' : Kept)

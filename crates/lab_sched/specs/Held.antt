@@ -1,15 +1,15 @@
 -- The processes that a world holds, as the definitions see them.
-use Rattle.std.specs.Prelude.{◌≡◌, ◌≤◌, ℕ, List, Some, length, map, All}
+use Rattle.std.specs.Prelude.{◌≡◌, ◌≤◌, ℕ, List, Option, Some, option_map, length, slice_get, map, All}
 use Rattle.ipc_kernel.specs.Limits.{process_max}
 use Rattle.ipc_kernel.specs.Kernel.{KernelState}
 use Rattle.ipc_kernel.specs.declared.call.Answer.TheVariants.{Done, Wait}
-use Rattle.ipc_traps.specs.Asked.{Calls, next_request}
+use Rattle.ipc_traps.specs.Asked.{Request, Refuses, Calls, next_request}
 use Rattle.ipc_traps.specs.Reply.{IsPrepared}
 use Rattle.lab_sched.specs.declared.process.Process.{Process as Kept}
 use Rattle.lab_sched.specs.declared.process.Process.TheVariants as kept
 use Rattle.lab_sched.specs.declared.stepped.Stepped.{Stepped}
 use Rattle.lab_sched.specs.declared.stepped.Stepped.TheVariants as stepped
-use Rattle.lab_sched.specs.Worlds.{HaveOneProfile, Process, Running, Waiting, Ended, StepEffect, nothing, local_step, kernel_step, step_effect, process_after, kernel_after}
+use Rattle.lab_sched.specs.Worlds.{HaveOneProfile, Process, Running, Waiting, Ended, machine_of, WorldState, StepEffect, nothing, local_step, kernel_step, step_effect, step_effect_in, process_after, kernel_after}
 
 -- a process without the pages of memory that are ready
 abbrev pub process_view : Kept → Process
@@ -31,12 +31,25 @@ pub record IsWorld (ps : List Kept) (k : KernelState) : Type 0 where
   pub few : length ps ≤ process_max
   pub count : length ps ≡ length k.processes
 
--- what a step is, as it is told
-abbrev pub stepped_of : StepEffect → Stepped
-stepped_of nothing = stepped.Same
-stepped_of (local_step n) = stepped.Moved
-stepped_of (kernel_step m c (Done r)) = stepped.Called
-stepped_of (kernel_step m c Wait) = stepped.Waits
+-- what a process that is there asks for next
+abbrev pub asked_by : Option Process → Option Request
+asked_by = option_map (λ s. next_request (machine_of s))
+
+-- what is told of a local step, by what was asked: a refusal without the kernel, or no call
+abbrev pub local_told : Option Request → Stepped
+local_told (Some (Refuses e)) = stepped.Refused e
+local_told other = stepped.Moved
+
+-- what is told of a step, by what was asked and by its effect: of a call that was answered the reply
+abbrev pub stepped_of : Option Request → StepEffect → Stepped
+stepped_of request nothing = stepped.Same
+stepped_of request (local_step n) = local_told request
+stepped_of request (kernel_step m c (Done r)) = stepped.Called r
+stepped_of request (kernel_step m c Wait) = stepped.Waits
+
+-- what is told of the step of process p in a world
+abbrev pub told_in : WorldState → ℕ → Stepped
+told_in w p = stepped_of (asked_by (slice_get w.processes p)) (step_effect_in w p)
 
 -- a process and the kernel after a step, and what the step was
 pub record StepResult : Type 0 where
@@ -46,7 +59,7 @@ pub record StepResult : Type 0 where
 
 -- the same of process p, which was s before its step
 abbrev pub step_result : KernelState → ℕ → Process → StepEffect → StepResult
-step_result k p s t = record { process = process_after s t; kernel = kernel_after k p t; told = stepped_of t }
+step_result k p s t = record { process = process_after s t; kernel = kernel_after k p t; told = stepped_of (asked_by (Some s)) t }
 
 -- the step of process p, where it is s
 abbrev pub step_of : KernelState → ℕ → Process → StepResult

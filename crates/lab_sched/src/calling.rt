@@ -1,5 +1,5 @@
 //! Calls of running processes: how they are read, and how they are tried for the first time.
-ghost use Rattle.std.specs.Prelude.{◌≡◌, ◌<◌, IfOk, IfSome, OnErr, length};
+ghost use Rattle.std.specs.Prelude.{◌≡◌, ◌<◌, IfOk, OnErr, length};
 ghost use Rattle.lc3_machine.specs.declared.want.Want.TheVariants.{Trap};
 ghost use Rattle.lc3_machine.specs.Process.{Stops};
 ghost use Rattle.lc3_machine.specs.Effects.{next_step};
@@ -7,9 +7,10 @@ ghost use Rattle.lc3_machine.specs.Steps.{AsksTrap};
 ghost use Rattle.ipc_kernel.specs.declared.call.Reply.TheVariants.{Plain};
 ghost use Rattle.ipc_traps.specs.Asked.{Calls, next_request};
 ghost use Rattle.ipc_traps.specs.Reply.{HasRoom, IsPrepared, process_after_reply};
-ghost use Rattle.lab_sched.specs.Private.Calling.{HasAsked, HasTried};
+ghost use Rattle.lab_sched.specs.Private.Calling.{HasAsked, HasRoomFor, HasTried};
 
 use ipc_kernel::{Answer, Call, Kernel, Reply};
+use ipc_names::Errno;
 use ipc_traps::{Asked, effect_of, prepare, read_call};
 use lc3_machine::{Effect, Running};
 use std::alloc::{AllocError, Global};
@@ -18,9 +19,9 @@ use std::alloc::{AllocError, Global};
 #[derive(Drop)]
 pub(crate) enum FirstTry {
     /// The call was refused without the kernel.
-    Refused,
-    /// It was answered.
-    Answered,
+    Refused(Errno),
+    /// It had this reply.
+    Answered(Reply),
     /// The process must wait for the answer to this call.
     Waits(Call),
 }
@@ -49,23 +50,19 @@ pub(crate) fn give_reply(running: &mut Running, vector: u8, reply: &Reply)
 }
 
 /// Reads the call that a running process makes by the trap that it stands before. A call that is
-/// refused without the kernel is none: that is a local step, which the process takes.
+/// refused without the kernel is a local step, which the process takes.
 #[tactic(auto, unfolding(crate::specs::Worlds::next_action))]
 #[inline(always)]
-pub(crate) fn ask(
-    alloc: Global,
-    running: &mut Running,
-    vector: u8,
-) -> Result<Option<Call>, AllocError>
+pub(crate) fn ask(alloc: Global, running: &mut Running, vector: u8) -> Result<Asked, AllocError>
     requires trap { next_step running.old.process ≡ Stops (Trap vector) }
     ensures asked { IfOk result (λ asked. HasAsked running.old.process asked running.new.process) }
     ensures err { OnErr result (running.new.process ≡ running.old.process) }
 {
     match read_call(alloc, running.machine(), vector)? {
-        Asked::Kernel(call) => Ok(Some(call)),
+        Asked::Kernel(call) => Ok(Asked::Kernel(call)),
         Asked::Refused(e) => {
             give_word(running, e.reply());
-            Ok(None)
+            Ok(Asked::Refused(e))
         }
     }
 }
@@ -76,18 +73,18 @@ pub(crate) fn ask_with_room(
     alloc: Global,
     running: &mut Running,
     vector: u8,
-) -> Result<Option<Call>, AllocError>
+) -> Result<Asked, AllocError>
     requires trap { next_step running.old.process ≡ Stops (Trap vector) }
     ensures asked { IfOk result (λ asked. HasAsked running.old.process asked running.new.process) }
-    ensures room { IfOk result (λ asked. IfSome asked (λ _. IsPrepared running.new)) }
+    ensures room { IfOk result (λ asked. HasRoomFor asked running.new) }
     ensures err { OnErr result (running.new.process ≡ running.old.process) }
 {
     match ask(alloc, running, vector)? {
-        Some(call) => {
+        Asked::Kernel(call) => {
             prepare(running, vector)?;
-            Ok(Some(call))
+            Ok(Asked::Kernel(call))
         }
-        None => Ok(None),
+        Asked::Refused(e) => Ok(Asked::Refused(e)),
     }
 }
 
@@ -115,11 +112,11 @@ fn try_call(
         // A plain word is the reply of most calls.
         Ok(Answer::Done(Reply::Plain(word))) => {
             give_word(running, word);
-            Ok(FirstTry::Answered)
+            Ok(FirstTry::Answered(Reply::Plain(word)))
         }
         Ok(Answer::Done(reply)) => {
             give_reply(running, vector, &reply);
-            Ok(FirstTry::Answered)
+            Ok(FirstTry::Answered(reply))
         }
         Ok(Answer::Wait) => Ok(FirstTry::Waits(call)),
         Err(e) => Err(e),
@@ -145,7 +142,7 @@ pub(crate) fn first_try(
     ensures count { length kernel.new.processes ≡ length kernel.old.processes }
 {
     match ask_with_room(alloc, running, vector)? {
-        Some(call) => try_call(running, vector, call, kernel, pid),
-        None => Ok(FirstTry::Refused),
+        Asked::Kernel(call) => try_call(running, vector, call, kernel, pid),
+        Asked::Refused(e) => Ok(FirstTry::Refused(e)),
     }
 }

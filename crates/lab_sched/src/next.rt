@@ -12,6 +12,7 @@ use crate::Process;
 use crate::calling::ask;
 use crate::stepping::local_steps;
 use ipc_kernel::Call;
+use ipc_traps::Asked;
 use lc3_machine::{Progress, Running, Want};
 use std::alloc::Global;
 
@@ -36,8 +37,8 @@ fn next_trap(alloc: Global, running: &mut Running, vector: u8) -> Next
         → IsNext (RunningSeen running.old.process) most result (RunningSeen running.new.process) }
 {
     match ask(alloc, running, vector) {
-        Ok(Some(call)) => Next::Asks(call),
-        Ok(None) => Next::Moved(1),
+        Ok(Asked::Kernel(call)) => Next::Asks(call),
+        Ok(Asked::Refused(_)) => Next::Moved(1),
         Err(_) => Next::Short,
     }
 }

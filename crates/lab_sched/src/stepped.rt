@@ -1,12 +1,16 @@
 //! What a step was.
+use ipc_kernel::Reply;
+use ipc_names::Errno;
 
 /// What a step of a process was.
-#[derive(Clone, Copy, PartialEq, Eq, Debug)]
+#[derive(Drop)]
 pub enum Stepped {
-    /// A local step.
+    /// A local step, by which no call was asked for.
     Moved,
-    /// A call of the kernel that was answered.
-    Called,
+    /// A call that was refused without the kernel: a local step.
+    Refused(Errno),
+    /// A call of the kernel that had this reply.
+    Called(Reply),
     /// A call of the kernel for which the process now waits.
     Waits,
     /// Nothing: the process has ended, or must still wait.

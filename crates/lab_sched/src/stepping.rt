@@ -14,6 +14,7 @@ use crate::calling::{FirstTry, ask_with_room, first_try, give_reply};
 use crate::{Process, Stepped};
 use core::mem::replace_with;
 use ipc_kernel::{Answer, Call, Kernel, Reply};
+use ipc_traps::Asked;
 use lc3_machine::{How, Progress, Want};
 use std::alloc::{AllocError, Global};
 
@@ -89,11 +90,11 @@ pub fn begin_call(alloc: Global, process: &mut Process, vector: u8) -> Asking
 {
     match process {
         Process::Running(running) => match ask_with_room(alloc, running, vector) {
-            Ok(Some(call)) => {
+            Ok(Asked::Kernel(call)) => {
                 begin_wait(process, vector, call);
                 Asking::Waits
             }
-            Ok(None) => Asking::Refused,
+            Ok(Asked::Refused(_)) => Asking::Refused,
             Err(_) => Asking::Short,
         },
         Process::Waiting(_, _) | Process::Ended(_) => unreachable!(),
@@ -206,7 +207,7 @@ fn retry(process: &mut Process, kernel: &mut Kernel, pid: usize) -> Result<Stepp
             Answer::Wait => Ok(Stepped::Same),
             Answer::Done(reply) => {
                 replace_with(process, &reply, replied);
-                Ok(Stepped::Called)
+                Ok(Stepped::Called(reply))
             }
         },
         Process::Running(_) | Process::Ended(_) => unreachable!(),
@@ -234,8 +235,8 @@ fn step_trap(
 {
     match process {
         Process::Running(running) => match first_try(alloc, running, vector, kernel, pid)? {
-            FirstTry::Refused => Ok(Stepped::Moved),
-            FirstTry::Answered => Ok(Stepped::Called),
+            FirstTry::Refused(e) => Ok(Stepped::Refused(e)),
+            FirstTry::Answered(reply) => Ok(Stepped::Called(reply)),
             FirstTry::Waits(call) => {
                 begin_wait(process, vector, call);
                 Ok(Stepped::Waits)
@@ -265,7 +266,7 @@ fn step_end(
 {
     let _ = kernel.call(pid, &Call::Exit)?;
     end_process(process, how);
-    Ok(Stepped::Called)
+    Ok(Stepped::Called(Reply::Plain(0)))
 }
 
 /// The next step of a process that takes no local step.

@@ -4,7 +4,7 @@ ghost use Rattle.ipc_kernel.specs.Limits.{process_max};
 ghost use Rattle.std.specs.Option.{option_map, option_copied};
 ghost use Rattle.lab_sched.specs.Worlds.{HasNoProcess, HasProfile, first_profile, step_effect, step_effect_in, step, nothing, IsEffective};
 ghost use Rattle.lab_sched.specs.Verdicts.{HasEnded, HasEndedIn, HasNotEndedIn};
-ghost use Rattle.lab_sched.specs.Held.{process_view, stepped_of, IsWorld};
+ghost use Rattle.lab_sched.specs.Held.{process_view, told_in, IsWorld};
 ghost use Rattle.lab_sched.specs.declared.world.StepFault.TheVariants.{NoProcess};
 
 mod bits;
@@ -143,7 +143,7 @@ impl World {
     pub fn step(&mut self, pid: usize) -> Result<Stepped, StepFault>
         ensures no_process { (result ≡ Err NoProcess) ↔ HasNoProcess self.old pid }
         ensures world { OnOk result (self.new ≡ step self.old pid) }
-        ensures told { IfOk result (λ stepped. stepped ≡ stepped_of (step_effect_in self.old pid)) }
+        ensures told { IfOk result (λ stepped. stepped ≡ told_in self.old pid) }
         ensures err { OnErr result (self.new ≡ self.old) }
     {
         if pid >= self.processes.len() {

@@ -2,11 +2,12 @@
 use Rattle.std.proofs.Common.{◌≡◌, ℕ, zero, suc, ◌+◌, ◌-◌, ◌<◌, ◌≤◌, Bool, true, false, if◌then◌else◌, List, [], ◌∷◌, ◌++◌, Option, Some, None, length, replicate, slice_get, set, refl, sym, ap, subst, ◌∙◌, append_assoc, append-nil, arith}
 use Rattle.std.proofs.lemmas.List.{length-set, length-replicate, replicate-append-replicate}
 use Rattle.std.proofs.lemmas.List.Elements.{All-nil}
-use Rattle.ipc_kernel.specs.declared.call.Answer.TheVariants.{Done, Wait}
 use Rattle.ipc_kernel.specs.Kernel.{KernelState}
 use Rattle.lab_sched.specs.Worlds.{Process, WorldState, StepEffect, nothing, local_step, kernel_step, step_effect_in, after, step, run}
-use Rattle.lab_sched.specs.Held.{stepped_of}
-use Rattle.lab_sched.proofs.Runs.{run-one, length-run}
+use Rattle.lab_sched.specs.Held.{asked_by, told_in}
+use Rattle.lab_sched.specs.declared.stepped.Stepped.{Stepped}
+use Rattle.lab_sched.specs.declared.stepped.Stepped.TheVariants as stepped
+use Rattle.lab_sched.proofs.Runs.{run-one, length-run, told_nothing, nothing_told}
 use Rattle.lab_trace.specs.Events.{act_by, told_with, told_by}
 use Rattle.lab_trace.specs.Lines.{step_line}
 use Rattle.lab_trace.specs.Tallies.{TallyState, new_account, account_in, account_of, account_counted, account_after, tally_after, AreBelow}
@@ -59,15 +60,15 @@ abbrev pub renumbered : Scene → ℕ → Scene
 renumbered s n = record { number = n; world = s.world; tally = s.tally }
 
 -- what is told of a step, by whether it has an effect
-told-if : (s : Scene) (p : ℕ) (effect : Bool) → has_effect (stepped_of (step_effect_in s.world p)) ≡ effect
-    → told s p ≡ (if effect then told_by (step s.world p).kernel s.tally p (before_at s p) (slice_get (step s.world p).processes p) else Nothing)
+told-if : (s : Scene) (p : ℕ) (effect : Bool) → has_effect (told_in s.world p) ≡ effect
+    → told s p ≡ (if effect then told_by (step s.world p).kernel s.tally p (before_at s p) (told_in s.world p) (slice_get (step s.world p).processes p) else Nothing)
 unfolding told
 told-if s p effect e =
-    ap (λ (b : Bool). if b then told_by (step s.world p).kernel s.tally p (before_at s p) (slice_get (step s.world p).processes p) else Nothing) e
+    ap (λ (b : Bool). if b then told_by (step s.world p).kernel s.tally p (before_at s p) (told_in s.world p) (slice_get (step s.world p).processes p) else Nothing) e
 
 -- a step without effect has no line, and changes nothing but the number
 pub told-still : (s : Scene) (p : ℕ) → step_effect_in s.world p ≡ nothing → told s p ≡ Nothing
-told-still s p e = told-if s p false (ap (λ t. has_effect (stepped_of t)) e)
+told-still s p e = told-if s p false (ap has_effect (nothing_told s.world p e))
 
 line-still : (v : Form) (s : Scene) (p : ℕ) → step_effect_in s.world p ≡ nothing → line v s p ≡ []
 line-still v s p e = ap (λ (t : Told). step_line v s.number p t) (told-still s p e)
@@ -80,13 +81,23 @@ told_with-some : (b : Observed) (a : Account) (act : Option Act) → told_with b
 told_with-some b a None e = cc
 told_with-some b a (Some act) e = cc
 
-told_by-some : (k : KernelState) (t : TallyState) (p : ℕ) (b : Observed) (u : Option Process) → told_by k t p b u ≡ Nothing → ⊥
-told_by-some k t p b None e = cc
-told_by-some k t p b (Some u) e = told_with-some b (account_of t p) (act_by k t p b.asking b.written u) e
+told_by-some : (k : KernelState) (t : TallyState) (p : ℕ) (b : Observed) (told : Stepped) (u : Option Process) → told_by k t p b told u ≡ Nothing → ⊥
+told_by-some k t p b told None e = cc
+told_by-some k t p b told (Some u) e = told_with-some b (account_of t p) (act_by k t p b.asking b.written told u) e
 
-pub told-some : (s : Scene) (p : ℕ) → has_effect (stepped_of (step_effect_in s.world p)) ≡ true → told s p ≡ Nothing → ⊥
-told-some s p effect e =
-    told_by-some (step s.world p).kernel s.tally p (before_at s p) (slice_get (step s.world p).processes p) (sym (told-if s p true effect) ∙ e)
+-- so it is of each step with an effect
+effect-by : (told : Stepped) → (told ≡ stepped.Same → ⊥) → has_effect told ≡ true
+effect-by stepped.Moved ne = refl
+effect-by (stepped.Refused e) ne = refl
+effect-by (stepped.Called r) ne = refl
+effect-by stepped.Waits ne = refl
+effect-by stepped.Same ne = absurd (ne refl)
+
+pub told-some : (s : Scene) (p : ℕ) → (step_effect_in s.world p ≡ nothing → ⊥) → told s p ≡ Nothing → ⊥
+told-some s p ne e =
+    let effect : has_effect (told_in s.world p) ≡ true = effect-by (told_in s.world p)
+    (λ same. ne (told_nothing (asked_by (slice_get s.world.processes p)) (step_effect_in s.world p) same)) in
+    told_by-some (step s.world p).kernel s.tally p (before_at s p) (told_in s.world p) (slice_get (step s.world p).processes p) (sym (told-if s p true effect) ∙ e)
 
 pub next-still : (s : Scene) (p : ℕ) → step_effect_in s.world p ≡ nothing → next s p ≡ renumbered s (s.number + 1)
 next-still s p e =
@@ -127,14 +138,13 @@ stands-still v s p k e = record {
 pub stands : (v : Form) (s : Scene) (p k : ℕ) → ((told s p ≡ Nothing → ⊥) → k ≡ 1) → Stands v s p k
 stands v s p k one = by (step_effect_in s.world p) refl
   where
-    other : (u : StepEffect) → step_effect_in s.world p ≡ u → has_effect (stepped_of u) ≡ true → Stands v s p k
-    other u at effect = stands-one v s p k (one (told-some s p (ap (λ t. has_effect (stepped_of t)) at ∙ effect)))
+    other : (u : StepEffect) → step_effect_in s.world p ≡ u → (u ≡ nothing → ⊥) → Stands v s p k
+    other u at ne = stands-one v s p k (one (told-some s p (λ e. ne (sym at ∙ e))))
 
     by : (u : StepEffect) → step_effect_in s.world p ≡ u → Stands v s p k
     by nothing at = stands-still v s p k at
-    by (local_step m) at = other (local_step m) at refl
-    by (kernel_step m c (Done r)) at = other (kernel_step m c (Done r)) at refl
-    by (kernel_step m c Wait) at = other (kernel_step m c Wait) at refl
+    by (local_step m) at = other (local_step m) at (λ e. cc)
+    by (kernel_step m c a) at = other (kernel_step m c a) at (λ e. cc)
 
 -- the lines of a block from its step number k on
 pub events-from : (v : Form) (s : Scene) (n k p : ℕ) → k ≤ n

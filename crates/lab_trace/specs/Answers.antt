@@ -1,26 +1,23 @@
--- What a call is answered.
-use Rattle.std.specs.Prelude.{ℕ, ◌-◌, ◌==◌, if◌then◌else◌, Option, Some, None, List, [], ◌∷◌, ◌++◌, codes, length}
+-- What became of a call.
+use Rattle.std.specs.Prelude.{ℕ, ◌-◌, ◌==◌, Bool, if◌then◌else◌, Option, Some, None, is_some, List, [], ◌∷◌, ◌++◌, codes, length, slice_index}
 use Rattle.std.specs.List.{find}
 use Rattle.std.specs.Fmt.{decimal}
-use Rattle.lc3_machine.specs.Process.{Process as Machine, reg}
+use Rattle.lc3_machine.specs.Process.{Process as Machine}
 use Rattle.ipc_names.specs.Errno.{number_of}
-use Rattle.ipc_names.specs.Flags.{o_nonblock}
 use Rattle.ipc_names.specs.declared.errno.Errno.{Errno}
 use Rattle.ipc_names.specs.declared.errno.Errno.TheVariants.{NoEntry, BadDescriptor, Again, Fault, Exists, Invalid, TooManyOpen, NoSpace, NameTooLong, Overflow, MessageSize}
-use Rattle.ipc_objects.specs.Queue.{QueueState}
-use Rattle.ipc_objects.specs.declared.queue.Message.{Message}
-use Rattle.ipc_kernel.specs.declared.process.Descriptor.{Descriptor}
-use Rattle.ipc_kernel.specs.declared.process.Slot.{Slot}
-use Rattle.ipc_kernel.specs.Kernel.{KernelState}
-use Rattle.ipc_kernel.specs.Outcomes.{open_queue, open_semaphore}
+use Rattle.ipc_kernel.specs.declared.call.Reply.{Reply}
+use Rattle.ipc_kernel.specs.declared.call.Reply.TheVariants.{Plain, Message, Attr, Value}
+use Rattle.ipc_kernel.specs.declared.call.Answer.{Answer}
+use Rattle.ipc_kernel.specs.declared.call.Answer.TheVariants.{Done, Wait}
+use Rattle.ipc_traps.specs.Reply.{four_words_address}
+use Rattle.ipc_traps.specs.declared.service.Service.{Service}
+use Rattle.lab_sched.specs.declared.stepped.Stepped.{Stepped}
+use Rattle.lab_sched.specs.declared.stepped.Stepped.TheVariants as stepped
 use Rattle.lab_trace.specs.Words.{message_text}
 use Rattle.lab_trace.specs.Attributes.{attributes_text}
-use Rattle.lab_trace.specs.declared.answers.Given.{Given}
-use Rattle.lab_trace.specs.declared.answers.Given.TheVariants.{Nothing, Received, Attributes, Value}
 use Rattle.lab_trace.specs.declared.answers.Outcome.{Outcome}
-use Rattle.lab_trace.specs.declared.answers.Outcome.TheVariants.{Waits, Refused, Gives}
-use Rattle.ipc_traps.specs.declared.service.Service.{Service}
-use Rattle.ipc_traps.specs.declared.service.Service.TheVariants.{MqReceive, MqGetattr, MqSetattr, SemGetvalue}
+use Rattle.lab_trace.specs.declared.answers.Outcome.TheVariants.{Waits, Refused, Replied}
 
 -- the name of an error (POSIX.1-2017, <errno.h>)
 abbrev pub error_name : Errno → List ℕ
@@ -40,75 +37,72 @@ error_name MessageSize = codes "EMSGSIZE"
 abbrev pub errors : List Errno
 errors = NoEntry ∷ BadDescriptor ∷ Again ∷ Fault ∷ Exists ∷ Invalid ∷ TooManyOpen ∷ NoSpace ∷ NameTooLong ∷ Overflow ∷ MessageSize ∷ []
 
--- the error that a result tells, if it does; no other reply is so great
+-- the error that a plain reply tells, if it does; no other is so great
 unfoldable pub error_in : ℕ → Option Errno
 error_in result = find (λ e. result == 65536 - number_of e) errors
 
--- the message that is received first
-abbrev pub first_given : List Message → Given
-first_given [] = Nothing
-first_given (m ∷ rest) = Received m.words m.priority
+-- the error that a reply tells, if it does: a plain one is a word
+abbrev pub error_of : Reply → Option Errno
+error_of (Plain word) = error_in word
+error_of other = None
 
--- the message that is received through a descriptor, where one is open
-abbrev pub received_by : Option (Descriptor × QueueState) → Given
-received_by None = Nothing
-received_by (Some held) = first_given held.1.messages
+-- what became of a call with this reply, by the error that it tells
+abbrev pub replied_by : Option Errno → Reply → Outcome
+replied_by None reply = Replied reply
+replied_by (Some e) reply = Refused e
 
--- the attributes of a queue and a descriptor
-abbrev pub attributes_of : Descriptor → QueueState → Given
-attributes_of d q = Attributes (if d.nonblock then o_nonblock else 0) q.max_messages q.message_size (length q.messages)
+-- what became of a call with this reply
+abbrev pub replied : Reply → Outcome
+replied reply = replied_by (error_of reply) reply
 
--- the attributes of an open descriptor and its queue, where one is open
-abbrev pub attributes_by : Option (Descriptor × QueueState) → Given
-attributes_by None = Nothing
-attributes_by (Some held) = attributes_of held.0 held.1
+-- what became of a call with this answer of the kernel
+abbrev pub answered : Answer → Outcome
+answered Wait = Waits
+answered (Done reply) = replied reply
 
--- the value of the semaphore behind a slot, where one is open
-abbrev pub value_by : Option (Slot × ℕ) → Given
-value_by None = Nothing
-value_by (Some held) = Value held.1
+-- what became of the call that a step made, if it made one, by what is told of the step
+abbrev pub outcome_of : Stepped → Option Outcome
+outcome_of (stepped.Refused e) = Some (Refused e)
+outcome_of (stepped.Called reply) = Some (answered (Done reply))
+outcome_of stepped.Waits = Some (answered Wait)
+outcome_of stepped.Moved = None
+outcome_of stepped.Same = None
 
--- what a call of process p that isn't refused gives beside its result, by the kernel before it
-unfoldable pub given_by : KernelState → ℕ → Machine → Service → Given
-given_by k p m MqReceive = received_by (open_queue k p (reg m 0))
-given_by k p m MqGetattr = attributes_by (open_queue k p (reg m 0))
-given_by k p m MqSetattr = if reg m 2 == 0 then Nothing else attributes_by (open_queue k p (reg m 0))
-given_by k p m SemGetvalue = value_by (open_semaphore k p (reg m 0))
-given_by k p m other = Nothing
+-- whether a call wants the attributes of a queue that it is answered: there is an address for them
+abbrev pub wants_attributes : Machine → Service → Bool
+wants_attributes m s = is_some (four_words_address (Some s) m)
 
--- what became of a call with this result: it tells an error, or the call gives this beside it
-abbrev pub outcome_by : ℕ → Option Errno → Given → Outcome
-outcome_by result None given = Gives result given
-outcome_by result (Some e) given = Refused e
+-- what became of a call, without the attributes that it doesn't want
+abbrev pub wanted_of : Bool → Outcome → Outcome
+wanted_of wants (Replied (Attr words)) = if wants then Replied (Attr words) else Replied (Plain 0)
+wanted_of wants other = other
 
--- what became of a call with this result
-abbrev pub outcome_in : ℕ → Given → Outcome
-outcome_in result given = outcome_by result (error_in result) given
-
--- what became of a call, by its result, which it has where it doesn't wait
-abbrev pub outcome_of : Option ℕ → Given → Outcome
-outcome_of None given = Waits
-outcome_of (Some result) given = outcome_in result given
+-- the result that a reply leaves in R0
+abbrev pub result_in : Reply → ℕ
+result_in (Plain word) = word
+result_in (Message words prio) = length words
+result_in (Attr words) = 0
+result_in (Value value) = 0
 
 -- the result of a call that was answered and not refused
 abbrev pub result_of : Outcome → Option ℕ
 result_of Waits = None
 result_of (Refused e) = None
-result_of (Gives result given) = Some result
+result_of (Replied reply) = Some (result_in reply)
 
 -- a message that was received
 abbrev pub received_text : List ℕ → ℕ → List ℕ
 received_text words priority = codes " " ++ message_text words ++ codes " prio " ++ decimal priority
 
--- what stands behind a result
-unfoldable pub given_text : Given → List ℕ
-given_text Nothing = []
-given_text (Received words priority) = received_text words priority
-given_text (Attributes flags most size count) = attributes_text flags most size count
+-- what a reply gives beside its result; the four words of attributes are mq_flags, mq_maxmsg, mq_msgsize and mq_curmsgs
+unfoldable pub given_text : Reply → List ℕ
+given_text (Plain word) = []
+given_text (Message words priority) = received_text words priority
+given_text (Attr words) = attributes_text (slice_index words 0) (slice_index words 1) (slice_index words 2) (slice_index words 3)
 given_text (Value value) = codes " value " ++ decimal value
 
 -- what became of a call, in words
 unfoldable pub outcome_text : Outcome → List ℕ
 outcome_text Waits = codes "waits"
 outcome_text (Refused e) = codes "= " ++ error_name e
-outcome_text (Gives result given) = codes "= " ++ decimal result ++ given_text given
+outcome_text (Replied reply) = codes "= " ++ decimal (result_in reply) ++ given_text reply

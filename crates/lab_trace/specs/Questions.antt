@@ -4,14 +4,14 @@ use Rattle.std.specs.Option.{option_map}
 use Rattle.lc3_machine.specs.Process.{Process as Machine, reg}
 use Rattle.ipc_kernel.specs.Kernel.{KernelState}
 use Rattle.lab_sched.specs.Worlds.{Process, machine_of}
-use Rattle.lab_trace.specs.Answers.{given_by}
+use Rattle.lab_trace.specs.Answers.{wants_attributes}
 use Rattle.lab_trace.specs.Calls.{arguments, object_called, place_of, sent_words}
 use Rattle.lab_trace.specs.Services.{service_at}
 use Rattle.lab_trace.specs.declared.asking.Asking.{Asking}
 use Rattle.lab_trace.specs.declared.asking.Observed.{Observed}
 use Rattle.ipc_traps.specs.declared.service.Service.{Service}
 
--- a call that process p is about to make: by its words, by what it is on, and by what it gives where it isn't refused
+-- a call that process p is about to make: its words, what it is on, and what it wants
 abbrev pub question : KernelState → ℕ → Machine → Service → Asking
 question k p m s = record {
   service = s;
@@ -20,7 +20,7 @@ question k p m s = record {
   place = place_of k p m s;
   sent = sent_words m s;
   priority = reg m 3;
-  given = given_by k p m s;
+  wants_attributes = wants_attributes m s;
 }
 
 -- process p before its step, by its machine: its program counter, the word there, how many bytes it has written, and its call

@@ -1,7 +1,7 @@
 -- The steps of a schedule, one after another, as a trace goes through them.
 use Rattle.std.specs.Prelude.{◌≡◌, ℕ, ◌+◌, Bool, true, false, if◌then◌else◌, List, [], ◌∷◌, ◌++◌, length, slice_get}
-use Rattle.lab_sched.specs.Worlds.{WorldState, step_effect_in, step}
-use Rattle.lab_sched.specs.Held.{stepped_of}
+use Rattle.lab_sched.specs.Worlds.{WorldState, step}
+use Rattle.lab_sched.specs.Held.{told_in}
 use Rattle.lab_sched.specs.declared.stepped.Stepped.{Stepped}
 use Rattle.lab_sched.specs.declared.stepped.Stepped.TheVariants.{Same}
 use Rattle.lab_trace.specs.Questions.{before_in}
@@ -40,8 +40,8 @@ before_at s p = before_in s.world.kernel p (slice_get s.world.processes p)
 -- what is told of the next step, of process p
 unfoldable pub told : Scene → ℕ → Told
 told s p =
-    if has_effect (stepped_of (step_effect_in s.world p))
-    then told_by (step s.world p).kernel s.tally p (before_at s p) (slice_get (step s.world p).processes p)
+    if has_effect (told_in s.world p)
+    then told_by (step s.world p).kernel s.tally p (before_at s p) (told_in s.world p) (slice_get (step s.world p).processes p)
     else Nothing
 
 -- the line of the next step, of process p, or nothing

@@ -3,6 +3,7 @@ ghost use Rattle.std.specs.Prelude.{◌≡◌, ◌<◌, ◌++◌, OnOk, IfOk, le
 ghost use Rattle.lab_sched.specs.Held.{process_view};
 ghost use Rattle.lab_sched.specs.Worlds.{machine_of};
 ghost use Rattle.ipc_traps.specs.declared.service.Service.TheVariants.{MqSend, MqReceive};
+ghost use Rattle.lab_trace.specs.Answers.{wants_attributes};
 ghost use Rattle.lab_trace.specs.Calls.{attributes_asked, mq_open_arguments, sem_open_arguments, flags_asked, further_arguments, arguments, call_text, object_called, place_of, sent_words};
 
 use crate::attributes::{push_flags, push_sizes};
@@ -248,4 +249,11 @@ pub fn sent_words(
         }
         _ => Ok(None),
     }
+}
+
+/// Whether a call wants the attributes of a queue that it is answered: mq_setattr doesn't where R2 is 0.
+pub fn wants_attributes(process: &Process, service: Service) -> bool
+    ensures wants { result ≡ wants_attributes (machine_of (process_view process.now)) service }
+{
+    service != Service::MqSetattr || register(process, 2) != 0
 }

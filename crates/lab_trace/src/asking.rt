@@ -4,8 +4,7 @@ ghost use Rattle.lab_sched.specs.Held.{process_view};
 ghost use Rattle.lab_sched.specs.Worlds.{machine_of};
 ghost use Rattle.lab_trace.specs.Questions.{question, before, before_in};
 
-use crate::answers::{Given, given_by};
-use crate::arguments::{arguments_of, object_called, place_of, sent_words};
+use crate::arguments::{arguments_of, object_called, place_of, sent_words, wants_attributes};
 use crate::service::service_at;
 use crate::text::Text;
 use crate::words::register;
@@ -29,8 +28,8 @@ pub struct Asking {
     pub sent: Option<Words>,
     /// R3, of mq_send the priority.
     pub priority: u16,
-    /// What it gives where it isn't refused.
-    pub given: Given,
+    /// Whether it wants the attributes of a queue that it is answered.
+    pub wants_attributes: bool,
 }
 
 /// A process before its step.
@@ -64,7 +63,7 @@ fn asking_of(
         place: place_of(kernel, pid, process, service),
         sent: sent_words(alloc, process, service)?,
         priority: register(process, 3),
-        given: given_by(kernel, pid, process, service)?,
+        wants_attributes: wants_attributes(process, service),
     })
 }
 

@@ -27,7 +27,7 @@ mod tracing;
 mod units;
 mod words;
 
-pub use answers::{Given, Outcome, error_name, push_outcome};
+pub use answers::{Outcome, error_name, push_outcome, result_in};
 pub use arguments::{arguments_of, push_call};
 pub use fault::TraceFault;
 pub use form::Form;

@@ -12,12 +12,12 @@ use lab_sched::{Stepped, World};
 use std::alloc::{AllocError, Global};
 
 /// Whether a step has an effect.
-fn has_effect(stepped: Stepped) -> bool
-    ensures value { result ≡ has_effect stepped }
+fn has_effect(stepped: &Stepped) -> bool
+    ensures value { result ≡ has_effect stepped.now }
 {
     match stepped {
         Stepped::Same => false,
-        Stepped::Moved | Stepped::Called | Stepped::Waits => true,
+        Stepped::Moved | Stepped::Refused(_) | Stepped::Called(_) | Stepped::Waits => true,
     }
 }
 
@@ -33,8 +33,8 @@ fn tell(alloc: Global, world: &mut World, tally: &Tally, pid: usize) -> Result<T
     let Ok(stepped) = world.step(pid) else {
         return Err(AllocError);
     };
-    if has_effect(stepped) {
-        told_by(alloc, world, tally, pid, before)
+    if has_effect(&stepped) {
+        told_by(alloc, world, tally, pid, before, stepped)
     } else {
         Ok(Told::Nothing)
     }

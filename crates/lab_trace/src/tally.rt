@@ -60,7 +60,7 @@ fn waits_from(number: u32, act: &Act) -> Option<u32>
     match act {
         Act::Calls(call) => match call.outcome {
             Outcome::Waits => Some(number),
-            Outcome::Refused(_) | Outcome::Gives { .. } => None,
+            Outcome::Refused(_) | Outcome::Replied(_) => None,
         },
         Act::Writes(_) | Act::Ends(_) => None,
     }

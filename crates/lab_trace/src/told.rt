@@ -4,19 +4,18 @@ ghost use Rattle.lab_sched.specs.Held.{process_view};
 ghost use Rattle.lab_sched.specs.Worlds.{machine_of};
 ghost use Rattle.lab_trace.specs.Givers.{giver_by};
 ghost use Rattle.lab_trace.specs.Origins.{origin_by};
-ghost use Rattle.lab_trace.specs.Events.{place_by, level_by, call_by, wrote, act_by, told_by};
+ghost use Rattle.lab_trace.specs.Events.{opened_place, place_by, level_by, call_by, wrote, act_by, told_by};
 
-use crate::answers::{Outcome, outcome_of, result_of};
+use crate::answers::{Outcome, outcome_of, result_of, wanted_of};
 use crate::asking::{Asking, Observed};
 use crate::handles::{Level, held_place, level_at};
 use crate::origins::Origin;
 use crate::tally::Tally;
 use crate::text::{Bytes, Text};
-use crate::words::register;
-use ipc_kernel::Kernel;
+use ipc_kernel::{Kernel, Reply};
 use ipc_objects::Words;
 use ipc_traps::Service;
-use lab_sched::{Process, World};
+use lab_sched::{Process, Stepped, World};
 use lc3_machine::How;
 use std::alloc::{AllocError, Global};
 
@@ -81,19 +80,30 @@ pub enum Told {
     Shown(Event),
 }
 
+/// The place of the object that an open opened, by the kernel after it.
+fn opened_place(kernel: &Kernel, pid: usize, service: Service, outcome: &Outcome) -> Option<u8>
+    requires process { pid < length kernel.now.processes }
+    ensures place { result ≡ opened_place kernel.now pid service outcome.now }
+{
+    match outcome {
+        Outcome::Replied(Reply::Plain(number)) => held_place(kernel, pid, service, *number),
+        _ => None,
+    }
+}
+
 /// The place of the object of a call, by that before it and the kernel after it.
 fn place_by(
     kernel: &Kernel,
     pid: usize,
     service: Service,
     place: Option<u8>,
-    result_word: Option<u16>,
+    outcome: &Outcome,
 ) -> Option<u8>
     requires process { pid < length kernel.now.processes }
-    ensures place { result ≡ place_by kernel.now pid service place result_word }
+    ensures place { result ≡ place_by kernel.now pid service place outcome.now }
 {
     if service.is_open() {
-        held_place(kernel, pid, service, result_word?)
+        opened_place(kernel, pid, service, outcome)
     } else {
         place
     }
@@ -115,7 +125,7 @@ fn origin_by(
     tally: &Tally,
     service: Service,
     place: Option<u8>,
-    result_word: Option<u16>,
+    result_word: Option<usize>,
 ) -> Option<Origin>
     ensures value { result ≡ origin_by service place result_word tally.now.origins }
 {
@@ -135,18 +145,11 @@ fn giver_by(tally: &Tally, service: Service, since: Option<u32>, place: Option<u
     }
 }
 
-/// A call of process `pid` with this result, which it has where it doesn't wait, and what became of it, by the kernel after
-/// it and the tally before it.
+/// A call of process `pid`, and what became of it, by the kernel after it and the tally before it.
 #[tactic(auto, unfolding(crate::specs::Events::call_by))]
-fn call_by(
-    kernel: &Kernel,
-    tally: &Tally,
-    pid: usize,
-    asking: Asking,
-    result_word: Option<u16>,
-) -> Called
+fn call_by(kernel: &Kernel, tally: &Tally, pid: usize, asking: Asking, outcome: Outcome) -> Called
     requires process { pid < length kernel.now.processes }
-    ensures called { result ≡ call_by kernel.now tally.now pid asking result_word }
+    ensures called { result ≡ call_by kernel.now tally.now pid asking outcome }
 {
     let Asking {
         service,
@@ -155,11 +158,11 @@ fn call_by(
         place: before,
         sent,
         priority,
-        given,
+        wants_attributes,
     } = asking;
-    let outcome = outcome_of(result_word, given);
-    let given_result = result_of(&outcome);
-    let place = place_by(kernel, pid, service, before, given_result);
+    let outcome = wanted_of(wants_attributes, outcome);
+    let place = place_by(kernel, pid, service, before, &outcome);
+    let origin = origin_by(tally, service, before, result_of(&outcome));
     let since = tally.account(pid).since;
     Called {
         service,
@@ -170,7 +173,7 @@ fn call_by(
         priority,
         outcome,
         level: level_by(kernel, service, place),
-        origin: origin_by(tally, service, before, given_result),
+        origin,
         since,
         giver: giver_by(tally, service, since, before),
     }
@@ -195,7 +198,8 @@ fn wrote(alloc: Global, bytes: &[u8]) -> Result<Option<Act>, AllocError>
     }
 }
 
-/// What process `pid` did in a step with an effect, if it is shown, by the process and the kernel after it.
+/// What process `pid` did in a step with an effect, if it is shown, by what the step told and by the process and the kernel
+/// after it.
 fn act_by(
     alloc: Global,
     kernel: &Kernel,
@@ -203,39 +207,36 @@ fn act_by(
     pid: usize,
     asking: Option<Asking>,
     written: usize,
+    stepped: Stepped,
     after: &Process,
 ) -> Result<Option<Act>, AllocError>
     requires process { pid < length kernel.now.processes }
     ensures act { IfOk result (λ a. a
-        ≡ act_by kernel.now tally.now pid asking written (process_view after.now)) }
+        ≡ act_by kernel.now tally.now pid asking written stepped (process_view after.now)) }
 {
-    match (asking, after) {
-        (_, Process::Ended(ended)) => Ok(Some(Act::Ends(ended.how()))),
-        (None, _) => wrote(alloc, new_output(written, after)),
-        (Some(asking), Process::Waiting(_, _)) => Ok(Some(Act::Calls(call_by(
-            kernel, tally, pid, asking, None,
+    match (asking, outcome_of(stepped), after) {
+        (_, _, Process::Ended(ended)) => Ok(Some(Act::Ends(ended.how()))),
+        (Some(asking), Some(outcome), _) => Ok(Some(Act::Calls(call_by(
+            kernel, tally, pid, asking, outcome,
         )))),
-        (Some(asking), Process::Running(_)) => Ok(Some(Act::Calls(call_by(
-            kernel,
-            tally,
-            pid,
-            asking,
-            Some(register(after, 0)),
-        )))),
+        (_, _, _) => wrote(alloc, new_output(written, after)),
     }
 }
 
-/// What is told of a step of process `pid` with an effect, by the world after it and the tally before it.
+/// What a trace tells of a step of process `pid` with an effect, by what the step told, the world after it and the tally
+/// before it.
 pub fn told_by(
     alloc: Global,
     world: &World,
     tally: &Tally,
     pid: usize,
     before: Observed,
+    stepped: Stepped,
 ) -> Result<Told, AllocError>
     requires process { pid < length world.now.processes }
     ensures told { IfOk result (λ t. t
-        ≡ told_by world.now.kernel tally.now pid before (slice_get world.now.processes pid)) }
+        ≡ told_by world.now.kernel tally.now pid before stepped
+        (slice_get world.now.processes pid)) }
 {
     let Some(after) = world.process(pid) else {
         return Ok(Told::Counted);
@@ -247,7 +248,17 @@ pub fn told_by(
         asking,
     } = before;
     let local = tally.account(pid).local;
-    let Some(act) = act_by(alloc, world.kernel(), tally, pid, asking, written, after)? else {
+    let Some(act) = act_by(
+        alloc,
+        world.kernel(),
+        tally,
+        pid,
+        asking,
+        written,
+        stepped,
+        after,
+    )?
+    else {
         return Ok(Told::Counted);
     };
     Ok(Told::Shown(Event {

@@ -1,8 +1,8 @@
 //! Runs of worlds by schedules.
 ghost use Rattle.std.specs.Prelude.{◌≡◌, ◌<◌, ◌≤◌, ◌↔◌, length, replicate, take, slice_index, IfOk, IfErr, OnOk, OnErr};
 ghost use Rattle.lab_sched.specs.Schedules.{steps_of};
-ghost use Rattle.lab_sched.specs.Worlds.{HasNoProcess, run, step, step_effect_in};
-ghost use Rattle.lab_sched.specs.Held.{stepped_of};
+ghost use Rattle.lab_sched.specs.Worlds.{HasNoProcess, run, step};
+ghost use Rattle.lab_sched.specs.Held.{told_in};
 ghost use Rattle.lab_sched.specs.Private.Settling.{StopsByIn};
 ghost use Rattle.lab_sched.specs.declared.stepped.Stepped.TheVariants.{Same};
 ghost use Rattle.lab_sched.specs.declared.world.StepFault.TheVariants.{NoProcess, NoMemory};
@@ -50,7 +50,7 @@ fn steps_done(stepped: Stepped, most: u32) -> u32
 {
     match stepped {
         Stepped::Same => most,
-        Stepped::Moved | Stepped::Called | Stepped::Waits => 1,
+        Stepped::Moved | Stepped::Refused(_) | Stepped::Called(_) | Stepped::Waits => 1,
     }
 }
 
@@ -98,7 +98,7 @@ impl World {
         requires process { pid < length self.old.processes }
         requires stops { StopsByIn self.old pid progress }
         ensures world { OnOk result (self.new ≡ step self.old pid) }
-        ensures told { IfOk result (λ stepped. stepped ≡ stepped_of (step_effect_in self.old pid)) }
+        ensures told { IfOk result (λ stepped. stepped ≡ told_in self.old pid) }
         ensures err { OnErr result (self.new ≡ self.old) }
         ensures fault { IfErr result (λ fault. fault ≡ NoMemory) }
     {

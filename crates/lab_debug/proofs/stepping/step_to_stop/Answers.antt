@@ -1,6 +1,6 @@
 use Rattle.std.proofs.Common.{rules, ◌||◌, sym, ap, ◌∙◌, ◌-◌, ◌+◌, ◌++◌, ◌≡◌, replicate, true, false, arith}
-use Rattle.lab_sched.specs.Worlds.{run, step_effect_in}
-use Rattle.lab_sched.specs.Held.{stepped_of}
+use Rattle.lab_sched.specs.Worlds.{run}
+use Rattle.lab_sched.specs.Held.{told_in}
 use Rattle.lab_sched.specs.declared.stepped.Stepped.TheVariants.{Same}
 use Rattle.std.specs.List.{list_any}
 use Rattle.lab_debug.specs.Breaks.{is_at_break}
@@ -30,7 +30,7 @@ returns-then-is_same c =
 -- at a stop
 pub returns-then-is_stopped : goal.returns-then-is_stopped
 returns-then-is_stopped c =
-    let acts : (stepped_of (step_effect_in c.loop-i.world c.args.pid) ≡ Same → ⊥) = λ e. c.is_same.ensures.no c.if-is_same.false (c.in-Ok.ensures.told ∙ e) in
+    let acts : (told_in c.loop-i.world c.args.pid ≡ Same → ⊥) = λ e. c.is_same.ensures.no c.if-is_same.false (c.in-Ok.ensures.told ∙ e) in
     let told : c.is_stopped.result ≡ (is_at_break (marks_seen c.args.marks.now).breaks c.args.pid c.step.new.self || list_any (has_changed c.step.new.self) c.in_ok-watched.watched.items) = search rules in
     let met = stop-told (marks_seen c.args.marks.now) c.args.pid c.loop-i.world _ _ _ c.in-Ok.ensures.world c.loop-i.invariant.words told ∙ c.if-is_stopped.true in
     record {
@@ -41,7 +41,7 @@ returns-then-is_stopped c =
 
 pub loop-i-preserved : goal.loop-i-preserved
 loop-i-preserved c =
-    let acts : (stepped_of (step_effect_in c.loop-i.world c.args.pid) ≡ Same → ⊥) = λ e. c.is_same.ensures.no c.if-is_same.false (c.in-Ok.ensures.told ∙ e) in
+    let acts : (told_in c.loop-i.world c.args.pid ≡ Same → ⊥) = λ e. c.is_same.ensures.no c.if-is_same.false (c.in-Ok.ensures.told ∙ e) in
     let told : c.is_stopped.result ≡ (is_at_break (marks_seen c.args.marks.now).breaks c.args.pid c.step.new.self || list_any (has_changed c.step.new.self) c.in_ok-watched.watched.items) = search rules in
     let elsewhere = stop-told (marks_seen c.args.marks.now) c.args.pid c.loop-i.world _ _ _ c.in-Ok.ensures.world c.loop-i.invariant.words told ∙ c.if-is_stopped.false in
     record {

@@ -7,7 +7,7 @@ use Rattle.lab_sched.proofs.stepping.take_step.Goals as goal
 pub returns-then-taken-eq1-clause-ok : goal.returns-then-taken-eq1-clause-ok
 returns-then-taken-eq1-clause-ok c =
     local_one c.args.kernel.now c.args.pid (process_view c.args.process.now) (process_view c.local_steps-taken.new.process) c.local_steps-taken.result.0
-    c.local_steps-taken.ensures.local c.if-taken-eq1.true
+    c.local_steps-taken.ensures.local c.local_steps-taken.ensures.own c.if-taken-eq1.true
 
 pub returns-clause-ok : goal.returns-clause-ok
 returns-clause-ok c =

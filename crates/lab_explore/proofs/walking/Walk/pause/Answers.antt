@@ -1,5 +1,4 @@
 use Rattle.std.proofs.Common.{refl, sym, ◌∙◌}
-use Rattle.lab_sched.specs.Worlds.{step_effect_in}
 use Rattle.lab_explore.proofs.FairRounds.{told_pause, told_world}
 use Rattle.lab_explore.proofs.walking.Walk.pause.Goals as goal
 
@@ -11,5 +10,5 @@ returns c =
       world = c.in-Ok.ensures.world ∙ told_world w c.args.pid same;
       schedule = refl;
       calls = refl;
-      none = told_pause (step_effect_in w c.args.pid) same;
+      none = told_pause w c.args.pid same;
     }
