@@ -5,3 +5,4 @@ pub mod BelowLemmas
 pub mod SceneLemmas
 pub mod WrittenLemmas
 pub mod MissingLemmas
+pub mod AnswerLemmas

@@ -60,7 +60,7 @@ abbrev pub renumbered : Scene → ℕ → Scene
 renumbered s n = record { number = n; world = s.world; tally = s.tally }
 
 -- what is told of a step, by whether it has an effect
-told-if : (s : Scene) (p : ℕ) (effect : Bool) → has_effect (told_in s.world p) ≡ effect
+pub told-if : (s : Scene) (p : ℕ) (effect : Bool) → has_effect (told_in s.world p) ≡ effect
     → told s p ≡ (if effect then told_by (step s.world p).kernel s.tally p (before_at s p) (told_in s.world p) (slice_get (step s.world p).processes p) else Nothing)
 unfolding told
 told-if s p effect e =

@@ -14,6 +14,7 @@ pub mod Events
 pub mod Forms
 pub mod Lines
 pub mod Scenes
+pub mod Shown
 pub mod Ends
 pub mod Traces
 pub mod Private
