@@ -1,7 +1,7 @@
 -- Kernels that are kept with their places renamed, after an object was made.
-use Rattle.std.proofs.Common.{◌≡◌, ◌≢◌, ℕ, ◌==◌, ◌<◌, ◌≤◌, ◌⊎◌, inl, inr, Bool, true, false, cond, List, [], length, map, set, length-set, slice_get, unwrap_or, Option, Some, None, refl, sym, ap, subst, ◌∙◌, arith, replicate, ◌-◌, ◌++◌}
+use Rattle.std.proofs.Common.{◌≡◌, ℕ, ◌==◌, ◌<◌, ◌≤◌, ◌⊎◌, inl, inr, Bool, true, false, cond, List, [], length, map, set, length-set, slice_get, unwrap_or, Option, Some, None, refl, sym, ap, subst, ◌∙◌, arith, replicate, ◌-◌}
 use Rattle.std.specs.Option.{option_map}
-use Rattle.std.proofs.lemmas.Bool.{cases_lt, eq-eqb}
+use Rattle.std.proofs.lemmas.Bool.{cases_lt}
 use Rattle.std.proofs.lemmas.Bool.Decides.{eqb_tells}
 use Rattle.std.proofs.lemmas.Option.{slice_get_within, slice_get-map}
 use Rattle.std.proofs.lemmas.List.{ext_get_or, length-append, length-replicate, length-map, map-set}
@@ -16,11 +16,11 @@ use Rattle.ipc_kernel.specs.Alike.{IsPermutation, IsRenaming, IsAlike, renamed_p
 use Rattle.ipc_kernel.specs.Operands.{with_operand}
 use Rattle.ipc_kernel.specs.Rows.{KernelRow, padded, kernel_of}
 use Rattle.ipc_kernel.specs.Private.Renamings.{Permutes, renamed_by}
-use Rattle.ipc_kernel.specs.Private.KeptRows.{IsRow, AreRows}
-use Rattle.ipc_kernel.proofs.Alikes.{done, renaming_done}
+use Rattle.ipc_kernel.specs.Private.KeptRows.{AreRows}
+use Rattle.ipc_kernel.proofs.Alikes.{renaming_done}
 use Rattle.ipc_kernel.proofs.IndexLemmas.{place_at-get_or, place_at-past, place_at-set_same, place_at-set_other}
 use Rattle.ipc_kernel.proofs.PlaceLemmas.{length-emptied}
-use Rattle.ipc_kernel.proofs.KeptLemmas.{Grows, padded_has, padded_behind, row_grows, rows_grow, rows_with, kernel_of_row}
+use Rattle.ipc_kernel.proofs.KeptLemmas.{Grows, padded_has, padded_behind, rows_grow, rows_with, kernel_of_row}
 use Rattle.ipc_kernel.proofs.NumberLemmas.{numbered, numbers_there, map_at}
 use Rattle.ipc_kernel.proofs.RowLemmas.{row}
 

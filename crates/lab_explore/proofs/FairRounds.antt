@@ -1,5 +1,5 @@
 -- Passes, fair rounds, and passes as many as one likes.
-use Rattle.std.proofs.Common.{ℕ, Bool, zero, suc, ◌≡◌, ◌<◌, ◌≤◌, ◌++◌, List, [], ◌∷◌, Option, Some, None, IfSome, true, false, refl, sym, ap, subst, ◌∙◌, arith, length, slice_get, set, get_or, replicate, inl, inr, All}
+use Rattle.std.proofs.Common.{ℕ, Bool, zero, suc, ◌≡◌, ◌<◌, ◌≤◌, ◌++◌, List, [], ◌∷◌, Option, Some, None, IfSome, true, false, sym, ap, subst, ◌∙◌, arith, length, slice_get, set, get_or, replicate, inl, inr, All}
 use Rattle.std.specs.Prelude.{Contains}
 use Rattle.std.proofs.Math.ListN.{get_or-append}
 use Rattle.std.proofs.lemmas.Bool.Decides.{eqb_tells}
@@ -7,14 +7,13 @@ use Rattle.std.proofs.lemmas.List.{append_assoc, append-nil, length-append, leng
 use Rattle.std.proofs.lemmas.List.Elements.{Contains-push}
 use Rattle.std.proofs.lemmas.Option.{slice_get-get_or}
 use Rattle.ipc_kernel.specs.Alike.{IsConsistent}
-use Rattle.lab_sched.specs.Worlds.{WorldState, StepEffect, nothing, local_step, kernel_step, step_effect_in, step, after, run, entries, IsEffective}
+use Rattle.lab_sched.specs.Worlds.{WorldState, nothing, step_effect_in, step, after, run, entries, IsEffective}
 use Rattle.lab_sched.specs.Execution.{AreEffective}
 use Rattle.lab_sched.specs.Schedules.{steps_of}
 use Rattle.lab_sched.specs.declared.stepped.Stepped.TheVariants as stepped
 use Rattle.lab_sched.specs.Held.{asked_by, told_in}
 use Rattle.lab_sched.proofs.Runs.{told_nothing}
 use Rattle.lab_sched.proofs.ListPlaces.{get-set_other, get_past}
-use Rattle.ipc_kernel.specs.declared.call.Answer.TheVariants.{Done, Wait}
 use Rattle.lab_explore.specs.declared.walking.Walk.{Walk}
 use Rattle.lab_explore.specs.declared.passing.Pass.{Pass}
 use Rattle.lab_explore.specs.declared.rounds.Round.{Round}
