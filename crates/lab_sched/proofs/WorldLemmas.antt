@@ -19,7 +19,7 @@ use Rattle.lab_sched.specs.declared.fresh.Program.{Program}
 use Rattle.lab_sched.specs.LocalRun.{AreLocal}
 use Rattle.lab_sched.proofs.Executions.{execution_local, with_process}
 use Rattle.lab_sched.proofs.Runs.{run-none}
-use Rattle.lab_sched.specs.Worlds.{profile_of, HasProfile, first_profile, HaveOneProfile, Process, Running, WorldState, run, StepEffect, step_effect, step_effect_in, process_made, process_after, kernel_after, processes_with, after, step}
+use Rattle.lab_sched.specs.Worlds.{profile_of, HasProfile, first_profile, HaveOneProfile, Process, Running, WorldState, run, StepEffect, step_effect, process_made, process_after, kernel_after, processes_with, after, step}
 use Rattle.lab_sched.specs.Held.{process_view, IsHeld, IsWorld, asked_by, stepped_of, told_in, StepResult, HasStepped}
 use Rattle.lab_sched.proofs.ListPlaces.{set_same}
 use Rattle.lab_sched.proofs.Profiles.{one_of, starts_profile}

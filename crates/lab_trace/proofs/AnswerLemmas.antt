@@ -1,5 +1,5 @@
 -- The line of a call shows what it was answered.
-use Rattle.std.proofs.Common.{◌≡◌, ℕ, ◌+◌, Bool, true, List, [], ◌∷◌, Option, Some, None, slice_get, refl, sym, ap, subst, ◌∙◌}
+use Rattle.std.proofs.Common.{◌≡◌, ℕ, true, List, [], ◌∷◌, Option, Some, None, slice_get, refl, sym, ap, subst, ◌∙◌}
 use Rattle.std.specs.Option.{option_map}
 use Rattle.lc3_machine.specs.Process.{Process as Machine}
 use Rattle.ipc_names.specs.declared.errno.Errno.{Errno}
@@ -10,7 +10,7 @@ use Rattle.ipc_kernel.specs.Kernel.{KernelState}
 use Rattle.ipc_kernel.specs.Answer.{answer}
 use Rattle.ipc_traps.specs.Asked.{Request, Refuses, next_request}
 use Rattle.ipc_traps.specs.declared.service.Service.{Service}
-use Rattle.lab_sched.specs.Worlds.{Process, Running, Waiting, Ended, machine_of, NextAction, moves, calls, next_action, action_for, StepEffect, nothing, local_step, kernel_step, first_try, retry, step_effect, step_effect_in, step}
+use Rattle.lab_sched.specs.Worlds.{Process, Running, Waiting, Ended, machine_of, NextAction, moves, calls, next_action, action_for, nothing, kernel_step, first_try, retry, step_effect, step}
 use Rattle.lab_sched.specs.Held.{asked_by, stepped_of, told_in}
 use Rattle.lab_sched.specs.declared.stepped.Stepped.{Stepped}
 use Rattle.lab_sched.specs.declared.stepped.Stepped.TheVariants as stepped
@@ -26,11 +26,10 @@ use Rattle.lab_trace.specs.declared.asking.Asking.{Asking}
 use Rattle.lab_trace.specs.declared.asking.Observed.{Observed}
 use Rattle.lab_trace.specs.declared.tally.Account.{Account}
 use Rattle.lab_trace.specs.declared.told.Act.{Act}
-use Rattle.lab_trace.specs.declared.told.Act.TheVariants.{Calls, Writes, Ends}
+use Rattle.lab_trace.specs.declared.told.Act.TheVariants.{Calls}
 use Rattle.lab_trace.specs.declared.told.Called.{Called}
 use Rattle.lab_trace.specs.declared.told.Event.{Event}
-use Rattle.lab_trace.specs.declared.told.Told.{Told}
-use Rattle.lab_trace.specs.declared.told.Told.TheVariants.{Nothing, Counted, Shown}
+use Rattle.lab_trace.specs.declared.told.Told.TheVariants.{Shown}
 use Rattle.lab_trace.specs.Shown.{ShowsAnswer, ShowsRefusal}
 use Rattle.lab_trace.proofs.SceneLemmas.{told-if}
 
