@@ -41,7 +41,7 @@ by_local : (c : Call) (i : ℕ) (t : OpenTables) (o : Place) (call : KernelState
     → IsLocal i t o call → IsAnswered c i t o
 by_local c i t o call e h = record { reply = h.reply; object = h.object; tables = h.tables; same = λ k p s at has. e k p at has ∙ h.same k p s has }
 
-mq_open_is : (k : KernelState) (p : ℕ) (name : List ℕ) (sizes : ℕ × ℕ) (f : Result Flags Errno) → mq_open k p name sizes f ≡ mq_open_at k p name sizes (queue_named k.places name) f
+pub mq_open_is : (k : KernelState) (p : ℕ) (name : List ℕ) (sizes : ℕ × ℕ) (f : Result Flags Errno) → mq_open k p name sizes f ≡ mq_open_at k p name sizes (queue_named k.places name) f
 mq_open_is k p name sizes (Err e) = refl
 mq_open_is k p name sizes (Ok flags) = refl
 

@@ -9,6 +9,7 @@ pub mod Answer
 pub mod Replies
 pub mod Alike
 pub mod Operands
+pub mod OwnCalls
 pub mod Kept
 pub mod Rows
 pub mod Private

@@ -4,6 +4,7 @@ ghost use Rattle.ipc_kernel.specs.Kernel.{KernelState};
 ghost use Rattle.ipc_kernel.specs.Answer.{answer, may_wait};
 ghost use Rattle.ipc_kernel.specs.Alike.{AnswersAlike, StartsConsistent, StaysConsistent};
 ghost use Rattle.ipc_kernel.specs.Operands.{AnswersByOperand, StaysSettled};
+ghost use Rattle.ipc_kernel.specs.OwnCalls.{OwnAlike, OwnCallsCommute, StartNamed, StayNamed};
 ghost use Rattle.ipc_kernel.specs.declared.call.Call.{Call};
 ghost use Rattle.ipc_kernel.specs.declared.call.Answer.TheVariants.{Wait};
 
@@ -55,4 +56,15 @@ pub fn operand_law()
 #[tactic(auto, using(crate::proofs::SettledAnswers::stays_settled))]
 pub fn settled_law()
     ensures settled { StaysSettled }
+{}
+
+/// Where each object has a name, a call that changes the tables of its process alone commutes with
+/// each call of another process that takes no name away. Each object has a name before the first
+/// call, and after each that takes none away. Which calls change the tables alone, and whether each
+/// object has a name, is the same in kernels that are alike.
+pub fn own_law()
+    ensures commute { OwnCallsCommute }
+    ensures empty { StartNamed }
+    ensures named { StayNamed }
+    ensures alike { OwnAlike }
 {}
