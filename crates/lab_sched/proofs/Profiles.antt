@@ -1,5 +1,5 @@
 -- The processes of a world keep their profile.
-use Rattle.std.proofs.Common.{◌≡◌, ℕ, zero, suc, Result, Ok, Err, Some, List, [], ◌∷◌, All, map, refl, sym, ap, ◌∙◌, subst, arith}
+use Rattle.std.proofs.Common.{◌≡◌, ℕ, zero, suc, Bool, Result, Ok, Err, Some, List, [], ◌∷◌, All, map, refl, sym, ap, ◌∙◌, subst, arith}
 use Rattle.std.specs.Prelude.{IfOk, OnErr}
 use Rattle.std.proofs.lemmas.List.Elements.{All-weaker, All-map}
 use Rattle.lc3_table.specs.declared.profile.Profile.{Profile}
@@ -19,6 +19,7 @@ use Rattle.lab_sched.specs.declared.next.Next.{Next}
 use Rattle.lab_sched.specs.declared.next.Next.TheVariants as next
 use Rattle.lab_sched.specs.Worlds.{Process, Running, Waiting, Ended, NextAction, moves, calls, next_action, action_for, process_after_answer, process_after_reply_to, step_effect, first_try, retry, process_after, profile_of, HasProfile, HaveOneProfile}
 use Rattle.lab_sched.specs.Held.{StepResult, HasStepped}
+use Rattle.lab_sched.specs.Private.Moved.{HasMoved}
 use Rattle.lab_sched.specs.LocalRun.{AreLocal, TakesAnswer, Leads, IsLocalRun}
 use Rattle.lab_sched.specs.Settling.{IsNext}
 use Rattle.lab_sched.specs.Starts.{start_of}
@@ -76,6 +77,12 @@ pub step_profile : (k k' : KernelState) (p : ℕ) (s s' : Process) {E : Type 0} 
     → IfOk result (HasStepped k p s k' s') → OnErr result (s' ≡ s) → profile_of s' ≡ profile_of s
 step_profile k k' p s s' (Ok process_after_answer) is same = ap (λ (x : StepResult). profile_of x.process) is ∙ effect_profile k p s
 step_profile k k' p s s' (Err e) is same = ap profile_of same
+
+-- the same, where only is told whether the step had an effect
+pub move_profile : (k k' : KernelState) (p : ℕ) (s s' : Process) {E : Type 0} (result : Result Bool E)
+    → IfOk result (HasMoved k p s k' s') → OnErr result (s' ≡ s) → profile_of s' ≡ profile_of s
+move_profile k k' p s s' (Ok moved) is same = ap (λ (x : StepResult). profile_of x.process) is.1 ∙ effect_profile k p s
+move_profile k k' p s s' (Err e) is same = ap profile_of same
 
 -- local steps keep the profile
 pub locals_profile : (n : ℕ) (s u : Process) → AreLocal n s u → profile_of u ≡ profile_of s

@@ -1,9 +1,10 @@
 -- Runs of worlds: what lists of steps do one after another.
-use Rattle.std.proofs.Common.{ℕ, zero, suc, Option, None, Some, slice_get, ◌+◌, ◌≡◌, ◌++◌, List, [], ◌∷◌, refl, sym, ap, ◌∙◌, length, replicate, subst}
+use Rattle.std.proofs.Common.{ℕ, zero, suc, Bool, true, Option, None, Some, slice_get, ◌+◌, ◌≡◌, ◌++◌, List, [], ◌∷◌, refl, sym, ap, ◌∙◌, length, replicate, subst}
 use Rattle.std.proofs.lemmas.List.{length-set, replicate-append-replicate}
 use Rattle.lab_sched.specs.Worlds.{Running, WorldState, StepEffect, nothing, local_step, kernel_step, step_effect_in, process_after_answer, after, step, run}
 use Rattle.ipc_kernel.specs.declared.call.Answer.TheVariants.{Done, Wait}
 use Rattle.lab_sched.specs.Held.{asked_by, local_told, stepped_of, told_in}
+use Rattle.lab_sched.specs.Private.Moved.{has_moved}
 use Rattle.ipc_traps.specs.Asked.{Request, Local, Refuses, Calls, Ends}
 use Rattle.lab_sched.specs.declared.stepped.Stepped.{Stepped}
 use Rattle.lab_sched.specs.declared.stepped.Stepped.TheVariants as stepped
@@ -64,13 +65,20 @@ told_nothing request (kernel_step m c Wait) e = absurd cc
 pub nothing_told : (w : WorldState) (p : ℕ) → step_effect_in w p ≡ nothing → told_in w p ≡ stepped.Same
 nothing_told w p is = ap (λ t. stepped_of (asked_by (slice_get w.processes p)) t) is
 
+moved_unless_same : (told : Stepped) → (told ≡ stepped.Same → ⊥) → has_moved told ≡ true
+moved_unless_same stepped.Same ne = absurd (ne refl)
+moved_unless_same stepped.Moved ne = refl
+moved_unless_same (stepped.Refused e) ne = refl
+moved_unless_same (stepped.Called r) ne = refl
+moved_unless_same stepped.Waits ne = refl
+
 -- a step, and the steps that it stands for
-pub run_told : (w : WorldState) (p k : ℕ) (s : Stepped) → s ≡ told_in w p → ((s ≡ stepped.Same → ⊥) → k ≡ 1) → step w p ≡ run w (replicate k p)
-run_told w p k s is one = by (step_effect_in w p) refl
+pub run_moved : (w : WorldState) (p k : ℕ) (moved : Bool) → moved ≡ has_moved (told_in w p) → (moved ≡ true → k ≡ 1) → step w p ≡ run w (replicate k p)
+run_moved w p k moved is one = by (step_effect_in w p) refl
   where
     other : (t : StepEffect) → step_effect_in w p ≡ t → (t ≡ nothing → ⊥) → step w p ≡ run w (replicate k p)
     other t at ne =
-        let single : k ≡ 1 = one (λ e. ne (sym at ∙ told_nothing (asked_by (slice_get w.processes p)) (step_effect_in w p) (sym is ∙ e))) in
+        let single : k ≡ 1 = one (is ∙ moved_unless_same (told_in w p) (λ e. ne (sym at ∙ told_nothing (asked_by (slice_get w.processes p)) (step_effect_in w p) e))) in
         subst (λ m. step w p ≡ run w (replicate m p)) (sym single) (sym (run-one w p))
 
     by : (t : StepEffect) → step_effect_in w p ≡ t → step w p ≡ run w (replicate k p)

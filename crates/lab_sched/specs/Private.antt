@@ -3,4 +3,5 @@ pub mod Reading
 pub mod Fresh
 pub mod Settling
 pub mod Blocks
+pub mod Moved
 pub mod Calling

@@ -7,7 +7,7 @@ ghost use Rattle.lc3_machine.specs.Steps.{AsksTrap};
 ghost use Rattle.ipc_kernel.specs.declared.call.Reply.TheVariants.{Plain};
 ghost use Rattle.ipc_traps.specs.Asked.{Calls, next_request};
 ghost use Rattle.ipc_traps.specs.Reply.{HasRoom, IsPrepared, process_after_reply};
-ghost use Rattle.lab_sched.specs.Private.Calling.{HasAsked, HasRoomFor, HasTried};
+ghost use Rattle.lab_sched.specs.Private.Calling.{HasAsked, HasGoneOn, HasRoomFor, HasTried};
 
 use ipc_kernel::{Answer, Call, Kernel, Reply};
 use ipc_names::Errno;
@@ -144,5 +144,64 @@ pub(crate) fn first_try(
     match ask_with_room(alloc, running, vector)? {
         Asked::Kernel(call) => try_call(running, vector, call, kernel, pid),
         Asked::Refused(e) => Ok(FirstTry::Refused(e)),
+    }
+}
+
+/// Lets a running process go on with the answer to its call, whose reply is told to nobody; with the
+/// call, where that must wait. Nothing has changed then.
+#[inline(always)]
+fn go_on_with_call(
+    running: &mut Running,
+    vector: u8,
+    call: Call,
+    kernel: &mut Kernel,
+    pid: usize,
+) -> Result<Option<Call>, AllocError>
+    requires process { pid < length kernel.old.processes }
+    requires trap { next_step running.old.process ≡ Stops (Trap vector) }
+    requires asks { next_request running.old.process ≡ Calls call }
+    requires room { IsPrepared running.old }
+    ensures ok { IfOk result
+        (HasGoneOn kernel.old pid running.old.process kernel.new running.new) }
+    ensures err { OnErr result (running.new ≡ running.old) }
+    ensures kernel { OnErr result (kernel.new ≡ kernel.old) }
+    ensures count { length kernel.new.processes ≡ length kernel.old.processes }
+{
+    match kernel.call(pid, &call) {
+        // A plain word is the reply of most calls.
+        Ok(Answer::Done(Reply::Plain(word))) => {
+            give_word(running, word);
+            Ok(None)
+        }
+        Ok(Answer::Done(reply)) => {
+            give_reply(running, vector, &reply);
+            Ok(None)
+        }
+        Ok(Answer::Wait) => Ok(Some(call)),
+        Err(e) => Err(e),
+    }
+}
+
+/// Reads the call of a running process, which goes on with the answer or the refusal. Nobody is told
+/// what the reply was; with the call, where that must wait. Nothing has changed then.
+#[inline(always)]
+pub(crate) fn go_on(
+    alloc: Global,
+    running: &mut Running,
+    vector: u8,
+    kernel: &mut Kernel,
+    pid: usize,
+) -> Result<Option<Call>, AllocError>
+    requires process { pid < length kernel.old.processes }
+    requires trap { next_step running.old.process ≡ Stops (Trap vector) }
+    ensures ok { IfOk result
+        (HasGoneOn kernel.old pid running.old.process kernel.new running.new) }
+    ensures err { OnErr result (running.new.process ≡ running.old.process) }
+    ensures kernel { OnErr result (kernel.new ≡ kernel.old) }
+    ensures count { length kernel.new.processes ≡ length kernel.old.processes }
+{
+    match ask_with_room(alloc, running, vector)? {
+        Asked::Kernel(call) => go_on_with_call(running, vector, call, kernel, pid),
+        Asked::Refused(_) => Ok(None),
     }
 }

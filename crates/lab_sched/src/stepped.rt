@@ -1,4 +1,6 @@
 //! What a step was.
+ghost use Rattle.std.specs.Prelude.{◌≡◌};
+
 use ipc_kernel::Reply;
 use ipc_names::Errno;
 
@@ -15,4 +17,15 @@ pub enum Stepped {
     Waits,
     /// Nothing: the process has ended, or must still wait.
     Same,
+}
+
+impl Stepped {
+    ghost use Rattle.lab_sched.specs.Private.Moved.{has_moved};
+
+    /// Whether the step had an effect.
+    pub(crate) fn has_moved(&self) -> bool
+        ensures value { result ≡ has_moved self.now }
+    {
+        !matches!(self, Stepped::Same)
+    }
 }

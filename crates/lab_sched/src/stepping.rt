@@ -10,6 +10,8 @@ ghost use Rattle.lab_sched.specs.Worlds.{Waiting as WaitingSeen, machine_of};
 ghost use Rattle.lab_sched.specs.Private.Calling.{MayWait};
 ghost use Rattle.lab_sched.specs.Stepping.{CanTakeReply, IsAsking, StandsBefore, StopsBy, after_end, after_reply, before_wait};
 
+mod untold;
+
 use crate::calling::{FirstTry, ask_with_room, first_try, give_reply};
 use crate::{Process, Stepped};
 use core::mem::replace_with;
@@ -17,6 +19,7 @@ use ipc_kernel::{Answer, Call, Kernel, Reply};
 use ipc_traps::Asked;
 use lc3_machine::{How, Progress, Want};
 use std::alloc::{AllocError, Global};
+pub(crate) use untold::move_on;
 
 /// What came of a running process that stood before a trap of the kernel.
 #[derive(Clone, Copy, PartialEq, Eq, Debug)]
@@ -270,8 +273,7 @@ fn step_end(
 }
 
 /// The next step of a process that takes no local step.
-#[inline(always)]
-pub(crate) fn step_on(
+fn step_on(
     alloc: Global,
     process: &mut Process,
     progress: Progress,

@@ -1,5 +1,5 @@
 -- What a running process asks by a trap, and what comes of the first try of its call.
-use Rattle.std.specs.Prelude.{ℕ, ◌≡◌}
+use Rattle.std.specs.Prelude.{ℕ, ◌≡◌, Option, Some, None, true}
 use Rattle.lc3_machine.specs.Process.{Process as Machine, Held}
 use Rattle.ipc_kernel.specs.Kernel.{KernelState}
 use Rattle.ipc_kernel.specs.declared.call.Call.{Call}
@@ -15,6 +15,7 @@ use Rattle.lab_sched.specs.declared.calling.FirstTry.TheVariants.{Refused, Answe
 use Rattle.lab_sched.specs.Worlds.{Running, Waiting}
 use Rattle.lab_sched.specs.LocalRun.{IsLocalStep}
 use Rattle.lab_sched.specs.Held.{HasStepped, IsHeld}
+use Rattle.lab_sched.specs.Private.Moved.{HasMoved}
 
 -- a running process m has asked, and is n: a call of the kernel, which changes nothing, or one that was refused, a local step
 abbrev pub HasAsked : Machine → Asked → Machine → Type 0
@@ -37,3 +38,8 @@ abbrev pub HasTried : KernelState → ℕ → Machine → KernelState → Held �
 HasTried k p m j h (Refused e) = HasStepped k p (Running m) j (Running h.process) (stepped.Refused e)
 HasTried k p m j h (Answered r) = HasStepped k p (Running m) j (Running h.process) (stepped.Called r)
 HasTried k p m j h (Waits c) = HasStepped k p (Running m) j (Waiting m c) stepped.Waits × (h.process ≡ m) × IsHeld (kept.Waiting h c)
+
+-- the same, where is told only the call that must wait, if it must
+abbrev pub HasGoneOn : KernelState → ℕ → Machine → KernelState → Held → Option Call → Type 0
+HasGoneOn k p m j h None = HasMoved k p (Running m) j (Running h.process) true
+HasGoneOn k p m j h (Some c) = HasMoved k p (Running m) j (Waiting m c) true × (h.process ≡ m) × IsHeld (kept.Waiting h c)

@@ -1,15 +1,15 @@
 //! Runs of worlds by schedules.
-ghost use Rattle.std.specs.Prelude.{◌≡◌, ◌<◌, ◌≤◌, ◌↔◌, length, replicate, take, slice_index, IfOk, IfErr, OnOk, OnErr};
+ghost use Rattle.std.specs.Prelude.{◌≡◌, ◌<◌, ◌≤◌, ◌↔◌, true, false, length, replicate, take, slice_index, IfOk, IfErr, OnOk, OnErr};
 ghost use Rattle.lab_sched.specs.Schedules.{steps_of};
 ghost use Rattle.lab_sched.specs.Worlds.{HasNoProcess, run, step};
 ghost use Rattle.lab_sched.specs.Held.{told_in};
+ghost use Rattle.lab_sched.specs.Private.Moved.{has_moved};
 ghost use Rattle.lab_sched.specs.Private.Settling.{StopsByIn};
-ghost use Rattle.lab_sched.specs.declared.stepped.Stepped.TheVariants.{Same};
 ghost use Rattle.lab_sched.specs.declared.world.StepFault.TheVariants.{NoProcess, NoMemory};
 
 use super::{StepFault, World};
-use crate::stepping::{local_steps, step_on};
-use crate::{Schedule, Stepped};
+use crate::Schedule;
+use crate::stepping::{local_steps, move_on};
 use lc3_machine::Progress;
 
 /// How many local steps in a row are taken before who looks on is told of them.
@@ -39,19 +39,15 @@ pub struct RunStop {
     pub fault: StepFault,
 }
 
-/// How many steps were done by one that was told so: a step without effect stands for all of
-/// `most`.
-fn steps_done(stepped: Stepped, most: u32) -> u32
+/// How many steps were done by one: a step without effect stands for all of `most`.
+fn steps_done(moved: bool, most: u32) -> u32
     requires some { 1 ≤ most }
-    ensures same { stepped ≡ Same → result ≡ most }
-    ensures other { (stepped ≡ Same → ⊥) → result ≡ 1 }
+    ensures same { moved ≡ false → result ≡ most }
+    ensures other { moved ≡ true → result ≡ 1 }
     ensures some { 1 ≤ result }
     ensures within { result ≤ most }
 {
-    match stepped {
-        Stepped::Same => most,
-        Stepped::Moved | Stepped::Refused(_) | Stepped::Called(_) | Stepped::Waits => 1,
-    }
+    if moved { 1 } else { most }
 }
 
 impl World {
@@ -73,8 +69,8 @@ impl World {
         if taken == most {
             return Ok(taken);
         }
-        match self.step_on(pid, progress) {
-            Ok(stepped) => Ok(taken + steps_done(stepped, most - taken)),
+        match self.move_on(pid, progress) {
+            Ok(moved) => Ok(taken + steps_done(moved, most - taken)),
             Err(fault) => { if taken > 0 { Ok(taken) } else { Err(fault) } }
         }
     }
@@ -92,22 +88,22 @@ impl World {
         local_steps(process, most)
     }
 
-    /// Takes the next step of a process, which isn't local.
+    /// Takes the next step of a process, which isn't local; whether it had an effect.
     #[inline(always)]
-    fn step_on(&mut self, pid: usize, progress: Progress) -> Result<Stepped, StepFault>
+    fn move_on(&mut self, pid: usize, progress: Progress) -> Result<bool, StepFault>
         requires process { pid < length self.old.processes }
         requires stops { StopsByIn self.old pid progress }
         ensures world { OnOk result (self.new ≡ step self.old pid) }
-        ensures told { IfOk result (λ stepped. stepped ≡ told_in self.old pid) }
+        ensures moved { IfOk result (λ moved. moved ≡ has_moved (told_in self.old pid)) }
         ensures err { OnErr result (self.new ≡ self.old) }
         ensures fault { IfErr result (λ fault. fault ≡ NoMemory) }
     {
         let alloc = *self.processes.allocator();
         let process = &mut self.processes[pid];
-        let Ok(stepped) = step_on(alloc, process, progress, &mut self.kernel, pid) else {
+        let Ok(moved) = move_on(alloc, process, progress, &mut self.kernel, pid) else {
             return Err(StepFault::NoMemory);
         };
-        Ok(stepped)
+        Ok(moved)
     }
 
     /// Takes so many steps of a process, of which it tells who looks on.

@@ -2,14 +2,14 @@ use Rattle.std.proofs.Common.{◌≡◌, ap, ◌∙◌, ◌+◌, sym, arith, len
 use Rattle.lab_sched.specs.Worlds.{WorldState}
 use Rattle.lab_sched.specs.declared.world.StepFault.TheVariants.{NoMemory, NoProcess}
 use Rattle.lab_sched.proofs.WorldLemmas.{none_taken, seen_length}
-use Rattle.lab_sched.proofs.Runs.{length-run, run_on, run_told}
+use Rattle.lab_sched.proofs.Runs.{length-run, run_on, run_moved}
 use Rattle.lab_sched.proofs.world.World.advance.Goals as goal
 
 pub returns-in-Ok-clause-world : goal.returns-in-Ok-clause-world
 returns-in-Ok-clause-world c =
     run_on c.args.self.now c.advance_locally-taken.new.self _ c.advance_locally-taken.result.0 c.steps_done.result (c.advance_locally-taken.result.0 + c.steps_done.result) c.args.pid
     c.advance_locally-taken.ensures.world
-    (c.in-Ok.ensures.world ∙ run_told c.advance_locally-taken.new.self c.args.pid c.steps_done.result c.in-Ok.stepped c.in-Ok.ensures.told c.steps_done.ensures.other)
+    (c.in-Ok.ensures.world ∙ run_moved c.advance_locally-taken.new.self c.args.pid c.steps_done.result c.in-Ok.moved c.in-Ok.ensures.moved c.steps_done.ensures.other)
     (omega arith)
 
 pub returns-then-taken-gt0-clause-world : goal.returns-then-taken-gt0-clause-world
@@ -24,8 +24,8 @@ returns-else-taken-gt0-clause-no_process c =
     let all = seen_length c.self.inside.processes.items c.self.inside.kernel c.args.self.now c.self.view_is in
     (λ e. absurd (let no : NoMemory ≡ NoProcess = sym c.in-Err.ensures.fault ∙ e in cc), λ past. absurd (omega (arith, all, c.self.inside.processes.ok.0)))
 
-pub step_on-requires-clause-process : goal.step_on-requires-clause-process
-step_on-requires-clause-process c =
+pub move_on-requires-clause-process : goal.move_on-requires-clause-process
+move_on-requires-clause-process c =
     let all = seen_length c.self.inside.processes.items c.self.inside.kernel c.args.self.now c.self.view_is in
     let kept : length c.advance_locally-taken.new.self.processes ≡ length c.args.self.now.processes =
     ap (λ (w : WorldState). length w.processes) c.advance_locally-taken.ensures.world ∙ length-run c.args.self.now (replicate c.advance_locally-taken.result.0 c.args.pid) in
