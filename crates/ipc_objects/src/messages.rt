@@ -35,6 +35,25 @@ impl Model for Messages {
     ghost invariant = { λ a. AreBelow a.greatest a.lesser };
 }
 
+/// Puts the bucket of the greatest priority, if there is one, among the lesser ones. Where memory
+/// is refused nothing changes.
+#[inline(never)]
+fn put_away(greatest: &mut Option<(u16, Bucket)>, lesser: &mut Buckets) -> Result<(), AllocError>
+    requires below { AreBelow greatest.old lesser.old }
+    ensures none { OnOk result (greatest.new ≡ None) }
+    ensures others { OnOk result (lesser.new ≡ after_greatest greatest.old lesser.old) }
+    ensures greatest_kept { OnErr result (greatest.new ≡ greatest.old) }
+    ensures lesser_kept { OnErr result (lesser.new ≡ lesser.old) }
+{
+    if let Some((priority, bucket)) = greatest.take() {
+        if let Err(bucket) = lesser.put_greatest(priority, bucket) {
+            *greatest = Some((priority, bucket));
+            return Err(AllocError);
+        }
+    }
+    Ok(())
+}
+
 /// Makes the bucket of a message of a priority above all others. Where memory is refused the
 /// message is handed back and nothing changes.
 fn put_first(
@@ -50,9 +69,8 @@ fn put_first(
     ensures lesser_kept { OnErr result (lesser.new ≡ lesser.old) }
     ensures handed_back { IfErr result (λ back. back ≡ message) }
 {
-    if let Some((priority, bucket)) = greatest.take() {
-        if let Err(bucket) = lesser.put_greatest(priority, bucket) {
-            *greatest = Some((priority, bucket));
+    if greatest.is_some() {
+        if put_away(greatest, lesser).is_err() {
             return Err(message);
         }
     }
