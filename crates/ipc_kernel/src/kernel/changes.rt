@@ -1,5 +1,5 @@
 //! How a decision is carried out, and what it would be answered.
-ghost use Rattle.std.specs.Prelude.{◌≡◌, ℕ, ◌<◌, length, IfOk, OnOk, OnErr, IsErr, IsSomeAnd, IsTrue};
+ghost use Rattle.std.specs.Prelude.{◌≡◌, ℕ, ◌<◌, false, length, IfOk, OnOk, OnErr, IsErr, IsSomeAnd, IsTrue};
 ghost use Rattle.ipc_kernel.specs.Private.Decisions.{kernel_of, outcome_of, after_change, CanChange, IsPossible, change_may_grow, decision_may_grow, decision_may_share, decision_receives, keeps_references, reply_with_first};
 ghost use Rattle.ipc_kernel.specs.Outcomes.{queue_at, completion};
 ghost use Rattle.ipc_kernel.specs.Places.{place_at, queue_in};
@@ -14,6 +14,47 @@ use crate::places::Places;
 use crate::processes::Processes;
 use crate::{Answer, Reply, Slot};
 use std::alloc::AllocError;
+
+/// Makes a change by a process of names or of what is open. Where memory is refused nothing has
+/// changed.
+#[inline(never)]
+fn apply_to_references(
+    places: &mut Places,
+    processes: &mut Processes,
+    pid: usize,
+    change: Change<'_>,
+) -> Result<(), AllocError>
+    requires process { pid < length processes.old }
+    requires possible { CanChange (kernel_of places.old processes.old) change }
+    requires references { keeps_references change ≡ false }
+    ensures ok { OnOk result (kernel_of places.new processes.new
+        ≡ after_change (kernel_of places.old processes.old) pid change.entry) }
+    ensures same_places { OnErr result (places.new ≡ places.old) }
+    ensures same_processes { OnErr result (processes.new ≡ processes.old) }
+    ensures memory { IsErr result → IsTrue (change_may_grow change.entry) }
+    ensures count { length processes.new ≡ length processes.old }
+{
+    match change {
+        Change::HoldDescriptor { mqd, held } => processes.set_descriptor(pid, mqd, held),
+        Change::HoldSlot { slot, held } => processes.set_slot(pid, slot, held),
+        Change::MakeQueue(new) => {
+            places.put_queue(new.held.place, new.name, new.max_messages, new.message_size)?;
+            processes.set_descriptor(pid, new.mqd, Some(new.held));
+        }
+        Change::MakeSemaphore(new) => {
+            let place = new.place;
+            places.put_semaphore(place, new.name, new.value)?;
+            processes.set_slot(pid, new.slot, Some(Slot { place, opens: 1 }));
+        }
+        Change::UnnameQueue { name, .. } => places.unname_queue(name),
+        Change::UnnameSemaphore { name, .. } => places.unname_semaphore(name),
+        Change::CloseAll => processes.close_all(pid),
+        Change::Nothing | Change::Send { .. } | Change::Take { .. } | Change::Post { .. } => {
+            unreachable!()
+        }
+    }
+    Ok(())
+}
 
 /// Makes a change by a process in the places and the tables. Where memory is refused nothing has
 /// changed.
@@ -35,23 +76,10 @@ fn apply(
 {
     match change {
         Change::Nothing => {}
-        Change::HoldDescriptor { mqd, held } => processes.set_descriptor(pid, mqd, held),
-        Change::HoldSlot { slot, held } => processes.set_slot(pid, slot, held),
-        Change::MakeQueue(new) => {
-            places.put_queue(new.held.place, new.name, new.max_messages, new.message_size)?;
-            processes.set_descriptor(pid, new.mqd, Some(new.held));
-        }
-        Change::MakeSemaphore(new) => {
-            let place = new.place;
-            places.put_semaphore(place, new.name, new.value)?;
-            processes.set_slot(pid, new.slot, Some(Slot { place, opens: 1 }));
-        }
-        Change::UnnameQueue { name, .. } => places.unname_queue(name),
-        Change::UnnameSemaphore { name, .. } => places.unname_semaphore(name),
         Change::Send { place, words, prio } => places.send(place, prio, words)?,
         Change::Take { place, value } => places.take(place, value),
         Change::Post { place, value } => places.post(place, value),
-        Change::CloseAll => processes.close_all(pid),
+        _ => apply_to_references(places, processes, pid, change)?,
     }
     Ok(())
 }
