@@ -126,7 +126,6 @@ impl Kernel {
     /// Answers a call of a process: the reply, or that the call must wait. A refusal is a plain
     /// reply, the negative of the error's number. Where memory is refused nothing has changed, and
     /// the same call can be made again; only mq_open, mq_send and sem_open take memory.
-    #[tactic(auto, unfolding(crate::specs::Answer::answer))]
     #[inline(always)]
     pub fn call(&mut self, pid: usize, call: &Call) -> Result<Answer, AllocError>
         requires process { pid < length self.old.processes }
@@ -137,20 +136,9 @@ impl Kernel {
         ensures count { length self.new.processes ≡ length self.old.processes }
         ensures settled { IsSettled self.new }
     {
-        match call {
-            Call::SemWait { slot } => {
-                let decision = self.decide_sem_wait(pid, *slot);
-                self.conclude(pid, call, decision)
-            }
-            Call::SemPost { slot } => {
-                let decision = self.decide_sem_post(pid, *slot);
-                self.conclude(pid, call, decision)
-            }
-            Call::MqReceive { mqd, len } => {
-                let decision = self.decide_mq_receive(pid, *mqd, *len);
-                self.conclude(pid, call, decision)
-            }
-            _ => self.call_any(pid, call),
+        match self.decide_common(pid, call) {
+            Some(decision) => self.conclude(pid, call, decision),
+            None => self.call_any(pid, call),
         }
     }
 
@@ -269,6 +257,31 @@ impl Kernel {
             Call::SemPost { slot } => self.decide_sem_post(pid, *slot),
             Call::SemGetvalue { slot } => self.decide_sem_getvalue(pid, *slot),
             Call::Exit => Decision::Answered(ShortReply::Plain(0), Change::CloseAll),
+        }
+    }
+
+    /// What becomes now of one of the calls that are made most. Where the call is known, only what
+    /// it needs of `call` is compiled.
+    #[tactic(auto, unfolding(crate::specs::Answer::answer))]
+    #[inline(always)]
+    fn decide_common<'a>(&self, pid: usize, call: &'a Call) -> Option<Decision<'a>>
+        requires process { pid < length self.now.processes }
+        ensures outcome { IfSome result
+            (λ d. outcome_of self.now pid d ≡ answer self.now pid call.now) }
+        ensures possible { IfSome result (λ d. IsPossible self.now d) }
+        ensures memory { IfSome result
+            (λ d. IsTrue (decision_may_grow d) → IsTrue (may_grow call.now)) }
+        ensures size { IfSome result (λ _. FitsBuffer call.now (answer self.now pid call.now).0) }
+        ensures limit { IfSome result (λ _. FitsLimit call.now (answer self.now pid call.now).0) }
+    {
+        match call {
+            Call::MqSend { mqd, words, prio } => {
+                Some(self.decide_mq_send(pid, *mqd, words, *prio))
+            }
+            Call::MqReceive { mqd, len } => Some(self.decide_mq_receive(pid, *mqd, *len)),
+            Call::SemWait { slot } => Some(self.decide_sem_wait(pid, *slot)),
+            Call::SemPost { slot } => Some(self.decide_sem_post(pid, *slot)),
+            _ => None,
         }
     }
 
