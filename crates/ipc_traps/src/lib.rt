@@ -11,7 +11,7 @@ use ipc_names::Errno;
 pub use memory::{WINDOW_MAX, is_in_memory, name_length, read_words};
 pub use reading::read_call;
 pub use replying::{effect_of, prepare};
-pub use service::Service;
+pub use service::{MQ_RECEIVE, MQ_SEND, SEM_POST, SEM_WAIT, Service};
 
 /// What a process that stands before a call asks for.
 #[derive(Drop)]

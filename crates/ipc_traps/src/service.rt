@@ -4,6 +4,18 @@ ghost use Rattle.std.specs.Prelude.{◌≡◌, is_some};
 ghost use Rattle.lc3_machine.specs.Effects.{is_kernel_trap};
 ghost use Rattle.ipc_traps.specs.Services.{service_in, service_name, is_on_queues, is_open, is_by_name, is_on_level};
 
+/// The vector of the trap of mq_send.
+pub const MQ_SEND: u8 = 0x43;
+
+/// The vector of the trap of mq_receive.
+pub const MQ_RECEIVE: u8 = 0x44;
+
+/// The vector of the trap of sem_wait.
+pub const SEM_WAIT: u8 = 0x53;
+
+/// The vector of the trap of sem_post.
+pub const SEM_POST: u8 = 0x55;
+
 /// A call of the kernel.
 #[derive(Clone, Copy, Debug, PartialEq, Eq)]
 pub enum Service {
@@ -35,16 +47,16 @@ impl Service {
             0x40 => Some(Service::MqOpen),
             0x41 => Some(Service::MqClose),
             0x42 => Some(Service::MqUnlink),
-            0x43 => Some(Service::MqSend),
-            0x44 => Some(Service::MqReceive),
+            MQ_SEND => Some(Service::MqSend),
+            MQ_RECEIVE => Some(Service::MqReceive),
             0x45 => Some(Service::MqGetattr),
             0x46 => Some(Service::MqSetattr),
             0x50 => Some(Service::SemOpen),
             0x51 => Some(Service::SemClose),
             0x52 => Some(Service::SemUnlink),
-            0x53 => Some(Service::SemWait),
+            SEM_WAIT => Some(Service::SemWait),
             0x54 => Some(Service::SemTrywait),
-            0x55 => Some(Service::SemPost),
+            SEM_POST => Some(Service::SemPost),
             0x56 => Some(Service::SemGetvalue),
             _ => None,
         }

@@ -11,7 +11,7 @@ ghost use Rattle.lab_sched.specs.Private.Calling.{HasAsked, HasGoneOn, HasRoomFo
 
 use ipc_kernel::{Answer, Call, Kernel, Reply};
 use ipc_names::Errno;
-use ipc_traps::{Asked, effect_of, prepare, read_call};
+use ipc_traps::{Asked, MQ_RECEIVE, MQ_SEND, SEM_POST, SEM_WAIT, effect_of, prepare, read_call};
 use lc3_machine::{Effect, Running};
 use std::alloc::{AllocError, Global};
 
@@ -39,7 +39,7 @@ fn give_word(running: &mut Running, word: u16)
 
 /// Lets a reply take effect on the running process that made the call, which goes on behind its
 /// trap.
-#[inline(always)]
+#[inline(never)]
 pub(crate) fn give_reply(running: &mut Running, vector: u8, reply: &Reply)
     requires trap { next_step running.old.process ≡ Stops (Trap vector) }
     requires room { HasRoom running.old reply.now }
@@ -147,8 +147,8 @@ pub(crate) fn first_try(
     }
 }
 
-/// Lets a running process go on with the answer to its call, whose reply is told to nobody; with the
-/// call, where that must wait. Nothing has changed then.
+/// Lets a running process go on with the answer to its call, whose reply is told to nobody; with
+/// the call, where that must wait. Nothing has changed then.
 #[inline(always)]
 fn go_on_with_call(
     running: &mut Running,
@@ -182,10 +182,10 @@ fn go_on_with_call(
     }
 }
 
-/// Reads the call of a running process, which goes on with the answer or the refusal. Nobody is told
-/// what the reply was; with the call, where that must wait. Nothing has changed then.
+/// Reads the call of a running process, which goes on with the answer or the refusal. Nobody is
+/// told the reply; with the call, where that must wait. Nothing has changed then.
 #[inline(always)]
-pub(crate) fn go_on(
+fn go_on_at(
     alloc: Global,
     running: &mut Running,
     vector: u8,
@@ -203,5 +203,52 @@ pub(crate) fn go_on(
     match ask_with_room(alloc, running, vector)? {
         Asked::Kernel(call) => go_on_with_call(running, vector, call, kernel, pid),
         Asked::Refused(_) => Ok(None),
+    }
+}
+
+/// Does as `go_on_at`, whatever the vector.
+#[inline(never)]
+fn go_on_at_any(
+    alloc: Global,
+    running: &mut Running,
+    vector: u8,
+    kernel: &mut Kernel,
+    pid: usize,
+) -> Result<Option<Call>, AllocError>
+    requires process { pid < length kernel.old.processes }
+    requires trap { next_step running.old.process ≡ Stops (Trap vector) }
+    ensures ok { IfOk result
+        (HasGoneOn kernel.old pid running.old.process kernel.new running.new) }
+    ensures err { OnErr result (running.new.process ≡ running.old.process) }
+    ensures kernel { OnErr result (kernel.new ≡ kernel.old) }
+    ensures count { length kernel.new.processes ≡ length kernel.old.processes }
+{
+    go_on_at(alloc, running, vector, kernel, pid)
+}
+
+/// Does as `go_on_at`. The calls that are made most stand by themselves, so that each is compiled
+/// for its vector alone.
+#[inline(always)]
+pub(crate) fn go_on(
+    alloc: Global,
+    running: &mut Running,
+    vector: u8,
+    kernel: &mut Kernel,
+    pid: usize,
+) -> Result<Option<Call>, AllocError>
+    requires process { pid < length kernel.old.processes }
+    requires trap { next_step running.old.process ≡ Stops (Trap vector) }
+    ensures ok { IfOk result
+        (HasGoneOn kernel.old pid running.old.process kernel.new running.new) }
+    ensures err { OnErr result (running.new.process ≡ running.old.process) }
+    ensures kernel { OnErr result (kernel.new ≡ kernel.old) }
+    ensures count { length kernel.new.processes ≡ length kernel.old.processes }
+{
+    match vector {
+        MQ_SEND => go_on_at(alloc, running, MQ_SEND, kernel, pid),
+        MQ_RECEIVE => go_on_at(alloc, running, MQ_RECEIVE, kernel, pid),
+        SEM_WAIT => go_on_at(alloc, running, SEM_WAIT, kernel, pid),
+        SEM_POST => go_on_at(alloc, running, SEM_POST, kernel, pid),
+        _ => go_on_at_any(alloc, running, vector, kernel, pid),
     }
 }

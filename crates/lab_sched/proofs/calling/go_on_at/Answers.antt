@@ -3,7 +3,7 @@ use Rattle.lc3_machine.specs.Process.{Process as Machine}
 use Rattle.lab_sched.specs.declared.stepped.Stepped.TheVariants.{Refused}
 use Rattle.lab_sched.specs.Private.Calling.{HasGoneOn}
 use Rattle.lab_sched.proofs.LocalSteps.{tried_refused}
-use Rattle.lab_sched.proofs.calling.go_on.Goals as goal
+use Rattle.lab_sched.proofs.calling.go_on_at.Goals as goal
 
 pub returns-in-Kernel-clause-ok : goal.returns-in-Kernel-clause-ok
 returns-in-Kernel-clause-ok c =
