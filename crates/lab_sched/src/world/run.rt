@@ -12,7 +12,7 @@ use crate::Schedule;
 use crate::stepping::{local_steps, move_on};
 use lc3_machine::Progress;
 
-/// How many local steps in a row are taken before who looks on is told of them.
+/// How many steps of a process in a row are taken before who looks on is told of them.
 const STEPS_AT_ONCE: u32 = 10_000_000;
 
 /// Who looks on while steps are taken.
@@ -106,6 +106,29 @@ impl World {
         Ok(moved)
     }
 
+    /// Takes so many steps of a process.
+    fn run_steps(&mut self, pid: usize, count: u32) -> Result<(), RunStop>
+        ensures world { OnOk result (self.new ≡ run self.old (replicate count pid)) }
+        ensures stop { IfErr result (λ stop. self.new ≡ run self.old (replicate stop.done pid)) }
+        ensures within { IfErr result (λ stop. stop.done < count) }
+        ensures no_process { IfErr result
+            (λ stop. (stop.fault ≡ NoProcess) ↔ HasNoProcess self.old pid) }
+    {
+        let mut left = count;
+        while left > 0 {
+            match self.advance(pid, left) {
+                Ok(taken) => left -= taken,
+                Err(fault) => {
+                    return Err(RunStop {
+                        done: u64::from(count - left),
+                        fault,
+                    });
+                }
+            }
+        }
+        Ok(())
+    }
+
     /// Takes so many steps of a process, of which it tells who looks on.
     fn run_block<W: Watch>(&mut self, pid: usize, count: u32, watch: &mut W) -> Result<(), RunStop>
         ensures world { OnOk result (self.new ≡ run self.old (replicate count pid)) }
@@ -117,18 +140,15 @@ impl World {
         let mut left = count;
         while left > 0 {
             let most = left.min(STEPS_AT_ONCE);
-            match self.advance(pid, most) {
-                Ok(taken) => {
-                    left -= taken;
-                    watch.see(taken);
-                }
-                Err(fault) => {
-                    return Err(RunStop {
-                        done: u64::from(count - left),
-                        fault,
-                    });
-                }
+            if let Err(stop) = self.run_steps(pid, most) {
+                watch.see(stop.done as u32);
+                return Err(RunStop {
+                    done: u64::from(count - left) + stop.done,
+                    fault: stop.fault,
+                });
             }
+            left -= most;
+            watch.see(most);
         }
         Ok(())
     }
