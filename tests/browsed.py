@@ -74,6 +74,28 @@ TEXT    .STRINGZ "</script><svg onload=alert(1)> \'"
         .END
 '''
 
+# Takes two units of a semaphore, gives one back, unlinks it and ends with the other. A second process has it open, and it is gone
+# with the end of that.
+GONE = '''        .ORIG x3000
+        LEA R0, SEM
+        LD R1, CREATE
+        AND R2, R2, #0
+        ADD R2, R2, #2
+        TRAP x50        ; sem_open("/s", O_CREAT, 2) = 0
+        TRAP x53        ; sem_wait, of the first process alone
+        TRAP x53        ; sem_wait
+        TRAP x55        ; sem_post
+        LEA R0, SEM
+        TRAP x52        ; sem_unlink
+        HALT
+CREATE  .FILL x40
+SEM     .STRINGZ "/s"
+        .END
+'''
+GONE_SCHEDULE = "1*5 0*11 1\n"
+GONE_TAKEN = [["P0 has taken /s", 11, 17], ["P0 has taken /s", 12, 13]]
+GONE_LEVELS = [(5, "value 2"), (11, "value 1"), (12, "value 0"), (13, "value 1"), (15, "value 1"), (17, "gone")]
+
 # Calls without an end: after ten steps, four in each loop of seven steps.
 MANY = '''        .ORIG x3000
         LEA R0, SEM
@@ -143,6 +165,11 @@ def runs():
     yield "made/refused", None, {"refused.asm": REFUSED}, ["refused.obj"] * 3, "0*99 1*99 2*99\n"
     hostile = {f"{name}.asm": HOSTILE for name in HOSTILE_NAMES}
     yield "made/hostile", None, hostile, [it.replace(".asm", ".obj") for it in hostile], "0*99 1*99 2*99\n"
+    gone = {"gone.asm": GONE, "open.asm": GONE.replace("TRAP x53        ; sem_wait, of the first process alone", "HALT")}
+    yield "made/gone", None, gone, ["gone.obj", "open.obj"], GONE_SCHEDULE
+    pair = (folder / "two-semaphores-1.asm").read_text()
+    circle = {f"{a}.asm": pair.replace('"/b"', f'"/{b}2"').replace('"/a"', f'"/{a}2"') for a, b in ("ab", "bc", "ca")}
+    yield "made/circle", None, circle, ["a.obj", "b.obj", "c.obj"], "0*11 1*11 2*11 0*9 1*9 2*9\n"
     turns = " ".join(f"{p}*{n}" for n in (10, 7, 140, 140) for p in range(64)) + "\n"
     yield "made/many", None, {"many.asm": MANY}, ["many.obj"] * 64, turns
     yield "made/long", None, {"many.asm": MANY}, ["many.obj"] * 3, "0*300 1*300 2*300 0*20000 1*20\n"

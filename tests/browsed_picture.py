@@ -1,6 +1,8 @@
 """The picture on a page of `trace --page` beside the lines of the trace: for tests/browser."""
 import re
 
+from browsed import GONE_LEVELS, GONE_TAKEN
+
 
 def givers(lines):
     """The steps of the last post to its semaphore, or receive from its queue, and of a call that waited; not of receives."""
@@ -110,5 +112,25 @@ def compare_objects(run, picture):
         "taken": sorted((it for it in picture["taken"] if ("sem", it[0].split()[-1]) in objects), key=str),
         "unreceived": picture["unreceived"],
     }
+    if run.name == "made/gone":
+        wanted |= {"taken": GONE_TAKEN, "levels": [["sem", "/s", text, step] for step, text in GONE_LEVELS]}
+        levels = [[kind, name, text.removesuffix(" undefined"), step] for kind, name, text, step in picture["levels"]]
+        found |= {"taken": sorted(picture["taken"]), "levels": levels}
     return [f"{part}: the picture has {found[part]}"[:300] + f", the trace {value}"[:300]
             for part, value in wanted.items() if found[part] != value]
+
+
+def circles(run):
+    """The circles at a deadlock, by who has taken what each process waits for in the lines of the end; not of one process."""
+    signals = {name for (_, name), lines in objects_of(run).items() if lines[0][3] == "value 0"}
+    taken = {}
+    for it in run.ends:
+        found = re.search(r"sem_wait\(\d+<([^ ]*)>\): .*, taken by P(\d+)", it.what)
+        if found and found[1] not in signals:
+            taken[it.process] = int(found[2])
+    for first in sorted(taken):
+        circle = [first]
+        while taken.get(circle[-1], -1) not in [-1, *circle]:
+            circle.append(taken[circle[-1]])
+        if taken.get(circle[-1]) == first == min(circle) and len(circle) > 1:
+            yield " -> ".join(f"P{p}" for p in [*circle, first])

@@ -4,6 +4,8 @@ use Rattle.std.specs.Option.{option_map}
 use Rattle.serde_json.specs.Data.{Data, null}
 use Rattle.serde_json.specs.View.{items_of}
 use Rattle.serde_json.specs.Written.{has_float, items_have_float}
+use Rattle.ipc_kernel.specs.Limits.{object_places}
+use Rattle.ipc_kernel.specs.Places.{place_at}
 use Rattle.lab_sched.specs.Worlds.{WorldState}
 use Rattle.lab_trace.specs.Forms.{Form}
 use Rattle.lab_trace.specs.Tallies.{TallyState}
@@ -17,15 +19,19 @@ use Rattle.lab_trace.specs.declared.told.Told.{Told}
 use Rattle.lab_trace.specs.declared.told.Told.TheVariants.{Nothing, Counted, Shown}
 use Rattle.lab_page.specs.Values.{natural, naturals, or_null}
 use Rattle.lab_page.specs.States.{state_in}
-use Rattle.lab_page.specs.Objects.{objects, open_data}
-use Rattle.lab_page.specs.Events.{outcome_data, words_of, called_data, act_data, tells_all, place_changed, object_in, objects_told, open_told, event_data}
+use Rattle.lab_page.specs.Changes.{known_at, known_now, made_with, is_same, change_from, change_at, changes}
+use Rattle.lab_page.specs.Holds.{hold_data, holds_data, holds_over}
+use Rattle.lab_page.specs.Objects.{object_data, open_data}
+use Rattle.lab_page.specs.Pasts.{Past}
+use Rattle.lab_page.specs.declared.known.Known.{Known}
+use Rattle.lab_page.specs.declared.holds.Hold.{Hold}
+use Rattle.lab_page.specs.Events.{outcome_data, words_of, called_data, act_data, tells_open, open_told, event_data}
 use Rattle.lab_page.specs.Between.{between_data}
-use Rattle.lab_page.specs.declared.between.StepCount.{StepCount}
 use Rattle.lab_page.specs.Moments.{counted_moment, shown_moment, moment_by}
-use Rattle.lab_page.proofs.PlainLemmas.{IsPlain, ArePlain, both, plain-one, plain-naturals, plain-if}
+use Rattle.lab_page.proofs.PlainLemmas.{IsPlain, ArePlain, both, plain-one, plain-below, plain-map, plain-naturals, plain-if}
 use Rattle.lab_page.proofs.StateLemmas.{in-plain}
 use Rattle.lab_page.proofs.BetweenLemmas.{between-plain}
-use Rattle.lab_page.proofs.ObjectLemmas.{object-plain, objects-plain, open-plain}
+use Rattle.lab_page.proofs.ObjectLemmas.{object-plain, open-plain}
 
 number-plain : (o : Option ℕ) → IsPlain (or_null (option_map natural o))
 number-plain None = refl
@@ -59,14 +65,18 @@ act-plain (Calls c) = called-plain c
 act-plain (Writes bytes) = both (has_float (naturals bytes)) false (plain-naturals bytes) refl
 act-plain (Ends how) = refl
 
-object_in-plain : (w : WorldState) (t : TallyState) (o : Option ℕ) → ArePlain (object_in w t o)
-object_in-plain w t None = refl
-object_in-plain w t (Some place) = object-plain w t place
+change-plain : (w : WorldState) (t : TallyState) (place : ℕ) (was now : Option Known) → ArePlain (change_from w t place was now)
+change-plain w t place was now =
+    let object : Data = object_data w t (made_with now) place (place_at w.kernel.places place) in
+    plain-if (is_same was now) [] (object ∷ []) refl (plain-one object (object-plain w t (made_with now) place (place_at w.kernel.places place)))
 
-told-plain : (w : WorldState) (t : TallyState) (act : Act) → ArePlain (objects_told w t act)
-unfolding objects_told
-told-plain w t act =
-    plain-if (tells_all act) (objects w t) (object_in w t (place_changed act)) (objects-plain w t) (object_in-plain w t (place_changed act))
+changes-plain : (w : WorldState) (t : TallyState) (ks : List (Option Known)) → ArePlain (changes w t ks)
+unfolding changes
+changes-plain w t ks =
+    plain-below object_places (change_at w t ks) (λ place. change-plain w t place (known_at ks place) (known_now ks w.kernel.places place))
+
+pub holds-plain : (hs : List Hold) → IsPlain (holds_data hs)
+holds-plain hs = plain-map hold_data hs (λ h. refl)
 
 value-if : (b : Bool) (d : Data) → IsPlain d → IsPlain (if b then d else null)
 value-if true d h = h
@@ -74,32 +84,35 @@ value-if false d h = refl
 
 opened-plain : (w : WorldState) (p : ℕ) (act : Act) → IsPlain (open_told w p act)
 unfolding open_told
-opened-plain w p act = value-if (tells_all act) (open_data w p) (open-plain w p)
+opened-plain w p act = value-if (tells_open act) (open_data w p) (open-plain w p)
 
-event-plain : (v : Form) (n p : ℕ) (e : Event) (w : WorldState) (t : TallyState) → IsPlain (event_data v n p e w t)
+event-plain : (v : Form) (n p : ℕ) (e : Event) (w : WorldState) (t : TallyState) (h : Past) → IsPlain (event_data v n p e w t h)
 unfolding event_data
-event-plain v n p e w t =
+event-plain v n p e w t h =
     let act = has_float (act_data e.act) in
-    let objects = items_have_float (items_of (objects_told w t e.act)) in
+    let objects = items_have_float (items_of (changes w t h.objects)) in
     let opened = has_float (open_told w p e.act) in
-    both act (objects || (opened || false)) (act-plain e.act)
-    (both objects (opened || false) (told-plain w t e.act) (both opened false (opened-plain w p e.act) refl))
+    let over = has_float (holds_data (holds_over w.kernel p e.act h.holds)) in
+    both act (objects || (opened || (over || false))) (act-plain e.act)
+    (both objects (opened || (over || false)) (changes-plain w t h.objects)
+    (both opened (over || false) (opened-plain w p e.act)
+    (both over false (holds-plain (holds_over w.kernel p e.act h.holds)) refl)))
 
 pub counted-plain : (n p : ℕ) (w : WorldState) → IsPlain (counted_moment n p w)
 unfolding counted_moment
 counted-plain n p w = both (has_float (state_in w p)) false (in-plain w p) refl
 
-pub shown-plain : (v : Form) (n p : ℕ) (e : Event) (w : WorldState) (t : TallyState) (b : List StepCount) → IsPlain (shown_moment v n p e w t b)
+pub shown-plain : (v : Form) (n p : ℕ) (e : Event) (w : WorldState) (t : TallyState) (h : Past) → IsPlain (shown_moment v n p e w t h)
 unfolding shown_moment
-shown-plain v n p e w t b =
-    let event = has_float (event_data v n p e w t) in
-    let between = has_float (between_data b) in
+shown-plain v n p e w t h =
+    let event = has_float (event_data v n p e w t h) in
+    let between = has_float (between_data h.between) in
     both (has_float (state_in w p)) (event || (between || false)) (in-plain w p)
-    (both event (between || false) (event-plain v n p e w t) (both between false (between-plain b) refl))
+    (both event (between || false) (event-plain v n p e w t h) (both between false (between-plain h.between) refl))
 
 -- the moment of a step
-pub moment-plain : (v : Form) (whole : Bool) (n p : ℕ) (told : Told) (w : WorldState) (t : TallyState) (b : List StepCount)
-    → ArePlain (moment_by v whole n p told w t b)
-moment-plain v whole n p Nothing w t b = refl
-moment-plain v whole n p Counted w t b = plain-if whole (counted_moment n p w ∷ []) [] (plain-one (counted_moment n p w) (counted-plain n p w)) refl
-moment-plain v whole n p (Shown e) w t b = plain-one (shown_moment v n p e w t b) (shown-plain v n p e w t b)
+pub moment-plain : (v : Form) (whole : Bool) (n p : ℕ) (told : Told) (w : WorldState) (t : TallyState) (h : Past)
+    → ArePlain (moment_by v whole n p told w t h)
+moment-plain v whole n p Nothing w t h = refl
+moment-plain v whole n p Counted w t h = plain-if whole (counted_moment n p w ∷ []) [] (plain-one (counted_moment n p w) (counted-plain n p w)) refl
+moment-plain v whole n p (Shown e) w t h = plain-one (shown_moment v n p e w t h) (shown-plain v n p e w t h)

@@ -1,8 +1,11 @@
 pub mod ValueLemmas
+pub mod KnownLemmas
 pub mod PlainLemmas
 pub mod StateLemmas
 pub mod ObjectLemmas
 pub mod BetweenLemmas
+pub mod PastLemmas
+pub mod WaitLemmas
 pub mod EventLemmas
 pub mod JsonLemmas
 pub mod MomentLemmas

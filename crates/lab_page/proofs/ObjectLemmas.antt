@@ -3,8 +3,9 @@ use Rattle.std.proofs.Common.{ℕ, ◌==◌, ◌||◌, false, Option, Some, None
 use Rattle.std.specs.Option.{option_map, option_to_list}
 use Rattle.serde_json.specs.View.{items_of}
 use Rattle.serde_json.specs.Written.{has_float, items_have_float}
-use Rattle.ipc_kernel.specs.Limits.{object_places, open_max}
-use Rattle.ipc_kernel.specs.Places.{place_at, queue_and_name, value_and_name}
+use Rattle.ipc_kernel.specs.Limits.{open_max}
+use Rattle.ipc_kernel.specs.declared.place.Place.{Place}
+use Rattle.ipc_kernel.specs.declared.place.Place.TheVariants.{Empty, Mq, Sem}
 use Rattle.ipc_kernel.specs.Processes.{descriptor_of, slot_of}
 use Rattle.ipc_objects.specs.Queue.{QueueState}
 use Rattle.ipc_objects.specs.declared.queue.Message.{Message}
@@ -13,7 +14,7 @@ use Rattle.lab_trace.specs.Tallies.{TallyState}
 use Rattle.lab_trace.specs.Units.{units_of, balance}
 use Rattle.lab_trace.specs.declared.origins.Origin.{Origin}
 use Rattle.lab_page.specs.Values.{list, natural, naturals, or_null, all_below}
-use Rattle.lab_page.specs.Objects.{name_data, taker, takers, semaphore_data, origin_data, message_data, origins_in, message_at, messages, queue_data, object_at, objects, descriptor_data, slot_data, descriptor_at, slot_at, open_data}
+use Rattle.lab_page.specs.Objects.{name_data, taker, takers, semaphore_data, origin_data, message_data, origins_in, message_at, messages, queue_data, object_data, descriptor_data, slot_data, descriptor_at, slot_at, open_data}
 use Rattle.lab_page.proofs.PlainLemmas.{IsPlain, ArePlain, both, plain-append, plain-below, plain-naturals, plain-some, plain-if}
 
 name-plain : (name : Option (List ℕ)) → IsPlain (name_data name)
@@ -27,9 +28,9 @@ takers-plain : (w : WorldState) (t : TallyState) (place : ℕ) → ArePlain (tak
 takers-plain w t place =
     plain-below (length w.processes) (λ p. taker p (balance (units_of place p t.units))) (λ p. taker-plain p (balance (units_of place p t.units)))
 
-semaphore-plain : (w : WorldState) (t : TallyState) (place : ℕ) (held : Option (List ℕ) × ℕ) → IsPlain (semaphore_data w t place held)
+semaphore-plain : (w : WorldState) (t : TallyState) (made place : ℕ) (held : Option (List ℕ) × ℕ) → IsPlain (semaphore_data w t made place held)
 unfolding semaphore_data
-semaphore-plain w t place held =
+semaphore-plain w t made place held =
     both (has_float (name_data held.0)) (items_have_float (items_of (takers w t place)) || false) (name-plain held.0)
     (both (items_have_float (items_of (takers w t place))) false (takers-plain w t place) refl)
 
@@ -55,17 +56,10 @@ queue-plain t place held =
     both (has_float (name_data held.0)) (items_have_float (items_of ms) || false) (name-plain held.0)
     (both (items_have_float (items_of ms)) false (messages-plain (origins_in t place) held.1) refl)
 
-pub object-plain : (w : WorldState) (t : TallyState) (place : ℕ) → ArePlain (object_at w t place)
-unfolding object_at
-object-plain w t place =
-    plain-append (option_to_list (option_map (queue_data t place) (queue_and_name (place_at w.kernel.places place))))
-    (option_to_list (option_map (semaphore_data w t place) (value_and_name (place_at w.kernel.places place))))
-    (plain-some (queue_data t place) (queue_and_name (place_at w.kernel.places place)) (queue-plain t place))
-    (plain-some (semaphore_data w t place) (value_and_name (place_at w.kernel.places place)) (semaphore-plain w t place))
-
-pub objects-plain : (w : WorldState) (t : TallyState) → ArePlain (objects w t)
-unfolding objects
-objects-plain w t = plain-below object_places (object_at w t) (object-plain w t)
+pub object-plain : (w : WorldState) (t : TallyState) (made place : ℕ) (o : Place) → IsPlain (object_data w t made place o)
+object-plain w t made place Empty = refl
+object-plain w t made place (Mq name queue) = queue-plain t place (name, queue)
+object-plain w t made place (Sem name value) = semaphore-plain w t made place (name, value)
 
 pub open-plain : (w : WorldState) (p : ℕ) → IsPlain (open_data w p)
 unfolding open_data

@@ -1,7 +1,7 @@
 -- The steps between two lines of the trace: of each process those since the last line, of whichever process.
 use Rattle.std.specs.Prelude.{ℕ, ◌+◌, ◌==◌, ◌&&◌, Bool, if◌then◌else◌, List, [], ◌∷◌, length, replicate, is_some, slice_index_or, slice_set}
 use Rattle.serde_json.specs.Data.{Data}
-use Rattle.lab_trace.specs.Scenes.{Scene, told, next}
+use Rattle.lab_trace.specs.Scenes.{Scene}
 use Rattle.lab_trace.specs.Tallies.{account_of}
 use Rattle.lab_trace.specs.declared.told.Told.{Told}
 use Rattle.lab_trace.specs.declared.told.Told.TheVariants.{Nothing, Counted, Shown}
@@ -37,15 +37,6 @@ between_after n p waits (Shown e) b = none_between (length b)
 -- whether process p waits before the next step of a scene
 abbrev pub waits_at : Scene → ℕ → Bool
 waits_at s p = is_some (account_of s.tally p).since
-
--- after the next step of a scene, of process p
-abbrev pub next_between : Scene → ℕ → List StepCount → List StepCount
-next_between s p b = between_after 1 p (waits_at s p) (told s p) b
-
--- after these steps
-unfoldable pub between_then : Scene → List ℕ → List StepCount → List StepCount
-between_then s [] b = b
-between_then s (p ∷ ps) b = between_then (next s p) ps (next_between s p b)
 
 -- the steps of process p, where there are any
 abbrev pub count_data : ℕ → StepCount → List Data

@@ -19,7 +19,10 @@ use Rattle.lab_trace.specs.declared.told.Act.TheVariants.{Calls, Writes, Ends}
 use Rattle.lab_trace.specs.declared.told.Called.{Called}
 use Rattle.lab_trace.specs.declared.told.Event.{Event}
 use Rattle.lab_page.specs.Values.{list, natural, naturals, or_null}
-use Rattle.lab_page.specs.Objects.{object_at, objects, open_data}
+use Rattle.lab_page.specs.Changes.{changes}
+use Rattle.lab_page.specs.Holds.{holds_over, holds_data}
+use Rattle.lab_page.specs.Objects.{open_data}
+use Rattle.lab_page.specs.Pasts.{Past}
 
 -- what became of a call: it waits, or this error or this result was answered
 abbrev pub outcome_data : Outcome → Data
@@ -52,38 +55,24 @@ is_asking MqGetattr = true
 is_asking SemGetvalue = true
 is_asking other = false
 
--- whether a call can make, name or end objects, or change what the process has open
+-- whether a call can change what the process has open
 abbrev pub is_arranging : Service → Bool
 is_arranging s = if is_on_level s then false else if is_asking s then false else true
 
--- whether all objects are told behind what a process did, and what it has open
-abbrev pub tells_all : Act → Bool
-tells_all (Calls c) = is_arranging c.service
-tells_all (Writes bytes) = false
-tells_all (Ends how) = true
-
--- the place of the object whose level a call could change
-abbrev pub place_changed : Act → Option ℕ
-place_changed (Calls c) = if is_on_level c.service then c.place else None
-place_changed (Writes bytes) = None
-place_changed (Ends how) = None
-
--- the object in a place, where one is named
-abbrev pub object_in : WorldState → TallyState → Option ℕ → List Data
-object_in w t None = []
-object_in w t (Some place) = object_at w t place
-
--- the objects that are told behind what a process did: all, or the one that it could change
-unfoldable pub objects_told : WorldState → TallyState → Act → List Data
-objects_told w t act = if tells_all act then objects w t else object_in w t (place_changed act)
+-- whether it is told what the process has open behind what it did
+abbrev pub tells_open : Act → Bool
+tells_open (Calls c) = is_arranging c.service
+tells_open (Writes bytes) = false
+tells_open (Ends how) = true
 
 -- what the process has open, where it is told
 unfoldable pub open_told : WorldState → ℕ → Act → Data
-open_told w p act = if tells_all act then open_data w p else null
+open_told w p act = if tells_open act then open_data w p else null
 
--- an event of process p in step n, by the world and the tally after it: the program counter before it, its line in two parts, what the
--- process did, the objects, and what the process has open
-unfoldable pub event_data : Form → ℕ → ℕ → Event → WorldState → TallyState → Data
-event_data v n p e w t =
+-- an event of process p in step n, by the world and the tally after it, and by what was kept of the steps before it: the program
+-- counter before it, its line in two parts, what the process did, the objects that it changed, what the process has open, and the
+-- units that were taken until then
+unfoldable pub event_data : Form → ℕ → ℕ → Event → WorldState → TallyState → Past → Data
+event_data v n p e w t h =
     list (natural e.pc ∷ string (columns v n p e) ∷ string (act_text e.word e.act) ∷ act_data e.act
-    ∷ list (objects_told w t e.act) ∷ open_told w p e.act ∷ [])
+    ∷ list (changes w t h.objects) ∷ open_told w p e.act ∷ holds_data (holds_over w.kernel p e.act h.holds) ∷ [])

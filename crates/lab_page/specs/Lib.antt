@@ -2,10 +2,14 @@ pub mod Limits
 pub mod Values
 pub mod States
 pub mod Objects
-pub mod Events
+pub mod Changes
+pub mod Holds
 pub mod Between
+pub mod Pasts
+pub mod Events
 pub mod Moments
 pub mod Sources
+pub mod Waits
 pub mod Runs
 pub mod Worlds
 pub mod Ends

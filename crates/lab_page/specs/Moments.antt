@@ -11,34 +11,34 @@ use Rattle.lab_trace.specs.declared.told.Told.TheVariants.{Nothing, Counted, Sho
 use Rattle.lab_page.specs.Values.{list, natural}
 use Rattle.lab_page.specs.States.{state_in}
 use Rattle.lab_page.specs.Events.{event_data}
-use Rattle.lab_page.specs.Between.{none_between, next_between, between_data}
-use Rattle.lab_page.specs.declared.between.StepCount.{StepCount}
+use Rattle.lab_page.specs.Between.{between_data}
+use Rattle.lab_page.specs.Pasts.{Past, first_past, next_past}
 
 -- the moment after step n of process p, which is only counted, by the world after it
 unfoldable pub counted_moment : ℕ → ℕ → WorldState → Data
 counted_moment n p w = list (natural n ∷ natural p ∷ state_in w p ∷ [])
 
--- the moment after step n of process p, which has a line, by the world and the tally after it, and by the steps between that
--- line and the one before
-unfoldable pub shown_moment : Form → ℕ → ℕ → Event → WorldState → TallyState → List StepCount → Data
-shown_moment v n p e w t b = list (natural n ∷ natural p ∷ state_in w p ∷ event_data v n p e w t ∷ between_data b ∷ [])
+-- the moment after step n of process p, which has a line, by the world and the tally after it, and by what was kept of the steps
+-- before it
+unfoldable pub shown_moment : Form → ℕ → ℕ → Event → WorldState → TallyState → Past → Data
+shown_moment v n p e w t h = list (natural n ∷ natural p ∷ state_in w p ∷ event_data v n p e w t h ∷ between_data h.between ∷ [])
 
 -- the moment after step n of process p, by what is told of the step; a counted step has one in a whole page alone, and a step
 -- without an effect has none
-abbrev pub moment_by : Form → Bool → ℕ → ℕ → Told → WorldState → TallyState → List StepCount → List Data
-moment_by v whole n p Nothing w t b = []
-moment_by v whole n p Counted w t b = if whole then counted_moment n p w ∷ [] else []
-moment_by v whole n p (Shown e) w t b = shown_moment v n p e w t b ∷ []
+abbrev pub moment_by : Form → Bool → ℕ → ℕ → Told → WorldState → TallyState → Past → List Data
+moment_by v whole n p Nothing w t h = []
+moment_by v whole n p Counted w t h = if whole then counted_moment n p w ∷ [] else []
+moment_by v whole n p (Shown e) w t h = shown_moment v n p e w t h ∷ []
 
--- the moment after the next step, of process p, or nothing, by the steps since the last line
-unfoldable pub moment : Form → Bool → Scene → List StepCount → ℕ → List Data
-moment v whole s b p = moment_by v whole s.number p (told s p) (next s p).world (next s p).tally b
+-- the moment after the next step, of process p, or nothing, by what was kept of the steps before it
+unfoldable pub moment : Form → Bool → Scene → Past → ℕ → List Data
+moment v whole s h p = moment_by v whole s.number p (told s p) (next s p).world (next s p).tally h
 
 -- the moments of steps
-unfoldable pub moments : Form → Bool → Scene → List StepCount → List ℕ → List Data
-moments v whole s b [] = []
-moments v whole s b (p ∷ ps) = moment v whole s b p ++ moments v whole (next s p) (next_between s p b) ps
+unfoldable pub moments : Form → Bool → Scene → Past → List ℕ → List Data
+moments v whole s h [] = []
+moments v whole s h (p ∷ ps) = moment v whole s h p ++ moments v whole (next s p) (next_past s p h) ps
 
 -- the moments of all the steps of a run; their lines are without labels
 unfoldable pub moments_of : Bool → WorldState → List ℕ → List Data
-moments_of whole w ps = moments (form_for (length ps) (length w.processes) []) whole (first_scene w) (none_between (length w.processes)) ps
+moments_of whole w ps = moments (form_for (length ps) (length w.processes) []) whole (first_scene w) (first_past w) ps

@@ -4,8 +4,9 @@ use Rattle.std.specs.Option.{option_map, option_to_list}
 use Rattle.serde_json.specs.Data.{Data, string, boolean}
 use Rattle.ipc_objects.specs.Queue.{QueueState}
 use Rattle.ipc_objects.specs.declared.queue.Message.{Message}
-use Rattle.ipc_kernel.specs.Limits.{object_places, open_max}
-use Rattle.ipc_kernel.specs.Places.{place_at, queue_and_name, value_and_name}
+use Rattle.ipc_kernel.specs.Limits.{open_max}
+use Rattle.ipc_kernel.specs.declared.place.Place.{Place}
+use Rattle.ipc_kernel.specs.declared.place.Place.TheVariants.{Empty, Mq, Sem}
 use Rattle.ipc_kernel.specs.Processes.{descriptor_of, slot_of}
 use Rattle.ipc_kernel.specs.declared.process.Descriptor.{Descriptor}
 use Rattle.ipc_kernel.specs.declared.process.Slot.{Slot}
@@ -29,10 +30,11 @@ taker p n = if n == 0 then [] else list (natural p ∷ natural n ∷ []) ∷ []
 abbrev pub takers : WorldState → TallyState → ℕ → List Data
 takers w t place = all_below (length w.processes) (λ p. taker p (balance (units_of place p t.units)))
 
--- the semaphore in a place: its name, its value, and who has taken units of it
-unfoldable pub semaphore_data : WorldState → TallyState → ℕ → Option (List ℕ) × ℕ → Data
-semaphore_data w t place held =
-    list (string (codes "sem") ∷ natural place ∷ name_data held.0 ∷ natural held.1 ∷ list (takers w t place) ∷ [])
+-- the semaphore in a place, which was made with some value: its name, its value, that which it was made with, and who has taken
+-- units of it
+unfoldable pub semaphore_data : WorldState → TallyState → ℕ → ℕ → Option (List ℕ) × ℕ → Data
+semaphore_data w t made place held =
+    list (string (codes "sem") ∷ natural place ∷ name_data held.0 ∷ natural held.1 ∷ natural made ∷ list (takers w t place) ∷ [])
 
 -- the process and the step that sent a message
 abbrev pub origin_data : Origin → Data
@@ -61,15 +63,15 @@ queue_data t place held =
     list (string (codes "mq") ∷ natural place ∷ name_data held.0 ∷ natural held.1.max_messages
     ∷ natural held.1.message_size ∷ list (messages (origins_in t place) held.1) ∷ [])
 
--- the object in a place, where there is one
-unfoldable pub object_at : WorldState → TallyState → ℕ → List Data
-object_at w t place =
-    option_to_list (option_map (queue_data t place) (queue_and_name (place_at w.kernel.places place)))
-    ++ option_to_list (option_map (semaphore_data w t place) (value_and_name (place_at w.kernel.places place)))
+-- that the object in a place is gone
+abbrev pub gone_data : ℕ → Data
+gone_data place = list (string (codes "gone") ∷ natural place ∷ [])
 
--- all objects in order of place
-unfoldable pub objects : WorldState → TallyState → List Data
-objects w t = all_below object_places (object_at w t)
+-- the object in a place, which was made with some level; else that it is gone
+abbrev pub object_data : WorldState → TallyState → ℕ → ℕ → Place → Data
+object_data w t made place Empty = gone_data place
+object_data w t made place (Mq name queue) = queue_data t place (name, queue)
+object_data w t made place (Sem name value) = semaphore_data w t made place (name, value)
 
 -- an open descriptor: the place of its queue, for what it is open, and whether a call that would wait is refused
 abbrev pub descriptor_data : ℕ → Descriptor → Data

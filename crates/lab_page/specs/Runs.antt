@@ -12,13 +12,15 @@ use Rattle.lab_texts.specs.Reports.{report_text}
 use Rattle.lab_trace.specs.Ends.{end_lines}
 use Rattle.lab_trace.specs.Forms.{Form, form_for}
 use Rattle.lab_trace.specs.Scenes.{Scene, first_scene, scene_after}
-use Rattle.lab_page.specs.Between.{none_between, between_then, between_data}
-use Rattle.lab_page.specs.declared.between.StepCount.{StepCount}
+use Rattle.lab_page.specs.Between.{between_data}
+use Rattle.lab_page.specs.Holds.{holds_data}
 use Rattle.lab_page.specs.Limits.{most_whole}
 use Rattle.lab_page.specs.Moments.{moments_of}
+use Rattle.lab_page.specs.Pasts.{Past, first_past, past_then}
 use Rattle.lab_page.specs.Sources.{Source, programs}
 use Rattle.lab_page.specs.States.{states}
 use Rattle.lab_page.specs.Values.{list, natural, naturals, all_below}
+use Rattle.lab_page.specs.Waits.{waits_data, circles_data}
 
 -- so many steps of a process in a row
 abbrev pub block_data : Block → Data
@@ -43,18 +45,19 @@ output_of (Some s) = naturals (machine_of s).output
 abbrev pub outputs : WorldState → Data
 outputs w = list (all_below (length w.processes) (λ p. output_of (slice_get w.processes p) ∷ []))
 
--- the end of a run: the verdict, where the processes stand, the report, what each process has written, and the steps since the
--- last line
-unfoldable pub outcome_at : Form → Scene → List StepCount → Data
-outcome_at v s b =
+-- the end of a run: the verdict, where the processes stand, the report, what each process has written, the steps since the last
+-- line, the units that are taken, the steps that sent the messages which nobody has received, who could let each waiting process go
+-- on, and the circles of processes that wait for one another
+unfoldable pub outcome_at : Form → Scene → Past → Data
+outcome_at v s h =
     list (string (verdict_word (verdict_of s.world)) ∷ string (end_lines v s.world s.tally) ∷ string (report_text s.world)
-    ∷ outputs s.world ∷ between_data b ∷ [])
+    ∷ outputs s.world ∷ between_data h.between ∷ holds_data h.holds ∷ naturals h.unreceived ∷ waits_data s.world
+    ∷ circles_data s.world h.holds ∷ [])
 
 -- the end of the run of a world by these steps; its lines are without labels
 unfoldable pub outcome_of : WorldState → List ℕ → Data
 outcome_of w ps =
-    outcome_at (form_for (length ps) (length w.processes) []) (scene_after (first_scene w) ps)
-    (between_then (first_scene w) ps (none_between (length w.processes)))
+    outcome_at (form_for (length ps) (length w.processes) []) (scene_after (first_scene w) ps) (past_then (first_scene w) ps (first_past w))
 
 -- whether a page of a schedule has its counted steps too
 abbrev pub is_whole : List Block → Bool

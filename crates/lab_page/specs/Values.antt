@@ -21,6 +21,6 @@ or_null None = null
 or_null (Some d) = d
 
 -- what stands in a list for each number below n, in order
-unfoldable pub all_below : ℕ → (ℕ → List Data) → List Data
+unfoldable pub all_below : {X : Type 0} → ℕ → (ℕ → List X) → List X
 all_below zero f = []
 all_below (suc n) f = all_below n f ++ f n

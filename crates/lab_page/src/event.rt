@@ -1,13 +1,13 @@
 //! A step that has a line in the trace.
-ghost use Rattle.std.specs.Prelude.{◌≡◌, ◌<◌, IfOk, length, map, option_to_list};
+ghost use Rattle.std.specs.Prelude.{◌≡◌, ◌<◌, IfOk, length};
 ghost use Rattle.std.specs.Option.{option_map};
 ghost use Rattle.serde_json.specs.View.{view};
 ghost use Rattle.lab_page.specs.Values.{natural, naturals, or_null};
-ghost use Rattle.lab_page.specs.Events.{outcome_data, words_of, called_data, act_data, is_asking, is_arranging, tells_all, place_changed, object_in, objects_told, open_told, event_data};
+ghost use Rattle.lab_page.specs.Events.{outcome_data, words_of, called_data, act_data, is_arranging, tells_open, open_told, event_data};
 
-use crate::objects::{object_at, objects};
 use crate::open::open_value;
-use crate::values::{bytes_value, push_some, words_value};
+use crate::past::Past;
+use crate::values::{bytes_value, words_value};
 use ipc_kernel::Reply;
 use ipc_traps::Service;
 use lab_sched::World;
@@ -108,65 +108,21 @@ fn act_value(alloc: Global, act: &Act) -> Result<Value, AllocError>
     }
 }
 
-/// Whether a call can make, name or end objects, or change what the process has open.
+/// Whether a call can change what the process has open.
 fn is_arranging(service: Service) -> bool
     ensures value { result ≡ is_arranging service }
 {
     !service.is_on_level() && !matches!(service, Service::MqGetattr | Service::SemGetvalue)
 }
 
-/// Whether all objects are told behind what a process did, and what it has open.
-fn tells_all(act: &Act) -> bool
-    ensures value { result ≡ tells_all act.now }
+/// Whether it is told what the process has open behind what it did.
+fn tells_open(act: &Act) -> bool
+    ensures value { result ≡ tells_open act.now }
 {
     match act {
         Act::Calls(call) => is_arranging(call.service),
         Act::Writes(_) => false,
         Act::Ends(_) => true,
-    }
-}
-
-/// The place of the object whose level a call could change.
-fn place_changed(act: &Act) -> Option<u8>
-    ensures place { result ≡ place_changed act.now }
-{
-    match act {
-        Act::Calls(call) if call.service.is_on_level() => call.place,
-        _ => None,
-    }
-}
-
-/// The object in a place, where one is named.
-fn object_in(
-    alloc: Global,
-    world: &World,
-    tally: &Tally,
-    place: Option<u8>,
-) -> Result<Vec<Value>, AllocError>
-    ensures objects { IfOk result (λ v. map view v.items ≡ object_in world.now tally.now place) }
-{
-    let mut objects = Vec::new(alloc);
-    if let Some(place) = place {
-        push_some(&mut objects, object_at(alloc, world, tally, place)?)?;
-    }
-    Ok(objects)
-}
-
-/// The objects that are told behind what a process did: all, or the one that it could change.
-#[tactic(auto, unfolding(crate::specs::Events::objects_told))]
-fn objects_told(
-    alloc: Global,
-    world: &World,
-    tally: &Tally,
-    act: &Act,
-) -> Result<Vec<Value>, AllocError>
-    ensures objects { IfOk result (λ v. map view v.items
-        ≡ objects_told world.now tally.now act.now) }
-{
-    if tells_all(act) {
-        objects(alloc, world, tally)
-    } else {
-        object_in(alloc, world, tally, place_changed(act))
     }
 }
 
@@ -176,19 +132,20 @@ fn open_told(alloc: Global, world: &World, pid: usize, act: &Act) -> Result<Valu
     requires process { pid < length world.now.processes }
     ensures value { IfOk result (λ v. view v ≡ open_told world.now pid act.now) }
 {
-    if tells_all(act) {
+    if tells_open(act) {
         open_value(alloc, world, pid)
     } else {
         Ok(Value::Null)
     }
 }
 
-/// The event of process `pid` in step `number`, by the world and the tally after it.
+/// The event of process `pid` in step `number`, by the world and the tally after it, and by what was kept of the steps before it.
 #[tactic(auto, unfolding(crate::specs::Events::event_data))]
 pub fn event_value(
     alloc: Global,
     world: &World,
     tally: &Tally,
+    past: &Past,
     form: &Form<'_>,
     number: u32,
     pid: usize,
@@ -196,13 +153,16 @@ pub fn event_value(
 ) -> Result<Value, AllocError>
     requires process { pid < length world.now.processes }
     ensures value { IfOk result (λ v. view v
-        ≡ event_data form.now number pid event.now world.now tally.now) }
+        ≡ event_data form.now number pid event.now world.now tally.now past.now) }
 {
     let pc = event.pc;
     let head = columns_text(alloc, form, number, pid, event)?;
     let what = event_text(alloc, event)?;
     let act = act_value(alloc, &event.act)?;
-    let objects = objects_told(alloc, world, tally, &event.act)?;
+    let objects = past.objects.changes(alloc, world, tally)?;
     let open = open_told(alloc, world, pid, &event.act)?;
-    json!(in alloc; [pc, head, what, act, objects, open])
+    let over = past
+        .holds
+        .over_value(alloc, world.kernel(), pid, &event.act)?;
+    json!(in alloc; [pc, head, what, act, objects, open, over])
 }

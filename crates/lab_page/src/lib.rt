@@ -3,20 +3,25 @@
 #![tactic(auto)]
 
 mod between;
+mod circles;
 mod ends;
 mod event;
 mod fault;
+mod holds;
+mod known;
 mod moment;
 mod moments;
 mod objects;
 mod open;
 mod paging;
+mod past;
 mod run;
 mod safe;
 mod source;
 mod state;
 mod template;
 mod values;
+mod waits;
 mod worlds;
 
 pub use ends::{EndList, Endless, Extent};

@@ -4,8 +4,8 @@ ghost use Rattle.std.specs.Option.{option_map};
 ghost use Rattle.serde_json.specs.View.{view};
 ghost use Rattle.lab_page.specs.Moments.{counted_moment, shown_moment, moment_by};
 
-use crate::between::Between;
 use crate::event::event_value;
+use crate::past::Past;
 use crate::state::state_in;
 use lab_sched::World;
 use lab_trace::{Event, Form, Tally, Told};
@@ -26,13 +26,13 @@ fn counted_moment(
     json!(in alloc; [number, pid, state])
 }
 
-/// The moment after step `number` of process `pid`, which has a line, with the steps between that line and the one before.
+/// The moment after step `number` of process `pid`, which has a line, by what was kept of the steps before it.
 #[tactic(auto, unfolding(crate::specs::Moments::shown_moment))]
 fn shown_moment(
     alloc: Global,
     world: &World,
     tally: &Tally,
-    between: &Between,
+    past: &Past,
     form: &Form<'_>,
     number: u32,
     pid: usize,
@@ -40,21 +40,21 @@ fn shown_moment(
 ) -> Result<Value, AllocError>
     requires process { pid < length world.now.processes }
     ensures moment { IfOk result (λ v. view v
-        ≡ shown_moment form.now number pid event.now world.now tally.now between.now) }
+        ≡ shown_moment form.now number pid event.now world.now tally.now past.now) }
 {
     let state = state_in(alloc, world, pid)?;
-    let event = event_value(alloc, world, tally, form, number, pid, event)?;
-    let between = between.value(alloc)?;
+    let event = event_value(alloc, world, tally, past, form, number, pid, event)?;
+    let between = past.between.value(alloc)?;
     json!(in alloc; [number, pid, state, event, between])
 }
 
 /// The moment after step `number` of process `pid`, by what is told of it, where it has one; the world and the tally are those
-/// after it, and `between` has the steps since the last line before it.
+/// after it, and `past` is what was kept of the steps before it.
 pub fn moment_by(
     alloc: Global,
     world: &World,
     tally: &Tally,
-    between: &Between,
+    past: &Past,
     form: &Form<'_>,
     whole: bool,
     number: u32,
@@ -63,12 +63,12 @@ pub fn moment_by(
 ) -> Result<Option<Value>, AllocError>
     requires process { pid < length world.now.processes }
     ensures moment { IfOk result (λ m. option_to_list (option_map view m)
-        ≡ moment_by form.now whole number pid told.now world.now tally.now between.now) }
+        ≡ moment_by form.now whole number pid told.now world.now tally.now past.now) }
 {
     match told {
         Told::Counted if whole => Ok(Some(counted_moment(alloc, world, number, pid)?)),
         Told::Shown(event) => {
-            let moment = shown_moment(alloc, world, tally, between, form, number, pid, event)?;
+            let moment = shown_moment(alloc, world, tally, past, form, number, pid, event)?;
             Ok(Some(moment))
         }
         Told::Nothing | Told::Counted => Ok(None),

@@ -8,17 +8,17 @@ ghost use Rattle.lab_sched.specs.Worlds.{step};
 ghost use Rattle.lab_trace.specs.Scenes.{scene_at, scene_after, told, line, events, next_tally, IsKept};
 ghost use Rattle.lab_trace.specs.Traces.{AreThere};
 ghost use Rattle.lab_trace.specs.declared.told.Told.TheVariants.{Nothing};
-ghost use Rattle.lab_page.specs.Between.{none_between, between_after, waits_at, between_then};
 ghost use Rattle.lab_page.specs.Faults.{IsFault};
 ghost use Rattle.lab_page.specs.Limits.{most_bytes};
 ghost use Rattle.lab_page.specs.Moments.{moment, moments};
+ghost use Rattle.lab_page.specs.Pasts.{first_past, past_by, past_then};
 ghost use Rattle.lab_page.specs.States.{states};
 ghost use Rattle.lab_page.specs.Private.Json.{more_json};
 
 use crate::MOST_BYTES;
-use crate::between::Between;
 use crate::fault::PageFault;
 use crate::moment::moment_by;
+use crate::past::Past;
 use crate::state::states;
 use crate::values::{push_more, push_value};
 use lab_sched::{Block, World};
@@ -27,13 +27,13 @@ use serde_json::Value;
 use std::alloc::{AllocError, Global};
 use std::marker::Model;
 
-/// The moments so far as JSON, from the beginning of the run on, the lines of their trace, and the steps since the last line.
+/// The moments so far as JSON, from the beginning of the run on, the lines of their trace, and what is kept of their steps.
 /// The moments of a long run are refused before they take memory.
 #[derive(Drop)]
 pub struct Moments {
     json: Vec<u8>,
     lines: Vec<u8>,
-    between: Between,
+    past: Past,
 }
 
 impl Model for Moments {
@@ -44,7 +44,7 @@ impl Model for Moments {
     ghost view = { λ m. record {
       json = m.json.items;
       lines = m.lines.items;
-      between = m.between;
+      past = m.past;
     } };
 }
 
@@ -54,7 +54,7 @@ impl Moments {
         ensures first { IfOk result (λ m. m ≡ record {
           json = codes "{\"moments\":[" ++ compact_text (states world.now);
           lines = [];
-          between = none_between (length world.now.processes);
+          past = first_past world.now;
         }) }
     {
         let states = states(alloc, world)?;
@@ -64,15 +64,15 @@ impl Moments {
         Ok(Moments {
             json,
             lines: Vec::new(alloc),
-            between: Between::new(alloc, world.count())?,
+            past: Past::new(alloc, world)?,
         })
     }
 
-    /// The steps since the last line.
-    pub fn between(&self) -> &Between
-        ensures between { result.now ≡ self.now.between }
+    /// What is kept of the steps.
+    pub fn past(&self) -> &Past
+        ensures past { result.now ≡ self.now.past }
     {
-        &self.between
+        &self.past
     }
 
     /// The JSON and the lines.
@@ -89,7 +89,7 @@ impl Moments {
         ensures added { OnOk result (self.new.json
             ≡ self.old.json ++ more_json (option_to_list (option_map view moment))) }
         ensures lines { self.new.lines ≡ self.old.lines }
-        ensures between { self.new.between ≡ self.old.between }
+        ensures past { self.new.past ≡ self.old.past }
         ensures fault { IfErr result
             (λ e. IsFault e (self.old.json ++ more_json (option_to_list (option_map view moment)))) }
     {
@@ -104,8 +104,7 @@ impl Moments {
     }
 
     /// Takes step number `number`, of process `pid`, and adds the moment after it, where it has one, and its line, which `labels`
-    /// shows. The answer is how many of at most so many steps of the process it stands for; so many are kept as steps since the
-    /// last line.
+    /// shows. The answer is how many of at most so many steps of the process it stands for; so many are kept.
     #[tactic(auto, unfolding(crate::specs::Moments::moment))]
     fn add_step(
         &mut self,
@@ -124,12 +123,11 @@ impl Moments {
         requires some { 1 ≤ most }
         ensures moments { OnOk result (self.new.json ≡ self.old.json
             ++ more_json (moment form.now whole (scene_at number world.old tally.old)
-            self.old.between pid)) }
+            self.old.past pid)) }
         ensures lines { OnOk result (self.new.lines ≡ self.old.lines
             ++ line labels.now (scene_at number world.old tally.old) pid) }
-        ensures between { IfOk result (λ done. self.new.between
-            ≡ between_after done pid (waits_at (scene_at number world.old tally.old) pid)
-            (told (scene_at number world.old tally.old) pid) self.old.between) }
+        ensures past { IfOk result (λ done. self.new.past
+            ≡ past_by done (scene_at number world.old tally.old) pid self.old.past) }
         ensures world { OnOk result (world.new ≡ step world.old pid) }
         ensures tally { OnOk result
             (tally.new ≡ next_tally (scene_at number world.old tally.old) pid) }
@@ -139,17 +137,17 @@ impl Moments {
         ensures within { IfOk result (λ done. done ≤ most) }
         ensures fault { IfErr result (λ e. IsFault e (self.old.json
             ++ more_json (moment form.now whole (scene_at number world.old tally.old)
-            self.old.between pid))) }
+            self.old.past pid))) }
     {
         let waits = tally.account(pid).since.is_some();
         let told = trace_step(alloc, world, tally, number, pid)?;
-        let between = &self.between;
-        let moment = moment_by(
-            alloc, world, tally, between, form, whole, number, pid, &told,
-        );
+        let past = &self.past;
+        let moment = moment_by(alloc, world, tally, past, form, whole, number, pid, &told);
         let line = step_line(alloc, labels, number, pid, &told);
         let done = steps_done(&told, most);
-        let kept = self.between.keep(pid, waits, &told, done);
+        let kept = self
+            .past
+            .keep(world, tally, number, pid, waits, &told, done);
         drop(told);
         kept?;
         let moment = moment?;
@@ -174,22 +172,22 @@ impl Moments {
         requires process { block.pid < length world.old.processes }
         requires room { first + block.count ≤ most_steps + 1 }
         requires kept { IsKept (scene_at first world.old tally.old) }
-        requires counted { block.pid < length self.old.between }
+        requires counted { block.pid < length self.old.past.between }
         ensures moments { OnOk result (self.new.json ≡ self.old.json
             ++ more_json (moments form.now whole (scene_at first world.old tally.old)
-            self.old.between (replicate block.count block.pid))) }
+            self.old.past (replicate block.count block.pid))) }
         ensures lines { OnOk result (self.new.lines ≡ self.old.lines
             ++ events labels.now (scene_at first world.old tally.old)
             (replicate block.count block.pid)) }
-        ensures between { OnOk result (self.new.between
-            ≡ between_then (scene_at first world.old tally.old)
-            (replicate block.count block.pid) self.old.between) }
+        ensures past { OnOk result (self.new.past
+            ≡ past_then (scene_at first world.old tally.old)
+            (replicate block.count block.pid) self.old.past) }
         ensures scene { OnOk result (scene_at (first + block.count) world.new tally.new
             ≡ scene_after (scene_at first world.old tally.old)
             (replicate block.count block.pid)) }
         ensures fault { IfErr result (λ e. IsFault e (self.old.json
             ++ more_json (moments form.now whole (scene_at first world.old tally.old)
-            self.old.between (replicate block.count block.pid)))) }
+            self.old.past (replicate block.count block.pid)))) }
     {
         let mut done = 0;
         while done < block.count {
@@ -216,20 +214,19 @@ impl Moments {
         requires kept { IsKept (scene_at 1 world.old tally.old) }
         requires room { total_of blocks.now ≤ most_steps }
         requires there { AreThere world.old blocks.now }
-        requires counted { length self.old.between ≡ length world.old.processes }
+        requires counted { length self.old.past.between ≡ length world.old.processes }
         ensures moments { OnOk result (self.new.json ≡ self.old.json
             ++ more_json (moments form.now whole (scene_at 1 world.old tally.old)
-            self.old.between (steps_of blocks.now))) }
+            self.old.past (steps_of blocks.now))) }
         ensures lines { OnOk result (self.new.lines ≡ self.old.lines
             ++ events labels.now (scene_at 1 world.old tally.old) (steps_of blocks.now)) }
-        ensures between { OnOk result (self.new.between
-            ≡ between_then (scene_at 1 world.old tally.old) (steps_of blocks.now)
-            self.old.between) }
+        ensures past { OnOk result (self.new.past
+            ≡ past_then (scene_at 1 world.old tally.old) (steps_of blocks.now) self.old.past) }
         ensures scene { OnOk result ((number : ℕ) × (scene_at number world.new tally.new
             ≡ scene_after (scene_at 1 world.old tally.old) (steps_of blocks.now))) }
         ensures fault { IfErr result (λ e. IsFault e (self.old.json
             ++ more_json (moments form.now whole (scene_at 1 world.old tally.old)
-            self.old.between (steps_of blocks.now)))) }
+            self.old.past (steps_of blocks.now)))) }
     {
         let mut number = 1;
         for block in blocks {

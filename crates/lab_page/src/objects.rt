@@ -2,12 +2,12 @@
 ghost use Rattle.std.specs.Prelude.{◌≡◌, [], IfOk, map, length, filter};
 ghost use Rattle.std.specs.Option.{option_map, option_copied, option_to_list};
 ghost use Rattle.serde_json.specs.View.{view};
+ghost use Rattle.ipc_kernel.specs.Places.{place_at};
 ghost use Rattle.lab_trace.specs.Origins.{is_in};
 ghost use Rattle.lab_page.specs.Values.{or_null};
-ghost use Rattle.lab_page.specs.Objects.{name_data, taker, takers, semaphore_data, origin_data, message_data, message_at, messages, queue_data, object_at, objects};
+ghost use Rattle.lab_page.specs.Objects.{name_data, taker, takers, semaphore_data, origin_data, message_data, message_at, messages, queue_data, object_data};
 
 use crate::values::{push_some, words_value};
-use ipc_kernel::OBJECT_PLACES;
 use ipc_names::Name;
 use ipc_objects::Queue;
 use lab_sched::World;
@@ -48,22 +48,23 @@ fn takers(alloc: Global, world: &World, tally: &Tally, place: u8) -> Result<Vec<
     Ok(takers)
 }
 
-/// The semaphore in a place.
+/// The semaphore in a place, which was made with some value.
 #[tactic(auto, unfolding(crate::specs::Objects::semaphore_data))]
 fn semaphore_value(
     alloc: Global,
     world: &World,
     tally: &Tally,
+    made: u16,
     place: u8,
     name: Option<&Name>,
     value: u16,
 ) -> Result<Value, AllocError>
     ensures value { IfOk result (λ v. view v
-        ≡ semaphore_data world.now tally.now place (option_copied name.entry, value)) }
+        ≡ semaphore_data world.now tally.now made place (option_copied name.entry, value)) }
 {
     let name = name_value(alloc, name)?;
     let takers = takers(alloc, world, tally, place)?;
-    json!(in alloc; ["sem", place, name, value, takers])
+    json!(in alloc; ["sem", place, name, value, made, takers])
 }
 
 /// Where the messages in the queue in a place come from.
@@ -159,38 +160,23 @@ fn queue_value(
     json!(in alloc; ["mq", place, name, most, size, messages])
 }
 
-/// The object in a place, where there is one.
-#[tactic(auto, unfolding(crate::specs::Objects::object_at))]
-pub fn object_at(
+/// The object in a place, which was made with some level; else that it is gone.
+pub fn object_value(
     alloc: Global,
     world: &World,
     tally: &Tally,
+    made: u16,
     place: u8,
-) -> Result<Option<Value>, AllocError>
-    ensures object { IfOk result (λ v. option_to_list (option_map view v)
-        ≡ object_at world.now tally.now place) }
+) -> Result<Value, AllocError>
+    ensures value { IfOk result (λ v. view v
+        ≡ object_data world.now tally.now made place (place_at world.now.kernel.places place)) }
 {
     let kernel = world.kernel();
     if let Some((name, queue)) = kernel.queue_at(place) {
-        return Ok(Some(queue_value(alloc, tally, place, name, queue)?));
+        return queue_value(alloc, tally, place, name, queue);
     }
     match kernel.semaphore_at(place) {
-        Some((name, value)) => {
-            Ok(Some(semaphore_value(alloc, world, tally, place, name, value)?))
-        }
-        None => Ok(None),
+        Some((name, value)) => semaphore_value(alloc, world, tally, made, place, name, value),
+        None => json!(in alloc; ["gone", place]),
     }
-}
-
-/// All objects in order of place.
-#[tactic(auto, using(crate::proofs::ValueLemmas::all_below_none), unfolding(crate::specs::Objects::objects))]
-pub fn objects(alloc: Global, world: &World, tally: &Tally) -> Result<Vec<Value>, AllocError>
-    ensures objects { IfOk result (λ v. map view v.items ≡ objects world.now tally.now) }
-{
-    let mut objects = Vec::new(alloc);
-    for place in 0..OBJECT_PLACES as u8 {
-        let object = object_at(alloc, world, tally, place)?;
-        push_some(&mut objects, object)?;
-    }
-    Ok(objects)
 }

@@ -12,10 +12,12 @@ ghost use Rattle.lab_page.specs.Runs.{block_data, schedule_data, verdict_word, o
 ghost use Rattle.lab_page.specs.declared.fault.PageFault.TheVariants.{NoProcess};
 
 use crate::MOST_WHOLE;
-use crate::between::Between;
+use crate::circles::circles_value;
 use crate::fault::PageFault;
 use crate::moments::Moments;
-use crate::values::{bytes_value, push_behind};
+use crate::past::Past;
+use crate::values::{bytes_value, push_behind, steps_value};
+use crate::waits::waits_value;
 use lab_sched::{Block, Schedule, Verdict, World};
 use lab_sources::Source;
 use lab_texts::report_text;
@@ -74,25 +76,28 @@ fn outputs(alloc: Global, world: &World) -> Result<Value, AllocError>
     Ok(Value::Array(outputs))
 }
 
-/// The end of a run: the verdict, where the processes stand, the report, what each process has written, and the steps since the
-/// last line.
+/// The end of a run, by what was kept of its steps.
 #[tactic(auto, unfolding(crate::specs::Runs::outcome_at))]
 fn outcome_value(
     alloc: Global,
     world: &World,
     tally: &Tally,
-    between: &Between,
+    past: &Past,
     form: &Form<'_>,
 ) -> Result<Value, AllocError>
     ensures value { (number : ℕ) → IfOk result (λ v. view v
-        ≡ outcome_at form.now (scene_at number world.now tally.now) between.now) }
+        ≡ outcome_at form.now (scene_at number world.now tally.now) past.now) }
 {
     let verdict = verdict_word(world.verdict());
     let stands = stands(alloc, world, tally, form)?;
     let report = report_text(alloc, world)?;
     let outputs = outputs(alloc, world)?;
-    let between = between.value(alloc)?;
-    json!(in alloc; [verdict, stands, report, outputs, between])
+    let between = past.between.value(alloc)?;
+    let holds = past.holds.value(alloc)?;
+    let unreceived = steps_value(alloc, &past.unreceived)?;
+    let waits = waits_value(alloc, world)?;
+    let circles = circles_value(alloc, world, past.holds.as_slice())?;
+    json!(in alloc; [verdict, stands, report, outputs, between, holds, unreceived, waits, circles])
 }
 
 /// Adds what stands behind the moments of a run.
@@ -155,7 +160,7 @@ fn take_steps(
         whole,
         schedule.blocks(),
     )?;
-    let outcome = outcome_value(alloc, world, &tally, moments.between(), &form)?;
+    let outcome = outcome_value(alloc, world, &tally, moments.past(), &form)?;
     let blocks = schedule_value(alloc, schedule)?;
     let (mut json, mut trace) = moments.into_parts();
     push_run_end(&mut json, &outcome, &blocks, whole)?;

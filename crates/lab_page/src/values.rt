@@ -31,6 +31,17 @@ pub fn bytes_value(alloc: Global, bytes: &[u8]) -> Result<Value, AllocError>
     Ok(Value::Array(values))
 }
 
+/// Steps by their numbers.
+pub fn steps_value(alloc: Global, steps: &[u32]) -> Result<Value, AllocError>
+    ensures value { IfOk result (λ v. view v ≡ naturals steps.now) }
+{
+    let mut values = Vec::new(alloc);
+    for step in steps {
+        values.push(Value::from(*step))?;
+    }
+    Ok(Value::Array(values))
+}
+
 /// Adds a value, where there is one.
 pub fn push_some(values: &mut Vec<Value>, value: Option<Value>) -> Result<(), AllocError>
     ensures added { OnOk result (map view values.new.items

@@ -62,7 +62,7 @@ fn has_semaphore(kernel: &Kernel, pid: usize, place: u8) -> bool
 }
 
 /// Whether process `pid` could serve a call on the object in a place.
-fn has_open(kernel: &Kernel, place: u8, service: Service, pid: usize) -> bool
+pub fn has_open(kernel: &Kernel, place: u8, service: Service, pid: usize) -> bool
     requires process { pid < length kernel.now.processes }
     ensures value { result ≡ has_open kernel.now place service pid }
 {

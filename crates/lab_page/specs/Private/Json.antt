@@ -2,13 +2,13 @@
 use Rattle.std.specs.Prelude.{ℕ, Bool, List, ◌∷◌, ◌++◌, codes, decimal, flat_map}
 use Rattle.serde_json.specs.Data.{Data, boolean}
 use Rattle.serde_json.specs.Written.{compact_text}
-use Rattle.lab_page.specs.declared.between.StepCount.{StepCount}
+use Rattle.lab_page.specs.Pasts.{Past}
 
--- the JSON of a run and the lines of its trace, as far as its steps are taken, and the steps since the last line
+-- the JSON of a run and the lines of its trace, as far as its steps are taken, and what is kept of these
 pub record Written : Type 0 where
   pub json : List ℕ
   pub lines : List ℕ
-  pub between : List StepCount
+  pub past : Past
 
 -- what stands behind the moments of a run: its end, its schedule, and whether each step with an effect has a moment
 unfoldable pub run_end : Data → Data → Bool → List ℕ

@@ -63,34 +63,15 @@ function openToo(open, use) {                     // of a stuck run: who has the
   if (open.length === 0) return ['nobody', 'else has it open' + use];
   return [listOf(open), (open.length > 1 ? 'have' : 'has') + ` it open${use}, stuck too`];
 }
+const others = new Map(WAITS);                    // of each process that waits those that could let it go on
 function lacking({ p, k }) {                      // who has taken a semaphore that was made above 0, or has the object open
-  const { call, on } = R[k], kind = call.startsWith('mq_') ? 'mq' : 'sem', object = objectAt(on, R.length);
-  const hasIt = letter => ([as, , place, mode]) => as === kind && place === on && (!letter || mode.includes(letter));
-  const opened = letter => PROCESSES.filter(q => q !== p && processAt(q, R.length).open.some(hasIt(letter)));
-  if (call === 'mq_receive') return openToo(opened('w'), ' to send');
-  if (call === 'mq_send') return openToo(opened('r'), ' to receive');
-  if (!isMade(object)) return openToo(opened(), '');
-  return [takers(object, R.length) || 'nobody', object.taken.length > 1 ? 'have it' : 'has it'];
+  const { call, on } = R[k], object = objectAt(on, R.length), open = others.get(p);
+  if (object.made > 0) return [takers(object, R.length) || 'nobody', object.taken.length > 1 ? 'have it' : 'has it'];
+  return openToo(open, call === 'mq_receive' ? ' to send' : call === 'mq_send' ? ' to receive' : '');
 }
-function takersOf(p) {                            // the processes that have taken what a process waits for
-  const { state, on } = processAt(p, R.length), object = state === 'waiting' ? objectAt(on, R.length) : null;
-  return isMade(object) ? object.taken.map(([q]) => q) : [];
-}
-function circle() {                               // processes of which each waits for what the next has taken
-  const seen = new Set();
-  const follow = (p, path) => {
-    if (path.includes(p)) return path.slice(path.indexOf(p));
-    if (seen.has(p)) return null;
-    seen.add(p);
-    return takersOf(p).reduce((found, q) => found || follow(q, [...path, p]), null);
-  };
-  return PROCESSES.reduce((found, p) => found || follow(p, []), null);
-}
-function circleText() {
-  const found = VERDICT === 'stuck' ? circle() : null;
-  if (!found) return '';
-  if (found.length === 1) return `P${found[0]} waits for a semaphore that it has taken itself.`;
-  const list = [...found, found[0]].map(p => 'P' + p).join(' -> ');
+function circleText(circle) {                     // each of these waits for what the next has taken
+  if (circle.length === 1) return `P${circle[0]} waits for a semaphore that it has taken itself.`;
+  const list = [...circle, circle[0]].map(p => 'P' + p).join(' -> ');
   return 'In a circle: ' + list + '. Each waits for a semaphore that the next has taken.';
 }
 "##;

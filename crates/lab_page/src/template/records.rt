@@ -6,17 +6,19 @@ const numberIn = address => Number((/^#end=(\d+)/.exec(address) || [])[1] || 0);
 const NUMBER = DATA.ends && DATA.ends[numberIn(location.hash) - 1] ? numberIn(location.hash) : 0;
 const isList = DATA.ends !== undefined && NUMBER === 0, N = DATA.processes.length;
 const NO_STEPS = [DATA.processes.map(() => [0, 'Z', [], 0, []])];
-const NO_RUN = { schedule: [], whole: true, moments: NO_STEPS, outcome: ['open', '', '', [], []] };
+const NO_RUN = { schedule: [], whole: true, moments: NO_STEPS, outcome: ['open', '', '', [], [], [], [], [], []] };
 const D = DATA.run || (isList ? NO_RUN : DATA.ends[NUMBER - 1][1]), [starts, ...moments] = D.moments;
-const [VERDICT, STANDS, REPORT, , LAST] = D.outcome, STEPS = D.schedule.reduce((sum, [, count]) => sum + count, 0);
+const [VERDICT, STANDS, REPORT, , LAST, HELD, UNRECEIVED, WAITS, CIRCLES] = D.outcome;
+const STEPS = D.schedule.reduce((sum, [, count]) => sum + count, 0);
 const NAMES = DATA.processes.map(([name]) => visible(name).replace(/\t/g, '\\x09')), PROCESSES = [...NAMES.keys()];
 
 // ---- what stands in the arrays
 
 const stateOf = ([pc, cc, registers, first, code]) => ({ pc, cc, registers, first, code });
 function objectOf([kind, place, name, ...rest]) {
-  const [value, taken] = rest, [most, size, messages] = rest;
-  return kind === 'sem' ? { kind, place, name, value, taken } : { kind: 'queue', place, name, most, size, messages };
+  const [value, made, taken] = rest, [most, size, messages] = rest;
+  if (kind === 'gone') return null;
+  return kind === 'sem' ? { kind, place, name, value, made, taken } : { kind: 'queue', place, name, most, size, messages };
 }
 function didOf([what, ...rest]) {                 // ends, output or call
   if (what !== 'call') return { [what]: rest[0] };
@@ -40,25 +42,18 @@ const lives = starts.map((state, process) =>
   [{ ...stateOf(state), process, k: -1, state: 'running', written: '', open: [] }]);
 const places = [];                                // of each place its objects, null where one is gone
 const objectAt = (place, k) => places[place] ? latest(places[place], k).object : null;
-const levelOf = object => object.kind === 'sem' ? object.value : object.messages.length;
-function keepObject(k, place, object) {           // whether it has changed; it keeps the value that it was made with
-  const list = places[place] = places[place] || [{ k: -1, object: null }], was = objectAt(place, k);
-  if (was === object || was && object && was.name === object.name && levelOf(was) === levelOf(object)) return false;
-  list.push({ k, object: object && { ...object, made: was ? was.made : object.value } });
-  return true;
-}
-function changedBy(k, objects, isAll) {           // the places of what an event changed
-  const found = new Map(objects.map(object => [object[1], objectOf(object)]));
-  if (isAll) places.forEach((_, place) => { if (!found.has(place)) found.set(place, null); });
-  return [...found].filter(([place, object]) => keepObject(k, place, object)).map(([place]) => place);
+function keepObject(k, object) {                  // its place
+  const [, place] = object, list = places[place] = places[place] || [{ k: -1, object: null }];
+  list.push({ k, object: objectOf(object) });
+  return place;
 }
 const R = moments.map(([step, process, state, event, between], k) => {
   const was = lives[process][lives[process].length - 1], { written, open } = was;
   const e = { ...stateOf(state), k, step, process, state: 'running', from: was.pc, written, open };
   lives[process].push(e);
   if (!event) return e;
-  const [from, head, what, did, objects, opened] = event, changed = changedBy(k, objects, opened !== null);
-  Object.assign(e, { from, head, what, changed, between, open: opened || open }, didOf(did));
+  const [from, head, what, did, objects, opened, over] = event, changed = objects.map(object => keepObject(k, object));
+  Object.assign(e, { from, head, what, changed, over, between, open: opened || open }, didOf(did));
   e.state = e.ends ? 'ended' : e.waits ? 'waiting' : 'running';
   if (e.output) e.written += shown(e.output);
   return e;

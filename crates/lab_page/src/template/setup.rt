@@ -68,7 +68,7 @@ function fillTexts() {
   $('lines').innerHTML = lines.map(text => `<li>${esc(text)}</li>`).join('');
   $('plan').textContent = printed(D.schedule);
   $('ending').textContent = VERDICTS[VERDICT]; $('ending').className = VERDICT;
-  $('atend').textContent = STANDS + circleText();
+  $('atend').textContent = STANDS + (VERDICT === 'stuck' ? CIRCLES.map(circleText).join('\n') : '');
 }
 fillTitle(); fillCards(); fillLegend(); fillTexts();
 draw(); choose(0); goToAddress();

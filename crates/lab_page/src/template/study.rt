@@ -24,7 +24,7 @@ function didText(e) {                             // the instruction that a step
 
 const EVENT = 27, GAP = 18, FOOT = 62;            // heights: of an event, of a row between events, of the foot
 const rows = [], rowOf = [], posY = [0];          // the rows; of each record its row; of each moment its height
-const holds = [], cols = [];
+const cols = [];
 let height = 8;
 
 function addGap(between, moments) {               // the steps between two events, and the moments among them
@@ -51,49 +51,50 @@ function addEvent(k) {
 
 const recordOf = new Map(EVENTS.map(({ step, k }) => [step, k]));
 const arrowsBy = stepOf => EVENTS.filter(stepOf).map(e => ({ from: recordOf.get(stepOf(e)), to: e.k }));
-const arrows = arrowsBy(e => e.origin), wakes = arrowsBy(e => e.giver), received = new Set(arrows.map(a => a.from));
-const kept = EVENTS.filter(e => e.call === 'mq_send' && e.result === 0 && !received.has(e.k));  // messages that nobody received
+const arrows = arrowsBy(e => e.origin), wakes = arrowsBy(e => e.giver);
+const kept = UNRECEIVED.map(step => R[recordOf.get(step)]);  // the sends of messages that nobody received
 function waitOf({ process: p, k, name }) {        // to the next moment of its process, where it has one
   const [, next] = lives[p].slice(lastIndex(lives[p], it => it.k <= k));
   return { p, k, name, end: next ? next.k : null };
 }
 const waits = EVENTS.filter(e => e.waits).map(waitOf);
 
-// ---- what the objects did, and what is held
+// ---- what is held, and what the objects did
 
-const columnOf = new Map();
-function columnFor(object) {                      // one for a name, however often the object is made
-  const { kind, name } = object, key = kind + name;
+function holdOf([p, step], end) {                 // a unit from the record in which it was taken to another, or to the end
+  const k = recordOf.get(step);
+  return { p, k, end, name: R[k].name };
+}
+const holds = [...EVENTS.flatMap(e => e.over.map(hold => holdOf(hold, e.k))), ...HELD.map(hold => holdOf(hold, null))];
+(function addSides() {                            // the units that a process has taken at once stand side by side
+  let held = [];
+  for (const h of holds.sort((x, y) => x.k - y.k)) {
+    held = held.filter(other => other.end === null || other.end > h.k);
+    const sides = held.filter(other => other.p === h.p).map(other => other.side);
+    h.side = [...sides, -1].findIndex((_, side) => !sides.includes(side));
+    held.push(h);
+  }
+})();
+const columnOf = new Map(), columnAt = [];        // of each name, and of each place
+function columnFor({ kind, name }) {              // one for a name, however often the object is made
+  const key = kind + name;
   if (!columnOf.has(key)) { columnOf.set(key, cols.length); cols.push({ name, kind, at: [] }); }
   return columnOf.get(key);
 }
-const isMade = object => object !== null && object.kind === 'sem' && object.made > 0;
-function levelAt(object, k, text) {               // the value, or how many messages and which
+function levelAt(object, k) {                     // the value, or how many messages and which
+  const text = object.name === null ? 'unlinked' : '';
   if (object.kind === 'queue') {
     const { messages, most } = object, value = messages.length + '/' + most;
     return { k, value, who: messages.map(bodyText).join(' '), text, title: messages.map(message).join(' ') || 'empty' };
   }
-  const value = String(object.value), who = isMade(object) ? takers(object, k + 1) : '';
+  const value = String(object.value), who = object.made > 0 ? takers(object, k + 1) : '';
   return { k, value, who, text, title: 'value ' + value + (who ? ', taken by ' + who : '') };
 }
-let held = [];                                    // the bars that haven't ended
-function followHeld({ process, k }, place, object) {  // of semaphores that were made above 0 alone
-  const mine = held.filter(h => h.place === place && (h.p === process || object === null));
-  const [, count] = isMade(object) && object.taken.find(([p]) => p === process) || [process, 0];
-  for (const h of mine.slice(count)) h.end = k;
-  held = held.filter(h => h.end === null);
-  if (mine.length >= count) return;
-  const sides = held.filter(h => h.p === process).map(h => h.side), side = sides.findIndex((_, i) => !sides.includes(i));
-  const hold = { p: process, place, k, end: null, name: nameOf(object), side: side < 0 ? sides.length : side };
-  holds.push(hold); held.push(hold);
-}
 function followObject(e, place) {
-  const { k } = e, was = objectAt(place, k), object = objectAt(place, k + 1);
-  if (object) object.column = was ? was.column : columnFor(object);
-  e.column = (object || was).column;
-  const text = was && object && was.name !== object.name ? 'unlinked' : '';
-  cols[e.column].at.push(object ? levelAt(object, k, text) : { k, text: 'gone', title: 'gone' });
-  followHeld(e, place, object);
+  const object = objectAt(place, e.k + 1);
+  if (object && object.name !== null) columnAt[place] = columnFor(object);
+  e.column = columnAt[place];
+  cols[e.column].at.push(object ? levelAt(object, e.k) : { k: e.k, text: 'gone', title: 'gone' });
 }
 for (const e of EVENTS) for (const place of e.changed) followObject(e, place);
 "##;

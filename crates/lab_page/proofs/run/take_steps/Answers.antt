@@ -19,7 +19,7 @@ add_blocks-requires-clause-kept c =
 
 pub add_blocks-requires-clause-counted : goal.add_blocks-requires-clause-counted
 add_blocks-requires-clause-counted c =
-    ap (λ m. length m.between) c.in_ok-moments.ensures.first ∙ length-replicate (length c.args.world.now.processes) no_steps
+    ap (λ m. length m.past.between) c.in_ok-moments.ensures.first ∙ length-replicate (length c.args.world.now.processes) no_steps
 
 pub push_run_end-requires-clause-outcome : goal.push_run_end-requires-clause-outcome
 push_run_end-requires-clause-outcome c =
@@ -43,10 +43,10 @@ returns-clause-json c =
     let wide = form-is v c.total.result c.count.result ps w [] c.in_ok-form.ensures.form c.total.ensures.steps c.count.ensures.count in
     let first = c.in_ok-tally.ensures.empty ∙ ap new_tally c.count-3.ensures.count in
     let led = rw c.blocks-2.ensures.value at c.in_ok-add_blocks.ensures.scene in
-    let none = ap (λ m. m.between) c.in_ok-moments.ensures.first in
+    let none = ap (λ m. m.past) c.in_ok-moments.ensures.first in
     let added = rw (c.blocks-2.ensures.value, none) at c.in_ok-add_blocks.ensures.moments in
-    let between = c.between.ensures.between ∙ rw (c.blocks-2.ensures.value, none) at c.in_ok-add_blocks.ensures.between in
-    let outcome = c.in_ok-outcome.ensures.value led.0 ∙ ap (outcome_at v (scene_at led.0 c.add_blocks.new.world c.add_blocks.new.tally)) between in
+    let past = c.past.ensures.past ∙ rw (c.blocks-2.ensures.value, none) at c.in_ok-add_blocks.ensures.past in
+    let outcome = c.in_ok-outcome.ensures.value led.0 ∙ ap (outcome_at v (scene_at led.0 c.add_blocks.new.world c.add_blocks.new.tally)) past in
     run-made w c.args.schedule.now _ v (scene_at 1 w c.in_ok-tally.tally) (scene_at led.0 c.add_blocks.new.world c.add_blocks.new.tally) _ _ _ _ _ _ whole wide
     (ap (scene_at 1 w) first) led.1 (ap (λ m. m.json) c.in_ok-moments.ensures.first) added outcome c.in_ok-blocks.ensures.value
     c.into_parts-json.ensures.json c.in_ok-push_run_end.ensures.added
@@ -73,7 +73,7 @@ returns-in_err-add_blocks-clause-fault c =
     let whole = ap (λ n. nat_le n most_whole) c.total-whole.ensures.steps in
     let wide = form-is v c.total.result c.count.result ps w [] c.in_ok-form.ensures.form c.total.ensures.steps c.count.ensures.count in
     let first = c.in_ok-tally.ensures.empty ∙ ap new_tally c.count-3.ensures.count in
-    let none = ap (λ m. m.between) c.in_ok-moments.ensures.first in
+    let none = ap (λ m. m.past) c.in_ok-moments.ensures.first in
     let fault = rw (c.blocks-2.ensures.value, ap (λ m. m.json) c.in_ok-moments.ensures.first, none) at c.in_err-add_blocks.ensures.fault in
     let p = err_from_is_err_and c.from_residual-in_err-add_blocks.result c.from_residual-in_err-add_blocks.ensures.1 in
     rw (p.1, p.2) (run-fault c.in_err-add_blocks.field-0.0 w c.args.schedule.now _ v (scene_at 1 w c.in_ok-tally.tally) whole wide (ap (scene_at 1 w) first) fault)

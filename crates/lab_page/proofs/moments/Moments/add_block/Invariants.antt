@@ -1,7 +1,7 @@
 use Rattle.std.proofs.Common.{◌≡◌, ◌+◌, ◌-◌, ◌<◌, ◌≤◌, ◌++◌, length, replicate}
 use Rattle.lab_trace.specs.Scenes.{events, scene_after, IsKept}
-use Rattle.lab_page.specs.Between.{between_then}
 use Rattle.lab_page.specs.Moments.{moments}
+use Rattle.lab_page.specs.Pasts.{past_then}
 use Rattle.lab_page.specs.Private.Json.{more_json}
 use Rattle.lab_page.proofs.moments.Moments.add_block.Given as goal
 
@@ -12,11 +12,11 @@ invariant-loop-done l = record {
   scene : record { number = l.first + l.done; world = l.world; tally = l.tally }
       ≡ scene_after (record { number = l.first; world = l.fn.world; tally = l.fn.tally }) (replicate l.done l.block.pid);
   moments : l.self.json ≡ l.fn.self.json
-      ++ more_json (moments l.form l.whole (record { number = l.first; world = l.fn.world; tally = l.fn.tally }) l.fn.self.between (replicate l.done l.block.pid));
+      ++ more_json (moments l.form l.whole (record { number = l.first; world = l.fn.world; tally = l.fn.tally }) l.fn.self.past (replicate l.done l.block.pid));
   lines : l.self.lines ≡ l.fn.self.lines
       ++ events l.labels (record { number = l.first; world = l.fn.world; tally = l.fn.tally }) (replicate l.done l.block.pid);
-  between : l.self.between
-      ≡ between_then (record { number = l.first; world = l.fn.world; tally = l.fn.tally }) (replicate l.done l.block.pid) l.fn.self.between;
+  past : l.self.past
+      ≡ past_then (record { number = l.first; world = l.fn.world; tally = l.fn.tally }) (replicate l.done l.block.pid) l.fn.self.past;
   kept : IsKept (record { number = l.first + l.done; world = l.world; tally = l.tally });
   there : l.block.pid < length l.world.processes;
 }

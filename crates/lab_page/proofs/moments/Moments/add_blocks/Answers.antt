@@ -8,11 +8,11 @@ use Rattle.lab_trace.specs.Scenes.{Scene, scene_at, events, scene_after, IsKept}
 use Rattle.lab_trace.proofs.SceneLemmas.{scene-none, events-none, kept-after, length-scene}
 use Rattle.lab_trace.proofs.WrittenLemmas.{scene-block}
 use Rattle.serde_json.specs.Data.{Data}
-use Rattle.lab_page.specs.Between.{between_then}
 use Rattle.lab_page.specs.Moments.{moments}
+use Rattle.lab_page.specs.Pasts.{Past, past_then}
 use Rattle.lab_page.specs.Private.Json.{more_json}
 use Rattle.lab_page.proofs.MomentLemmas.{moments-none, json-block, lines-block}
-use Rattle.lab_page.proofs.BetweenLemmas.{between-none, between-block, length-between}
+use Rattle.lab_page.proofs.PastLemmas.{past-none, past-block, length-past}
 use Rattle.lab_page.proofs.FaultLemmas.{fault-block}
 use Rattle.lab_page.proofs.moments.Moments.add_blocks.Goals as goal
 
@@ -23,9 +23,9 @@ loop-block-init c =
     record {
       number = omega (arith, ap length steps_of-none);
       scene = sym (ap (scene_after s) steps_of-none ∙ scene-none s);
-      moments = sym (ap (λ (l : List Data). c.args.self.now.json ++ more_json l) (ap (moments v c.args.whole s c.args.self.now.between) steps_of-none ∙ moments-none v c.args.whole s c.args.self.now.between) ∙ append-nil c.args.self.now.json);
+      moments = sym (ap (λ (l : List Data). c.args.self.now.json ++ more_json l) (ap (moments v c.args.whole s c.args.self.now.past) steps_of-none ∙ moments-none v c.args.whole s c.args.self.now.past) ∙ append-nil c.args.self.now.json);
       lines = sym (ap (λ (l : List ℕ). c.args.self.now.lines ++ l) (ap (events c.args.labels.now s) steps_of-none ∙ events-none c.args.labels.now s) ∙ append-nil c.args.self.now.lines);
-      between = sym (ap (λ (l : List ℕ). between_then s l c.args.self.now.between) steps_of-none ∙ between-none s c.args.self.now.between);
+      past = sym (ap (λ (l : List ℕ). past_then s l c.args.self.now.past) steps_of-none ∙ past-none s c.args.self.now.past);
       kept = c.requires.kept;
       count = refl;
     }
@@ -43,8 +43,8 @@ add_block-requires-clause-counted c =
       arith,
       c.requires.there c.loop-block.block-index c.loop-block-test.true,
       c.requires.counted,
-      ap length c.loop-block.invariant.between,
-      length-between s first c.args.self.now.between,
+      ap (λ (h : Past). length h.between) c.loop-block.invariant.past,
+      length-past s first c.args.self.now.past,
     )
 
 pub overflow_add-number : goal.overflow_add-number
@@ -66,11 +66,11 @@ loop-block-preserved c =
     record {
       number = omega (arith, more, length-replicate count (get_or bs i (block 0 0)).pid, c.loop-block.invariant.number);
       scene = told;
-      moments = json-block c.args.form.now c.args.whole s u c.args.self.now.between c.loop-block.self.between bs i (block 0 0) _ _ _ within
-          c.loop-block.invariant.scene c.loop-block.invariant.between c.loop-block.invariant.moments c.in_ok-add_block.ensures.moments;
+      moments = json-block c.args.form.now c.args.whole s u c.args.self.now.past c.loop-block.self.past bs i (block 0 0) _ _ _ within
+          c.loop-block.invariant.scene c.loop-block.invariant.past c.loop-block.invariant.moments c.in_ok-add_block.ensures.moments;
       lines = lines-block c.args.labels.now s u bs i (block 0 0) _ _ _ within c.loop-block.invariant.scene c.loop-block.invariant.lines c.in_ok-add_block.ensures.lines;
-      between = between-block s u bs i (block 0 0) c.args.self.now.between c.loop-block.self.between _ within c.loop-block.invariant.scene
-          c.loop-block.invariant.between c.in_ok-add_block.ensures.between;
+      past = past-block s u bs i (block 0 0) c.args.self.now.past c.loop-block.self.past _ within c.loop-block.invariant.scene
+          c.loop-block.invariant.past c.in_ok-add_block.ensures.past;
       kept = subst IsKept (sym told) (kept-after s (steps_of (take (i + 1) bs)) c.requires.kept);
       count = ap (λ (y : Scene). length y.world.processes) told ∙ length-scene s (steps_of (take (i + 1) bs));
     }
@@ -80,5 +80,5 @@ returns-in_err-add_block-clause-fault c =
     let s = scene_at 1 c.args.world.now c.args.tally.now in
     let u = scene_at c.loop-block.number c.loop-block.world c.loop-block.tally in
     let p = err_from_is_err_and c.from_residual.result c.from_residual.ensures.1 in
-    rw (p.1, p.2) (fault-block c.args.form.now c.args.whole s u c.args.self.now.between c.loop-block.self.between c.args.blocks.now c.loop-block.block-index (block 0 0) _ _ _
-    c.loop-block-test.true c.loop-block.invariant.scene c.loop-block.invariant.between c.loop-block.invariant.moments c.in_err-add_block.ensures.fault)
+    rw (p.1, p.2) (fault-block c.args.form.now c.args.whole s u c.args.self.now.past c.loop-block.self.past c.args.blocks.now c.loop-block.block-index (block 0 0) _ _ _
+    c.loop-block-test.true c.loop-block.invariant.scene c.loop-block.invariant.past c.loop-block.invariant.moments c.in_err-add_block.ensures.fault)

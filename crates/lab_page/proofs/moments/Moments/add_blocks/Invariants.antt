@@ -1,8 +1,8 @@
 use Rattle.std.proofs.Common.{◌≡◌, ◌+◌, ◌++◌, length, take}
 use Rattle.lab_sched.specs.Schedules.{steps_of}
 use Rattle.lab_trace.specs.Scenes.{events, scene_after, IsKept}
-use Rattle.lab_page.specs.Between.{between_then}
 use Rattle.lab_page.specs.Moments.{moments}
+use Rattle.lab_page.specs.Pasts.{past_then}
 use Rattle.lab_page.specs.Private.Json.{more_json}
 use Rattle.lab_page.proofs.moments.Moments.add_blocks.Given as goal
 
@@ -13,11 +13,11 @@ invariant-loop-block l = record {
   scene : record { number = l.number; world = l.world; tally = l.tally }
       ≡ scene_after (record { number = 1; world = l.fn.world; tally = l.fn.tally }) (steps_of (take l.block-index l.blocks));
   moments : l.self.json ≡ l.fn.self.json
-      ++ more_json (moments l.form l.whole (record { number = 1; world = l.fn.world; tally = l.fn.tally }) l.fn.self.between (steps_of (take l.block-index l.blocks)));
+      ++ more_json (moments l.form l.whole (record { number = 1; world = l.fn.world; tally = l.fn.tally }) l.fn.self.past (steps_of (take l.block-index l.blocks)));
   lines : l.self.lines ≡ l.fn.self.lines
       ++ events l.labels (record { number = 1; world = l.fn.world; tally = l.fn.tally }) (steps_of (take l.block-index l.blocks));
-  between : l.self.between
-      ≡ between_then (record { number = 1; world = l.fn.world; tally = l.fn.tally }) (steps_of (take l.block-index l.blocks)) l.fn.self.between;
+  past : l.self.past
+      ≡ past_then (record { number = 1; world = l.fn.world; tally = l.fn.tally }) (steps_of (take l.block-index l.blocks)) l.fn.self.past;
   kept : IsKept (record { number = l.number; world = l.world; tally = l.tally });
   count : length l.world.processes ≡ length l.fn.world.processes;
 }

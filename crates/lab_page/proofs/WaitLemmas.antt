@@ -1,0 +1,81 @@
+-- Who lets a process wait, and the circles of such processes.
+use Rattle.std.proofs.Common.{◌≡◌, ℕ, zero, suc, ◌+◌, ◌-◌, ◌<◌, ◌≤◌, ◌==◌, ◌&&◌, nat_lt, not, false, Option, Some, None, List, [], ◌∷◌, ◌++◌, length, map, take, position, refl, sym, ap, ◌∙◌, append_assoc, append-nil, arith}
+use Rattle.std.specs.List.{list_any}
+use Rattle.ipc_kernel.specs.Kernel.{KernelState}
+use Rattle.ipc_traps.specs.declared.service.Service.{Service}
+use Rattle.lab_sched.specs.Worlds.{WorldState}
+use Rattle.lab_trace.specs.Ends.{has_open}
+use Rattle.lab_page.specs.Values.{natural, naturals, list, all_below}
+use Rattle.lab_page.specs.Waits.{awaited_at, other_at, others, wait_in, waits_data, blockers, blocker, followed, circle_up_to, circle_from, circles, circles_data}
+use Rattle.lab_page.specs.declared.holds.Hold.{Hold}
+use Rattle.lab_page.proofs.PlainLemmas.{IsPlain, ArePlain, both, plain-one, plain-below, plain-naturals, plain-if}
+
+other-plain : (k : KernelState) (p place : ℕ) (s : Service) (q : ℕ) → ArePlain (other_at k p place s q)
+unfolding other_at
+other-plain k p place s q = plain-if (not (q == p) && has_open k place s q) (natural q ∷ []) [] refl refl
+
+wait-plain : (w : WorldState) (p : ℕ) (o : Option (Service × ℕ)) → ArePlain (wait_in w p o)
+wait-plain w p None = refl
+wait-plain w p (Some call) =
+    plain-one (list (natural p ∷ list (others w p call.1 call.0) ∷ []))
+    (plain-one (list (others w p call.1 call.0)) (plain-below (length w.processes) (other_at w.kernel p call.1 call.0) (other-plain w.kernel p call.1 call.0)))
+
+pub waits-plain : (w : WorldState) → IsPlain (waits_data w)
+unfolding waits_data
+waits-plain w = plain-below (length w.processes) (λ p. wait_in w p (awaited_at w p)) (λ p. wait-plain w p (awaited_at w p))
+
+circle-plain : (p : ℕ) (ps : List ℕ) (o : Option ℕ) → ArePlain (circle_up_to p ps o)
+circle-plain p ps None = refl
+circle-plain p ps (Some i) =
+    plain-if (list_any (λ q. nat_lt q p) (take i ps)) [] (naturals (p ∷ take i ps) ∷ []) refl
+    (plain-one (naturals (p ∷ take i ps)) (plain-naturals (p ∷ take i ps)))
+
+pub circles-plain : (w : WorldState) (hs : List Hold) → IsPlain (circles_data w hs)
+unfolding circles_data
+circles-plain w hs =
+    let bs : List (Option ℕ) = blockers w hs in
+    plain-below (length bs) (λ p. circle_from p (followed bs (length bs) (blocker bs p)))
+    (λ p. circle-plain p (followed bs (length bs) (blocker bs p)) (position (λ q. q == p) (followed bs (length bs) (blocker bs p))))
+
+followed-more : (bs : List (Option ℕ)) (n i p : ℕ) → i < n → followed bs (n - i) (Some p) ≡ p ∷ followed bs (n - (i + 1)) (blocker bs p)
+unfolding followed
+followed-more bs n i p h =
+    let e : n - i ≡ suc (n - (i + 1)) = omega (arith, h) in
+    ap (λ (m : ℕ). followed bs m (Some p)) e
+
+followed-none : (bs : List (Option ℕ)) (n : ℕ) → followed bs n None ≡ []
+unfolding followed
+followed-none bs zero = refl
+followed-none bs (suc n) = refl
+
+followed-all : (bs : List (Option ℕ)) (n i : ℕ) (o : Option ℕ) → n ≤ i → followed bs (n - i) o ≡ []
+unfolding followed
+followed-all bs n i o h =
+    let e : n - i ≡ 0 = omega (arith, h) in
+    ap (λ (m : ℕ). followed bs m o) e
+
+-- a process more that is followed
+pub followed-added : (bs : List (Option ℕ)) (n i p : ℕ) (o next : Option ℕ) (was now all : List ℕ) → i < n → o ≡ Some p → now ≡ was ++ p ∷ []
+    → next ≡ blocker bs p → was ++ followed bs (n - i) o ≡ all → now ++ followed bs (n - (i + 1)) next ≡ all
+followed-added bs n i p o next was now all h some added behind so_far =
+    ap (λ (l : List ℕ). l ++ followed bs (n - (i + 1)) next) added
+    ∙ append_assoc was (p ∷ []) (followed bs (n - (i + 1)) next)
+    ∙ ap (λ (x : Option ℕ). was ++ (p ∷ followed bs (n - (i + 1)) x)) behind
+    ∙ ap (λ (l : List ℕ). was ++ l) (sym (followed-more bs n i p h))
+    ∙ ap (λ (x : Option ℕ). was ++ followed bs (n - i) x) (sym some)
+    ∙ so_far
+
+-- nobody follows
+pub followed-stays : (bs : List (Option ℕ)) (n i : ℕ) (o : Option ℕ) (was all : List ℕ) → o ≡ None
+    → was ++ followed bs (n - i) o ≡ all → was ++ followed bs (n - (i + 1)) o ≡ all
+followed-stays bs n i o was all none so_far =
+    ap (λ (x : Option ℕ). was ++ followed bs (n - (i + 1)) x) none
+    ∙ ap (λ (l : List ℕ). was ++ l) (followed-none bs (n - (i + 1)) ∙ sym (followed-none bs (n - i)))
+    ∙ ap (λ (x : Option ℕ). was ++ followed bs (n - i) x) (sym none)
+    ∙ so_far
+
+-- all of them
+pub followed-whole : (bs : List (Option ℕ)) (n i : ℕ) (o : Option ℕ) (was all : List ℕ) → n ≤ i
+    → was ++ followed bs (n - i) o ≡ all → was ≡ all
+followed-whole bs n i o was all h so_far =
+    sym (append-nil was) ∙ ap (λ (l : List ℕ). was ++ l) (sym (followed-all bs n i o h)) ∙ so_far

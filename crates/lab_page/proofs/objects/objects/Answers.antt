@@ -1,9 +1,0 @@
-use Rattle.std.proofs.Common.{[]}
-use Rattle.lab_page.specs.Objects.{object_at}
-use Rattle.lab_page.proofs.ValueLemmas.{values-added}
-use Rattle.lab_page.proofs.objects.objects.Goals as goal
-
-pub loop-place-preserved : goal.loop-place-preserved
-loop-place-preserved c =
-    values-added (object_at c.args.world.now c.args.tally.now) c.loop-place.place [] _ _ _ c.in_ok-push_some.ensures.added
-    c.loop-place.invariant c.in_ok-object.ensures.object
