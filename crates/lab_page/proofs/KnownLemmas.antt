@@ -1,5 +1,5 @@
 -- Lists of what is kept, one for each place or process.
-use Rattle.std.proofs.Common.{◌≡◌, ℕ, ◌+◌, Option, List, [], ◌∷◌, ◌++◌, refl, ap, ◌∙◌, add-one}
+use Rattle.std.proofs.Common.{◌≡◌, ℕ, ◌+◌, List, [], ◌++◌, refl, ap, ◌∙◌, add-one}
 use Rattle.lab_page.specs.Values.{all_below}
 
 pub below_none : {X : Type 0} (f : ℕ → List X) → all_below 0 f ≡ []

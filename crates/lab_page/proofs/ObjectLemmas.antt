@@ -1,6 +1,6 @@
 -- Objects, and what a process has open, have no floats.
 use Rattle.std.proofs.Common.{ℕ, ◌==◌, ◌||◌, false, Option, Some, None, List, [], ◌∷◌, length, slice_get, refl}
-use Rattle.std.specs.Option.{option_map, option_to_list}
+use Rattle.std.specs.Option.{option_map}
 use Rattle.serde_json.specs.View.{items_of}
 use Rattle.serde_json.specs.Written.{has_float, items_have_float}
 use Rattle.ipc_kernel.specs.Limits.{open_max}

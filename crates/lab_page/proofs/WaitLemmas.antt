@@ -1,14 +1,14 @@
 -- Who lets a process wait, and the circles of such processes.
-use Rattle.std.proofs.Common.{◌≡◌, ℕ, zero, suc, ◌+◌, ◌-◌, ◌<◌, ◌≤◌, ◌==◌, ◌&&◌, nat_lt, not, false, Option, Some, None, List, [], ◌∷◌, ◌++◌, length, map, take, position, refl, sym, ap, ◌∙◌, append_assoc, append-nil, arith}
+use Rattle.std.proofs.Common.{◌≡◌, ℕ, zero, suc, ◌+◌, ◌-◌, ◌<◌, ◌≤◌, ◌==◌, ◌&&◌, nat_lt, not, Option, Some, None, List, [], ◌∷◌, ◌++◌, length, take, position, refl, sym, ap, ◌∙◌, append_assoc, append-nil, arith}
 use Rattle.std.specs.List.{list_any}
 use Rattle.ipc_kernel.specs.Kernel.{KernelState}
 use Rattle.ipc_traps.specs.declared.service.Service.{Service}
 use Rattle.lab_sched.specs.Worlds.{WorldState}
 use Rattle.lab_trace.specs.Ends.{has_open}
-use Rattle.lab_page.specs.Values.{natural, naturals, list, all_below}
-use Rattle.lab_page.specs.Waits.{awaited_at, other_at, others, wait_in, waits_data, blockers, blocker, followed, circle_up_to, circle_from, circles, circles_data}
+use Rattle.lab_page.specs.Values.{natural, naturals, list}
+use Rattle.lab_page.specs.Waits.{awaited_at, other_at, others, wait_in, waits_data, blockers, blocker, followed, circle_up_to, circle_from, circles_data}
 use Rattle.lab_page.specs.declared.holds.Hold.{Hold}
-use Rattle.lab_page.proofs.PlainLemmas.{IsPlain, ArePlain, both, plain-one, plain-below, plain-naturals, plain-if}
+use Rattle.lab_page.proofs.PlainLemmas.{IsPlain, ArePlain, plain-one, plain-below, plain-naturals, plain-if}
 
 other-plain : (k : KernelState) (p place : ℕ) (s : Service) (q : ℕ) → ArePlain (other_at k p place s q)
 unfolding other_at

@@ -1,5 +1,5 @@
 -- What a step did that has a line in the trace.
-use Rattle.std.specs.Prelude.{ℕ, Bool, true, false, if◌then◌else◌, Option, Some, None, List, [], ◌∷◌, codes}
+use Rattle.std.specs.Prelude.{ℕ, Bool, true, false, if◌then◌else◌, Option, Some, List, [], ◌∷◌, codes}
 use Rattle.std.specs.Option.{option_map}
 use Rattle.serde_json.specs.Data.{Data, null, string}
 use Rattle.ipc_kernel.specs.declared.call.Reply.TheVariants.{Message}

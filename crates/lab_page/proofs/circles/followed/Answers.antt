@@ -1,4 +1,4 @@
-use Rattle.std.proofs.Common.{◌≡◌, ◌+◌, length, arith}
+use Rattle.std.proofs.Common.{length, arith}
 use Rattle.lab_page.proofs.WaitLemmas.{followed-added, followed-stays, followed-whole}
 use Rattle.lab_page.proofs.circles.followed.Goals as goal
 use Rattle.lab_page.proofs.circles.followed.Goals.{in-Some+in_ok-push, in_default}
