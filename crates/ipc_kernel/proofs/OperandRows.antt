@@ -124,15 +124,22 @@ empty_behind_row os ns e h =
 pub full_row : (os : List Place) (ns : List ℕ) → None ≡ position (λ n. is_empty (place_at os n)) ns → 64 ≤ length ns → None ≡ position is_empty (padded 64 (map (place_at os) ns))
 full_row os ns e h = sym (padded_full 64 (map (place_at os) ns) (position_of_map is_empty (place_at os) ns ∙ sym e) (omega (arith, h, length-map ns (place_at os))))
 
+-- the place of a name in a kernel that is kept
+pub named_there : (name_of : Place → Option (List ℕ)) (os : List Place) (ts : List OpenTables) (rows : List KernelRow) (kernel : ℕ) (ns ms n : List ℕ) (k : KernelState) (named : Option ℕ)
+    → name_of Empty ≡ None → slice_get rows kernel ≡ Some (row ns ms) → slice_get (map (kernel_of os ts) rows) kernel ≡ Some k
+    → named ≡ position (λ m. is_name n (name_of (place_at os m))) ns → place_named name_of k.places n ≡ named
+named_there name_of os ts rows kernel ns ms n k named none at_kernel is found =
+    ap (λ (x : KernelState). place_named name_of x.places n) (sym (kernel_of_row os ts rows kernel (row ns ms) k at_kernel is))
+    ∙ padded_first (λ p. is_name n (name_of p)) 64 (map (place_at os) ns) (ap (is_name n) none) ∙ position_of_map (λ p. is_name n (name_of p)) (place_at os) ns ∙ sym found
+
 -- the place that an open works on in a kernel that is kept
 pub opened_there : (name_of : Place → Option (List ℕ)) (os : List Place) (ts : List OpenTables) (rows : List KernelRow) (kernel : ℕ) (ns ms n : List ℕ) (k : KernelState) (named : Option ℕ) (i : ℕ)
     → name_of Empty ≡ None → slice_get rows kernel ≡ Some (row ns ms) → slice_get (map (kernel_of os ts) rows) kernel ≡ Some k
     → named ≡ position (λ m. is_name n (name_of (place_at os m))) ns → Some i ≡ option_or named (position is_empty (padded 64 (map (place_at os) ns)))
     → option_or (place_named name_of k.places n) (position is_empty k.places) ≡ Some i
 opened_there name_of os ts rows kernel ns ms n k named i none at_kernel is found place =
-    ap (λ (x : KernelState). option_or (place_named name_of x.places n) (position is_empty x.places)) (sym (kernel_of_row os ts rows kernel (row ns ms) k at_kernel is))
-    ∙ ap (λ x. option_or x (position is_empty (padded 64 (map (place_at os) ns))))
-    (padded_first (λ p. is_name n (name_of p)) 64 (map (place_at os) ns) (ap (is_name n) none) ∙ position_of_map (λ p. is_name n (name_of p)) (place_at os) ns ∙ sym found)
+    ap (λ x. option_or x (position is_empty k.places)) (named_there name_of os ts rows kernel ns ms n k named none at_kernel is found)
+    ∙ ap (λ (x : KernelState). option_or named (position is_empty x.places)) (sym (kernel_of_row os ts rows kernel (row ns ms) k at_kernel is))
     ∙ sym place
 
 none_behind : (m : ℕ) → are_named (replicate m Empty) ≡ true

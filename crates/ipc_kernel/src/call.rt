@@ -2,6 +2,7 @@
 ghost use Rattle.std.specs.Prelude.{◌≡◌, ◌↔◌, IfOk, IsErr, IsTrue};
 ghost use Rattle.ipc_kernel.specs.Replies.{is_message};
 ghost use Rattle.ipc_kernel.specs.Operands.{handle_of};
+ghost use Rattle.ipc_kernel.specs.OwnCalls.{is_unlink};
 ghost use Rattle.ipc_kernel.specs.declared.call.Call.TheVariants.{MqOpen, MqSend, MqReceive, MqSetattr, SemOpen};
 
 use ipc_names::Name;
@@ -147,6 +148,13 @@ impl Call {
             Call::SemGetvalue { slot } => Call::SemGetvalue { slot: *slot },
             Call::Exit => Call::Exit,
         })
+    }
+
+    /// Whether the call takes a name away.
+    pub fn is_unlink(&self) -> bool
+        ensures unlink { result ≡ is_unlink self.now }
+    {
+        matches!(self, Call::MqUnlink { .. } | Call::SemUnlink { .. })
     }
 
     /// The descriptor or slot that a call on an open object names.

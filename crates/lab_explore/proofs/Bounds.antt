@@ -1,5 +1,5 @@
 -- How many effective steps there can be, where each edge leads to a row with a greater number.
-use Rattle.std.proofs.Common.{ℕ, suc, ◌+◌, ◌-◌, ◌*◌, ◌<◌, ◌≤◌, ◌≡◌, List, [], ◌∷◌, Option, Some, None, sym, ap, subst, ◌∙◌, arith, length, slice_get, set, refl, inl, inr}
+use Rattle.std.proofs.Common.{ℕ, suc, ◌+◌, ◌-◌, ◌*◌, ◌<◌, ◌≤◌, ◌≡◌, List, [], ◌∷◌, Option, Some, None, sym, ap, subst, ◌∙◌, arith, length, slice_get, set, refl, inl, inr, ◌⊎◌}
 use Rattle.lab_sched.specs.Worlds.{WorldState, step_effect_in, step}
 use Rattle.lab_sched.specs.Execution.{AreEffective}
 use Rattle.ipc_kernel.specs.Alike.{IsConsistent}
@@ -13,26 +13,26 @@ use Rattle.lab_explore.proofs.StandingWorlds.{Place, Stands, GoesNearer, GoesAlo
 use Rattle.lab_explore.proofs.UntriedWorlds.{tells, same_step, still_untried, goes_untried, asks_on}
 
 -- so many steps may follow a row with such a number
-abbrev rank : ℕ → Option ℕ → ℕ
+abbrev pub rank : ℕ → Option ℕ → ℕ
 rank n None = 0
 rank n (Some a) = n - a
 
 -- at most so many steps may follow where a world stands
-abbrev left_at : List ℕ → Place → ℕ
+abbrev pub left_at : List ℕ → Place → ℕ
 left_at order s = total s.taken + 4294967296 * rank (length order) (slice_get order s.at)
 
 -- at most n steps by which a process goes on may follow the world
 abbrev HasLeft : Store → List ℕ → WorldState → ℕ → Type 0
 HasLeft t order w n = (s : Place) × Stands t w s × (left_at order s ≡ n)
 
-module _ (t : Store) (order : List ℕ) (start : WorldState) (searched : IsSearched start t) (rises : Rises order t.edges) where
-  nearer_less : (s u : Place) (p : ℕ) → GoesNearer s u p → left_at order u < left_at order s
+module _ (t : Store) (order : List ℕ) (rises : Rises order t.edges) where
+  pub nearer_less : (s u : Place) (p : ℕ) → GoesNearer s u p → left_at order u < left_at order s
   nearer_less s u p h =
       let sums = total_set s.taken p (suc h.0) h.0 h.1 in
       subst (λ i. total u.taken + 4294967296 * rank (length order) (slice_get order i) < left_at order s) (sym h.3)
       (subst (λ ks. total ks + 4294967296 * rank (length order) (slice_get order s.at) < left_at order s) (sym h.2) (omega (arith, sums)))
 
-  along_less : (s u : Place) (p : ℕ) → GoesAlong t s u p → left_at order u < left_at order s
+  pub along_less : (s u : Place) (p : ℕ) → GoesAlong t s u p → left_at order u < left_at order s
   along_less s u p h =
       let rise = all_at (IsRising order) t.edges h.0 h.1 rises h.3 in
       let from : slice_get order s.at ≡ Some rise.before = ap (λ i. slice_get order i) (sym h.4) ∙ rise.from in
@@ -46,10 +46,16 @@ module _ (t : Store) (order : List ℕ) (start : WorldState) (searched : IsSearc
       falls : (x y i l a b : ℕ) → y + 0 ≡ x + i → i < 4294967296 → a < b → b ≤ l → y + 4294967296 * (l - b) < x + 4294967296 * (l - a)
       falls x y i l a b sums few rise within = omega arith
 
+  -- so many steps fewer may follow after either
+  pub next_less : (s u : Place) (p : ℕ) → GoesNearer s u p ⊎ GoesAlong t s u p → left_at order u < left_at order s
+  next_less s u p (inl near) = nearer_less s u p near
+  next_less s u p (inr along) = along_less s u p along
+
+module _ (t : Store) (order : List ℕ) (start : WorldState) (searched : IsSearched start t) (rises : Rises order t.edges) where
   step_left : (w : WorldState) (p n : ℕ) → GoesOn (step_effect_in w p) → HasLeft t order w n → (j : ℕ) × (j < n) × HasLeft t order (step w p) j
   step_left w p n effective left =
       let next = step_stands t start searched w p left.0 effective left.1 in
-      let less : left_at order next.0 < left_at order left.0 = elim next.2 [ inl near ↦ nearer_less left.0 next.0 p near | inr along ↦ along_less left.0 next.0 p along ] in
+      let less = next_less t order rises left.0 next.0 p next.2 in
       (left_at order next.0, subst (λ n. left_at order next.0 < n) left.2 less, (next.0, next.1, refl))
 
   -- a step by which a process goes on leaves less where none has begun to wait, and one process more

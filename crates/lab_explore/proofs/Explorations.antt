@@ -1,11 +1,13 @@
 -- Explorations: what the parts of one say together.
-use Rattle.std.proofs.Common.{ℕ, All, arith, count_by, ◌≡◌, ◌≤◌, ◌+◌, ◌++◌, [], ◌∷◌, slice_get, List, Option, Some, None, refl, sym, ap, subst, ◌∙◌, length, map, inl, inr}
+use Rattle.std.proofs.Common.{ℕ, Bool, true, false, All, IsTrue, arith, count_by, ◌≡◌, ◌≤◌, ◌+◌, ◌++◌, [], ◌∷◌, slice_get, List, Option, Some, None, refl, sym, ap, subst, ◌∙◌, length, map, inl, inr}
 use Rattle.ipc_kernel.specs.Kernel.{KernelState, empty_kernel}
 use Rattle.lab_sched.specs.declared.process.Process.{Process as Kept}
 use Rattle.lab_sched.specs.declared.process.Process.TheVariants as kept
 use Rattle.std.proofs.lemmas.List.Elements.{All-weaker}
 use Rattle.ipc_kernel.specs.Alike.{IsConsistent}
 use Rattle.ipc_kernel.proofs.Consistents.{consistent_empty}
+use Rattle.ipc_kernel.specs.Operands.{are_named}
+use Rattle.ipc_kernel.proofs.CommutingCalls.{own_calls_commute, start_named, stay_named, own_alike}
 use Rattle.lab_explore.specs.Calls.{AreAlike}
 use Rattle.lab_explore.proofs.AlikeWorlds.{world_then, world_back, one_verdict, consistent_run}
 use Rattle.lab_sched.specs.Worlds.{Process, Running, Waiting, Ended, WorldState, step_effect, step_effect_in, run, entries}
@@ -21,10 +23,13 @@ use Rattle.lab_sched.specs.Starts.{AreStarts, initial_world}
 use Rattle.lab_explore.specs.declared.store.Store.{Store}
 use Rattle.lab_explore.specs.declared.ends.End.{End}
 use Rattle.lab_explore.specs.declared.walking.Walk.{Walk}
-use Rattle.lab_explore.specs.Closed.{AreAtRest}
-use Rattle.lab_explore.specs.Untried.{untried, AskAgain}
+use Rattle.lab_explore.specs.Closed.{HasAdvance, AreAtRest}
+use Rattle.lab_explore.specs.Untried.{NoneGoesOn, untried, AskAgain}
 use Rattle.lab_explore.specs.Private.Stored.{IsAt, IsLike, IsSearched, Keeps}
-use Rattle.lab_explore.specs.Private.Depths.{waiting}
+use Rattle.lab_explore.specs.Private.Independent.{AreTriedIn, StatesKeepNames, IsSearchedIn}
+use Rattle.lab_explore.specs.Private.Depths.{AreDepths, waiting}
+use Rattle.lab_explore.specs.Private.Rising.{AreRising}
+use Rattle.lab_explore.specs.Rounds.{AreBounded}
 use Rattle.lab_explore.specs.Private.Walked.{IsWalk, HasUntriedEnd, HaveRowEnds}
 use Rattle.lab_explore.specs.Ends.{IsEnd, AreEnds, HaveAllEnds, NoneStuck, NeverStuck}
 use Rattle.lab_explore.proofs.UntriedWorlds.{rests_alike, running_untried, running_ask, AreRunning}
@@ -36,6 +41,10 @@ use Rattle.lab_sched.specs.Starts.{Runs}
 use Rattle.lab_explore.proofs.Pushes.{get_pushed, all_at}
 use Rattle.lab_explore.proofs.FirstWorlds.{at_unique, AreAtDepth, all_levels}
 use Rattle.lab_explore.proofs.FewestCalls.{untried_waits}
+use Rattle.lab_explore.proofs.Bounds.{searched_bounded}
+use Rattle.lab_explore.proofs.IndependentCalls.{worlds_keep}
+use Rattle.lab_explore.proofs.SparseEnds.{reaches_end_sparsely}
+use Rattle.lab_explore.proofs.SparseBounds.{sparsely_bounded}
 use Rattle.lab_explore.proofs.HeldAdvances.{idle, asks_run, reaches_end}
 
 -- the start of a laboratory, by copies of its processes over an empty kernel
@@ -44,18 +53,55 @@ pub started : (w : WorldState) (ps qs : List Kept) (k : KernelState) (n : ℕ) �
 started w ps qs k n world same count empty =
     sym world ∙ ap initial_world (sym same) ∙ ap (λ j. record { processes = map process_view qs; kernel = j }) (ap empty_kernel (sym count) ∙ sym empty)
 
+-- what a search holds whose rows were tried
+pub searched_in : (sparse : Bool) (start : WorldState) (t : Store) → HasAdvance (IsAt t 0) start → AreTriedIn sparse t → (IsTrue sparse → StatesKeepNames t) → IsSearchedIn sparse start t
+searched_in false start t first tried keep = record { begins = first; expanded = tried }
+searched_in true start t first tried keep = record { begins = first; tried = tried; keep_names = worlds_keep t (keep refl) }
+
+-- a search that isn't sparse holds each step
+pub whole_search : (sparse : Bool) (start : WorldState) (t : Store) → sparse ≡ false → IsSearchedIn sparse start t → IsSearched start t
+whole_search false start t e h = h
+whole_search true start t e h = absurd (cc)
+
+-- so does one where rounds have to be fair
+pub whole_if_fair : (asked sparse fair : Bool) (start : WorldState) (t : Store) → (asked ≡ false → sparse ≡ false) → (asked ≡ true → fair ≡ false) → fair ≡ true → IsSearchedIn sparse start t → IsSearched start t
+whole_if_fair false sparse fair start t dense unfair is h = whole_search sparse start t (dense refl) h
+whole_if_fair true sparse fair start t dense unfair is h = let no = unfair refl in absurd (cc)
+
+-- a row has the world at rest to which steps lead, but for who waits; its depth, and one for each process that waits, are no more than
+-- the calls among the steps
+abbrev HasRest : WorldState → Store → List ℕ → List ℕ → Type 0
+HasRest start t depths ps =
+    (v : WorldState) × (n : ℕ) × AreAtDepth t depths n v × NoneGoesOn v × AreAlike (untried (run start ps)) v × (n + waiting (run start ps) ≤ waiting start + length (entries start ps))
+
+rests_in : (sparse : Bool) (start : WorldState) (t : Store) (depths : List ℕ) → IsConsistent start.kernel → AskAgain start → untried start ≡ start → are_named start.kernel.places ≡ true
+    → IsSearchedIn sparse start t → AreDepths depths t.edges → (ps : List ℕ) → AreAtRest (run start ps) → HasRest start t depths ps
+rests_in false start t depths consistent asks first named searched deep ps rest = reaches_end start (AreAtDepth t depths) consistent asks (all_levels t start depths first searched deep) ps rest
+rests_in true start t depths consistent asks first named searched deep ps rest = reaches_end_sparsely t start depths own_calls_commute stay_named own_alike consistent asks first named searched deep ps rest
+
+-- where all edges rise, there is a bound on effective steps
+pub bounded_in : (sparse : Bool) (start : WorldState) (t : Store) → IsConsistent start.kernel → AskAgain start → untried start ≡ start → are_named start.kernel.places ≡ true
+    → IsSearchedIn sparse start t → AreRising t.edges → AreBounded start
+bounded_in false start t consistent asks first named searched rising = searched_bounded t start consistent asks first searched rising
+bounded_in true start t consistent asks first named searched rising = sparsely_bounded t start own_calls_commute stay_named own_alike consistent asks first named searched rising
+
+-- in the kernel of a laboratory before its first step each object has a name
+pub fresh_named : (w : WorldState) (n : ℕ) → w.kernel ≡ empty_kernel n → are_named w.kernel.places ≡ true
+fresh_named w n is = ap (λ (k : KernelState). are_named k.places) is ∙ start_named n
+
 -- one of the ends is in a world alike, with its verdict, after at most n calls
 abbrev pub IsReachedIn : List End → WorldState → ℕ → Type 0
 IsReachedIn ends w n = (i : ℕ) × (e : End) × (slice_get ends i ≡ Some e) × AreAlike w e.world × IsVerdict w e.verdict × (e.calls ≤ n)
 
 -- so is each world at rest, where each row from whose world no process goes on has its end
-pub all_ends : (fresh start : WorldState) (t : Store) (ends : List End) → fresh ≡ start → IsConsistent start.kernel → AskAgain start → untried start ≡ start → AreEnds fresh ends → IsSearched start t → HaveRowEnds t ends
+pub all_ends : (sparse : Bool) (fresh start : WorldState) (t : Store) (ends : List End) → fresh ≡ start → IsConsistent start.kernel → AskAgain start → untried start ≡ start
+    → are_named start.kernel.places ≡ true → AreEnds fresh ends → IsSearchedIn sparse start t → HaveRowEnds t ends
     → (ps : List ℕ) → AreAtRest (run fresh ps) → IsReachedIn ends (run fresh ps) (length (entries fresh ps))
-all_ends fresh start t ends same consistent asks first each searched all =
+all_ends sparse fresh start t ends same consistent asks first named each searched all =
     subst (λ s. (ps : List ℕ) → AreAtRest (run s ps) → IsReachedIn ends (run s ps) (length (entries s ps))) (sym same)
     (λ ps rest.
     let w = run start ps in
-    let held = reaches_end start (AreAtDepth t all.depths) consistent asks (all_levels t start all.depths first searched all.are) ps rest in
+    let held = rests_in sparse start t all.depths consistent asks first named searched all.are ps rest in
     let found = all.each held.2.0 held.0 held.2.1 held.3 in
     let e = found.1 in
     let end = all_at (IsEnd start) ends found.0 e (subst (λ s. AreEnds s ends) same each) found.2 in

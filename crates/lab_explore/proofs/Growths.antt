@@ -1,5 +1,5 @@
 -- Stores that grow.
-use Rattle.std.proofs.Common.{All, inl, inr, ℕ, ◌≡◌, [], ◌∷◌, ◌++◌, Option, Some, None, refl, sym, ap, subst, ◌∙◌, slice_get, length}
+use Rattle.std.proofs.Common.{All, inl, inr, Bool, true, false, ℕ, ◌≡◌, [], ◌∷◌, ◌++◌, Option, Some, None, refl, sym, ap, subst, ◌∙◌, slice_get, length}
 use Rattle.std.specs.Option.{option_map}
 use Rattle.ipc_kernel.specs.Kernel.{KernelState}
 use Rattle.lab_sched.specs.declared.process.Process.{Process as Kept}
@@ -23,6 +23,7 @@ use Rattle.ipc_kernel.specs.Kept.{GrowsKept}
 use Rattle.ipc_kernel.specs.declared.place.Place.{Place}
 use Rattle.ipc_kernel.specs.declared.process.OpenTables.{OpenTables}
 use Rattle.lab_explore.specs.Private.Shorts.{Sharing, IsSameOrMore}
+use Rattle.lab_explore.specs.Private.Independent.{IsTriedAlone, IsTriedIn}
 use Rattle.lab_explore.specs.Private.Stored.{IsState, IsKernel, IsRow, IsAt, IsReady, IsStore, Grows, IsNext, IsMove, HasEdge, IsTried, IsExpanded}
 use Rattle.std.proofs.lemmas.List.Elements.{All-push, All-weaker}
 use Rattle.lab_explore.proofs.Pushes.{both_weaker, keeps_push, get_pushed}
@@ -90,6 +91,16 @@ tried_grows t u i w p g h e = edge_grows t u i w p g (h e)
 
 pub expanded_grows : (t u : Store) (i : ℕ) → Grows t u → IsExpanded t i → IsExpanded u i
 expanded_grows t u i g h = (h.0, at_grows t u i h.0 g h.1, λ p. tried_grows t u i h.0 p g (h.2 p))
+
+-- an edge to a later row stays one
+pub alone_grows : (t u : Store) (i : ℕ) → Grows t u → IsTriedAlone t i → IsTriedAlone u i
+unfolding edge_grows
+alone_grows t u i g (w, at, p, own, x, later) = (w, at_grows t u i w g at, p, own, edge_grows t u i w p g x, later)
+
+pub tried_in_grows : (sparse : Bool) (t u : Store) (i : ℕ) → Grows t u → IsTriedIn sparse t i → IsTriedIn sparse u i
+tried_in_grows false t u i g h = expanded_grows t u i g h
+tried_in_grows true t u i g (inl h) = inl (expanded_grows t u i g h)
+tried_in_grows true t u i g (inr h) = inr (alone_grows t u i g h)
 
 -- each row of a store stands for the world that it stood for
 rows_grow : (t u : Store) → IsStore t → Grows t u → All (λ r. (w : WorldState) × IsRow u r w) t.rows

@@ -161,7 +161,7 @@ asks_run [] w asks = asks
 asks_run (p ∷ ps) w asks = asks_run ps (step w p) (asks_on w p asks)
 
 -- no process of a world at rest goes on
-rests_on : (w : WorldState) (p : ℕ) → AreAtRest w → GoesOn (step_effect_in w p) → ⊥
+pub rests_on : (w : WorldState) (p : ℕ) → AreAtRest w → GoesOn (step_effect_in w p) → ⊥
 rests_on w p rest h = by (slice_get w.processes p) refl
   where
     waits : (m : Machine) (c : Call) (a : Answer) → a ≡ Wait → GoesOn (retry m c a) → ⊥

@@ -1,5 +1,5 @@
 -- Rows whose worlds are judged, and what is found among them.
-use Rattle.std.proofs.Common.{ℕ, zero, suc, ◌≡◌, ◌+◌, ◌++◌, ◌<◌, ◌≤◌, ◌↔◌, Bool, IsTrue, arith, List, [], ◌∷◌, Option, Some, None, refl, sym, ap, subst, ◌∙◌, slice_get, length, map, take, get_or, IfSome}
+use Rattle.std.proofs.Common.{ℕ, zero, suc, ◌≡◌, ◌+◌, ◌++◌, ◌<◌, ◌≤◌, ◌↔◌, Bool, true, false, IsTrue, arith, List, [], ◌∷◌, Option, Some, None, refl, sym, ap, subst, ◌∙◌, slice_get, length, map, take, get_or, IfSome}
 use Rattle.std.specs.Option.{option_map}
 use Rattle.std.proofs.lemmas.List.{length-map, take_all, take_more}
 use Rattle.std.proofs.lemmas.Option.{slice_get-map}
@@ -27,12 +27,14 @@ use Rattle.lab_explore.specs.Private.Shorts.{silent, IsButForOutput}
 use Rattle.lab_explore.specs.Private.Stored.{IsState, IsRow, IsAt, IsLike, IsSearched}
 use Rattle.lab_explore.specs.declared.walking.Walk.{Walk}
 use Rattle.lab_explore.specs.Private.Walked.{IsWalk}
+use Rattle.lab_explore.specs.Private.Independent.{IsSearchedIn}
 use Rattle.lab_explore.specs.Private.Judged.{IsUnseen, UnseenIfNone}
 use Rattle.lab_explore.proofs.AlikeWorlds.{consistent_run}
 use Rattle.lab_explore.proofs.AfterLocalSteps.{same_some}
 use Rattle.lab_explore.proofs.Pushes.{both_weaker, alongside_push}
 use Rattle.lab_explore.proofs.KeptConditions.{holds_alike, never_holds}
 use Rattle.lab_explore.proofs.KeptLosses.{never_loses}
+use Rattle.lab_explore.proofs.Explorations.{whole_search}
 use Rattle.lab_explore.proofs.SilentProcesses.{holds_silently}
 
 -- the process at a place of a row's world
@@ -147,6 +149,21 @@ pub are_kept : (fresh start : WorldState) (t : Store) (ns : List Never) (found :
     → Alongside (UnseenIfNone t) ns found → AreKept fresh ns found
 are_kept fresh start t ns found same consistent asks first searched none p =
     both_weaker (UnseenIfNone t) (KeptIfNone fresh) (λ n o. kept_if fresh start t same consistent asks first searched n o) (slice_get ns p) (slice_get found p) (none p)
+
+-- where nothing is asked, nothing is reached
+none_asked : (fresh : WorldState) (t : Store) (found : List (Option (List Block))) → Alongside (UnseenIfNone t) [] found → AreKept fresh [] found
+none_asked fresh t found h p = by (slice_get found p) (h p)
+  where
+    by : (o : Option (Option (List Block))) → Both (UnseenIfNone t) None o → Both (KeptIfNone fresh) None o
+    by None k = tt
+    by (Some x) k = absurd k
+
+-- the same of a search that is sparse only where nothing is asked
+pub are_kept_in : (asked sparse : Bool) (fresh start : WorldState) (t : Store) (ns : List Never) (found : List (Option (List Block))) → fresh ≡ start → IsConsistent start.kernel → AskAgain start → untried start ≡ start
+    → (asked ≡ false → sparse ≡ false) → (asked ≡ true → ns ≡ []) → IsSearchedIn sparse start t → Alongside (UnseenIfNone t) ns found → AreKept fresh ns found
+are_kept_in false sparse fresh start t ns found same consistent asks first dense none searched h = are_kept fresh start t ns found same consistent asks first (whole_search sparse start t (dense refl) searched) h
+are_kept_in true sparse fresh start t ns found same consistent asks first dense none searched h =
+    subst (λ xs. AreKept fresh xs found) (sym (none refl)) (none_asked fresh t found (subst (λ xs. Alongside (UnseenIfNone t) xs found) (none refl) h))
 
 pub same_reached : (fresh start : WorldState) (ns : List Never) (found : List (Option (List Block))) → fresh ≡ start → AreReached start ns found → AreReached fresh ns found
 same_reached fresh start ns found same each = subst (λ s. AreReached s ns found) (sym same) each

@@ -32,3 +32,10 @@ mod LossesOfRows
 mod JudgedRows
 mod DrawnRows
 mod StepsOnObjects
+mod IndependentCalls
+mod IndependentSteps
+mod OnwardSteps
+mod SparseSearches
+mod SparsePaths
+mod SparseEnds
+mod SparseBounds

@@ -53,7 +53,7 @@ whole_apart os qs before n len k p out rest front back is set =
     ap (kept_with_output p) all ∙ ap (λ x. kept_with_output x (first ++ (machine_of (process_view k)).output)) set ∙ last_output k rest _
 
 -- as it is seen
-whole_seen : (os : List (List ℕ)) (s : Short) → process_view (whole_of os s) ≡ with_output (process_view s.process) (get_or os s.before [] ++ own s)
+pub whole_seen : (os : List (List ℕ)) (s : Short) → process_view (whole_of os s) ≡ with_output (process_view s.process) (get_or os s.before [] ++ own s)
 whole_seen os s = seen_output s.process (get_or os s.before [] ++ own s)
 
 pub same_whole : (os : List (List ℕ)) (s t : Short) → AreSame s t → process_view (whole_of os s) ≡ process_view (whole_of os t)

@@ -17,6 +17,7 @@ use Rattle.lab_sched.proofs.Commutes.{after_other}
 use Rattle.lab_explore.specs.declared.store.Store.{Store}
 use Rattle.lab_explore.specs.declared.store.Edge.{Edge}
 use Rattle.lab_explore.specs.Calls.{IsAtCall, IsAhead, Both, Alongside}
+use Rattle.lab_explore.specs.Closed.{HasAdvance}
 use Rattle.lab_explore.specs.Private.Stored.{IsAt, IsReached, AreReached, HasEdge, IsSearched}
 use Rattle.lab_explore.proofs.AfterLocalSteps.{none_local}
 use Rattle.lab_explore.proofs.FirstWorlds.{at_unique}
@@ -190,10 +191,33 @@ GoesAlong t s u p =
 abbrev pub StandsAfter : Store → WorldState → ℕ → Place → Type 0
 StandsAfter t w p s = (u : Place) × Stands t (step w p) u × (GoesNearer s u p ⊎ GoesAlong t s u p)
 
-module _ (t : Store) (start : WorldState) (searched : IsSearched start t) where
+-- before the first step
+pub begins_stands : (t : Store) (start : WorldState) → HasAdvance (IsAt t 0) start → IsConsistent start.kernel → (s : Place) × Stands t start s × (length s.taken ≡ length start.processes)
+begins_stands t start begun consistent =
+    let taken = taken_of start.processes begun.0.processes begun.2.processes in
+    (record { at = 0; advance = begun.0; taken = taken.0 }, record { here = begun.1; kernel = begun.2.kernel; consistent = consistent; processes = taken.1 }, taken.2)
+
+pub begins_first : (t : Store) (start : WorldState) (begun : HasAdvance (IsAt t 0) start) (consistent : IsConsistent start.kernel) → (begins_stands t start begun consistent).0.at ≡ 0
+unfolding begins_stands
+begins_first t start begun consistent = refl
+
+-- a process at a call is the same there
+pub standing_same : (t : Store) (w : WorldState) (p : ℕ) (x : Process) (s : Place) → slice_get w.processes p ≡ Some x → IsAtCall x → Stands t w s → slice_get s.advance.processes p ≡ Some x
+standing_same t w p x s a at stands =
+    let found = both_there (slice_get s.taken p) (slice_get w.processes p) (slice_get s.advance.processes p) x a (stands.processes p) in
+    found.3 ∙ ap (λ y. Some y) (none_local found.0 x found.1 at found.4)
+
+-- and makes the same step
+pub standing_effect : (t : Store) (w : WorldState) (p : ℕ) (x : Process) (s : Place) → slice_get w.processes p ≡ Some x → IsAtCall x → Stands t w s → step_effect_in s.advance p ≡ step_effect_in w p
+standing_effect t w p x s a at stands =
+    effect_alike w.kernel s.advance.kernel p (slice_get s.advance.processes p) stands.consistent stands.kernel
+    ∙ ap (λ o. step_effect w.kernel p o) (standing_same t w p x s a at stands ∙ sym a)
+
+module _ (t : Store) where
   -- after a local step
-  local_stands : (w : WorldState) (p : ℕ) (m q : Machine) (s : Place) → slice_get w.processes p ≡ Some (Running m) → next_action m ≡ moves q → Stands t w s → StandsAfter t w p s
-  local_stands w p m q s a e stands = (u, subst (λ x. Stands t x u) (sym stepped) there, inl (one.0, found.2 ∙ ap (λ x. Some x) one.1, refl, refl))
+  pub local_stands : (w : WorldState) (p : ℕ) (m q : Machine) (s : Place) → slice_get w.processes p ≡ Some (Running m) → next_action m ≡ moves q → Stands t w s
+      → (u : Place) × Stands t (step w p) u × GoesNearer s u p
+  local_stands w p m q s a e stands = (u, subst (λ x. Stands t x u) (sym stepped) there, (one.0, found.2 ∙ ap (λ x. Some x) one.1, refl, refl))
     where
       found : (k : ℕ) × (v : Process) × (slice_get s.taken p ≡ Some k) × (slice_get s.advance.processes p ≡ Some v) × AreLocal k (Running m) v × IsAtCall v
       found = both_there (slice_get s.taken p) (slice_get w.processes p) (slice_get s.advance.processes p) (Running m) a (stands.processes p)
@@ -227,9 +251,10 @@ module _ (t : Store) (start : WorldState) (searched : IsSearched start t) where
         ];
       }
 
-  -- after a step of the kernel
-  call_stands : (w : WorldState) (p : ℕ) (x : Process) (s : Place) → slice_get w.processes p ≡ Some x → IsAtCall x → GoesOn (step_effect_in w p) → Stands t w s → StandsAfter t w p s
-  call_stands w p x s a at effective stands = (u, there, inr (edge.0, edge.1, next.0, edge.3, edge.4, refl, edge.7, found.2 ∙ ap (λ n. Some n) none, refl, next.1))
+  -- after a step of the kernel that has an edge
+  pub along_stands : (w : WorldState) (p : ℕ) (x : Process) (s : Place) → slice_get w.processes p ≡ Some x → IsAtCall x → Stands t w s → (edge : HasEdge t s.at s.advance p)
+      → (u : Place) × Stands t (step w p) u × GoesAlong t s u p × (u.at ≡ edge.1.to)
+  along_stands w p x s a at stands edge = (u, there, (edge.0, edge.1, next.0, edge.3, edge.4, refl, edge.7, found.2 ∙ ap (λ n. Some n) none, refl, next.1), refl)
     where
       v : WorldState
       v = s.advance
@@ -241,16 +266,10 @@ module _ (t : Store) (start : WorldState) (searched : IsSearched start t) where
       none = none_taken found.0 x found.1 at found.4
 
       same : slice_get v.processes p ≡ Some x
-      same = found.3 ∙ ap (λ y. Some y) (none_local found.0 x found.1 at found.4)
+      same = standing_same t w p x s a at stands
 
       same_effect : step_effect_in v p ≡ step_effect_in w p
-      same_effect = effect_alike w.kernel v.kernel p (slice_get v.processes p) stands.consistent stands.kernel ∙ ap (λ o. step_effect w.kernel p o) (same ∙ sym a)
-
-      edge : HasEdge t s.at v p
-      edge =
-          let done = searched.expanded s.at (get_past t.rows s.at stands.here.0 stands.here.1) in
-          let is : v ≡ done.0 = at_unique t s.at v done.0 stands.here done.1 in
-          subst (λ y. HasEdge t s.at y p) (sym is) (done.2 p (subst (λ y. GoesOn (step_effect_in y p)) is (subst GoesOn (sym same_effect) effective)))
+      same_effect = standing_effect t w p x s a at stands
 
       to : WorldState
       to = edge.2
@@ -290,12 +309,23 @@ module _ (t : Store) (start : WorldState) (searched : IsSearched start t) where
         processes = takes;
       }
 
+module _ (t : Store) (start : WorldState) (searched : IsSearched start t) where
+  -- the same where each step has an edge
+  call_stands : (w : WorldState) (p : ℕ) (x : Process) (s : Place) → slice_get w.processes p ≡ Some x → IsAtCall x → GoesOn (step_effect_in w p) → Stands t w s → StandsAfter t w p s
+  call_stands w p x s a at goes stands =
+      let done = searched.expanded s.at (get_past t.rows s.at stands.here.0 stands.here.1) in
+      let is : s.advance ≡ done.0 = at_unique t s.at s.advance done.0 stands.here done.1 in
+      let same = standing_effect t w p x s a at stands in
+      let edge = subst (λ y. HasEdge t s.at y p) (sym is) (done.2 p (subst (λ y. GoesOn (step_effect_in y p)) is (subst GoesOn (sym same) goes))) in
+      let next = along_stands t w p x s a at stands edge in
+      (next.0, next.1, inr next.2)
+
   -- after a step by which a process goes on
   pub step_stands : (w : WorldState) (p : ℕ) (s : Place) → GoesOn (step_effect_in w p) → Stands t w s → StandsAfter t w p s
   step_stands w p s effective stands = by (slice_get w.processes p) refl
     where
       running : (m : Machine) (a : NextAction) → next_action m ≡ a → slice_get w.processes p ≡ Some (Running m) → StandsAfter t w p s
-      running m (moves q) e a = local_stands w p m q s a e stands
+      running m (moves q) e a = let next = local_stands t w p m q s a e stands in (next.0, next.1, inl next.2)
       running m (calls c) e a = call_stands w p (Running m) s a (c, e) effective stands
 
       by : (o : Option Process) → slice_get w.processes p ≡ o → StandsAfter t w p s
@@ -306,7 +336,4 @@ module _ (t : Store) (start : WorldState) (searched : IsSearched start t) where
 
   -- before the first step
   pub start_stands : IsConsistent start.kernel → (s : Place) × Stands t start s × (length s.taken ≡ length start.processes)
-  start_stands consistent =
-      let begun = searched.begins in
-      let taken = taken_of start.processes begun.0.processes begun.2.processes in
-      (record { at = 0; advance = begun.0; taken = taken.0 }, record { here = begun.1; kernel = begun.2.kernel; consistent = consistent; processes = taken.1 }, taken.2)
+  start_stands consistent = begins_stands t start searched.begins consistent

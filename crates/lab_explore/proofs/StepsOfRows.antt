@@ -165,9 +165,10 @@ all_tried t u at count pid is g row all tried =
     )
 
 -- an edge to the world after a step
-pub edge_made : (t u : Store) (w v : WorldState) (at p : ℕ) (e : Edge) → Grows t u → u.edges ≡ t.edges ++ e ∷ [] → e.from ≡ at → e.pid ≡ p → IsAt t e.to v → AreReached (step w p) v → HasEdge u at w p
+pub edge_made : (t u : Store) (w v : WorldState) (at p : ℕ) (e : Edge) → Grows t u → u.edges ≡ t.edges ++ e ∷ [] → e.from ≡ at → e.pid ≡ p → IsAt t e.to v → AreReached (step w p) v
+    → (x : HasEdge u at w p) × (x.1.to ≡ e.to)
 edge_made t u w v at p e g edges from by there reached =
-    (length t.edges, e, v, ap (λ xs. slice_get xs (length t.edges)) edges ∙ get_pushed t.edges e, from, at_grows t u e.to v g there, reached, by)
+    ((length t.edges, e, v, ap (λ xs. slice_get xs (length t.edges)) edges ∙ get_pushed t.edges e, from, at_grows t u e.to v g there, reached, by), refl)
 
 -- a process that makes a step of the kernel goes on
 pub goes_on : (t : Store) (w : WorldState) (at p : ℕ) (next : Next) → IsAt t at w → IsNextAt t at p next → (next ≡ Nothing → ⊥) → GoesOn (step_effect_in w p)

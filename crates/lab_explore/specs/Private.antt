@@ -15,4 +15,5 @@ pub mod Rising
 pub mod Ranked
 pub mod Passing
 pub mod Judged
+pub mod Independent
 pub mod Drawn

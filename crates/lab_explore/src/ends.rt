@@ -100,7 +100,8 @@ fn sort_by_calls(ends: &mut Vec<End>) -> Result<(), AllocError>
 }
 
 impl Search {
-    /// Whether it may be that no process goes on from the world of a row, each of whose moves was made.
+    /// Whether it may be that no process goes on from the world of a row, from which one is known to go
+    /// on, or each of whose moves was made.
     pub(crate) fn may_rest(&self, at: usize) -> Result<bool, ExploreFault>
         requires known { AreKnown self.now.store self.now.moves }
         ensures no { IfOk result (λ rests. rests ≡ false → (w : WorldState)
@@ -109,13 +110,16 @@ impl Search {
         let Some(count) = self.store.width(at) else {
             return Err(ExploreFault::Unvouched);
         };
+        let mut known = true;
         for pid in 0..count {
-            let Some(goes) = self.store.goes_on(&self.moves, at, pid) else {
-                return Err(ExploreFault::Unvouched);
-            };
-            if goes {
-                return Ok(false);
+            match self.store.goes_on(&self.moves, at, pid) {
+                Some(true) => return Ok(false),
+                Some(false) => {}
+                None => known = false,
             }
+        }
+        if !known {
+            return Err(ExploreFault::Unvouched);
         }
         Ok(true)
     }

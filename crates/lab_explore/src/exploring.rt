@@ -1,5 +1,5 @@
 //! Explorations.
-ghost use Rattle.std.specs.Prelude.{◌≡◌, IsTrue, false, None, IfOk, IfSome};
+ghost use Rattle.std.specs.Prelude.{◌≡◌, [], IsTrue, false, None, IfOk, IfSome};
 ghost use Rattle.std.specs.List.Sorted.{IsNonDecreasingBy};
 ghost use Rattle.lab_sched.specs.Starts.{AreStarts, initial_world};
 ghost use Rattle.lab_explore.specs.Private.Known.{AreKnown};
@@ -41,6 +41,14 @@ pub struct Exploration {
     pub refused: bool,
 }
 
+/// Whether a search may leave out worlds that no end needs: where nothing is asked of each world.
+fn may_be_sparse(nevers: &[Never], fair: bool) -> bool
+    ensures none { IsTrue result → nevers.now ≡ [] }
+    ensures unfair { IsTrue result → fair ≡ false }
+{
+    nevers.is_empty() && !fair
+}
+
 /// About how many bytes there are for ends beside a search that takes so many: what is left, and
 /// where that is little a sixteenth of the limit beyond it.
 fn room_for_ends(limits: Limits, taken: usize) -> usize {
@@ -48,7 +56,9 @@ fn room_for_ends(limits: Limits, taken: usize) -> usize {
 }
 
 /// Visits every world at calls that a laboratory can come to, as far as the limits and the memory
-/// allow, those with fewer calls first. Each end has a schedule of effective steps that leads to it;
+/// allow, those with fewer calls first; where nothing is asked that another world could show, no
+/// process takes a name away, and one stands at a call that no other's depends on, it goes on alone.
+/// Each end has a schedule of effective steps that leads to it;
 /// ends with fewer calls come first. Where the exploration is complete, there is no other end,
 /// whatever steps are taken, in any order, but for the numbers of places in the kernel, and none is
 /// reached by fewer calls; and if then no end is stuck, no such steps lead to a world that is. For each
@@ -96,7 +106,10 @@ pub fn explore<O: Observer, R: Threads + Sync>(
 {
     let processes = fresh.processes();
     let kernel = Kernel::new(alloc, processes.len())?;
-    let search = search_all(alloc, &processes, &kernel, limits, observer, workers)?;
+    let sparse = may_be_sparse(nevers, fair);
+    let search = search_all(
+        alloc, &processes, &kernel, limits, observer, workers, sparse,
+    )?;
     let room = room_for_ends(limits, search.size());
     match search.report(alloc, &processes, room, nevers, fair) {
         Ok(found) => {

@@ -36,6 +36,7 @@ mod rows;
 mod search;
 mod served;
 mod shorts;
+mod sparse;
 mod states;
 mod store;
 mod touches;

@@ -91,7 +91,7 @@ impl Store {
     }
 
     /// What process `pid` does next in the world of a row.
-    fn next(
+    pub(crate) fn next(
         &mut self,
         alloc: Global,
         moves: &mut Moves,
@@ -120,12 +120,13 @@ impl Store {
 impl Store {
     /// Keeps the edge to a row by a step of process `pid` from the world of another; with whether it
     /// is kept now.
-    fn add_edge(&mut self, at: usize, pid: u32, to: usize) -> Result<bool, AllocError>
+    pub(crate) fn add_edge(&mut self, at: usize, pid: u32, to: usize) -> Result<bool, AllocError>
         requires store { IsStore self.old }
         ensures store { OnOk result (IsStore self.new) }
         ensures grows { OnOk result (Grows self.old self.new) }
         ensures edge { IfOk result (λ kept. IsTrue kept → (w v : WorldState)
-            → IsAt self.old to v → AreReached (step w pid) v → HasEdge self.new at w pid) }
+            → IsAt self.old to v → AreReached (step w pid) v
+            → (x : HasEdge self.new at w pid) × (x.1.to ≡ to)) }
     {
         let Some(edge) = edge_of(at, to, pid) else {
             return Ok(false);
@@ -137,24 +138,33 @@ impl Store {
         Ok(true)
     }
 
-    /// Keeps the world of a row, and the edge to it by a step of process `pid` from the world of
-    /// another, if there are fewer worlds than `most`; with whether both are kept now.
-    fn keep_edge(&mut self, at: usize, pid: u32, row: &[u32], most: u32) -> Result<bool, AllocError>
+    /// Keeps the world to which process `pid` goes on from that of a row, to this kernel and this state
+    /// of it, if there are fewer than `most`; with the number of its row, if it is kept now.
+    pub(crate) fn keep_after(
+        &mut self,
+        alloc: Global,
+        at: usize,
+        pid: u32,
+        kernel: u32,
+        state: u32,
+        most: u32,
+    ) -> Result<Option<usize>, ExploreFault>
         requires store { IsStore self.old }
-        requires row { (w : WorldState) × IsRow self.old (row_of row.now) w }
+        requires next { (taken : ℕ) × IsNextAt self.old at pid (To kernel state taken) }
         ensures store { OnOk result (IsStore self.new) }
         ensures grows { OnOk result (Grows self.old self.new) }
-        ensures edge { IfOk result (λ kept. IsTrue kept → (w v : WorldState)
-            → IsRow self.old (row_of row.now) v → AreReached (step w pid) v
-            → HasEdge self.new at w pid) }
+        ensures row { IfOk result (λ kept. IfSome kept (λ to. (w : WorldState)
+            → IsAt self.old at w
+            → (v : WorldState) × IsAt self.new to v × AreReached (step w pid) v)) }
     {
+        if let Some(to) = self.find_after(at, pid, kernel, state) {
+            return Ok(Some(to));
+        }
+        let row = self.row_after(alloc, at, pid, kernel, state)?;
         let Some(parent) = parent_of(at, pid) else {
-            return Ok(false);
+            return Ok(None);
         };
-        let Some(to) = self.keep_row(row, parent, most)? else {
-            return Ok(false);
-        };
-        let kept = self.add_edge(at, pid, to)?;
+        let kept = self.keep_row(row.as_slice(), parent, most)?;
         Ok(kept)
     }
 
@@ -176,12 +186,10 @@ impl Store {
         ensures edge { IfOk result (λ kept. IsTrue kept → (w : WorldState)
             → IsAt self.old at w → HasEdge self.new at w pid) }
     {
-        if let Some(to) = self.find_after(at, pid, kernel, state) {
-            let kept = self.add_edge(at, pid, to)?;
-            return Ok(kept);
-        }
-        let row = self.row_after(alloc, at, pid, kernel, state)?;
-        let kept = self.keep_edge(at, pid, row.as_slice(), most)?;
+        let Some(to) = self.keep_after(alloc, at, pid, kernel, state, most)? else {
+            return Ok(false);
+        };
+        let kept = self.add_edge(at, pid, to)?;
         Ok(kept)
     }
 

@@ -76,7 +76,15 @@ pub fn draw<R: Threads + Sync>(
         ..limits
     };
     let mut nobody = Nobody;
-    let search = search_all(alloc, &processes, &kernel, limits, &mut nobody, workers)?;
+    let search = search_all(
+        alloc,
+        &processes,
+        &kernel,
+        limits,
+        &mut nobody,
+        workers,
+        false,
+    )?;
     match search.picture(alloc, &processes) {
         Ok(picture) => {
             discard(search);

@@ -3,8 +3,9 @@ ghost use Rattle.std.specs.Prelude.{◌≡◌, All, IsTrue, false, map, IfOk, If
 ghost use Rattle.lab_sched.specs.Held.{process_view, IsHeld};
 ghost use Rattle.lab_explore.specs.Private.Known.{AreKnown, HasNone};
 ghost use Rattle.lab_explore.specs.Private.Rows.{row_of};
+ghost use Rattle.lab_explore.specs.Private.Independent.{AreTriedIn, StatesKeepNames, IsSearchedIn};
 ghost use Rattle.lab_explore.specs.Closed.{HasAdvance};
-ghost use Rattle.lab_explore.specs.Private.Stored.{IsState, IsReady, IsAt, IsStore, Grows, AreExpanded, IsSearched, IsCome, IsBegun};
+ghost use Rattle.lab_explore.specs.Private.Stored.{IsState, IsReady, IsAt, IsStore, Grows, IsCome, IsBegun};
 
 use crate::advance::{Ahead, advance};
 use crate::known::Moves;
@@ -34,12 +35,14 @@ pub(crate) struct Begun {
 }
 
 /// What a search found: the worlds, the moves between them, the local steps of each process before
-/// them, and whether these are all. If they aren't, memory may have been refused.
+/// them, and whether these are all, or in a sparse search as many as show every end. If they aren't,
+/// memory may have been refused.
 #[derive(Drop)]
 pub(crate) struct Search {
     pub store: Store,
     pub moves: Moves,
     pub firsts: Vec<u32>,
+    pub sparse: bool,
     pub complete: bool,
     pub refused: bool,
 }
@@ -114,7 +117,15 @@ impl Store {
         Ok(Some(Begun { states, firsts }))
     }
 
-    /// Tries each process from each world; with whether that could be done.
+    /// Whether no process is about to take a name away in a state that is kept, where that matters.
+    fn keeps_names(&self, sparse: bool) -> bool
+        ensures names { IsTrue result → IsTrue sparse → StatesKeepNames self.now }
+    {
+        !sparse || !self.states.unlink()
+    }
+
+    /// Tries what is to be tried from each world, in a search that is sparse or isn't; with whether that
+    /// could be done, and no process is about to take a name away where the search is sparse.
     fn expand_all<O: Observer, R: Threads + Sync>(
         &mut self,
         alloc: Global,
@@ -122,32 +133,36 @@ impl Store {
         limits: Limits,
         observer: &mut O,
         workers: &Workers<'_, R>,
+        sparse: bool,
     ) -> Result<bool, ExploreFault>
         requires store { IsStore self.old }
         requires known { AreKnown self.old moves.old }
         ensures store { OnOk result (IsStore self.new) }
         ensures known { OnOk result (AreKnown self.new moves.new) }
         ensures grows { OnOk result (Grows self.old self.new) }
-        ensures all { IfOk result (λ whole. IsTrue whole → AreExpanded self.new) }
+        ensures all { IfOk result (λ whole. IsTrue whole → AreTriedIn sparse self.new) }
+        ensures names { IfOk result (λ whole. IsTrue whole → IsTrue sparse
+            → StatesKeepNames self.new) }
     {
         let most = limits.worlds as usize;
         let mut whole = true;
         let mut lookups = Lookups::until(alloc, 0);
         for at in 0..most {
             if at >= self.rows.len() {
-                return Ok(whole);
+                return Ok(both(whole, self.keeps_names(sparse)));
             }
-            if self.size(moves) > limits.memory {
+            if self.size(moves) > limits.memory || !self.keeps_names(sparse) {
                 return Ok(false);
             }
             observer.see(at, self.rows.len() - at);
             if at >= lookups.end {
                 lookups = self.look_ahead(alloc, moves, at, workers)?;
             }
-            let expanded = self.expand(alloc, moves, &mut lookups, at, limits)?;
-            whole = both(whole, expanded);
+            let tried = self.expand_in(alloc, moves, &mut lookups, at, limits, sparse)?;
+            whole = both(whole, tried);
         }
-        Ok(both(whole, self.rows.len() <= most))
+        let within = both(whole, self.rows.len() <= most);
+        Ok(both(within, self.keeps_names(sparse)))
     }
 }
 
@@ -167,8 +182,9 @@ impl Search {
         self.store.size(&self.moves)
     }
 
-    /// The search before its first world.
-    fn new(alloc: Global, processes: usize) -> Result<Search, AllocError>
+    /// The search, which is sparse or isn't, before its first world.
+    fn new(alloc: Global, processes: usize, sparse: bool) -> Result<Search, AllocError>
+        ensures sparse { IfOk result (λ s. s.sparse ≡ sparse) }
         ensures store { IfOk result (λ s. IsStore s.store) }
         ensures none { IfOk result (λ s. HasNone s.moves) }
         ensures open { IfOk result (λ s. s.complete ≡ false) }
@@ -177,6 +193,7 @@ impl Search {
             store: Store::new(alloc, processes)?,
             moves: Moves::new(alloc)?,
             firsts: Vec::new(alloc),
+            sparse,
             complete: false,
             refused: false,
         })
@@ -198,6 +215,7 @@ impl Search {
         ensures store { OnOk result (IsStore self.new.store) }
         ensures none { OnOk result (HasNone self.new.moves) }
         ensures open { OnOk result (self.new.complete ≡ false) }
+        ensures sparse { OnOk result (self.new.sparse ≡ self.old.sparse) }
         ensures begins { IfOk result (λ kept. IsTrue kept → HasAdvance (IsAt self.new.store 0)
             (record { processes = map process_view processes.now; kernel = kernel.now })) }
     {
@@ -215,7 +233,7 @@ impl Search {
         Ok(true)
     }
 
-    /// Tries each process from each world, as far as the limits and the memory allow.
+    /// Tries what is to be tried from each world, as far as the limits and the memory allow.
     fn go_on<O: Observer, R: Threads + Sync>(
         &mut self,
         alloc: Global,
@@ -231,11 +249,17 @@ impl Search {
             → AreKnown self.new.store self.new.moves) }
         ensures grows { OnOk result (IsTrue self.new.complete
             → Grows self.old.store self.new.store) }
-        ensures expanded { OnOk result (IsTrue self.new.complete → AreExpanded self.new.store) }
+        ensures sparse { OnOk result (self.new.sparse ≡ self.old.sparse) }
+        ensures tried { OnOk result (IsTrue self.new.complete
+            → AreTriedIn self.old.sparse self.new.store) }
+        ensures names { OnOk result (IsTrue self.new.complete → IsTrue self.old.sparse
+            → StatesKeepNames self.new.store) }
     {
+        let sparse = self.sparse;
+        let moves = &mut self.moves;
         match self
             .store
-            .expand_all(alloc, &mut self.moves, limits, observer, workers)
+            .expand_all(alloc, moves, limits, observer, workers, sparse)
         {
             Ok(true) => {
                 self.store.close(alloc);
@@ -273,7 +297,8 @@ impl Search {
         ensures store { OnOk result (IsTrue self.new.complete → IsStore self.new.store) }
         ensures known { OnOk result (IsTrue self.new.complete
             → AreKnown self.new.store self.new.moves) }
-        ensures complete { OnOk result (IsTrue self.new.complete → IsSearched
+        ensures sparse { OnOk result (self.new.sparse ≡ self.old.sparse) }
+        ensures complete { OnOk result (IsTrue self.new.complete → IsSearchedIn self.old.sparse
             (record { processes = map process_view processes.now; kernel = kernel.now })
             self.new.store) }
     {
@@ -286,22 +311,25 @@ impl Search {
     }
 }
 
-/// Searches every world that processes over a kernel can come to, as far as the limits allow.
-pub(crate) fn search_all<O: Observer, R: Threads + Sync>(
+/// Searches the worlds that processes over a kernel can come to, as far as the limits allow, in a search
+/// that is sparse or isn't.
+fn search_in<O: Observer, R: Threads + Sync>(
     alloc: Global,
     processes: &[Process],
     kernel: &Kernel,
     limits: Limits,
     observer: &mut O,
     workers: &Workers<'_, R>,
+    sparse: bool,
 ) -> Result<Search, ExploreFault>
     requires held { All IsHeld processes.now }
+    ensures sparse { IfOk result (λ s. s.sparse ≡ sparse) }
     ensures store { IfOk result (λ s. IsTrue s.complete → IsStore s.store) }
     ensures known { IfOk result (λ s. IsTrue s.complete → AreKnown s.store s.moves) }
-    ensures complete { IfOk result (λ s. IsTrue s.complete → IsSearched
+    ensures complete { IfOk result (λ s. IsTrue s.complete → IsSearchedIn sparse
         (record { processes = map process_view processes.now; kernel = kernel.now }) s.store) }
 {
-    let mut search = Search::new(alloc, processes.len())?;
+    let mut search = Search::new(alloc, processes.len(), sparse)?;
     match search.fill(alloc, processes, kernel, limits, observer, workers) {
         Ok(()) => Ok(search),
         Err(fault) => {
@@ -309,4 +337,31 @@ pub(crate) fn search_all<O: Observer, R: Threads + Sync>(
             Err(fault)
         }
     }
+}
+
+/// Searches every world that processes over a kernel can come to, as far as the limits allow, or, if
+/// that may be and none of them takes a name away, as many as show every end.
+pub(crate) fn search_all<O: Observer, R: Threads + Sync>(
+    alloc: Global,
+    processes: &[Process],
+    kernel: &Kernel,
+    limits: Limits,
+    observer: &mut O,
+    workers: &Workers<'_, R>,
+    sparse: bool,
+) -> Result<Search, ExploreFault>
+    requires held { All IsHeld processes.now }
+    ensures sparse { IfOk result (λ s. sparse ≡ false → s.sparse ≡ false) }
+    ensures store { IfOk result (λ s. IsTrue s.complete → IsStore s.store) }
+    ensures known { IfOk result (λ s. IsTrue s.complete → AreKnown s.store s.moves) }
+    ensures complete { IfOk result (λ s. IsTrue s.complete → IsSearchedIn s.sparse
+        (record { processes = map process_view processes.now; kernel = kernel.now }) s.store) }
+{
+    let search = search_in(alloc, processes, kernel, limits, observer, workers, sparse)?;
+    if !sparse || !search.store.states.unlink() {
+        return Ok(search);
+    }
+    discard(search);
+    let whole = search_in(alloc, processes, kernel, limits, observer, workers, false)?;
+    Ok(whole)
 }

@@ -1,11 +1,13 @@
 //! States of processes without the parts of their outputs that others share, each kept once.
-ghost use Rattle.std.specs.Prelude.{◌≡◌, [], ◌∷◌, ◌++◌, IfOk, IfSome, IsTrue, OnErr, OnOk, Some, length, slice_get};
+ghost use Rattle.std.specs.Prelude.{◌≡◌, [], ◌∷◌, ◌++◌, false, IfOk, IfSome, IsTrue, OnErr, OnOk, Some, length, slice_get};
 ghost use Rattle.std.specs.Option.{option_copied};
 ghost use Rattle.lab_sched.specs.Held.{process_view};
 ghost use Rattle.lab_sched.specs.Verdicts.{HasEnded};
-ghost use Rattle.lab_conditions.specs.Conditions.{StandsAt};
+ghost use Rattle.ipc_kernel.specs.OwnCalls.{is_unlink};
+ghost use Rattle.lab_conditions.specs.Conditions.{StandsAt, option_any};
 ghost use Rattle.lab_explore.specs.declared.shorts.Short.{Short as One};
 ghost use Rattle.lab_explore.specs.Private.Shorts.{AreSame, IsSameOrMore};
+ghost use Rattle.lab_explore.specs.Private.Independent.{KeepAllNames};
 ghost use Rattle.lab_explore.specs.Private.Standing.{IsStanding};
 
 use crate::store::place_of;
@@ -39,6 +41,16 @@ impl Short {
     }
 }
 
+/// Whether a call, if there is one, takes a name away.
+fn takes_name(call: &Option<Call>) -> bool
+    ensures value { result ≡ option_any is_unlink call.now }
+{
+    match call {
+        Some(call) => call.is_unlink(),
+        None => false,
+    }
+}
+
 /// States, each with a number, from 0, and with the call at which it stands.
 #[derive(Drop)]
 pub(crate) struct Shorts {
@@ -47,18 +59,22 @@ pub(crate) struct Shorts {
     index: Index,
     /// About how many bytes the processes take.
     held: usize,
+    /// Whether one of the processes is about to take a name away.
+    unlinks: bool,
 }
 
 impl Model for Shorts {
-    ghost use Rattle.std.specs.Prelude.{List};
+    ghost use Rattle.std.specs.Prelude.{◌≡◌, false, List};
     ghost use Rattle.lab_explore.specs.declared.shorts.Short.{Short as One};
+    ghost use Rattle.lab_explore.specs.Private.Independent.{KeepAllNames};
     ghost use Rattle.lab_explore.specs.Private.Standing.{AreStanding};
 
     ghost Value = { List One };
 
     ghost view = { λ a. a.states.items };
 
-    ghost invariant = { λ a. AreStanding a.states.items a.calls.items };
+    ghost invariant = { λ a. AreStanding a.states.items a.calls.items
+        × (a.unlinks ≡ false → KeepAllNames a.states.items) };
 }
 
 impl Shorts {
@@ -71,6 +87,7 @@ impl Shorts {
             calls: Vec::new(alloc),
             index: Index::new(alloc)?,
             held: 0,
+            unlinks: false,
         })
     }
 
@@ -110,6 +127,13 @@ impl Shorts {
         }
     }
 
+    /// Whether one of the processes is about to take a name away.
+    pub(crate) fn unlinks(&self) -> bool
+        ensures none { result ≡ false → KeepAllNames self.now }
+    {
+        self.unlinks
+    }
+
     /// The number of an equal state, if one is kept.
     fn find(&self, short: &Short, digest: u64) -> Option<usize>
         ensures found { IfSome result (λ i. (s : One) × (slice_get self.now i ≡ Some s)
@@ -140,6 +164,7 @@ impl Shorts {
         self.calls.reserve(1)?;
         self.index.add(digest)?;
         self.held = self.held.saturating_add(short.process.machine().size());
+        self.unlinks |= takes_name(&call);
         self.states.push_reserved(short);
         self.calls.push_reserved(call);
         Ok(number)

@@ -1,10 +1,11 @@
 //! States of processes at calls, each of which is kept once.
-ghost use Rattle.std.specs.Prelude.{◌≡◌, [], IfOk, IfSome, IsTrue, OnOk, Some, length, slice_get};
+ghost use Rattle.std.specs.Prelude.{◌≡◌, [], false, All, IfOk, IfSome, IsTrue, OnOk, Some, length, slice_get};
 ghost use Rattle.std.specs.Option.{option_map};
 ghost use Rattle.lab_sched.specs.Held.{process_view};
 ghost use Rattle.lab_sched.specs.Verdicts.{HasEnded};
 ghost use Rattle.lab_sched.specs.declared.process.Process.{Process as Kept};
 ghost use Rattle.lab_conditions.specs.Conditions.{StandsAt};
+ghost use Rattle.lab_explore.specs.Private.Independent.{unlinks};
 ghost use Rattle.lab_explore.specs.Private.Outputs.{Extends};
 ghost use Rattle.lab_explore.specs.Private.Shorts.{whole_of, IsSameOrMore, IsButForOutput, IsWithin};
 
@@ -132,6 +133,14 @@ impl States {
             → HasEnded (process_view s) }
     {
         self.shorts.has_ended(number)
+    }
+
+    /// Whether a process is about to take a name away in one of them.
+    pub(crate) fn unlink(&self) -> bool
+        ensures none { result ≡ false
+            → All (λ s. unlinks (process_view s) ≡ false) self.now.processes }
+    {
+        self.shorts.unlinks()
     }
 
     /// Keeps a state, which is the process behind an output that is kept; with its number.

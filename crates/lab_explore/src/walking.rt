@@ -176,7 +176,21 @@ impl Walk {
         Ok(())
     }
 
-    /// Takes the local steps of each process.
+    /// Makes a call, behind the steps that are left of its process, or puts it off.
+    fn go_stage(&mut self, local: &mut Vec<u32>, stage: Stage) -> Result<(), ExploreFault>
+        ensures walk { OnOk result (KeepsStart self.old self.new) }
+    {
+        if stage.late {
+            put_off(local, stage)?;
+            return Ok(());
+        }
+        let before = exchange(local, stage.pid, stage.taken)?;
+        self.go_on(stage.pid, before)?;
+        self.go(stage.pid)?;
+        Ok(())
+    }
+
+    /// Takes the steps that are left of each process.
     fn go_local(&mut self, local: &[u32]) -> Result<(), ExploreFault>
         ensures walk { OnOk result (KeepsStart self.old self.new) }
     {
@@ -191,8 +205,8 @@ impl Walk {
         matches!(self.world.process(pid), Some(Process::Ended(_)))
     }
 
-    /// Takes the local steps of each process, and behind them the one by which it begins to wait, if
-    /// it hasn't ended.
+    /// Takes the steps that are left of each process, and behind them the one by which it begins to wait,
+    /// if it hasn't ended.
     fn go_to_rest(&mut self, local: &[u32]) -> Result<(), ExploreFault>
         ensures walk { OnOk result (KeepsStart self.old self.new) }
     {
@@ -211,6 +225,25 @@ impl Walk {
     {
         self.calls as u64 <= depth as u64 + count_waiting(&self.world) as u64
     }
+}
+
+/// A call on the way to a row: its process, how many local steps that takes after it, and whether it may
+/// come just before the next call of the process.
+#[derive(Clone, Copy, Drop)]
+struct Stage {
+    pid: usize,
+    taken: u32,
+    late: bool,
+}
+
+/// Puts off a call with the local steps after it: behind those that are left of its process.
+fn put_off(local: &mut Vec<u32>, stage: Stage) -> Result<(), ExploreFault> {
+    if stage.pid >= local.len() {
+        return Err(ExploreFault::Unvouched);
+    }
+    let steps = stage.taken.saturating_add(1);
+    local[stage.pid] = local[stage.pid].saturating_add(steps);
+    Ok(())
 }
 
 /// Puts the number of local steps of a process in its place, and answers the one that stood there.
@@ -232,9 +265,8 @@ impl Search {
             .ok_or(ExploreFault::Unvouched)
     }
 
-    /// The processes that moved on the way to a row, with their local steps after that, the last
-    /// first.
-    fn way(&self, alloc: Global, at: usize) -> Result<Vec<(usize, u32)>, ExploreFault> {
+    /// The calls on the way to a row, the last first.
+    fn way(&self, alloc: Global, at: usize) -> Result<Vec<Stage>, ExploreFault> {
         let mut way = Vec::new(alloc);
         let mut now = at;
         for _ in 0..self.store.rows.len() {
@@ -245,23 +277,27 @@ impl Search {
                 break;
             };
             let taken = self.steps_after(parent.row, parent.pid)?;
-            way.push((parent.pid as usize, taken))?;
-            now = parent.row as usize;
+            let row = parent.row as usize;
+            way.push(Stage {
+                pid: parent.pid as usize,
+                taken,
+                late: self.sparse && self.store.opens_own(row, parent.pid as u32),
+            })?;
+            now = row;
         }
         Ok(way)
     }
 
     /// Goes the way to a row, up to its last call: the local steps of a process are taken just before
-    /// its next call. With the local steps that are left of each process.
+    /// its next call, and so are its opens of what is there, where worlds are left out. With the steps
+    /// that are left of each process.
     fn go_calls(&self, alloc: Global, at: usize, walk: &mut Walk) -> Result<Vec<u32>, ExploreFault>
         ensures walk { OnOk result (KeepsStart walk.old walk.new) }
     {
         let way = self.way(alloc, at)?;
         let mut local = Vec::from_slice(alloc, self.firsts.as_slice())?;
-        for (pid, taken) in way.iter().rev() {
-            let before = exchange(&mut local, *pid, *taken)?;
-            walk.go_on(*pid, before)?;
-            walk.go(*pid)?;
+        for stage in way.iter().rev() {
+            walk.go_stage(&mut local, *stage)?;
         }
         Ok(local)
     }

@@ -1,9 +1,10 @@
 //! The object places that calls work on, in kernels that are kept.
-ghost use Rattle.std.specs.Prelude.{◌≡◌, Some, position, slice_get, IfSome, IsTrue};
+ghost use Rattle.std.specs.Prelude.{◌≡◌, Some, is_some, position, slice_get, IfSome, IsTrue};
 ghost use Rattle.std.specs.Option.{option_or};
 ghost use Rattle.ipc_kernel.specs.declared.process.OpenTables.{OpenTables};
 ghost use Rattle.ipc_kernel.specs.Kernel.{KernelState};
 ghost use Rattle.ipc_kernel.specs.Places.{is_empty, queue_named, semaphore_named};
+ghost use Rattle.ipc_kernel.specs.OwnCalls.{is_own};
 ghost use Rattle.ipc_kernel.specs.Operands.{place_of, if_named, are_named, operand_in};
 
 use super::Kernels;
@@ -75,6 +76,45 @@ impl Kernels {
             → slice_get self.now.tables tables ≡ Some t → place_of t handle ≡ Some i) }
     {
         self.tables.get(tables)?.place_of(handle)
+    }
+
+    /// Whether a queue has a name in a kernel.
+    fn has_queue(&self, kernel: u32, name: &Name) -> bool
+        ensures yes { IsTrue result → (k : KernelState)
+            → slice_get self.now.kernels kernel ≡ Some k
+            → IsTrue (is_some (queue_named k.places name.now)) }
+    {
+        match self.rows.row(kernel) {
+            Some((objects, _)) => self.objects.queue_named(objects, name).is_some(),
+            None => false,
+        }
+    }
+
+    /// Whether a semaphore has a name in a kernel.
+    fn has_semaphore(&self, kernel: u32, name: &Name) -> bool
+        ensures yes { IsTrue result → (k : KernelState)
+            → slice_get self.now.kernels kernel ≡ Some k
+            → IsTrue (is_some (semaphore_named k.places name.now)) }
+    {
+        match self.rows.row(kernel) {
+            Some((objects, _)) => self.objects.semaphore_named(objects, name).is_some(),
+            None => false,
+        }
+    }
+
+    /// Whether a call changes the tables of its process alone, over a kernel that is kept, where each
+    /// object in it has a name: whether it is the end of a process, a close, or an open of a name that
+    /// an object has.
+    pub fn is_own(&self, kernel: u32, call: &Call) -> bool
+        ensures own { IsTrue result → (k : KernelState)
+            → slice_get self.now.kernels kernel ≡ Some k → IsTrue (is_own k.places call.now) }
+    {
+        match call {
+            Call::Exit | Call::MqClose { .. } | Call::SemClose { .. } => true,
+            Call::MqOpen { name, .. } => self.has_queue(kernel, name),
+            Call::SemOpen { name, .. } => self.has_semaphore(kernel, name),
+            _ => false,
+        }
     }
 
     /// The object place, 0 to 63, that a call of a process works on, over a kernel and with tables

@@ -1,15 +1,15 @@
 -- States of processes with the calls at which they stand.
-use Rattle.std.specs.Prelude.{List, Option, IfSome}
+use Rattle.std.specs.Prelude.{◌≡◌, List, Option}
 use Rattle.ipc_kernel.specs.declared.call.Call.{Call}
 use Rattle.lab_sched.specs.Held.{process_view}
-use Rattle.lab_conditions.specs.Conditions.{StandsAt}
+use Rattle.lab_conditions.specs.Conditions.{call_of}
 use Rattle.lab_explore.specs.Calls.{Alongside}
 use Rattle.lab_explore.specs.declared.shorts.Short.{Short}
 
--- the process stands at the call, if there is one
+-- the call is that at which the process stands, and none where it stands at none
 abbrev pub IsStanding : Short → Option Call → Type 0
-IsStanding s c = IfSome c (StandsAt (process_view s.process))
+IsStanding s c = call_of (process_view s.process) ≡ c
 
--- each process stands at the call beside it, if there is one
+-- the same of each process, and the call beside it
 abbrev pub AreStanding : List Short → List (Option Call) → Type 0
 AreStanding ss cs = Alongside IsStanding ss cs

@@ -5,12 +5,11 @@ use Rattle.lab_sched.specs.Starts.{AreStarts, initial_world}
 use Rattle.lab_explore.specs.Closed.{AreAtRest}
 use Rattle.lab_explore.specs.Rounds.{IsRound, AreBounded}
 use Rattle.lab_explore.specs.Fairness.{IsFairRound, AreFairlyBounded}
-use Rattle.lab_explore.proofs.Bounds.{searched_bounded}
 use Rattle.lab_explore.proofs.FairRounds.{some_fairly_endless}
 use Rattle.lab_explore.proofs.Passes.{ranked_bounded}
 use Rattle.lab_explore.proofs.Cycles.{some_repeats, some_endless}
-use Rattle.lab_explore.proofs.Explorations.{started, IsReachedIn, starts_untried, starts_ask, same_ends, all_ends, never_stuck, fresh_consistent, starts_held}
-use Rattle.lab_explore.proofs.JudgedRows.{same_reached, are_kept}
+use Rattle.lab_explore.proofs.Explorations.{started, IsReachedIn, starts_untried, starts_ask, same_ends, all_ends, bounded_in, whole_if_fair, never_stuck, fresh_consistent, fresh_named, starts_held}
+use Rattle.lab_explore.proofs.JudgedRows.{same_reached, are_kept_in}
 use Rattle.lab_explore.proofs.exploring.explore.Goals as goal
 
 pub search_all-requires : goal.search_all-requires
@@ -36,8 +35,12 @@ returns-in-Ok g c =
     let consistent = fresh_consistent start c.len.result c.in_ok-kernel.ensures.empty in
     let asks = starts_ask qs ps c.in_ok-kernel.kernel c.deref.ensures.value starts in
     let untried = starts_untried qs ps c.in_ok-kernel.kernel c.deref.ensures.value starts in
+    let named = fresh_named start c.len.result c.in_ok-kernel.ensures.empty in
+    let t = c.in_ok-search.search.store in
+    let sparse = c.in_ok-search.search.sparse in
+    let asked = c.may_be_sparse-sparse.result in
     let all : IsTrue c.in-Ok.found.complete → (ps : List ℕ) → AreAtRest (run c.args.fresh ps) → IsReachedIn ends (run c.args.fresh ps) (length (entries c.args.fresh ps)) =
-    λ is. all_ends c.args.fresh start c.in_ok-search.search.store ends same consistent asks untried sound (c.in_ok-search.ensures.complete (c.in-Ok.ensures.complete is)) (c.in-Ok.ensures.all is) in
+    λ is. all_ends sparse c.args.fresh start t ends same consistent asks untried named sound (c.in_ok-search.ensures.complete (c.in-Ok.ensures.complete is)) (c.in-Ok.ensures.all is) in
     let round = subst (λ w. IfSome c.in-Ok.found.round (λ r. IsRound w r)) (sym first) c.in-Ok.ensures.round in
     let fair : IsTrue c.args.fair → IfSome c.in-Ok.found.round (λ r. IsFairRound c.args.fresh r) =
     λ yes. subst (λ w. IfSome c.in-Ok.found.round (λ r. IsFairRound w r)) (sym first) (c.in-Ok.ensures.fair_round yes) in
@@ -50,16 +53,19 @@ returns-in-Ok g c =
       free = λ is none. never_stuck c.args.fresh ends (λ ps rest. let end = all is ps rest in (end.0, end.1, end.2, end.3, end.4)) none;
       reached = same_reached c.args.fresh (initial_world c.deref-2.result.now) c.args.nevers.now c.in-Ok.found.reached.items first c.in-Ok.ensures.reached;
       unreached = λ is.
-          are_kept c.args.fresh start c.in_ok-search.search.store c.args.nevers.now c.in-Ok.found.reached.items same consistent asks untried (c.in_ok-search.ensures.complete (c.in-Ok.ensures.complete is)) c.in-Ok.ensures.unreached;
+          are_kept_in asked sparse c.args.fresh start t c.args.nevers.now c.in-Ok.found.reached.items same consistent asks untried c.in_ok-search.ensures.sparse c.may_be_sparse-sparse.ensures.none
+          (c.in_ok-search.ensures.complete (c.in-Ok.ensures.complete is)) c.in-Ok.ensures.unreached;
       round = round;
       repeats = some_repeats c.args.fresh c.in-Ok.found.round (fresh_consistent c.args.fresh (length qs) empty) round;
       endless = some_endless c.args.fresh c.in-Ok.found.round (fresh_consistent c.args.fresh (length qs) empty) round;
       bounded = λ no is none.
-          subst AreBounded (sym same) (searched_bounded c.in_ok-search.search.store start consistent asks untried (c.in_ok-search.ensures.complete (c.in-Ok.ensures.complete is)) (c.in-Ok.ensures.none no none));
+          subst AreBounded (sym same) (bounded_in sparse start t consistent asks untried named (c.in_ok-search.ensures.complete (c.in-Ok.ensures.complete is)) (c.in-Ok.ensures.none no none));
       fair = c.in-Ok.ensures.fair;
       fair_round = fair;
       fairly_endless = λ yes. some_fairly_endless c.args.fresh c.in-Ok.found.round (fresh_consistent c.args.fresh (length qs) empty) (fair yes);
       fairly_bounded = λ yes is none.
           subst AreFairlyBounded (sym same)
-          (ranked_bounded c.in_ok-search.search.store start consistent asks untried (c.in_ok-search.ensures.complete (c.in-Ok.ensures.complete is)) (c.in-Ok.ensures.no_fair_round yes is none));
+          (ranked_bounded t start consistent asks untried
+          (whole_if_fair asked sparse c.args.fair start t c.in_ok-search.ensures.sparse c.may_be_sparse-sparse.ensures.unfair yes (c.in_ok-search.ensures.complete (c.in-Ok.ensures.complete is)))
+          (c.in-Ok.ensures.no_fair_round yes is none));
     }

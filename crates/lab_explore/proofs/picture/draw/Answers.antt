@@ -1,10 +1,10 @@
-use Rattle.std.proofs.Common.{All, ap, arith, length, subst, sym, ◌≡◌, ◌∙◌}
+use Rattle.std.proofs.Common.{All, refl, ap, arith, length, subst, sym, ◌≡◌, ◌∙◌}
 use Rattle.std.proofs.lemmas.Option.{IfSome_then}
 use Rattle.lab_sched.specs.Starts.{AreStarts, initial_world}
 use Rattle.lab_explore.specs.Closed.{HasAdvance}
 use Rattle.lab_explore.specs.Pictures.{IsNode, IsEndOfNode}
 use Rattle.lab_explore.specs.Private.Stored.{IsAt}
-use Rattle.lab_explore.proofs.Explorations.{started, starts_held}
+use Rattle.lab_explore.proofs.Explorations.{started, starts_held, whole_search}
 use Rattle.lab_explore.proofs.DrawnRows.{some_both}
 use Rattle.lab_explore.proofs.picture.draw.Goals as goal
 
@@ -16,7 +16,7 @@ picture-requires g c = record {
   starts = subst AreStarts (sym c.deref-2.ensures.value) c.processes-processes.ensures.starts;
   store = c.in_ok-search.ensures.store;
   known = c.in_ok-search.ensures.known;
-  expanded = λ is. (c.in_ok-search.ensures.complete is).expanded;
+  expanded = λ is. (whole_search c.in_ok-search.search.sparse _ c.in_ok-search.search.store (c.in_ok-search.ensures.sparse refl) (c.in_ok-search.ensures.complete is)).expanded;
 }
 
 pub returns-in-Ok : goal.returns-in-Ok
@@ -33,7 +33,7 @@ returns-in-Ok g c =
       nodes = IfSome_then c.in-Ok.picture drawn (λ x p. subst (λ w. All (IsNode w) x.nodes.items) (sym first) p.nodes);
       arrows = IfSome_then c.in-Ok.picture drawn (λ x p. p.arrows);
       begins = some_both c.in-Ok.picture c.in-Ok.ensures.complete drawn
-          (λ x is p. p.begins c.args.fresh (subst (HasAdvance (IsAt t 0)) (sym same) (c.in_ok-search.ensures.complete is).begins));
+          (λ x is p. p.begins c.args.fresh (subst (HasAdvance (IsAt t 0)) (sym same) (whole_search c.in_ok-search.search.sparse _ t (c.in_ok-search.ensures.sparse refl) (c.in_ok-search.ensures.complete is)).begins));
       all = IfSome_then c.in-Ok.picture drawn (λ x p. p.steps);
       fewest = IfSome_then c.in-Ok.picture drawn (λ x p. p.fewest);
       ends = IfSome_then c.in-Ok.picture drawn (λ x p. subst (λ w. All (IsEndOfNode w) x.nodes.items) (sym first) p.ends);

@@ -1,4 +1,4 @@
-use Rattle.std.proofs.Common.{refl, sym, subst}
+use Rattle.std.proofs.Common.{refl, sym, subst, ◌∙◌}
 use Rattle.lab_explore.specs.Private.Stored.{IsAt}
 use Rattle.lab_explore.proofs.Growths.{edges_pushed, rows_same}
 use Rattle.lab_explore.proofs.StepsOfRows.{edge_made}
@@ -10,7 +10,8 @@ returns-clause-edge c is w v there reached =
     let e = c.in-Some.edge in
     let pushed = c.in_ok-pushed.ensures.pushed c.if-not-pushed.false in
     let g = (edges_pushed t _ e c.requires.store pushed refl refl refl).0 in
-    edge_made t _ w v c.args.at c.args.pid e g pushed c.in-Some.ensures.from c.in-Some.ensures.pid (subst (λ n. IsAt t n v) (sym c.in-Some.ensures.to) there) reached
+    let made = edge_made t _ w v c.args.at c.args.pid e g pushed c.in-Some.ensures.from c.in-Some.ensures.pid (subst (λ n. IsAt t n v) (sym c.in-Some.ensures.to) there) reached in
+    (made.0, made.1 ∙ c.in-Some.ensures.to)
 
 pub returns-clause-store : goal.returns-clause-store
 returns-clause-store c = (edges_pushed c.args.self.now _ c.in-Some.edge c.requires.store (c.in_ok-pushed.ensures.pushed c.if-not-pushed.false) refl refl refl).1

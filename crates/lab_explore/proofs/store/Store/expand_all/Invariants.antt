@@ -1,7 +1,8 @@
 use Rattle.std.proofs.Common.{ℕ, ◌<◌, IsTrue}
 use Rattle.lab_explore.specs.Private.Known.{AreKnown}
 use Rattle.lab_explore.specs.Private.Lookups.{AreLookups}
-use Rattle.lab_explore.specs.Private.Stored.{IsStore, Grows, IsExpanded}
+use Rattle.lab_explore.specs.Private.Independent.{IsTriedIn}
+use Rattle.lab_explore.specs.Private.Stored.{IsStore, Grows}
 use Rattle.lab_explore.proofs.store.Store.expand_all.Given as goal
 
 abbrev pub invariant-loop-at : goal.invariant-loop-at
@@ -10,5 +11,5 @@ invariant-loop-at g l = record {
   known : AreKnown l.self l.moves;
   lookups : AreLookups l.self l.lookups;
   grows : Grows l.fn.self l.self;
-  all : IsTrue l.whole → (i : ℕ) → i < l.at → IsExpanded l.self i;
+  all : IsTrue l.whole → (i : ℕ) → i < l.at → IsTriedIn l.sparse l.self i;
 }

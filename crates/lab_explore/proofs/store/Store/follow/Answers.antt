@@ -17,4 +17,4 @@ there t w at p j is here k =
 pub returns-in_ok-add_edge-in-Row-clause-tried : goal.returns-in_ok-add_edge-in-Row-clause-tried
 returns-in_ok-add_edge-in-Row-clause-tried c is w here effective =
     let m = there c.args.self.now w c.args.at c.args.pid c.in-Row.to c.requires.store here (rw c.in-Row.is at c.requires.known) in
-    c.in_ok-add_edge-in-Row.ensures.edge is w m.0 m.1 m.2
+    (c.in_ok-add_edge-in-Row.ensures.edge is w m.0 m.1 m.2).0

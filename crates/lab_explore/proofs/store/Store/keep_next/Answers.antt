@@ -1,35 +1,10 @@
-use Rattle.std.proofs.Common.{refl, set}
-use Rattle.lab_sched.specs.Worlds.{WorldState}
-use Rattle.lab_explore.specs.declared.store.Next.TheVariants.{To}
-use Rattle.lab_explore.specs.Private.Rows.{Row, row_of}
-use Rattle.lab_explore.specs.Private.Stored.{IsRow}
-use Rattle.lab_explore.proofs.Pushes.{all_at}
-use Rattle.lab_explore.proofs.StepsOfRows.{moved_at}
+use Rattle.lab_explore.proofs.Growths.{grows_more}
 use Rattle.lab_explore.proofs.store.Store.keep_next.Goals as goal
-
-pub keep_edge-requires-clause-row : goal.keep_edge-requires-clause-row
-keep_edge-requires-clause-row c =
-    let t = c.args.self.now in
-    let r = c.in_ok-row.ensures.states in
-    let w = all_at (λ r. (v : WorldState) × IsRow t r v) t.rows c.args.at r.0 c.requires.store.rows r.1 in
-    let next = c.requires.next in
-    let m = moved_at t w.0 c.args.at c.args.pid c.args.kernel c.args.state next.0 (To c.args.kernel c.args.state next.0) (row_of c.in_ok-row.row.items) c.requires.store
-    (r.0, r.1, w.1) next.1 refl c.in_ok-row.ensures.kernel r in
-    rw c.as_slice.ensures.value (m.0, m.1)
 
 pub returns-clause-edge : goal.returns-clause-edge
 returns-clause-edge c is w here =
-    let t = c.args.self.now in
-    let next = c.requires.next in
-    let m = moved_at t w c.args.at c.args.pid c.args.kernel c.args.state next.0 (To c.args.kernel c.args.state next.0) (row_of c.in_ok-row.row.items) c.requires.store
-    here next.1 refl c.in_ok-row.ensures.kernel c.in_ok-row.ensures.states in
-    c.in_ok-kept-2.ensures.edge is w m.0 (rw c.as_slice.ensures.value m.1) m.2
+    let v = (rw c.in-Some.is at c.in_ok-to.ensures.row) w here in
+    (c.in_ok-kept.ensures.edge is w v.0 v.1 v.2).0
 
-pub returns-in-Some-clause-edge : goal.returns-in-Some-clause-edge
-returns-in-Some-clause-edge c is w here =
-    let t = c.args.self.now in
-    let found = c.in-Some.ensures.found in
-    let next = c.requires.next in
-    let row : Row = record { kernel = c.args.kernel; states = set found.0.states c.args.pid c.args.state } in
-    let m = moved_at t w c.args.at c.args.pid c.args.kernel c.args.state next.0 (To c.args.kernel c.args.state next.0) row c.requires.store here next.1 refl refl (found.0, found.1, refl) in
-    c.in_ok-kept.ensures.edge is w m.0 (row, found.2, m.1) m.2
+pub returns-clause-grows : goal.returns-clause-grows
+returns-clause-grows c = grows_more c.args.self.now c.keep_after.new.self c.add_edge.new.self c.in_ok-to.ensures.grows c.in_ok-kept.ensures.grows

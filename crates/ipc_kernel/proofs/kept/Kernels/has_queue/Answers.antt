@@ -1,0 +1,12 @@
+use Rattle.std.proofs.Common.{refl, sym, ap, ◌∙◌, is_some}
+use Rattle.ipc_kernel.specs.Places.{queue_name}
+use Rattle.ipc_kernel.proofs.OperandRows.{named_there}
+use Rattle.ipc_kernel.proofs.kept.Kernels.has_queue.Goals as goal
+
+pub returns-in-Some : goal.returns-in-Some
+returns-in-Some c = record {
+  yes = λ yes. rw (← c.self.view_is) (λ k at_kernel.
+      ap is_some (named_there queue_name c.self.inside.objects c.self.inside.tables c.self.inside.rows c.args.kernel c.in-Some.objects.now c.in-Some.field-0-1.now c.args.name.now k
+      c.queue_named.result refl c.in-Some.ensures.row at_kernel c.queue_named.ensures.found)
+      ∙ sym c.is_some.ensures ∙ yes);
+}

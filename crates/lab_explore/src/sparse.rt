@@ -1,0 +1,170 @@
+//! The search of fewer worlds: from a world in which the step of a process depends on no other's, that
+//! step alone is tried.
+ghost use Rattle.std.specs.Prelude.{◌≡◌, ◌<◌, true, Some, IsTrue, IfOk, IfSome, OnOk, slice_get};
+ghost use Rattle.lab_sched.specs.Worlds.{WorldState, step_effect_in};
+ghost use Rattle.lab_explore.specs.Private.Known.{AreKnown};
+ghost use Rattle.lab_explore.specs.Private.Lookups.{AreLookups};
+ghost use Rattle.lab_explore.specs.Private.Independent.{IsIndependent, IsTriedAlone, IsTriedIn};
+ghost use Rattle.lab_explore.specs.Private.Rows.{Row};
+ghost use Rattle.lab_explore.specs.Private.Stored.{IsAt, IsStore, Grows, HasEdge};
+
+use crate::known::Moves;
+use crate::lookups::Lookups;
+use crate::store::{Next, Store};
+use crate::{ExploreFault, Limits};
+use ipc_kernel::Call;
+use std::alloc::Global;
+
+impl Store {
+    /// Whether the step of process `pid` from the world of a row depends on no other's.
+    fn is_independent(&self, at: usize, pid: u32) -> bool
+        ensures yes { IsTrue result → (w : WorldState) → IsAt self.now at w
+            → IsIndependent w.kernel (step_effect_in w pid) }
+    {
+        let Some((kernel, state)) = self.places(at, pid) else {
+            return false;
+        };
+        let Some(call) = self.states.call(state) else {
+            return false;
+        };
+        self.kernels.is_own(kernel, call)
+    }
+
+    /// Whether the step of process `pid` from the world of a row is an open on which no other's step
+    /// depends.
+    pub(crate) fn opens_own(&self, at: usize, pid: u32) -> bool {
+        let Some((_, state)) = self.places(at, pid) else {
+            return false;
+        };
+        let opens = matches!(
+            self.states.call(state),
+            Some(Call::MqOpen { .. } | Call::SemOpen { .. })
+        );
+        opens && self.is_independent(at, pid)
+    }
+
+    /// The first process of which the step from the world of a row depends on no other's, if one does.
+    fn independent_process(&self, at: usize) -> Option<u32>
+        ensures row { IfSome result (λ p. (r : Row) × (slice_get self.now.rows at ≡ Some r)) }
+        ensures independent { IfSome result (λ p. (w : WorldState) → IsAt self.now at w
+            → IsIndependent w.kernel (step_effect_in w p)) }
+    {
+        let count = self.width(at)?;
+        for pid in 0..count {
+            if self.is_independent(at, pid) {
+                return Some(pid);
+            }
+        }
+        None
+    }
+
+    /// Tries process `pid` from the world of a row, and keeps the edge where it leads to a later row; with
+    /// whether it is kept now.
+    fn try_alone(
+        &mut self,
+        alloc: Global,
+        moves: &mut Moves,
+        at: usize,
+        pid: u32,
+        limits: Limits,
+    ) -> Result<bool, ExploreFault>
+        requires store { IsStore self.old }
+        requires known { AreKnown self.old moves.old }
+        ensures store { OnOk result (IsStore self.new) }
+        ensures known { OnOk result (AreKnown self.new moves.new) }
+        ensures grows { OnOk result (Grows self.old self.new) }
+        ensures edge { IfOk result (λ kept. IsTrue kept → (w : WorldState)
+            → IsAt self.old at w → (x : HasEdge self.new at w pid) × (at < x.1.to)) }
+    {
+        let next = self.next(alloc, moves, at, pid, limits.steps)?;
+        let Next::To { kernel, state, .. } = next else {
+            return Ok(false);
+        };
+        let Some(to) = self.keep_after(alloc, at, pid, kernel, state, limits.worlds)? else {
+            return Ok(false);
+        };
+        if to <= at {
+            return Ok(false);
+        }
+        let kept = self.add_edge(at, pid, to)?;
+        Ok(kept)
+    }
+
+    /// Tries a process alone from the world of a row of which the step depends on no other's, if there is
+    /// one, and keeps the edge where it leads to a later row; with whether it is kept now.
+    fn try_independent(
+        &mut self,
+        alloc: Global,
+        moves: &mut Moves,
+        at: usize,
+        limits: Limits,
+    ) -> Result<bool, ExploreFault>
+        requires store { IsStore self.old }
+        requires known { AreKnown self.old moves.old }
+        ensures store { OnOk result (IsStore self.new) }
+        ensures known { OnOk result (AreKnown self.new moves.new) }
+        ensures grows { OnOk result (Grows self.old self.new) }
+        ensures alone { IfOk result (λ kept. IsTrue kept → IsTriedAlone self.new at) }
+    {
+        let Some(pid) = self.independent_process(at) else {
+            return Ok(false);
+        };
+        let kept = self.try_alone(alloc, moves, at, pid, limits)?;
+        Ok(kept)
+    }
+
+    /// Tries a process alone from the world of a row of which the step depends on no other's, where it
+    /// leads to a later row, and else each process; with whether that could be done.
+    pub(crate) fn expand_sparsely(
+        &mut self,
+        alloc: Global,
+        moves: &mut Moves,
+        lookups: &mut Lookups,
+        at: usize,
+        limits: Limits,
+    ) -> Result<bool, ExploreFault>
+        requires store { IsStore self.old }
+        requires known { AreKnown self.old moves.old }
+        requires lookups { AreLookups self.old lookups.old }
+        ensures store { OnOk result (IsStore self.new) }
+        ensures known { OnOk result (AreKnown self.new moves.new) }
+        ensures lookups { OnOk result (AreLookups self.new lookups.new) }
+        ensures grows { OnOk result (Grows self.old self.new) }
+        ensures tried { IfOk result (λ whole. IsTrue whole → IsTriedIn true self.new at) }
+    {
+        let alone = self.try_independent(alloc, moves, at, limits)?;
+        if alone {
+            return Ok(true);
+        }
+        let expanded = self.expand(alloc, moves, lookups, at, limits)?;
+        Ok(expanded)
+    }
+
+    /// Tries what is to be tried from the world of a row, in a search that is sparse or isn't; with
+    /// whether that could be done.
+    pub(crate) fn expand_in(
+        &mut self,
+        alloc: Global,
+        moves: &mut Moves,
+        lookups: &mut Lookups,
+        at: usize,
+        limits: Limits,
+        sparse: bool,
+    ) -> Result<bool, ExploreFault>
+        requires store { IsStore self.old }
+        requires known { AreKnown self.old moves.old }
+        requires lookups { AreLookups self.old lookups.old }
+        ensures store { OnOk result (IsStore self.new) }
+        ensures known { OnOk result (AreKnown self.new moves.new) }
+        ensures lookups { OnOk result (AreLookups self.new lookups.new) }
+        ensures grows { OnOk result (Grows self.old self.new) }
+        ensures tried { IfOk result (λ whole. IsTrue whole → IsTriedIn sparse self.new at) }
+    {
+        if sparse {
+            let tried = self.expand_sparsely(alloc, moves, lookups, at, limits)?;
+            return Ok(tried);
+        }
+        let expanded = self.expand(alloc, moves, lookups, at, limits)?;
+        Ok(expanded)
+    }
+}
