@@ -96,6 +96,9 @@ class Ends:
         parts = re.split(r"^end \d+\n", re.split(r"^(?:endless|complete|incomplete)\b", self.text, flags=re.M)[0],
                          flags=re.M)[1:]
         self.ends = [self.end(it) for it in parts]
+        # Where something is asked of each world none is left out, as none is in the picture.
+        done = subprocess.run([program, "explore", "--never", "lost", *words], cwd=folder, capture_output=True, timeout=SECONDS)
+        self.worlds = done.stdout.decode("latin-1").splitlines()[-1].split()
 
     @staticmethod
     def end(part):
@@ -196,7 +199,7 @@ SEEN_WORLDS = """(() => {
 
 def compare_worlds(ends, found):
     """The picture beside the text: a shape for each world, where these are all and at most 500, and one for each end."""
-    kind, count, _ = ends.text.splitlines()[-1].split()
+    kind, count, _ = ends.worlds
     wanted = int(count) if kind == "complete" and int(count) <= MOST_DRAWN else 0
     if len(found["nodes"]) != wanted or len(found["told"]) != wanted:
         yield f"of {kind} {count} worlds it draws {len(found['nodes'])} and tells {len(found['told'])}"

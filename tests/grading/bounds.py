@@ -126,7 +126,7 @@ def look(check, grader):
 def look_at_seconds(check, grader, folders):
     """Time that is up is a mark that isn't kept."""
     text = TASK.format(worlds=10_000_000).replace("seconds = 20", "seconds = 1").replace("memory = 64", "memory = 4000")
-    programs = ", ".join('{ given = "taker.asm" }' for _ in range(8))
+    programs = ", ".join('{ given = "taker.asm" }' for _ in range(17))
     (grader.place / "taker.asm").write_text(example("course/5-deadlock/first-a.asm"))
     task = grader.task(text.replace('{ given = "other.asm" }', programs), "seconds.toml")
     found = grader.marks(task, [folders["halts"]], "--results", grader.place / "results")
