@@ -3,6 +3,8 @@ use Rattle.std.proofs.Common.{◌≡◌, ℕ, ◌<◌, ◌≤◌, ◌+◌, ◌-�
 use Rattle.std.specs.List.{list_all, position_or_len}
 use Rattle.std.specs.Option.{option_or}
 use Rattle.std.proofs.lemmas.List.{length-map, length-append, length-replicate}
+use Rattle.std.specs.Option.{option_map}
+use Rattle.std.proofs.lemmas.Option.{slice_get-map}
 use Rattle.std.proofs.lemmas.Bool.{le-ltb, ltb-false}
 use Rattle.std.proofs.lemmas.Bool.Decides.{Decides-ltb}
 use Rattle.ipc_kernel.specs.declared.place.Place.{Place}
@@ -123,6 +125,12 @@ empty_behind_row os ns e h =
 
 pub full_row : (os : List Place) (ns : List ℕ) → None ≡ position (λ n. is_empty (place_at os n)) ns → 64 ≤ length ns → None ≡ position is_empty (padded 64 (map (place_at os) ns))
 full_row os ns e h = sym (padded_full 64 (map (place_at os) ns) (position_of_map is_empty (place_at os) ns ∙ sym e) (omega (arith, h, length-map ns (place_at os))))
+
+-- where there is no row there is no kernel
+pub no_kernel : (os : List Place) (ts : List OpenTables) (rows : List KernelRow) (kernel : ℕ) (k : KernelState) → slice_get rows kernel ≡ None → slice_get (map (kernel_of os ts) rows) kernel ≡ Some k → ⊥
+no_kernel os ts rows kernel k none is =
+    let gone : slice_get (map (kernel_of os ts) rows) kernel ≡ None = slice_get-map (kernel_of os ts) rows kernel ∙ ap (option_map (kernel_of os ts)) none in
+    absurd (cc)
 
 -- the place of a name in a kernel that is kept
 pub named_there : (name_of : Place → Option (List ℕ)) (os : List Place) (ts : List OpenTables) (rows : List KernelRow) (kernel : ℕ) (ns ms n : List ℕ) (k : KernelState) (named : Option ℕ)

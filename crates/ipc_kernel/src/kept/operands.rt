@@ -1,5 +1,5 @@
 //! The object places that calls work on, in kernels that are kept.
-ghost use Rattle.std.specs.Prelude.{◌≡◌, Some, is_some, position, slice_get, IfSome, IsTrue};
+ghost use Rattle.std.specs.Prelude.{◌≡◌, false, Some, is_some, position, slice_get, IfSome, IsTrue};
 ghost use Rattle.std.specs.Option.{option_or};
 ghost use Rattle.ipc_kernel.specs.declared.process.OpenTables.{OpenTables};
 ghost use Rattle.ipc_kernel.specs.Kernel.{KernelState};
@@ -83,6 +83,9 @@ impl Kernels {
         ensures yes { IsTrue result → (k : KernelState)
             → slice_get self.now.kernels kernel ≡ Some k
             → IsTrue (is_some (queue_named k.places name.now)) }
+        ensures no { result ≡ false → (k : KernelState)
+            → slice_get self.now.kernels kernel ≡ Some k
+            → is_some (queue_named k.places name.now) ≡ false }
     {
         match self.rows.row(kernel) {
             Some((objects, _)) => self.objects.queue_named(objects, name).is_some(),
@@ -95,6 +98,9 @@ impl Kernels {
         ensures yes { IsTrue result → (k : KernelState)
             → slice_get self.now.kernels kernel ≡ Some k
             → IsTrue (is_some (semaphore_named k.places name.now)) }
+        ensures no { result ≡ false → (k : KernelState)
+            → slice_get self.now.kernels kernel ≡ Some k
+            → is_some (semaphore_named k.places name.now) ≡ false }
     {
         match self.rows.row(kernel) {
             Some((objects, _)) => self.objects.semaphore_named(objects, name).is_some(),
@@ -108,6 +114,8 @@ impl Kernels {
     pub fn is_own(&self, kernel: u32, call: &Call) -> bool
         ensures own { IsTrue result → (k : KernelState)
             → slice_get self.now.kernels kernel ≡ Some k → IsTrue (is_own k.places call.now) }
+        ensures other { result ≡ false → (k : KernelState)
+            → slice_get self.now.kernels kernel ≡ Some k → is_own k.places call.now ≡ false }
     {
         match call {
             Call::Exit | Call::MqClose { .. } | Call::SemClose { .. } => true,
