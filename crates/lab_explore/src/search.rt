@@ -121,7 +121,7 @@ impl Store {
     fn keeps_names(&self, sparse: bool) -> bool
         ensures names { IsTrue result → IsTrue sparse → StatesKeepNames self.now }
     {
-        !sparse || !self.states.unlink()
+        !sparse || !self.states.unlinks()
     }
 
     /// Tries what is to be tried from each world, in a search that is sparse or isn't; with whether that
@@ -358,7 +358,7 @@ pub(crate) fn search_all<O: Observer, R: Threads + Sync>(
         (record { processes = map process_view processes.now; kernel = kernel.now }) s.store) }
 {
     let search = search_in(alloc, processes, kernel, limits, observer, workers, sparse)?;
-    if !sparse || !search.store.states.unlink() {
+    if !sparse || !search.store.states.unlinks() {
         return Ok(search);
     }
     discard(search);

@@ -136,7 +136,7 @@ impl States {
     }
 
     /// Whether a process is about to take a name away in one of them.
-    pub(crate) fn unlink(&self) -> bool
+    pub(crate) fn unlinks(&self) -> bool
         ensures none { result ≡ false
             → All (λ s. unlinks (process_view s) ≡ false) self.now.processes }
     {

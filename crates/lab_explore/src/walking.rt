@@ -177,16 +177,16 @@ impl Walk {
     }
 
     /// Makes a call, behind the steps that are left of its process, or puts it off.
-    fn go_stage(&mut self, local: &mut Vec<u32>, stage: Stage) -> Result<(), ExploreFault>
+    fn go_call(&mut self, local: &mut Vec<u32>, call: WayCall) -> Result<(), ExploreFault>
         ensures walk { OnOk result (KeepsStart self.old self.new) }
     {
-        if stage.late {
-            put_off(local, stage)?;
+        if call.late {
+            put_off(local, call)?;
             return Ok(());
         }
-        let before = exchange(local, stage.pid, stage.taken)?;
-        self.go_on(stage.pid, before)?;
-        self.go(stage.pid)?;
+        let before = exchange(local, call.pid, call.taken)?;
+        self.go_on(call.pid, before)?;
+        self.go(call.pid)?;
         Ok(())
     }
 
@@ -230,19 +230,19 @@ impl Walk {
 /// A call on the way to a row: its process, how many local steps that takes after it, and whether it may
 /// come just before the next call of the process.
 #[derive(Clone, Copy, Drop)]
-struct Stage {
+struct WayCall {
     pid: usize,
     taken: u32,
     late: bool,
 }
 
 /// Puts off a call with the local steps after it: behind those that are left of its process.
-fn put_off(local: &mut Vec<u32>, stage: Stage) -> Result<(), ExploreFault> {
-    if stage.pid >= local.len() {
+fn put_off(local: &mut Vec<u32>, call: WayCall) -> Result<(), ExploreFault> {
+    if call.pid >= local.len() {
         return Err(ExploreFault::Unvouched);
     }
-    let steps = stage.taken.saturating_add(1);
-    local[stage.pid] = local[stage.pid].saturating_add(steps);
+    let steps = call.taken.saturating_add(1);
+    local[call.pid] = local[call.pid].saturating_add(steps);
     Ok(())
 }
 
@@ -266,7 +266,7 @@ impl Search {
     }
 
     /// The calls on the way to a row, the last first.
-    fn way(&self, alloc: Global, at: usize) -> Result<Vec<Stage>, ExploreFault> {
+    fn way(&self, alloc: Global, at: usize) -> Result<Vec<WayCall>, ExploreFault> {
         let mut way = Vec::new(alloc);
         let mut now = at;
         for _ in 0..self.store.rows.len() {
@@ -278,7 +278,7 @@ impl Search {
             };
             let taken = self.steps_after(parent.row, parent.pid)?;
             let row = parent.row as usize;
-            way.push(Stage {
+            way.push(WayCall {
                 pid: parent.pid as usize,
                 taken,
                 late: self.sparse && self.store.opens_own(row, parent.pid as u32),
@@ -296,8 +296,8 @@ impl Search {
     {
         let way = self.way(alloc, at)?;
         let mut local = Vec::from_slice(alloc, self.firsts.as_slice())?;
-        for stage in way.iter().rev() {
-            walk.go_stage(&mut local, *stage)?;
+        for call in way.iter().rev() {
+            walk.go_call(&mut local, *call)?;
         }
         Ok(local)
     }

@@ -1,7 +1,7 @@
 use Rattle.std.proofs.Common.{ap}
 use Rattle.lab_explore.specs.Private.Shorts.{Sharing}
 use Rattle.lab_explore.proofs.IndependentCalls.{all_whole_keep}
-use Rattle.lab_explore.proofs.states.States.unlink.Goals as goal
+use Rattle.lab_explore.proofs.states.States.unlinks.Goals as goal
 
 pub returns : goal.returns
 returns c = record {
