@@ -2,7 +2,7 @@
 use Rattle.std.proofs.Common.{◌≡◌, ℕ, ◌<◌, List, [], ◌∷◌, Some, map, slice_get, unwrap_or, length, refl, ap, sym, ◌∙◌, zero, suc, ◌+◌, ◌++◌, take, get_or, set, ◌⊎◌, inl, inr}
 use Rattle.std.specs.Option.{option_map}
 use Rattle.std.proofs.lemmas.List.{map_more, map-append}
-use Rattle.std.proofs.lemmas.Option.{slice_get-map}
+use Rattle.std.proofs.lemmas.Option.{slice_get-map, slice_get-get_or}
 
 -- what is kept stays where it is while more is kept
 pub there_still : {X : Type 0} (ps qs : List X) (ns : List ℕ) (xs : List X) → ((i : ℕ) (x : X) → slice_get ps i ≡ Some x → slice_get qs i ≡ Some x)
@@ -73,3 +73,21 @@ pub kept_more : {X : Type 0} (ps qs : List X) (ns : List ℕ) (xs : List X) (i n
 kept_more ps qs ns xs i n d grows h so_far kept =
     map-append (slice_get qs) ns (n ∷ []) ∙ ap (λ ys. ys ++ slice_get qs n ∷ []) (there_still ps qs ns (take i xs) grows so_far)
     ∙ ap (λ y. map Some (take i xs) ++ y ∷ []) kept ∙ sym (map_more Some xs i d h)
+
+-- what was kept at first is the same after more was kept
+pub same_still : {X : Type 0} (ps qs : List X) (n : ℕ) (d : X) → ((k : ℕ) (y : X) → slice_get ps k ≡ Some y → slice_get qs k ≡ Some y)
+    → n < length ps → unwrap_or (slice_get qs n) d ≡ unwrap_or (slice_get ps n) d
+same_still ps qs n d grows h = let there = slice_get-get_or ps n d h in ap (λ o. unwrap_or o d) (grows n (get_or ps n d) there ∙ sym there)
+
+-- one thing more is kept that f makes of a thing that was kept at first
+pub made_more : {X : Type 0} (f : X → X) (ps qs rs : List X) (ns ms : List ℕ) (i n d : ℕ) (e : X)
+    → ((k : ℕ) (y : X) → slice_get ps k ≡ Some y → slice_get qs k ≡ Some y) → ((k : ℕ) (y : X) → slice_get qs k ≡ Some y → slice_get rs k ≡ Some y)
+    → i < length ns → get_or ns i d < length ps → map (slice_get qs) ms ≡ map Some (map f (map (λ m. unwrap_or (slice_get ps m) e) (take i ns)))
+    → slice_get rs n ≡ Some (f (unwrap_or (slice_get qs (get_or ns i d)) e))
+    → map (slice_get rs) (ms ++ n ∷ []) ≡ map Some (map f (map (λ m. unwrap_or (slice_get ps m) e) (take (i + 1) ns)))
+made_more f ps qs rs ns ms i n d e first later h there so_far made =
+    map-append (slice_get rs) ms (n ∷ []) ∙ ap (λ ys. ys ++ slice_get rs n ∷ []) (there_still qs rs ms (map f (map (λ m. unwrap_or (slice_get ps m) e) (take i ns))) later so_far)
+    ∙ ap (λ y. map Some (map f (map (λ m. unwrap_or (slice_get ps m) e) (take i ns))) ++ y ∷ []) (made ∙ ap (λ x. Some (f x)) (same_still ps qs (get_or ns i d) e first there))
+    ∙ sym (map-append Some (map f (map (λ m. unwrap_or (slice_get ps m) e) (take i ns))) (f (unwrap_or (slice_get ps (get_or ns i d)) e) ∷ []))
+    ∙ ap (map Some) (sym (ap (map f) (map_more (λ m. unwrap_or (slice_get ps m) e) ns i d h)
+    ∙ map-append f (map (λ m. unwrap_or (slice_get ps m) e) (take i ns)) (unwrap_or (slice_get ps (get_or ns i d)) e ∷ [])))

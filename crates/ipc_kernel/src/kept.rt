@@ -13,6 +13,7 @@ mod changes;
 mod digests;
 mod objects;
 mod operands;
+mod renames;
 mod rows;
 mod tables;
 

@@ -1,23 +1,21 @@
 //! Kernels that are kept after an open that makes an object, with their places in an order that
 //! doesn't depend on how they were made.
-ghost use Rattle.std.specs.Prelude.{◌≡◌, ◌<◌, ◌≤◌, ◌==◌, ℕ, IfOk, IfSome, IsTrue, List, OnOk, Some, length, map, slice_get, slice_set, if◌then◌else◌};
+ghost use Rattle.std.specs.Prelude.{◌≡◌, ◌<◌, ◌≤◌, ◌==◌, ℕ, IfOk, IfSome, IsTrue, OnOk, Some, length, slice_get, if◌then◌else◌};
 ghost use Rattle.ipc_kernel.specs.declared.place.Place.{Place as Object};
 ghost use Rattle.ipc_kernel.specs.declared.process.OpenTables.{OpenTables as Opened};
 ghost use Rattle.ipc_kernel.specs.Limits.{object_places};
-ghost use Rattle.ipc_kernel.specs.Processes.{process_at};
 ghost use Rattle.ipc_kernel.specs.Kernel.{KernelState, IsSettled};
 ghost use Rattle.ipc_kernel.specs.Kept.{GrowsKept};
 ghost use Rattle.ipc_kernel.specs.Operands.{with_operand};
-ghost use Rattle.ipc_kernel.specs.Alike.{IsAlike, renamed_process};
+ghost use Rattle.ipc_kernel.specs.Alike.{IsAlike};
 ghost use Rattle.ipc_kernel.specs.Private.Renamings.{Permutes, renamed_by};
 
 use super::Kernels;
 use super::changes::{number_at, with_number};
 use super::objects::Objects;
-use super::tables::Tables;
+use super::renames::Taken;
 use crate::arrangement::Arrangement;
 use crate::limits::OBJECT_PLACES;
-use crate::processes::{are_renamed, renamed};
 use crate::renaming::renamed_by;
 use std::alloc::{AllocError, Global};
 
@@ -103,34 +101,6 @@ impl Objects {
     }
 }
 
-impl Tables {
-    /// Keeps tables, which are given by their numbers, with each place taken where a list takes it;
-    /// with their numbers.
-    fn keep_renamed(
-        &mut self,
-        alloc: Global,
-        numbers: &[u32],
-        to: &[u8],
-    ) -> Result<Option<Vec<u32>>, AllocError>
-        ensures grows { (i : ℕ) (x : Opened)
-            → slice_get self.old i ≡ Some x → slice_get self.new i ≡ Some x }
-        ensures renamed { IfOk result (λ found. IfSome found (λ kept. (us : List Opened)
-            × (map (slice_get self.new) kept.items ≡ map Some us)
-            × (us ≡ map (renamed_process (renamed_by to.now))
-            (map (process_at self.old) numbers.now)))) }
-    {
-        let Some(tables) = self.copies(alloc, numbers)? else {
-            return Ok(None);
-        };
-        let others = renamed(alloc, tables.as_slice(), to)?;
-        if !are_renamed(tables.as_slice(), others.as_slice(), to) {
-            return Ok(None);
-        }
-        let kept = self.keep_all(alloc, others.as_slice())?;
-        Ok(Some(kept))
-    }
-}
-
 impl Kernels {
     /// Keeps a kernel that is alike another one but for the object that is made in a place and the
     /// tables of a process, which are given by their numbers, with its named objects in the order of
@@ -171,9 +141,13 @@ impl Kernels {
         if !are_moved(objects, place as usize, object, moved.as_slice(), to) {
             return Ok(None);
         }
+        let taken = Taken {
+            place,
+            to: renamed_by(to, place),
+        };
         let Some(tables) = self
             .tables
-            .keep_renamed(self.alloc, processes.as_slice(), to)?
+            .keep_renamed(self.alloc, processes.as_slice(), to, taken)?
         else {
             return Ok(None);
         };

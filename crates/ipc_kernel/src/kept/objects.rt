@@ -1,6 +1,7 @@
 //! Objects, each once.
 ghost use Rattle.std.specs.Prelude.{◌≡◌, ◌||◌, ℕ, [], Some, map, position, slice_get, IfOk, IfSome};
 ghost use Rattle.std.specs.List.{list_all};
+ghost use Rattle.std.specs.Str.{bytes_eq};
 ghost use Rattle.std.specs.Option.{option_copied, option_or};
 ghost use Rattle.ipc_kernel.specs.declared.place.Place.{Place};
 ghost use Rattle.ipc_kernel.specs.declared.place.Place.TheVariants.{Empty};
@@ -16,12 +17,24 @@ use ipc_names::Name;
 use std::alloc::{AllocError, Global};
 use std::marker::Model;
 
+/// Whether texts are equal. Names that differ mostly do so in their lengths or their last
+/// characters, which are looked at first.
+fn is_text(text: &str, other: &str) -> bool
+    ensures same { result ≡ bytes_eq text.now other.now }
+{
+    let (bytes, others) = (text.as_bytes(), other.as_bytes());
+    if bytes.len() != others.len() || bytes.last() != others.last() {
+        return false;
+    }
+    text == other
+}
+
 /// Whether a name is this one.
 fn is_name(name: &Name, other: Option<&Name>) -> bool
     ensures same { result ≡ is_name name.now (option_copied other.entry) }
 {
     match other {
-        Some(other) => name.text() == other.text(),
+        Some(other) => is_text(name.text(), other.text()),
         None => false,
     }
 }

@@ -1,11 +1,16 @@
 //! Tables of processes, each once.
-ghost use Rattle.std.specs.Prelude.{◌≡◌, ℕ, [], Some, map, slice_get, IfOk, IfSome};
+ghost use Rattle.std.specs.Prelude.{◌≡◌, ℕ, List, [], Some, map, slice_get, IfOk, IfSome};
 ghost use Rattle.std.specs.Option.{option_copied};
 ghost use Rattle.ipc_kernel.specs.declared.process.OpenTables.{OpenTables};
+ghost use Rattle.ipc_kernel.specs.Processes.{process_at};
+ghost use Rattle.ipc_kernel.specs.Alike.{renamed_process};
+ghost use Rattle.ipc_kernel.specs.Private.Renamings.{renamed_by};
 
+use super::renames::{Renames, Taken};
 use super::rows::number_of;
 use crate::index::Index;
 use crate::process::OpenTables;
+use crate::processes::{is_renamed_process, renamed_process};
 use std::alloc::{AllocError, Global};
 use std::marker::Model;
 use std::mem::size_of;
@@ -15,6 +20,7 @@ use std::mem::size_of;
 pub(crate) struct Tables {
     tables: Vec<OpenTables>,
     index: Index,
+    renames: Renames,
 }
 
 impl Model for Tables {
@@ -34,6 +40,7 @@ impl Tables {
         Ok(Tables {
             tables: Vec::new(alloc),
             index: Index::new(alloc)?,
+            renames: Renames::new(alloc)?,
         })
     }
 
@@ -97,6 +104,76 @@ impl Tables {
         Ok(numbers)
     }
 
+    /// The number that tables have with each place taken where a list takes it, if it is noted.
+    fn find_renamed(&self, number: u32, to: &[u8], taken: Taken) -> Option<u32>
+        ensures renamed { IfSome result (λ i. slice_get self.now i
+            ≡ Some (renamed_process (renamed_by to.now) (process_at self.now number))) }
+    {
+        let renamed = self.renames.find(number, taken)?;
+        if is_renamed_process(self.get(number)?, self.get(renamed)?, to) {
+            return Some(renamed);
+        }
+        None
+    }
+
+    /// Keeps tables, which are given by their number, with each place taken where a list takes it;
+    /// with their number, which is noted for the next time.
+    fn keep_process_renamed(
+        &mut self,
+        number: u32,
+        to: &[u8],
+        taken: Taken,
+    ) -> Result<Option<u32>, AllocError>
+        ensures grows { (i : ℕ) (x : OpenTables)
+            → slice_get self.old i ≡ Some x → slice_get self.new i ≡ Some x }
+        ensures renamed { IfOk result (λ found. IfSome found (λ i. slice_get self.new i
+            ≡ Some (renamed_process (renamed_by to.now) (process_at self.old number)))) }
+    {
+        if let Some(renamed) = self.find_renamed(number, to, taken) {
+            return Ok(Some(renamed));
+        }
+        let Some(tables) = self.get(number) else {
+            return Ok(None);
+        };
+        let renamed = renamed_process(tables, to);
+        if !is_renamed_process(tables, &renamed, to) {
+            return Ok(None);
+        }
+        let kept = self.keep(&renamed)?;
+        self.renames.add(number, taken, kept)?;
+        Ok(Some(kept))
+    }
+
+    /// Keeps tables, which are given by their numbers, with each place taken where a list takes it;
+    /// with their numbers. The place of a new object, and where that is taken, tell lists apart.
+    pub(crate) fn keep_renamed(
+        &mut self,
+        alloc: Global,
+        numbers: &[u32],
+        to: &[u8],
+        taken: Taken,
+    ) -> Result<Option<Vec<u32>>, AllocError>
+        ensures grows { (i : ℕ) (x : OpenTables)
+            → slice_get self.old i ≡ Some x → slice_get self.new i ≡ Some x }
+        ensures renamed { IfOk result (λ found. IfSome found (λ kept. (us : List OpenTables)
+            × (map (slice_get self.new) kept.items ≡ map Some us)
+            × (us ≡ map (renamed_process (renamed_by to.now))
+            (map (process_at self.old) numbers.now)))) }
+    {
+        let count = self.tables.len();
+        let mut kept = Vec::with_capacity(alloc, numbers.len())?;
+        for number in numbers {
+            if *number as usize >= count {
+                return Ok(None);
+            }
+            let Some(renamed) = self.keep_process_renamed(*number, to, taken)? else {
+                return Ok(None);
+            };
+            kept.push(renamed)?;
+        }
+        Ok(Some(kept))
+    }
+
     /// Copies of the tables with these numbers, if there are all.
     pub(crate) fn copies(
         &self,
@@ -120,12 +197,14 @@ impl Tables {
     pub(crate) fn size(&self) -> usize {
         let each = size_of::<OpenTables>().saturating_add(Index::ENTRY);
         each.saturating_mul(self.tables.len())
+            .saturating_add(self.renames.size())
     }
 
-    /// Lets go of the index.
+    /// Lets go of the index, and of what tables were renamed to.
     pub(crate) fn forget(&mut self, alloc: Global)
         ensures same { self.new ≡ self.old }
     {
         self.index = Index::none(alloc);
+        self.renames = Renames::none(alloc);
     }
 }

@@ -74,7 +74,8 @@ fn are_renamed_slots(helds: &[Option<Slot>], others: &[Option<Slot>], to: &[u8])
     true
 }
 
-fn is_renamed_process(process: &OpenTables, other: &OpenTables, to: &[u8]) -> bool
+/// Whether the tables of another process are these, with each place where a list takes it.
+pub(crate) fn is_renamed_process(process: &OpenTables, other: &OpenTables, to: &[u8]) -> bool
     ensures renamed { IsTrue result ↔ (other.now
         ≡ renamed_process (renamed_by to.now) process.now) }
 {
@@ -83,7 +84,7 @@ fn is_renamed_process(process: &OpenTables, other: &OpenTables, to: &[u8]) -> bo
 }
 
 /// Whether other tables are these, with each place where a list takes it.
-pub(crate) fn are_renamed(processes: &[OpenTables], others: &[OpenTables], to: &[u8]) -> bool
+fn are_renamed(processes: &[OpenTables], others: &[OpenTables], to: &[u8]) -> bool
     ensures renamed { IsTrue result ↔ (others.now
         ≡ map (renamed_process (renamed_by to.now)) processes.now) }
 {

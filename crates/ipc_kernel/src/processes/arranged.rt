@@ -62,20 +62,12 @@ fn rename_slots(slots: &mut [Option<Slot>], to: &[u8]) {
     }
 }
 
-/// The tables of each process with the places renamed.
-pub(crate) fn renamed(
-    alloc: Global,
-    processes: &[OpenTables],
-    to: &[u8],
-) -> Result<Vec<OpenTables>, AllocError> {
-    let mut tables = Vec::with_capacity(alloc, processes.len())?;
-    for process in processes {
-        let mut renamed = *process;
-        rename_descriptors(&mut renamed.descriptors, to);
-        rename_slots(&mut renamed.slots, to);
-        tables.push(renamed)?;
-    }
-    Ok(tables)
+/// The tables of a process with the places renamed.
+pub(crate) fn renamed_process(process: &OpenTables, to: &[u8]) -> OpenTables {
+    let mut renamed = *process;
+    rename_descriptors(&mut renamed.descriptors, to);
+    rename_slots(&mut renamed.slots, to);
+    renamed
 }
 
 impl Processes {
@@ -90,7 +82,10 @@ impl Processes {
 
     /// The tables of each process with the places renamed.
     pub(crate) fn renamed(&self, alloc: Global, to: &[u8]) -> Result<Vec<OpenTables>, AllocError> {
-        let tables = renamed(alloc, self.tables.as_slice(), to)?;
+        let mut tables = Vec::with_capacity(alloc, self.tables.len())?;
+        for process in &self.tables {
+            tables.push(renamed_process(process, to))?;
+        }
         Ok(tables)
     }
 }
