@@ -3,7 +3,7 @@ use Rattle.std.proofs.Common.{◌≡◌, ℕ, ◌==◌, ◌<◌, ◌≤◌, ◌�
 use Rattle.std.specs.Option.{option_map}
 use Rattle.std.proofs.lemmas.Bool.{cases_lt}
 use Rattle.std.proofs.lemmas.Bool.Decides.{eqb_tells}
-use Rattle.std.proofs.lemmas.Option.{slice_get_within, slice_get-map}
+use Rattle.std.proofs.lemmas.Option.{slice_get_within, slice_get_past, slice_get-map}
 use Rattle.std.proofs.lemmas.List.{ext_get_or, length-append, length-replicate, length-map, map-set}
 use Rattle.ipc_kernel.specs.declared.place.Place.{Place}
 use Rattle.ipc_kernel.specs.declared.place.Place.TheVariants.{Empty}
@@ -27,6 +27,19 @@ use Rattle.ipc_kernel.proofs.RowLemmas.{row}
 -- numbers, where another one stands at a place, stand among others where f takes their places
 abbrev pub AreMoved : List ℕ → ℕ → ℕ → List ℕ → (ℕ → ℕ) → Type 0
 AreMoved ns place number vs f = (i : ℕ) → i < 64 → slice_get vs (f i) ≡ cond (i == place) (Some number) (slice_get ns i)
+
+-- all numbers stand where f takes their places, if as many do as stand there, and these have their places from among so many
+pub all_moved : (ns vs : List ℕ) (place number : ℕ) (f g : ℕ → ℕ) → IsPermutation f g → place < length vs → length ns ≤ length vs
+    → ((i : ℕ) → i < length vs → (g i < length vs) × (slice_get vs (f i) ≡ cond (i == place) (Some number) (slice_get ns i))) → AreMoved ns place number vs f
+all_moved ns vs place number f g p inside few these i h = elim (cases_lt i (length vs)) [
+  | inl less ↦ (these i less).1
+  | inr past ↦
+      let far : length vs ≤ f i = elim (cases_lt (f i) (length vs)) [ inl near ↦ absurd (let back : i < length vs = subst (λ m. m < length vs) (p.undone i) (these (f i) near).0 in omega arith) | inr far ↦ far ] in
+      slice_get_past vs (f i) far ∙ elim (eqb_tells i place) [
+        | inl same ↦ absurd (let e = same.1 in omega arith)
+        | inr apart ↦ rw apart.0 (sym (slice_get_past ns i (omega arith)))
+      ]
+]
 
 -- a kernel that is alike a settled one is settled
 renaming_settled : (f g : ℕ → ℕ) (k j : KernelState) → IsRenaming f g k j → IsSettled k → IsSettled j

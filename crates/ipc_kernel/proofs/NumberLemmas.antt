@@ -75,7 +75,7 @@ kept_more ps qs ns xs i n d grows h so_far kept =
     ∙ ap (λ y. map Some (take i xs) ++ y ∷ []) kept ∙ sym (map_more Some xs i d h)
 
 -- what was kept at first is the same after more was kept
-pub same_still : {X : Type 0} (ps qs : List X) (n : ℕ) (d : X) → ((k : ℕ) (y : X) → slice_get ps k ≡ Some y → slice_get qs k ≡ Some y)
+same_still : {X : Type 0} (ps qs : List X) (n : ℕ) (d : X) → ((k : ℕ) (y : X) → slice_get ps k ≡ Some y → slice_get qs k ≡ Some y)
     → n < length ps → unwrap_or (slice_get qs n) d ≡ unwrap_or (slice_get ps n) d
 same_still ps qs n d grows h = let there = slice_get-get_or ps n d h in ap (λ o. unwrap_or o d) (grows n (get_or ps n d) there ∙ sym there)
 

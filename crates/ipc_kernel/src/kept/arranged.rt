@@ -16,7 +16,7 @@ use super::objects::Objects;
 use super::renames::Taken;
 use crate::arrangement::Arrangement;
 use crate::limits::OBJECT_PLACES;
-use crate::renaming::renamed_by;
+use crate::renaming::{Renaming, renamed_by};
 use std::alloc::{AllocError, Global};
 
 /// The number at a place, where another one stands at one place.
@@ -30,21 +30,27 @@ fn number_after(numbers: &[u32], at: usize, number: u32, place: usize) -> Option
     number_at(numbers, place)
 }
 
-/// Whether numbers, where another one stands at one place, stand among others where a list takes
-/// their places, and none stands behind the object places.
-fn are_moved(numbers: &[u32], at: usize, number: u32, moved: &[u32], to: &[u8]) -> bool
+/// Whether numbers, where another one stands at one place, stand among others where a renaming
+/// takes their places, and none stands behind the object places. Only so many places as there are
+/// others are compared: the renaming takes these among themselves.
+fn are_moved(numbers: &[u32], at: usize, number: u32, moved: &[u32], renaming: &Renaming) -> bool
+    requires permutation { Permutes renaming.now }
     ensures place { IsTrue result → at < object_places }
     ensures few { IsTrue result → length numbers.now ≤ object_places }
     ensures few_moved { IsTrue result → length moved.now ≤ object_places }
     ensures moved { IsTrue result → (i : ℕ) → i < object_places
-        → slice_get moved.now (renamed_by to.now i)
+        → slice_get moved.now (renamed_by renaming.now.to i)
         ≡ (if i == at then Some number else slice_get numbers.now i) }
 {
-    if at >= OBJECT_PLACES || numbers.len() > OBJECT_PLACES || moved.len() > OBJECT_PLACES {
+    let count = moved.len();
+    if at >= count || numbers.len() > count || count > OBJECT_PLACES {
         return false;
     }
-    for place in 0..OBJECT_PLACES as u8 {
-        let there = number_at(moved, renamed_by(to, place) as usize);
+    for place in 0..count as u8 {
+        if renamed_by(&renaming.from, place) as usize >= count {
+            return false;
+        }
+        let there = number_at(moved, renamed_by(&renaming.to, place) as usize);
         if there != number_after(numbers, at, number, place as usize) {
             return false;
         }
@@ -136,11 +142,12 @@ impl Kernels {
             return Ok(None);
         };
         let arrangement = self.objects.arrangement(objects, place, object);
-        let to = &arrangement.renaming.to;
+        let renaming = &arrangement.renaming;
         let moved = moved(self.alloc, objects, place as usize, object, &arrangement)?;
-        if !are_moved(objects, place as usize, object, moved.as_slice(), to) {
+        if !are_moved(objects, place as usize, object, moved.as_slice(), renaming) {
             return Ok(None);
         }
+        let to = &renaming.to;
         let taken = Taken {
             place,
             to: renamed_by(to, place),
