@@ -19,6 +19,7 @@ use std::marker::Model;
 
 /// Whether texts are equal. Names that differ mostly do so in their lengths or their last
 /// characters, which are looked at first.
+#[inline(always)]
 fn is_text(text: &str, other: &str) -> bool
     ensures same { result ≡ bytes_eq text.now other.now }
 {
@@ -30,6 +31,7 @@ fn is_text(text: &str, other: &str) -> bool
 }
 
 /// Whether a name is this one.
+#[inline(always)]
 fn is_name(name: &Name, other: Option<&Name>) -> bool
     ensures same { result ≡ is_name name.now (option_copied other.entry) }
 {
