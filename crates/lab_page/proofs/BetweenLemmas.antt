@@ -3,7 +3,7 @@ use Rattle.std.proofs.Common.{◌≡◌, ℕ, suc, ◌+◌, ◌<◌, ◌==◌, �
 use Rattle.std.proofs.lemmas.List.{length-set, set-set, get_or-set_same, length-replicate}
 use Rattle.lab_trace.specs.declared.told.Told.{Told}
 use Rattle.lab_trace.specs.declared.told.Told.TheVariants.{Nothing, Counted, Shown}
-use Rattle.lab_page.specs.Between.{no_steps, count_of, with_local, with_idle, between_after, count_data, between_data}
+use Rattle.lab_page.specs.Between.{no_steps, count_of, with_steps, idle_of, between_after, count_data, between_data}
 use Rattle.lab_page.specs.Values.{list, natural}
 use Rattle.lab_page.specs.declared.between.StepCount.{StepCount}
 use Rattle.lab_page.proofs.PlainLemmas.{IsPlain, ArePlain, plain-below, plain-if}
@@ -18,21 +18,29 @@ between-plain b = plain-below (length b) (λ p. count_data p (count_of b p)) (λ
 
 -- of as many processes as before
 pub length-after : (n p : ℕ) (waits : Bool) (told : Told) (b : List StepCount) → length (between_after n p waits told b) ≡ length b
-length-after n p waits Nothing b = length-set b p (with_idle n waits (count_of b p))
-length-after n p waits Counted b = length-set b p (with_local n (count_of b p))
+length-after n p waits Nothing b = length-set b p (with_steps 0 (idle_of n waits) (count_of b p))
+length-after n p waits Counted b = length-set b p (with_steps n 0 (count_of b p))
 length-after n p waits (Shown e) b = length-replicate (length b) no_steps
 
+abbrev counts : ℕ → ℕ → StepCount
+counts local idle = record { local = local; idle = idle }
+
 -- a step without an effect, and n more
-idle-more : (n : ℕ) (waits : Bool) (c : StepCount) → with_idle n waits (with_idle 1 waits c) ≡ with_idle (suc n) waits c
+idle-more : (n : ℕ) (waits : Bool) (c : StepCount)
+    → with_steps 0 (idle_of n waits) (with_steps 0 (idle_of 1 waits) c) ≡ with_steps 0 (idle_of (suc n) waits) c
 idle-more n true c =
-    let e : (c.idle + 1) + n ≡ c.idle + suc n = omega arith in
-    ap (λ (i : ℕ). record c { idle = i }) e
-idle-more n false c = refl
+    let local : (c.local + 0) + 0 ≡ c.local + 0 = omega arith in
+    let idle : (c.idle + 1) + n ≡ c.idle + suc n = omega arith in
+    ap (λ (l : ℕ). counts l ((c.idle + 1) + n)) local ∙ ap (counts (c.local + 0)) idle
+idle-more n false c =
+    let local : (c.local + 0) + 0 ≡ c.local + 0 = omega arith in
+    let idle : (c.idle + 0) + 0 ≡ c.idle + 0 = omega arith in
+    ap (λ (l : ℕ). counts l ((c.idle + 0) + 0)) local ∙ ap (counts (c.local + 0)) idle
 
 pub after-more : (n p : ℕ) (waits : Bool) (b : List StepCount) → p < length b
     → between_after n p waits Nothing (between_after 1 p waits Nothing b) ≡ between_after (suc n) p waits Nothing b
 after-more n p waits b h =
-    let once : StepCount = with_idle 1 waits (count_of b p) in
-    set-set b p once (with_idle n waits (count_of (set b p once) p))
-    ∙ ap (λ (c : StepCount). set b p (with_idle n waits c)) (get_or-set_same b p once no_steps h)
+    let once : StepCount = with_steps 0 (idle_of 1 waits) (count_of b p) in
+    set-set b p once (with_steps 0 (idle_of n waits) (count_of (set b p once) p))
+    ∙ ap (λ (c : StepCount). set b p (with_steps 0 (idle_of n waits) c)) (get_or-set_same b p once no_steps h)
     ∙ ap (λ (c : StepCount). set b p c) (idle-more n waits (count_of b p))

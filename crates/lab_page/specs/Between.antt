@@ -20,18 +20,18 @@ none_between count = replicate count no_steps
 abbrev pub count_of : List StepCount → ℕ → StepCount
 count_of b p = slice_index_or b p no_steps
 
--- with n counted steps more
-abbrev pub with_local : ℕ → StepCount → StepCount
-with_local n c = record c { local = c.local + n }
+-- with counted steps and steps without an effect more
+abbrev pub with_steps : ℕ → ℕ → StepCount → StepCount
+with_steps local idle c = record { local = c.local + local; idle = c.idle + idle }
 
--- with n steps without an effect more, of a process that waits or has ended: those of the latter are not told
-abbrev pub with_idle : ℕ → Bool → StepCount → StepCount
-with_idle n waits c = if waits then record c { idle = c.idle + n } else c
+-- how many of n steps without an effect are told: all of a process that waits, and none of one that has ended
+abbrev pub idle_of : ℕ → Bool → ℕ
+idle_of n waits = if waits then n else 0
 
 -- after n steps of process p, which waits before them or doesn't, of which this is told
 abbrev pub between_after : ℕ → ℕ → Bool → Told → List StepCount → List StepCount
-between_after n p waits Nothing b = slice_set b p (with_idle n waits (count_of b p))
-between_after n p waits Counted b = slice_set b p (with_local n (count_of b p))
+between_after n p waits Nothing b = slice_set b p (with_steps 0 (idle_of n waits) (count_of b p))
+between_after n p waits Counted b = slice_set b p (with_steps n 0 (count_of b p))
 between_after n p waits (Shown e) b = none_between (length b)
 
 -- whether process p waits before the next step of a scene
@@ -43,9 +43,5 @@ abbrev pub count_data : ℕ → StepCount → List Data
 count_data p c = if (c.local == 0) && (c.idle == 0) then [] else list (natural p ∷ natural c.local ∷ natural c.idle ∷ []) ∷ []
 
 -- of each process that took steps how many are counted, and how many have no effect
-abbrev pub counts_data : List StepCount → List Data
-counts_data b = all_below (length b) (λ p. count_data p (count_of b p))
-
--- these as a value
 unfoldable pub between_data : List StepCount → Data
-between_data b = list (counts_data b)
+between_data b = list (all_below (length b) (λ p. count_data p (count_of b p)))

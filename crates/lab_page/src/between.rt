@@ -2,7 +2,7 @@
 ghost use Rattle.std.specs.Prelude.{◌≡◌, IfOk, OnOk, map, length, option_to_list, slice_set};
 ghost use Rattle.std.specs.Option.{option_map};
 ghost use Rattle.serde_json.specs.View.{view};
-ghost use Rattle.lab_page.specs.Between.{none_between, count_of, with_local, with_idle, between_after, count_data, counts_data, between_data};
+ghost use Rattle.lab_page.specs.Between.{none_between, count_of, with_steps, between_after, count_data, between_data};
 
 use crate::values::push_some;
 use lab_trace::Told;
@@ -84,25 +84,14 @@ impl Between {
         self.counts.fill(NO_STEPS);
     }
 
-    /// Adds so many steps without an effect of process `pid`, where it waits.
-    fn add_idle(&mut self, pid: usize, waits: bool, most: u32) -> Result<(), AllocError>
+    /// Adds so many counted steps of process `pid`, and so many without an effect.
+    fn add(&mut self, pid: usize, local: u32, idle: u32) -> Result<(), AllocError>
         ensures added { OnOk result (self.new
-            ≡ slice_set self.old pid (with_idle most waits (count_of self.old pid))) }
+            ≡ slice_set self.old pid (with_steps local idle (count_of self.old pid))) }
     {
-        let StepCount { local, idle } = self.of(pid);
-        let more = if waits { most } else { 0 };
-        let idle = idle.checked_add(more).ok_or(AllocError)?;
-        self.set(pid, StepCount { local, idle });
-        Ok(())
-    }
-
-    /// Adds so many counted steps of process `pid`.
-    fn add_local(&mut self, pid: usize, more: u32) -> Result<(), AllocError>
-        ensures added { OnOk result (self.new
-            ≡ slice_set self.old pid (with_local more (count_of self.old pid))) }
-    {
-        let StepCount { local, idle } = self.of(pid);
-        let local = local.checked_add(more).ok_or(AllocError)?;
+        let was = self.of(pid);
+        let local = was.local.checked_add(local).ok_or(AllocError)?;
+        let idle = was.idle.checked_add(idle).ok_or(AllocError)?;
         self.set(pid, StepCount { local, idle });
         Ok(())
     }
@@ -118,8 +107,8 @@ impl Between {
         ensures kept { OnOk result (self.new ≡ between_after count pid waits told.now self.old) }
     {
         match told {
-            Told::Nothing => self.add_idle(pid, waits, count),
-            Told::Counted => self.add_local(pid, count),
+            Told::Nothing => self.add(pid, 0, if waits { count } else { 0 }),
+            Told::Counted => self.add(pid, count, 0),
             Told::Shown(_) => {
                 self.clear();
                 Ok(())
@@ -128,23 +117,15 @@ impl Between {
     }
 
     /// The steps of each process that took some, one by one.
-    #[tactic(auto, using(crate::proofs::ValueLemmas::all_below_none))]
-    fn values(&self, alloc: Global) -> Result<Vec<Value>, AllocError>
-        ensures values { IfOk result (λ v. map view v.items ≡ counts_data self.now) }
+    #[tactic(auto, using(crate::proofs::ValueLemmas::all_below_none), unfolding(crate::specs::Between::between_data))]
+    pub fn value(&self, alloc: Global) -> Result<Value, AllocError>
+        ensures value { IfOk result (λ v. view v ≡ between_data self.now) }
     {
         let mut values = Vec::new(alloc);
         for pid in 0..self.counts.len() {
             let count = count_value(alloc, pid, self.of(pid))?;
             push_some(&mut values, count)?;
         }
-        Ok(values)
-    }
-
-    /// The steps of each process that took some.
-    #[tactic(auto, unfolding(crate::specs::Between::between_data))]
-    pub fn value(&self, alloc: Global) -> Result<Value, AllocError>
-        ensures value { IfOk result (λ v. view v ≡ between_data self.now) }
-    {
-        Ok(Value::Array(self.values(alloc)?))
+        Ok(Value::Array(values))
     }
 }

@@ -5,6 +5,7 @@ ghost use Rattle.serde_json.specs.View.{view};
 ghost use Rattle.lab_page.specs.Values.{natural, naturals, or_null};
 ghost use Rattle.lab_page.specs.Events.{outcome_data, words_of, called_data, act_data, is_arranging, tells_open, open_told, event_data};
 
+use crate::holds::over_value;
 use crate::open::open_value;
 use crate::past::Past;
 use crate::values::{bytes_value, words_value};
@@ -48,20 +49,14 @@ fn message_words(alloc: Global, call: &Called) -> Result<Value, AllocError>
 fn place_value(place: Option<u8>) -> Value
     ensures value { view result ≡ or_null (option_map natural place) }
 {
-    match place {
-        Some(place) => Value::from(place),
-        None => Value::Null,
-    }
+    Value::from(place)
 }
 
 /// The number of a step, where there is one.
 fn step_value(step: Option<u32>) -> Value
     ensures value { view result ≡ or_null (option_map natural step) }
 {
-    match step {
-        Some(step) => Value::from(step),
-        None => Value::Null,
-    }
+    Value::from(step)
 }
 
 /// The step that sent a message, where one was received.
@@ -161,8 +156,6 @@ pub fn event_value(
     let act = act_value(alloc, &event.act)?;
     let objects = past.objects.changes(alloc, world, tally)?;
     let open = open_told(alloc, world, pid, &event.act)?;
-    let over = past
-        .holds
-        .over_value(alloc, world.kernel(), pid, &event.act)?;
+    let over = over_value(alloc, world.kernel(), pid, &event.act, &past.holds)?;
     json!(in alloc; [pc, head, what, act, objects, open, over])
 }

@@ -11,7 +11,6 @@ use ipc_traps::Service;
 use lab_trace::{Act, Outcome, Tally};
 use serde_json::{Value, json};
 use std::alloc::{AllocError, Global};
-use std::marker::Model;
 
 /// A unit of a semaphore that a process has taken.
 #[derive(Clone, Copy, Debug, PartialEq, Eq)]
@@ -22,21 +21,6 @@ pub struct Hold {
     pub place: u8,
     /// The step in which the process took it.
     pub step: u32,
-}
-
-/// The units that are taken, the last one first.
-#[derive(Drop)]
-pub struct Holds {
-    list: Vec<Hold>,
-}
-
-impl Model for Holds {
-    ghost use Rattle.std.specs.Prelude.{List};
-    ghost use Rattle.lab_page.specs.declared.holds.Hold.{Hold};
-
-    ghost Value = { List Hold };
-
-    ghost view = { λ h. h.list.items };
 }
 
 /// The call that a process made on an object, and the place of that, where it was answered and not refused.
@@ -149,7 +133,7 @@ fn hold_value(alloc: Global, hold: &Hold) -> Result<Value, AllocError>
 }
 
 /// Units, one by one.
-fn holds_value(alloc: Global, holds: &[Hold]) -> Result<Value, AllocError>
+pub fn holds_value(alloc: Global, holds: &[Hold]) -> Result<Value, AllocError>
     ensures value { IfOk result (λ v. view v ≡ holds_data holds.now) }
 {
     let mut values = Vec::new(alloc);
@@ -159,64 +143,40 @@ fn holds_value(alloc: Global, holds: &[Hold]) -> Result<Value, AllocError>
     Ok(Value::Array(values))
 }
 
-impl Holds {
-    /// No unit is taken.
-    pub fn new(alloc: Global) -> Holds
-        ensures none { result ≡ [] }
-    {
-        Holds {
-            list: Vec::new(alloc),
-        }
+/// Keeps what process `pid` did in step `step` among the units that are taken, the last one first, by the kernel and the tally after
+/// it.
+pub fn keep_holds(
+    holds: &mut Vec<Hold>,
+    kernel: &Kernel,
+    tally: &Tally,
+    objects: &KnownObjects,
+    step: u32,
+    pid: usize,
+    act: &Act,
+) -> Result<(), AllocError>
+    ensures kept { OnOk result (holds.new.items
+        ≡ holds_after kernel.now tally.now step pid act.now objects.now holds.old.items) }
+{
+    let given = given_by(holds, pid, act);
+    drop_over(holds, kernel, given);
+    if let Some(hold) = taken_by(tally, objects, step, pid, act) {
+        holds.insert(0, hold)?;
     }
+    Ok(())
+}
 
-    /// The units that are taken.
-    pub fn as_slice(&self) -> &[Hold]
-        ensures holds { result.now ≡ self.now }
-    {
-        &self.list
-    }
-
-    /// Keeps what process `pid` did in step `step`, by the kernel and the tally after it.
-    pub fn keep(
-        &mut self,
-        kernel: &Kernel,
-        tally: &Tally,
-        objects: &KnownObjects,
-        step: u32,
-        pid: usize,
-        act: &Act,
-    ) -> Result<(), AllocError>
-        ensures kept { OnOk result (self.new
-            ≡ holds_after kernel.now tally.now step pid act.now objects.now self.old) }
-    {
-        let given = given_by(&self.list, pid, act);
-        drop_over(&mut self.list, kernel, given);
-        if let Some(hold) = taken_by(tally, objects, step, pid, act) {
-            self.list.insert(0, hold)?;
-        }
-        Ok(())
-    }
-
-    /// The units that are taken, one by one.
-    pub fn value(&self, alloc: Global) -> Result<Value, AllocError>
-        ensures value { IfOk result (λ v. view v ≡ holds_data self.now) }
-    {
-        holds_value(alloc, &self.list)
-    }
-
-    /// The units that don't stay taken after what process `pid` did, by the kernel after it.
-    pub fn over_value(
-        &self,
-        alloc: Global,
-        kernel: &Kernel,
-        pid: usize,
-        act: &Act,
-    ) -> Result<Value, AllocError>
-        ensures value { IfOk result (λ v. view v
-            ≡ holds_data (holds_over kernel.now pid act.now self.now)) }
-    {
-        let given = given_by(&self.list, pid, act);
-        let over = over(alloc, kernel, given, &self.list)?;
-        holds_value(alloc, &over)
-    }
+/// The units that don't stay taken after what process `pid` did, by the kernel after it.
+pub fn over_value(
+    alloc: Global,
+    kernel: &Kernel,
+    pid: usize,
+    act: &Act,
+    holds: &[Hold],
+) -> Result<Value, AllocError>
+    ensures value { IfOk result (λ v. view v
+        ≡ holds_data (holds_over kernel.now pid act.now holds.now)) }
+{
+    let given = given_by(holds, pid, act);
+    let over = over(alloc, kernel, given, holds)?;
+    holds_value(alloc, &over)
 }

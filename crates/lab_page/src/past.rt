@@ -5,7 +5,7 @@ ghost use Rattle.lab_page.specs.Holds.{answered};
 ghost use Rattle.lab_page.specs.Pasts.{first_past, past_after, past_told, past_with, received_by, sent_by, unreceived_after, unreceived_without};
 
 use crate::between::Between;
-use crate::holds::{Holds, answered};
+use crate::holds::{Hold, answered, keep_holds};
 use crate::known::KnownObjects;
 use ipc_traps::Service;
 use lab_sched::World;
@@ -20,8 +20,8 @@ pub struct Past {
     pub between: Between,
     /// What was last told of the objects.
     pub objects: KnownObjects,
-    /// The units of semaphores that are taken.
-    pub holds: Holds,
+    /// The units of semaphores that are taken, the last one first.
+    pub holds: Vec<Hold>,
     /// The steps that sent the messages which nobody has received.
     pub unreceived: Vec<u32>,
 }
@@ -34,7 +34,7 @@ impl Model for Past {
     ghost view = { λ h. record {
       between = h.between;
       objects = h.objects;
-      holds = h.holds;
+      holds = h.holds.items;
       unreceived = h.unreceived.items;
     } };
 }
@@ -84,7 +84,7 @@ impl Past {
         Ok(Past {
             between: Between::new(alloc, world.count())?,
             objects: KnownObjects::new(alloc)?,
-            holds: Holds::new(alloc),
+            holds: Vec::new(alloc),
             unreceived: Vec::new(alloc),
         })
     }
@@ -102,8 +102,8 @@ impl Past {
             ≡ past_with number pid world.now tally.now act.now self.old) }
     {
         let kernel = world.kernel();
-        self.holds
-            .keep(kernel, tally, &self.objects, number, pid, act)?;
+        let holds = &mut self.holds;
+        keep_holds(holds, kernel, tally, &self.objects, number, pid, act)?;
         self.objects.keep(kernel)?;
         receive(&mut self.unreceived, received_by(act));
         send(&mut self.unreceived, number, act)

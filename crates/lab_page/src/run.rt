@@ -14,6 +14,7 @@ ghost use Rattle.lab_page.specs.declared.fault.PageFault.TheVariants.{NoProcess}
 use crate::MOST_WHOLE;
 use crate::circles::circles_value;
 use crate::fault::PageFault;
+use crate::holds::holds_value;
 use crate::moments::Moments;
 use crate::past::Past;
 use crate::values::{bytes_value, push_behind, steps_value};
@@ -93,10 +94,10 @@ fn outcome_value(
     let report = report_text(alloc, world)?;
     let outputs = outputs(alloc, world)?;
     let between = past.between.value(alloc)?;
-    let holds = past.holds.value(alloc)?;
+    let holds = holds_value(alloc, &past.holds)?;
     let unreceived = steps_value(alloc, &past.unreceived)?;
     let waits = waits_value(alloc, world)?;
-    let circles = circles_value(alloc, world, past.holds.as_slice())?;
+    let circles = circles_value(alloc, world, &past.holds)?;
     json!(in alloc; [verdict, stands, report, outputs, between, holds, unreceived, waits, circles])
 }
 

@@ -74,24 +74,15 @@ fn row_value(alloc: Global, source: &Source, row: &Row) -> Result<Value, AllocEr
     }
 }
 
-/// Lines of a source that have words.
-fn row_values(alloc: Global, source: &Source, rows: &[Row]) -> Result<Vec<Value>, AllocError>
-    ensures values { IfOk result (λ v. map view v.items
-        ≡ map (row_data (source_shown source.now)) rows.now) }
-{
-    let mut values = Vec::new(alloc);
-    for row in rows {
-        values.push(row_value(alloc, source, row)?)?;
-    }
-    Ok(values)
-}
-
-/// A source.
+/// A source, with its lines that have words.
 #[tactic(auto, unfolding(crate::specs::Sources::source_data))]
 fn source_value(alloc: Global, source: &Source) -> Result<Value, AllocError>
     ensures value { IfOk result (λ v. view v ≡ source_data (source_shown source.now)) }
 {
-    let rows = row_values(alloc, source, &source.rows)?;
+    let mut rows = Vec::new(alloc);
+    for row in &source.rows {
+        rows.push(row_value(alloc, source, row)?)?;
+    }
     json!(in alloc; [&source.text, rows])
 }
 

@@ -233,21 +233,14 @@ fn edge_value(alloc: Global, edge: &WorldEdge) -> Result<Value, AllocError>
 }
 
 /// The edges, one by one.
-fn edge_values(alloc: Global, edges: &[WorldEdge]) -> Result<Vec<Value>, AllocError>
-    ensures values { IfOk result (λ v. map view v.items ≡ map edge_data edges.now) }
+fn edges_value(alloc: Global, edges: &[WorldEdge]) -> Result<Value, AllocError>
+    ensures value { IfOk result (λ v. view v ≡ list (map edge_data edges.now)) }
 {
     let mut values = Vec::new(alloc);
     for edge in edges {
         values.push(edge_value(alloc, edge)?)?;
     }
-    Ok(values)
-}
-
-/// The edges.
-fn edges_value(alloc: Global, edges: &[WorldEdge]) -> Result<Value, AllocError>
-    ensures value { IfOk result (λ v. view v ≡ list (map edge_data edges.now)) }
-{
-    Ok(Value::Array(edge_values(alloc, edges)?))
+    Ok(Value::Array(values))
 }
 
 impl Worlds {

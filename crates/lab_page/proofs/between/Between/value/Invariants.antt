@@ -2,7 +2,7 @@ use Rattle.std.proofs.Common.{◌≡◌, map}
 use Rattle.serde_json.specs.View.{view}
 use Rattle.lab_page.specs.Values.{all_below}
 use Rattle.lab_page.specs.Between.{count_of, count_data}
-use Rattle.lab_page.proofs.between.Between.values.Given as goal
+use Rattle.lab_page.proofs.between.Between.value.Given as goal
 
 -- the counts so far are added
 abbrev pub invariant-loop-pid : goal.invariant-loop-pid

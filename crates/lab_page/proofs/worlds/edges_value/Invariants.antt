@@ -1,7 +1,7 @@
 use Rattle.std.proofs.Common.{◌≡◌, map, take}
 use Rattle.serde_json.specs.View.{view}
 use Rattle.lab_page.specs.Worlds.{edge_data}
-use Rattle.lab_page.proofs.worlds.edge_values.Given as goal
+use Rattle.lab_page.proofs.worlds.edges_value.Given as goal
 
 -- the edges so far are added
 abbrev pub invariant-loop-edge : goal.invariant-loop-edge

@@ -1,7 +1,7 @@
 use Rattle.std.proofs.Common.{ℕ, []}
 use Rattle.lab_page.specs.Between.{count_of, count_data}
 use Rattle.lab_page.proofs.ValueLemmas.{values-added}
-use Rattle.lab_page.proofs.between.Between.values.Goals as goal
+use Rattle.lab_page.proofs.between.Between.value.Goals as goal
 
 pub loop-pid-preserved : goal.loop-pid-preserved
 loop-pid-preserved c =
