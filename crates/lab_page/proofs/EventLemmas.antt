@@ -1,7 +1,7 @@
 -- Moments and what was done have no floats.
-use Rattle.std.proofs.Common.{ℕ, ◌||◌, Bool, true, false, if◌then◌else◌, Option, Some, None, List, [], ◌∷◌, refl}
+use Rattle.std.proofs.Common.{ℕ, ◌||◌, not, Bool, false, Option, Some, None, List, [], ◌∷◌, refl}
 use Rattle.std.specs.Option.{option_map}
-use Rattle.serde_json.specs.Data.{Data, null}
+use Rattle.serde_json.specs.Data.{Data, boolean}
 use Rattle.serde_json.specs.View.{items_of}
 use Rattle.serde_json.specs.Written.{has_float, items_have_float}
 use Rattle.ipc_kernel.specs.Limits.{object_places}
@@ -17,9 +17,9 @@ use Rattle.lab_trace.specs.declared.told.Called.{Called}
 use Rattle.lab_trace.specs.declared.told.Event.{Event}
 use Rattle.lab_trace.specs.declared.told.Told.{Told}
 use Rattle.lab_trace.specs.declared.told.Told.TheVariants.{Nothing, Counted, Shown}
-use Rattle.lab_page.specs.Values.{natural, naturals, or_null}
+use Rattle.lab_page.specs.Values.{list, natural, naturals, or_null}
 use Rattle.lab_page.specs.States.{state_in}
-use Rattle.lab_page.specs.Changes.{known_at, known_now, made_with, is_same, change_from, change_at, changes}
+use Rattle.lab_page.specs.Changes.{known_at, known_now, made_with, is_same, is_about, told_where, object_told, objects_told}
 use Rattle.lab_page.specs.Holds.{hold_data, holds_data, holds_over}
 use Rattle.lab_page.specs.Objects.{object_data, open_data}
 use Rattle.lab_page.specs.Pasts.{Past}
@@ -28,7 +28,7 @@ use Rattle.lab_page.specs.declared.holds.Hold.{Hold}
 use Rattle.lab_page.specs.Events.{outcome_data, words_of, called_data, act_data, tells_open, open_told, event_data}
 use Rattle.lab_page.specs.Between.{between_data}
 use Rattle.lab_page.specs.Moments.{counted_moment, shown_moment, moment_by}
-use Rattle.lab_page.proofs.PlainLemmas.{IsPlain, ArePlain, both, plain-one, plain-below, plain-map, plain-naturals, plain-if}
+use Rattle.lab_page.proofs.PlainLemmas.{IsPlain, ArePlain, both, plain-one, plain-below, plain-map, plain-naturals, plain-if, value-if}
 use Rattle.lab_page.proofs.StateLemmas.{in-plain}
 use Rattle.lab_page.proofs.BetweenLemmas.{between-plain}
 use Rattle.lab_page.proofs.ObjectLemmas.{object-plain, open-plain}
@@ -65,22 +65,21 @@ act-plain (Calls c) = called-plain c
 act-plain (Writes bytes) = both (has_float (naturals bytes)) false (plain-naturals bytes) refl
 act-plain (Ends how) = refl
 
-change-plain : (w : WorldState) (t : TallyState) (place : ℕ) (was now : Option Known) → ArePlain (change_from w t place was now)
-change-plain w t place was now =
-    let object : Data = object_data w t (made_with now) place (place_at w.kernel.places place) in
-    plain-if (is_same was now) [] (object ∷ []) refl (plain-one object (object-plain w t (made_with now) place (place_at w.kernel.places place)))
+told-plain : (changed about : Bool) (object : Data) → IsPlain object → ArePlain (told_where changed about object)
+told-plain changed about object h =
+    let told : Data = list (boolean changed ∷ object ∷ []) in
+    plain-if (changed || about) (told ∷ []) [] (plain-one told (plain-one object h)) refl
 
-changes-plain : (w : WorldState) (t : TallyState) (ks : List (Option Known)) → ArePlain (changes w t ks)
-unfolding changes
-changes-plain w t ks =
-    plain-below object_places (change_at w t ks) (λ place. change-plain w t place (known_at ks place) (known_now ks w.kernel.places place))
+objects-plain : (w : WorldState) (t : TallyState) (p : ℕ) (act : Act) (ks : List (Option Known)) → ArePlain (objects_told w t p act ks)
+unfolding objects_told
+objects-plain w t p act ks =
+    plain-below object_places (object_told w t p act ks)
+    (λ place. told-plain (not (is_same (known_at ks place) (known_now ks w.kernel.places place))) (is_about p act t place)
+    (object_data w t (made_with (known_now ks w.kernel.places place)) place (place_at w.kernel.places place))
+    (object-plain w t (made_with (known_now ks w.kernel.places place)) place (place_at w.kernel.places place)))
 
 pub holds-plain : (hs : List Hold) → IsPlain (holds_data hs)
 holds-plain hs = plain-map hold_data hs (λ h. refl)
-
-value-if : (b : Bool) (d : Data) → IsPlain d → IsPlain (if b then d else null)
-value-if true d h = h
-value-if false d h = refl
 
 opened-plain : (w : WorldState) (p : ℕ) (act : Act) → IsPlain (open_told w p act)
 unfolding open_told
@@ -90,11 +89,11 @@ event-plain : (v : Form) (n p : ℕ) (e : Event) (w : WorldState) (t : TallyStat
 unfolding event_data
 event-plain v n p e w t h =
     let act = has_float (act_data e.act) in
-    let objects = items_have_float (items_of (changes w t h.objects)) in
+    let objects = items_have_float (items_of (objects_told w t p e.act h.objects)) in
     let opened = has_float (open_told w p e.act) in
     let over = has_float (holds_data (holds_over w.kernel p e.act h.holds)) in
     both act (objects || (opened || (over || false))) (act-plain e.act)
-    (both objects (opened || (over || false)) (changes-plain w t h.objects)
+    (both objects (opened || (over || false)) (objects-plain w t p e.act h.objects)
     (both opened (over || false) (opened-plain w p e.act)
     (both over false (holds-plain (holds_over w.kernel p e.act h.holds)) refl)))
 

@@ -1,6 +1,7 @@
 -- Objects, and what a process has open, have no floats.
 use Rattle.std.proofs.Common.{ℕ, ◌==◌, ◌||◌, false, Option, Some, None, List, [], ◌∷◌, length, slice_get, refl}
-use Rattle.std.specs.Option.{option_map}
+use Rattle.std.specs.Option.{option_map, option_map_or}
+use Rattle.serde_json.specs.Data.{boolean}
 use Rattle.serde_json.specs.View.{items_of}
 use Rattle.serde_json.specs.Written.{has_float, items_have_float}
 use Rattle.ipc_kernel.specs.Limits.{open_max}
@@ -9,30 +10,43 @@ use Rattle.ipc_kernel.specs.declared.place.Place.TheVariants.{Empty, Mq, Sem}
 use Rattle.ipc_kernel.specs.Processes.{descriptor_of, slot_of}
 use Rattle.ipc_objects.specs.Queue.{QueueState}
 use Rattle.ipc_objects.specs.declared.queue.Message.{Message}
-use Rattle.lab_sched.specs.Worlds.{WorldState}
+use Rattle.ipc_traps.specs.declared.service.Service.{Service}
+use Rattle.lab_sched.specs.Verdicts.{is_ended}
+use Rattle.lab_sched.specs.Worlds.{Process, WorldState}
 use Rattle.lab_trace.specs.Tallies.{TallyState}
 use Rattle.lab_trace.specs.Units.{units_of, balance}
 use Rattle.lab_trace.specs.declared.origins.Origin.{Origin}
 use Rattle.lab_page.specs.Values.{list, natural, naturals, or_null, all_below}
-use Rattle.lab_page.specs.Objects.{name_data, taker, takers, semaphore_data, origin_data, message_data, origins_in, message_at, messages, queue_data, object_data, descriptor_data, slot_data, descriptor_at, slot_at, open_data}
+use Rattle.lab_page.specs.Objects.{name_data, awaited_at, waiter, waiters, taker, taker_at, takers, semaphore_data, origin_data, message_data, origins_in, message_at, messages, queue_data, object_data, descriptor_data, slot_data, descriptor_at, slot_at, open_data}
 use Rattle.lab_page.proofs.PlainLemmas.{IsPlain, ArePlain, both, plain-append, plain-below, plain-naturals, plain-some, plain-if}
 
 name-plain : (name : Option (List ℕ)) → IsPlain (name_data name)
 name-plain None = refl
 name-plain (Some n) = refl
 
-taker-plain : (p n : ℕ) → ArePlain (taker p n)
-taker-plain p n = plain-if (n == 0) [] (list (natural p ∷ natural n ∷ []) ∷ []) refl refl
+waiter-plain : (place p : ℕ) (o : Option (Service × ℕ)) → ArePlain (waiter place p o)
+waiter-plain place p None = refl
+waiter-plain place p (Some call) = plain-if (call.1 == place) (natural p ∷ []) [] refl refl
 
-takers-plain : (w : WorldState) (t : TallyState) (place : ℕ) → ArePlain (takers w t place)
+waiters-plain : (w : WorldState) (place : ℕ) → ArePlain (waiters w place)
+waiters-plain w place =
+    plain-below (length w.processes) (λ p. waiter place p (awaited_at w p)) (λ p. waiter-plain place p (awaited_at w p))
+
+taker-plain : (p n : ℕ) (s : Option Process) → ArePlain (taker p n s)
+taker-plain p n s = plain-if (n == 0) [] (list (natural p ∷ natural n ∷ boolean (option_map_or is_ended s false) ∷ []) ∷ []) refl refl
+
+pub takers-plain : (w : WorldState) (t : TallyState) (place : ℕ) → ArePlain (takers w t place)
 takers-plain w t place =
-    plain-below (length w.processes) (λ p. taker p (balance (units_of place p t.units))) (λ p. taker-plain p (balance (units_of place p t.units)))
+    plain-below (length w.processes) (taker_at w t place)
+    (λ p. taker-plain p (balance (units_of place p t.units)) (slice_get w.processes p))
 
 semaphore-plain : (w : WorldState) (t : TallyState) (made place : ℕ) (held : Option (List ℕ) × ℕ) → IsPlain (semaphore_data w t made place held)
 unfolding semaphore_data
 semaphore-plain w t made place held =
-    both (has_float (name_data held.0)) (items_have_float (items_of (takers w t place)) || false) (name-plain held.0)
-    (both (items_have_float (items_of (takers w t place))) false (takers-plain w t place) refl)
+    let waits = items_have_float (items_of (waiters w place)) in
+    let takes = items_have_float (items_of (takers w t place)) in
+    both (has_float (name_data held.0)) (waits || (takes || false)) (name-plain held.0)
+    (both waits (takes || false) (waiters-plain w place) (both takes false (takers-plain w t place) refl))
 
 origin-plain : (o : Option Origin) → IsPlain (or_null (option_map origin_data o))
 origin-plain None = refl
@@ -49,16 +63,17 @@ messages-plain os q =
     plain-below (length q.messages) (message_at os q)
     (λ i. plain-some (λ m. message_data m (slice_get os i)) (slice_get q.messages i) (λ m. message-plain m (slice_get os i)))
 
-queue-plain : (t : TallyState) (place : ℕ) (held : Option (List ℕ) × QueueState) → IsPlain (queue_data t place held)
+queue-plain : (w : WorldState) (t : TallyState) (place : ℕ) (held : Option (List ℕ) × QueueState) → IsPlain (queue_data w t place held)
 unfolding queue_data
-queue-plain t place held =
-    let ms = messages (origins_in t place) held.1 in
-    both (has_float (name_data held.0)) (items_have_float (items_of ms) || false) (name-plain held.0)
-    (both (items_have_float (items_of ms)) false (messages-plain (origins_in t place) held.1) refl)
+queue-plain w t place held =
+    let waits = items_have_float (items_of (waiters w place)) in
+    let ms = items_have_float (items_of (messages (origins_in t place) held.1)) in
+    both (has_float (name_data held.0)) (waits || (ms || false)) (name-plain held.0)
+    (both waits (ms || false) (waiters-plain w place) (both ms false (messages-plain (origins_in t place) held.1) refl))
 
 pub object-plain : (w : WorldState) (t : TallyState) (made place : ℕ) (o : Place) → IsPlain (object_data w t made place o)
 object-plain w t made place Empty = refl
-object-plain w t made place (Mq name queue) = queue-plain t place (name, queue)
+object-plain w t made place (Mq name queue) = queue-plain w t place (name, queue)
 object-plain w t made place (Sem name value) = semaphore-plain w t made place (name, value)
 
 pub open-plain : (w : WorldState) (p : ℕ) → IsPlain (open_data w p)

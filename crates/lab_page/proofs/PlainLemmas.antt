@@ -2,7 +2,7 @@
 use Rattle.std.proofs.Common.{◌≡◌, ℕ, zero, suc, ◌||◌, Bool, true, false, if◌then◌else◌, Option, Some, None, List, [], ◌∷◌, ◌++◌, map, refl, ap, ◌∙◌}
 use Rattle.std.specs.Prelude.{IfSome}
 use Rattle.std.specs.Option.{option_map, option_to_list}
-use Rattle.serde_json.specs.Data.{Data}
+use Rattle.serde_json.specs.Data.{Data, null}
 use Rattle.serde_json.specs.View.{items_of}
 use Rattle.serde_json.specs.Written.{has_float, items_have_float}
 use Rattle.lab_page.specs.Values.{natural, all_below}
@@ -52,6 +52,11 @@ plain-some f (Some x) h = plain-one (f x) (h x)
 pub plain-if : (b : Bool) (xs ys : List Data) → ArePlain xs → ArePlain ys → ArePlain (if b then xs else ys)
 plain-if true xs ys x y = x
 plain-if false xs ys x y = y
+
+-- a value that is told, else null
+pub value-if : (b : Bool) (d : Data) → IsPlain d → IsPlain (if b then d else null)
+value-if true d h = h
+value-if false d h = refl
 
 -- a value that is kept, where there is one
 pub plain-back : {X : Type 0} (f : X → Data) (o : Option X) (ds : List Data) → option_to_list (option_map f o) ≡ ds → ArePlain ds → IfSome o (λ x. IsPlain (f x))

@@ -49,7 +49,7 @@ pub outcome-plain : (v : Form) (s : Scene) (h : Past) → IsPlain (outcome_at v 
 unfolding outcome_at
 outcome-plain v s h =
     let circles = has_float (circles_data s.world h.holds) in
-    let waits = has_float (waits_data s.world) in
+    let waits = has_float (waits_data s.world s.tally h.objects) in
     let unreceived = has_float (naturals h.unreceived) in
     let holds = has_float (holds_data h.holds) in
     let between = has_float (between_data h.between) in
@@ -57,7 +57,7 @@ outcome-plain v s h =
     (both between (holds || (unreceived || (waits || (circles || false)))) (between-plain h.between)
     (both holds (unreceived || (waits || (circles || false))) (holds-plain h.holds)
     (both unreceived (waits || (circles || false)) (plain-naturals h.unreceived)
-    (both waits (circles || false) (waits-plain s.world) (both circles false (circles-plain s.world h.holds) refl)))))
+    (both waits (circles || false) (waits-plain s.world s.tally h.objects) (both circles false (circles-plain s.world h.holds) refl)))))
 
 -- what is kept of all the steps of a run from a scene on
 abbrev pub last_past : WorldState → Scene → List ℕ → Past

@@ -1,28 +1,43 @@
 -- Who lets a process wait, and the circles of such processes.
-use Rattle.std.proofs.Common.{◌≡◌, ℕ, zero, suc, ◌+◌, ◌-◌, ◌<◌, ◌≤◌, ◌==◌, ◌&&◌, nat_lt, not, Option, Some, None, List, [], ◌∷◌, ◌++◌, length, take, position, refl, sym, ap, ◌∙◌, append_assoc, append-nil, arith}
+use Rattle.std.proofs.Common.{◌≡◌, ℕ, zero, suc, ◌+◌, ◌-◌, ◌<◌, ◌≤◌, ◌==◌, ◌&&◌, ◌||◌, false, nat_lt, not, Option, Some, None, List, [], ◌∷◌, ◌++◌, length, take, position, refl, sym, ap, ◌∙◌, append_assoc, append-nil, arith}
 use Rattle.std.specs.List.{list_any}
+use Rattle.serde_json.specs.Data.{Data}
+use Rattle.serde_json.specs.Written.{has_float}
 use Rattle.ipc_kernel.specs.Kernel.{KernelState}
 use Rattle.ipc_traps.specs.declared.service.Service.{Service}
 use Rattle.lab_sched.specs.Worlds.{WorldState}
 use Rattle.lab_trace.specs.Ends.{has_open}
+use Rattle.lab_trace.specs.Tallies.{TallyState}
+use Rattle.lab_page.specs.Changes.{known_at, made_with}
+use Rattle.lab_page.specs.Objects.{awaited_at, takers}
 use Rattle.lab_page.specs.Values.{natural, naturals, list}
-use Rattle.lab_page.specs.Waits.{awaited_at, other_at, others, wait_in, waits_data, blockers, blocker, followed, circle_up_to, circle_from, circles_data}
+use Rattle.lab_page.specs.Waits.{other_at, others, taken_data, wait_in, waits_data, blockers, blocker, followed, circle_up_to, circle_from, circles_data}
 use Rattle.lab_page.specs.declared.holds.Hold.{Hold}
-use Rattle.lab_page.proofs.PlainLemmas.{IsPlain, ArePlain, plain-one, plain-below, plain-naturals, plain-if}
+use Rattle.lab_page.specs.declared.known.Known.{Known}
+use Rattle.lab_page.proofs.ObjectLemmas.{takers-plain}
+use Rattle.lab_page.proofs.PlainLemmas.{IsPlain, ArePlain, both, plain-one, plain-below, plain-naturals, plain-if, value-if}
 
 other-plain : (k : KernelState) (p place : ℕ) (s : Service) (q : ℕ) → ArePlain (other_at k p place s q)
 unfolding other_at
 other-plain k p place s q = plain-if (not (q == p) && has_open k place s q) (natural q ∷ []) [] refl refl
 
-wait-plain : (w : WorldState) (p : ℕ) (o : Option (Service × ℕ)) → ArePlain (wait_in w p o)
-wait-plain w p None = refl
-wait-plain w p (Some call) =
-    plain-one (list (natural p ∷ list (others w p call.1 call.0) ∷ []))
-    (plain-one (list (others w p call.1 call.0)) (plain-below (length w.processes) (other_at w.kernel p call.1 call.0) (other-plain w.kernel p call.1 call.0)))
+others-plain : (w : WorldState) (p place : ℕ) (s : Service) → ArePlain (others w p place s)
+others-plain w p place s = plain-below (length w.processes) (other_at w.kernel p place s) (other-plain w.kernel p place s)
 
-pub waits-plain : (w : WorldState) → IsPlain (waits_data w)
+wait-plain : (w : WorldState) (t : TallyState) (ks : List (Option Known)) (p : ℕ) (o : Option (Service × ℕ)) → ArePlain (wait_in w t ks p o)
+wait-plain w t ks p None = refl
+wait-plain w t ks p (Some call) =
+    let taken : Data = taken_data w t ks call.1 in
+    let could : Data = list (others w p call.1 call.0) in
+    plain-one (list (natural p ∷ taken ∷ could ∷ []))
+    (both (has_float taken) (has_float could || false)
+    (value-if (nat_lt 0 (made_with (known_at ks call.1))) (list (takers w t call.1)) (takers-plain w t call.1))
+    (plain-one could (others-plain w p call.1 call.0)))
+
+pub waits-plain : (w : WorldState) (t : TallyState) (ks : List (Option Known)) → IsPlain (waits_data w t ks)
 unfolding waits_data
-waits-plain w = plain-below (length w.processes) (λ p. wait_in w p (awaited_at w p)) (λ p. wait-plain w p (awaited_at w p))
+waits-plain w t ks =
+    plain-below (length w.processes) (λ p. wait_in w t ks p (awaited_at w p)) (λ p. wait-plain w t ks p (awaited_at w p))
 
 circle-plain : (p : ℕ) (ps : List ℕ) (o : Option ℕ) → ArePlain (circle_up_to p ps o)
 circle-plain p ps None = refl

@@ -1,15 +1,20 @@
--- Which objects a step changed: what was last told of each, and what is there now.
-use Rattle.std.specs.Prelude.{ℕ, ◌==◌, ◌&&◌, not, Bool, true, false, if◌then◌else◌, Option, Some, None, is_some, List, [], ◌∷◌, length, replicate, slice_get}
-use Rattle.std.specs.Option.{option_and_then}
-use Rattle.serde_json.specs.Data.{Data}
+-- Which objects are told after a step: what was last told of each, what is there now, and what the step did.
+use Rattle.std.specs.Prelude.{ℕ, ◌==◌, ◌&&◌, ◌||◌, nat_lt, not, Bool, true, false, if◌then◌else◌, Option, Some, None, is_some, List, [], ◌∷◌, length, replicate, slice_get}
+use Rattle.std.specs.Bool.{beq}
+use Rattle.std.specs.Option.{option_and_then, option_map_or}
+use Rattle.serde_json.specs.Data.{Data, boolean}
 use Rattle.ipc_kernel.specs.Limits.{object_places}
 use Rattle.ipc_kernel.specs.Places.{place_at}
 use Rattle.ipc_kernel.specs.declared.place.Place.{Place}
 use Rattle.ipc_kernel.specs.declared.place.Place.TheVariants.{Empty, Mq, Sem}
+use Rattle.ipc_traps.specs.Services.{is_on_level}
 use Rattle.lab_sched.specs.Worlds.{WorldState}
 use Rattle.lab_trace.specs.Tallies.{TallyState}
+use Rattle.lab_trace.specs.Units.{units_of, balance}
+use Rattle.lab_trace.specs.declared.told.Act.{Act}
+use Rattle.lab_trace.specs.declared.told.Act.TheVariants.{Calls, Writes, Ends}
 use Rattle.lab_page.specs.Objects.{object_data}
-use Rattle.lab_page.specs.Values.{all_below}
+use Rattle.lab_page.specs.Values.{list, all_below}
 use Rattle.lab_page.specs.declared.known.Known.{Known}
 
 -- nothing is known of any object
@@ -44,26 +49,29 @@ abbrev pub made_with : Option Known → ℕ
 made_with None = 0
 made_with (Some k) = k.made
 
--- whether two answers are the same
-abbrev pub is_alike : Bool → Bool → Bool
-is_alike true answer = answer
-is_alike false answer = not answer
-
 -- whether an object is as it was: gone, or with a name or not and the level as before
 abbrev pub is_same : Option Known → Option Known → Bool
 is_same None None = true
-is_same (Some k) (Some l) = is_alike k.named l.named && (k.level == l.level)
+is_same (Some k) (Some l) = beq k.named l.named && (k.level == l.level)
 is_same other now = false
 
--- the object in a place where it isn't as it was
-abbrev pub change_from : WorldState → TallyState → ℕ → Option Known → Option Known → List Data
-change_from w t place was now =
-    if is_same was now then [] else object_data w t (made_with now) place (place_at w.kernel.places place) ∷ []
+-- whether what process p did is about the object in a place: a call on its level, for which the process may wait, or an end of the
+-- process, which has taken units of it; t is the tally after it
+abbrev pub is_about : ℕ → Act → TallyState → ℕ → Bool
+is_about p (Calls c) t place = is_on_level c.service && option_map_or (λ q. q == place) c.place false
+is_about p (Writes bytes) t place = false
+is_about p (Ends how) t place = nat_lt 0 (balance (units_of place p t.units))
 
--- the object in a place where it isn't as it was last told
-abbrev pub change_at : WorldState → TallyState → List (Option Known) → ℕ → List Data
-change_at w t ks place = change_from w t place (known_at ks place) (known_now ks w.kernel.places place)
+-- whether an object changed, and the object, where it changed or the step is about it
+abbrev pub told_where : Bool → Bool → Data → List Data
+told_where changed about d = if changed || about then list (boolean changed ∷ d ∷ []) ∷ [] else []
 
--- the objects that aren't as they were last told, in order of place
-unfoldable pub changes : WorldState → TallyState → List (Option Known) → List Data
-changes w t ks = all_below object_places (change_at w t ks)
+-- whether the object in a place isn't as it was last told, and the object, where it is told after what process p did
+abbrev pub object_told : WorldState → TallyState → ℕ → Act → List (Option Known) → ℕ → List Data
+object_told w t p act ks place =
+    told_where (not (is_same (known_at ks place) (known_now ks w.kernel.places place))) (is_about p act t place)
+    (object_data w t (made_with (known_now ks w.kernel.places place)) place (place_at w.kernel.places place))
+
+-- the objects that are told after what process p did, in order of place
+unfoldable pub objects_told : WorldState → TallyState → ℕ → Act → List (Option Known) → List Data
+objects_told w t p act ks = all_below object_places (object_told w t p act ks)

@@ -19,7 +19,7 @@ use Rattle.lab_trace.specs.declared.told.Act.TheVariants.{Calls, Writes, Ends}
 use Rattle.lab_trace.specs.declared.told.Called.{Called}
 use Rattle.lab_trace.specs.declared.told.Event.{Event}
 use Rattle.lab_page.specs.Values.{list, natural, naturals, or_null}
-use Rattle.lab_page.specs.Changes.{changes}
+use Rattle.lab_page.specs.Changes.{objects_told}
 use Rattle.lab_page.specs.Holds.{holds_over, holds_data}
 use Rattle.lab_page.specs.Objects.{open_data}
 use Rattle.lab_page.specs.Pasts.{Past}
@@ -70,9 +70,9 @@ unfoldable pub open_told : WorldState → ℕ → Act → Data
 open_told w p act = if tells_open act then open_data w p else null
 
 -- an event of process p in step n, by the world and the tally after it, and by what was kept of the steps before it: the program
--- counter before it, its line in two parts, what the process did, the objects that it changed, what the process has open, and the
--- units that were taken until then
+-- counter before it, its line in two parts, what the process did, the objects that it changed or is about, what the process has
+-- open, and the units that were taken until then
 unfoldable pub event_data : Form → ℕ → ℕ → Event → WorldState → TallyState → Past → Data
 event_data v n p e w t h =
     list (natural e.pc ∷ string (columns v n p e) ∷ string (act_text e.word e.act) ∷ act_data e.act
-    ∷ list (changes w t h.objects) ∷ open_told w p e.act ∷ holds_data (holds_over w.kernel p e.act h.holds) ∷ [])
+    ∷ list (objects_told w t p e.act h.objects) ∷ open_told w p e.act ∷ holds_data (holds_over w.kernel p e.act h.holds) ∷ [])

@@ -1,18 +1,24 @@
--- Message queues, semaphores, and what a process has open of them.
-use Rattle.std.specs.Prelude.{ℕ, ◌==◌, Option, List, [], ◌∷◌, ◌++◌, length, codes, filter, slice_get, if◌then◌else◌}
-use Rattle.std.specs.Option.{option_map, option_to_list}
+-- Message queues, semaphores, who waits for them, and what a process has open of them.
+use Rattle.std.specs.Prelude.{ℕ, ◌==◌, false, Option, Some, None, List, [], ◌∷◌, ◌++◌, length, codes, filter, slice_get, if◌then◌else◌}
+use Rattle.std.specs.Option.{option_map, option_map_or, option_to_list}
 use Rattle.serde_json.specs.Data.{Data, string, boolean}
 use Rattle.ipc_objects.specs.Queue.{QueueState}
 use Rattle.ipc_objects.specs.declared.queue.Message.{Message}
+use Rattle.ipc_kernel.specs.Kernel.{KernelState}
 use Rattle.ipc_kernel.specs.Limits.{open_max}
 use Rattle.ipc_kernel.specs.declared.place.Place.{Place}
 use Rattle.ipc_kernel.specs.declared.place.Place.TheVariants.{Empty, Mq, Sem}
 use Rattle.ipc_kernel.specs.Processes.{descriptor_of, slot_of}
 use Rattle.ipc_kernel.specs.declared.process.Descriptor.{Descriptor}
 use Rattle.ipc_kernel.specs.declared.process.Slot.{Slot}
-use Rattle.lab_sched.specs.Worlds.{WorldState}
+use Rattle.ipc_traps.specs.declared.service.Service.{Service}
+use Rattle.lc3_machine.specs.Process.{Process as Machine, reg}
+use Rattle.lab_sched.specs.Verdicts.{is_ended}
+use Rattle.lab_sched.specs.Worlds.{Process, Running, Waiting, Ended, WorldState}
 use Rattle.lab_texts.specs.Objects.{access_text}
+use Rattle.lab_trace.specs.Objects.{held_place}
 use Rattle.lab_trace.specs.Origins.{is_in}
+use Rattle.lab_trace.specs.Services.{service_at}
 use Rattle.lab_trace.specs.Tallies.{TallyState}
 use Rattle.lab_trace.specs.Units.{units_of, balance}
 use Rattle.lab_trace.specs.declared.origins.Origin.{Origin}
@@ -22,19 +28,49 @@ use Rattle.lab_page.specs.Values.{list, natural, naturals, or_null, all_below}
 abbrev pub name_data : Option (List ℕ) → Data
 name_data name = or_null (option_map string name)
 
--- a process that took so many units of a semaphore more than it gave
-abbrev pub taker : ℕ → ℕ → List Data
-taker p n = if n == 0 then [] else list (natural p ∷ natural n ∷ []) ∷ []
+-- the call that a process p stands before, and the place of its object
+abbrev pub awaited_in : KernelState → ℕ → Machine → Option Service → Option (Service × ℕ)
+awaited_in k p m None = None
+awaited_in k p m (Some s) = option_map (λ place. (s, place)) (held_place k p s (reg m 0))
+
+-- the call in which process p waits, and the place of its object
+abbrev pub awaited : KernelState → ℕ → Option Process → Option (Service × ℕ)
+awaited k p None = None
+awaited k p (Some (Running m)) = None
+awaited k p (Some (Waiting m c)) = awaited_in k p m (service_at m)
+awaited k p (Some (Ended e)) = None
+
+-- that of process p of a world
+abbrev pub awaited_at : WorldState → ℕ → Option (Service × ℕ)
+awaited_at w p = awaited w.kernel p (slice_get w.processes p)
+
+-- process p, where it waits for the object in a place
+abbrev pub waiter : ℕ → ℕ → Option (Service × ℕ) → List Data
+waiter place p None = []
+waiter place p (Some call) = if call.1 == place then natural p ∷ [] else []
+
+-- the processes that wait for the object in a place
+abbrev pub waiters : WorldState → ℕ → List Data
+waiters w place = all_below (length w.processes) (λ p. waiter place p (awaited_at w p))
+
+-- a process that took so many units of a semaphore more than it gave, and whether it has ended
+abbrev pub taker : ℕ → ℕ → Option Process → List Data
+taker p n s = if n == 0 then [] else list (natural p ∷ natural n ∷ boolean (option_map_or is_ended s false) ∷ []) ∷ []
+
+-- process p, where it took more units of the semaphore in a place than it gave
+abbrev pub taker_at : WorldState → TallyState → ℕ → ℕ → List Data
+taker_at w t place p = taker p (balance (units_of place p t.units)) (slice_get w.processes p)
 
 -- the processes that took more units of the semaphore in a place than they gave, each with how many more
 abbrev pub takers : WorldState → TallyState → ℕ → List Data
-takers w t place = all_below (length w.processes) (λ p. taker p (balance (units_of place p t.units)))
+takers w t place = all_below (length w.processes) (taker_at w t place)
 
--- the semaphore in a place, which was made with some value: its name, its value, that which it was made with, and who has taken
--- units of it
+-- the semaphore in a place, which was made with some value: its name, who waits for it, its value, that which it was made with,
+-- and who has taken units of it
 unfoldable pub semaphore_data : WorldState → TallyState → ℕ → ℕ → Option (List ℕ) × ℕ → Data
 semaphore_data w t made place held =
-    list (string (codes "sem") ∷ natural place ∷ name_data held.0 ∷ natural held.1 ∷ natural made ∷ list (takers w t place) ∷ [])
+    list (string (codes "sem") ∷ natural place ∷ name_data held.0 ∷ list (waiters w place) ∷ natural held.1 ∷ natural made
+    ∷ list (takers w t place) ∷ [])
 
 -- the process and the step that sent a message
 abbrev pub origin_data : Origin → Data
@@ -57,10 +93,10 @@ message_at os q i = option_to_list (option_map (λ m. message_data m (slice_get 
 abbrev pub messages : List Origin → QueueState → List Data
 messages os q = all_below (length q.messages) (message_at os q)
 
--- the queue in a place: its name, mq_maxmsg, mq_msgsize, and its messages
-unfoldable pub queue_data : TallyState → ℕ → Option (List ℕ) × QueueState → Data
-queue_data t place held =
-    list (string (codes "mq") ∷ natural place ∷ name_data held.0 ∷ natural held.1.max_messages
+-- the queue in a place: its name, who waits for it, mq_maxmsg, mq_msgsize, and its messages
+unfoldable pub queue_data : WorldState → TallyState → ℕ → Option (List ℕ) × QueueState → Data
+queue_data w t place held =
+    list (string (codes "mq") ∷ natural place ∷ name_data held.0 ∷ list (waiters w place) ∷ natural held.1.max_messages
     ∷ natural held.1.message_size ∷ list (messages (origins_in t place) held.1) ∷ [])
 
 -- that the object in a place is gone
@@ -70,7 +106,7 @@ gone_data place = list (string (codes "gone") ∷ natural place ∷ [])
 -- the object in a place, which was made with some level; else that it is gone
 abbrev pub object_data : WorldState → TallyState → ℕ → ℕ → Place → Data
 object_data w t made place Empty = gone_data place
-object_data w t made place (Mq name queue) = queue_data t place (name, queue)
+object_data w t made place (Mq name queue) = queue_data w t place (name, queue)
 object_data w t made place (Sem name value) = semaphore_data w t made place (name, value)
 
 -- an open descriptor: the place of its queue, for what it is open, and whether a call that would wait is refused

@@ -51,7 +51,7 @@ outputs w = list (all_below (length w.processes) (λ p. output_of (slice_get w.p
 unfoldable pub outcome_at : Form → Scene → Past → Data
 outcome_at v s h =
     list (string (verdict_word (verdict_of s.world)) ∷ string (end_lines v s.world s.tally) ∷ string (report_text s.world)
-    ∷ outputs s.world ∷ between_data h.between ∷ holds_data h.holds ∷ naturals h.unreceived ∷ waits_data s.world
+    ∷ outputs s.world ∷ between_data h.between ∷ holds_data h.holds ∷ naturals h.unreceived ∷ waits_data s.world s.tally h.objects
     ∷ circles_data s.world h.holds ∷ [])
 
 -- the end of the run of a world by these steps; its lines are without labels

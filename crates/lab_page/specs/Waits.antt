@@ -1,33 +1,19 @@
 -- Who lets a process wait: who could serve its call, who has taken what it waits for, and the circles of such processes.
-use Rattle.std.specs.Prelude.{ℕ, ◌==◌, ◌&&◌, nat_lt, not, Bool, true, false, if◌then◌else◌, Option, Some, None, List, [], ◌∷◌, length, zero, suc, take, position, slice_get}
+use Rattle.std.specs.Prelude.{ℕ, ◌==◌, ◌&&◌, nat_lt, not, Bool, false, if◌then◌else◌, Option, Some, None, List, [], ◌∷◌, length, zero, suc, take, position, slice_get}
 use Rattle.std.specs.List.{find, list_any}
-use Rattle.std.specs.Option.{option_map, option_and_then}
-use Rattle.serde_json.specs.Data.{Data}
+use Rattle.std.specs.Option.{option_map, option_and_then, option_map_or}
+use Rattle.serde_json.specs.Data.{Data, null}
 use Rattle.ipc_kernel.specs.Kernel.{KernelState}
 use Rattle.ipc_traps.specs.declared.service.Service.{Service}
-use Rattle.lc3_machine.specs.Process.{Process as Machine, reg}
-use Rattle.lab_sched.specs.Worlds.{Process, Running, Waiting, Ended, WorldState}
+use Rattle.lab_sched.specs.Verdicts.{is_waiting}
+use Rattle.lab_sched.specs.Worlds.{WorldState}
 use Rattle.lab_trace.specs.Ends.{has_open}
-use Rattle.lab_trace.specs.Objects.{held_place}
-use Rattle.lab_trace.specs.Services.{service_at}
+use Rattle.lab_trace.specs.Tallies.{TallyState}
+use Rattle.lab_page.specs.Changes.{known_at, made_with}
+use Rattle.lab_page.specs.Objects.{awaited_at, takers}
 use Rattle.lab_page.specs.Values.{list, natural, naturals, all_below}
 use Rattle.lab_page.specs.declared.holds.Hold.{Hold}
-
--- the call that a process p stands before, and the place of its object
-abbrev pub awaited_in : KernelState → ℕ → Machine → Option Service → Option (Service × ℕ)
-awaited_in k p m None = None
-awaited_in k p m (Some s) = option_map (λ place. (s, place)) (held_place k p s (reg m 0))
-
--- the call in which process p waits, and the place of its object
-abbrev pub awaited : KernelState → ℕ → Option Process → Option (Service × ℕ)
-awaited k p None = None
-awaited k p (Some (Running m)) = None
-awaited k p (Some (Waiting m c)) = awaited_in k p m (service_at m)
-awaited k p (Some (Ended e)) = None
-
--- that of process p of a world
-abbrev pub awaited_at : WorldState → ℕ → Option (Service × ℕ)
-awaited_at w p = awaited w.kernel p (slice_get w.processes p)
+use Rattle.lab_page.specs.declared.known.Known.{Known}
 
 -- process q, where it is another than process p and could serve its call on the object in a place
 unfoldable pub other_at : KernelState → ℕ → ℕ → Service → ℕ → List Data
@@ -37,25 +23,22 @@ other_at k p place s q = if not (q == p) && has_open k place s q then natural q 
 abbrev pub others : WorldState → ℕ → ℕ → Service → List Data
 others w p place s = all_below (length w.processes) (other_at w.kernel p place s)
 
--- process p, which waits in a call, and the others that could serve that
-abbrev pub wait_in : WorldState → ℕ → Option (Service × ℕ) → List Data
-wait_in w p None = []
-wait_in w p (Some call) = list (natural p ∷ list (others w p call.1 call.0) ∷ []) ∷ []
+-- who has taken units of the semaphore in a place, where that was made with a value above 0
+abbrev pub taken_data : WorldState → TallyState → List (Option Known) → ℕ → Data
+taken_data w t ks place = if nat_lt 0 (made_with (known_at ks place)) then list (takers w t place) else null
 
--- the processes that wait, each with the others that could serve its call
-unfoldable pub waits_data : WorldState → Data
-waits_data w = list (all_below (length w.processes) (λ p. wait_in w p (awaited_at w p)))
+-- process p, which waits in a call, who has taken what it waits for, and the others that could serve its call
+abbrev pub wait_in : WorldState → TallyState → List (Option Known) → ℕ → Option (Service × ℕ) → List Data
+wait_in w t ks p None = []
+wait_in w t ks p (Some call) = list (natural p ∷ taken_data w t ks call.1 ∷ list (others w p call.1 call.0) ∷ []) ∷ []
 
--- whether a process waits
-abbrev pub is_waiting : Option Process → Bool
-is_waiting None = false
-is_waiting (Some (Running m)) = false
-is_waiting (Some (Waiting m c)) = true
-is_waiting (Some (Ended e)) = false
+-- the processes that wait, each with who could let it go on
+unfoldable pub waits_data : WorldState → TallyState → List (Option Known) → Data
+waits_data w t ks = list (all_below (length w.processes) (λ p. wait_in w t ks p (awaited_at w p)))
 
 -- whether a unit is of the semaphore in a place, and its process waits
 abbrev pub is_blocking : WorldState → ℕ → Hold → Bool
-is_blocking w place h = (h.place == place) && is_waiting (slice_get w.processes h.pid)
+is_blocking w place h = (h.place == place) && option_map_or is_waiting (slice_get w.processes h.pid) false
 
 -- the process that waits, and was the last such to take a unit of the semaphore for which a call waits
 abbrev pub blocker_in : WorldState → List Hold → Option (Service × ℕ) → Option ℕ

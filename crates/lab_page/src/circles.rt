@@ -1,31 +1,24 @@
 //! Circles of processes, of which each waits for what the next has taken.
 ghost use Rattle.std.specs.Prelude.{◌≡◌, ◌==◌, ◌<◌, ◌∷◌, IfOk, IfSome, map, length, slice_get, position, nat_lt};
 ghost use Rattle.std.specs.List.{find, list_any};
-ghost use Rattle.std.specs.Option.{option_map, option_copied, option_to_list};
+ghost use Rattle.std.specs.Option.{option_map, option_to_list};
 ghost use Rattle.serde_json.specs.View.{view};
-ghost use Rattle.lab_sched.specs.Held.{process_view};
+ghost use Rattle.lab_page.specs.Objects.{awaited_at};
 ghost use Rattle.lab_page.specs.Values.{naturals};
-ghost use Rattle.lab_page.specs.Waits.{awaited_at, blocker, blocker_in, blockers, circle_from, circles, circles_data, followed, is_blocking, is_waiting};
+ghost use Rattle.lab_page.specs.Waits.{blocker, blocker_in, blockers, circle_from, circles_data, followed, is_blocking};
 
 use crate::holds::Hold;
+use crate::objects::awaited_at;
 use crate::values::push_some;
-use crate::waits::awaited_at;
 use lab_sched::{Process, World};
 use serde_json::Value;
 use std::alloc::{AllocError, Global};
-
-/// Whether a process waits.
-fn is_waiting(process: Option<&Process>) -> bool
-    ensures value { result ≡ is_waiting (option_map process_view (option_copied process.entry)) }
-{
-    matches!(process, Some(Process::Waiting(_, _)))
-}
 
 /// Whether a unit is of the semaphore in a place, and its process waits.
 fn is_blocking(world: &World, place: u8, hold: &Hold) -> bool
     ensures value { result ≡ is_blocking world.now place hold.now }
 {
-    hold.place == place && is_waiting(world.process(hold.pid))
+    hold.place == place && matches!(world.process(hold.pid), Some(Process::Waiting(_, _)))
 }
 
 /// The last unit of the semaphore in a place whose process waits.
@@ -127,25 +120,17 @@ fn circle_from(alloc: Global, pid: usize, behind: &[usize]) -> Result<Option<Val
     Ok(Some(numbers(alloc, pid, others)?))
 }
 
-/// The circles of processes, each by its least one.
-#[tactic(auto, using(crate::proofs::ValueLemmas::all_below_none))]
-fn circles(alloc: Global, blockers: &[Option<usize>]) -> Result<Vec<Value>, AllocError>
-    ensures circles { IfOk result (λ v. map view v.items ≡ circles blockers.now) }
-{
-    let mut circles = Vec::new(alloc);
-    for pid in 0..blockers.len() {
-        let behind = followed(alloc, blockers, pid)?;
-        let circle = circle_from(alloc, pid, &behind)?;
-        push_some(&mut circles, circle)?;
-    }
-    Ok(circles)
-}
-
-/// The circles of processes in a world, by the units that are taken.
-#[tactic(auto, unfolding(crate::specs::Waits::circles_data))]
+/// The circles of processes in a world, each by its least one, by the units that are taken.
+#[tactic(auto, using(crate::proofs::ValueLemmas::all_below_none), unfolding(crate::specs::Waits::circles_data))]
 pub fn circles_value(alloc: Global, world: &World, holds: &[Hold]) -> Result<Value, AllocError>
     ensures value { IfOk result (λ v. view v ≡ circles_data world.now holds.now) }
 {
     let blockers = blockers(alloc, world, holds)?;
-    Ok(Value::Array(circles(alloc, &blockers)?))
+    let mut circles = Vec::new(alloc);
+    for pid in 0..blockers.len() {
+        let behind = followed(alloc, &blockers, pid)?;
+        let circle = circle_from(alloc, pid, &behind)?;
+        push_some(&mut circles, circle)?;
+    }
+    Ok(Value::Array(circles))
 }

@@ -154,7 +154,7 @@ pub fn event_value(
     let head = columns_text(alloc, form, number, pid, event)?;
     let what = event_text(alloc, event)?;
     let act = act_value(alloc, &event.act)?;
-    let objects = past.objects.changes(alloc, world, tally)?;
+    let objects = past.objects.told(alloc, world, tally, pid, &event.act)?;
     let open = open_told(alloc, world, pid, &event.act)?;
     let over = over_value(alloc, world.kernel(), pid, &event.act, &past.holds)?;
     json!(in alloc; [pc, head, what, act, objects, open, over])

@@ -3,14 +3,14 @@ ghost use Rattle.std.specs.Prelude.{◌≡◌, IfOk, OnOk, map, replicate};
 ghost use Rattle.std.specs.Option.{option_map, option_to_list};
 ghost use Rattle.serde_json.specs.View.{view};
 ghost use Rattle.ipc_kernel.specs.Places.{place_at};
-ghost use Rattle.lab_page.specs.Changes.{none_known, known_at, known_with, known_of, known_now, known_after, made_with, is_alike, is_same, change_at, changes};
+ghost use Rattle.lab_page.specs.Changes.{none_known, known_at, known_with, known_of, known_now, known_after, made_with, is_same, is_about, object_told, objects_told};
 
 use crate::objects::object_value;
 use crate::values::push_some;
 use ipc_kernel::{Kernel, OBJECT_PLACES};
 use lab_sched::World;
-use lab_trace::Tally;
-use serde_json::Value;
+use lab_trace::{Act, Tally};
+use serde_json::{Value, json};
 use std::alloc::{AllocError, Global};
 use std::marker::Model;
 
@@ -73,21 +73,27 @@ fn made_with(known: Option<Known>) -> u16
     }
 }
 
-/// Whether two answers are the same.
-fn is_alike(first: bool, second: bool) -> bool
-    ensures same { result ≡ is_alike first second }
-{
-    first == second
-}
-
 /// Whether an object is as it was: gone, or with a name or not and the level as before.
 fn is_same(was: Option<Known>, now: Option<Known>) -> bool
     ensures same { result ≡ is_same was now }
 {
     match (was, now) {
-        (Some(was), Some(now)) => is_alike(was.named, now.named) && was.level == now.level,
+        (Some(was), Some(now)) => was.named == now.named && was.level == now.level,
         (None, None) => true,
         _ => false,
+    }
+}
+
+/// Whether what process `pid` did is about the object in a place, by the tally after it.
+fn is_about(pid: usize, act: &Act, tally: &Tally, place: u8) -> bool
+    ensures value { result ≡ is_about pid act.now tally.now place }
+{
+    match act {
+        Act::Calls(call) => {
+            call.service.is_on_level() && matches!(call.place, Some(of) if of == place)
+        }
+        Act::Writes(_) => false,
+        Act::Ends(_) => tally.balance(place, pid) > 0,
     }
 }
 
@@ -139,42 +145,47 @@ impl KnownObjects {
         Ok(())
     }
 
-    /// The object in a place, where it isn't as it was last told.
-    fn change_at(
+    /// Whether the object in a place isn't as it was last told, and the object, where it is told after what process `pid` did.
+    fn object_told(
         &self,
         alloc: Global,
         world: &World,
         tally: &Tally,
+        pid: usize,
+        act: &Act,
         place: u8,
     ) -> Result<Option<Value>, AllocError>
-        ensures change { IfOk result (λ v. option_to_list (option_map view v)
-            ≡ change_at world.now tally.now self.now place) }
+        ensures object { IfOk result (λ v. option_to_list (option_map view v)
+            ≡ object_told world.now tally.now pid act.now self.now place) }
     {
         let was = self.at(place);
         let now = known_of(was, world.kernel(), place);
-        if is_same(was, now) {
-            return Ok(None);
+        let changed = !is_same(was, now);
+        if changed || is_about(pid, act, tally, place) {
+            let object = object_value(alloc, world, tally, made_with(now), place)?;
+            return Ok(Some(json!(in alloc; [changed, object])?));
         }
-        let made = made_with(now);
-        Ok(Some(object_value(alloc, world, tally, made, place)?))
+        Ok(None)
     }
 
-    /// The objects that aren't as they were last told, in order of place.
-    #[tactic(auto, using(crate::proofs::ValueLemmas::all_below_none), unfolding(crate::specs::Changes::changes))]
-    pub fn changes(
+    /// The objects that are told after what process `pid` did, in order of place.
+    #[tactic(auto, using(crate::proofs::ValueLemmas::all_below_none), unfolding(crate::specs::Changes::objects_told))]
+    pub fn told(
         &self,
         alloc: Global,
         world: &World,
         tally: &Tally,
+        pid: usize,
+        act: &Act,
     ) -> Result<Vec<Value>, AllocError>
-        ensures changes { IfOk result (λ v. map view v.items
-            ≡ changes world.now tally.now self.now) }
+        ensures objects { IfOk result (λ v. map view v.items
+            ≡ objects_told world.now tally.now pid act.now self.now) }
     {
-        let mut changes = Vec::new(alloc);
+        let mut objects = Vec::new(alloc);
         for place in 0..OBJECT_PLACES as u8 {
-            let change = self.change_at(alloc, world, tally, place)?;
-            push_some(&mut changes, change)?;
+            let object = self.object_told(alloc, world, tally, pid, act, place)?;
+            push_some(&mut objects, object)?;
         }
-        Ok(changes)
+        Ok(objects)
     }
 }

@@ -1,17 +1,21 @@
-//! Message queues and semaphores at a moment.
-ghost use Rattle.std.specs.Prelude.{◌≡◌, [], IfOk, map, length, filter};
+//! Message queues and semaphores at a moment, and who waits for them.
+ghost use Rattle.std.specs.Prelude.{◌≡◌, ◌<◌, [], Some, IfOk, map, length, filter};
 ghost use Rattle.std.specs.Option.{option_map, option_copied, option_to_list};
 ghost use Rattle.serde_json.specs.View.{view};
 ghost use Rattle.ipc_kernel.specs.Places.{place_at};
+ghost use Rattle.lab_sched.specs.Held.{process_view};
 ghost use Rattle.lab_trace.specs.Origins.{is_in};
 ghost use Rattle.lab_page.specs.Values.{or_null};
-ghost use Rattle.lab_page.specs.Objects.{name_data, taker, takers, semaphore_data, origin_data, message_data, message_at, messages, queue_data, object_data};
+ghost use Rattle.lab_page.specs.Objects.{name_data, awaited, awaited_at, waiter, waiters, taker_at, takers, semaphore_data, origin_data, message_data, message_at, messages, queue_data, object_data};
 
 use crate::values::{push_some, words_value};
+use ipc_kernel::Kernel;
 use ipc_names::Name;
 use ipc_objects::Queue;
-use lab_sched::World;
-use lab_trace::{Origin, Tally};
+use ipc_traps::Service;
+use lab_sched::{Process, World};
+use lab_trace::{Origin, Tally, held_place, service_at};
+use lc3_word::Reg;
 use serde_json::{Value, json};
 use std::alloc::{AllocError, Global};
 
@@ -25,24 +29,84 @@ fn name_value(alloc: Global, name: Option<&Name>) -> Result<Value, AllocError>
     }
 }
 
-/// A process that took so many units of a semaphore more than it gave, where it did.
-fn taker(alloc: Global, pid: usize, count: u32) -> Result<Option<Value>, AllocError>
-    ensures taker { IfOk result (λ v. option_to_list (option_map view v) ≡ taker pid count) }
+/// The call in which process `pid` waits, and the place of its object.
+fn awaited(kernel: &Kernel, pid: usize, process: &Process) -> Option<(Service, u8)>
+    requires process { pid < length kernel.now.processes }
+    ensures call { result ≡ awaited kernel.now pid (Some (process_view process.now)) }
 {
+    let Process::Waiting(_, _) = process else {
+        return None;
+    };
+    let service = service_at(process)?;
+    let number = process.machine().reg(Reg::of_low_bits(0));
+    let place = held_place(kernel, pid, service, number)?;
+    Some((service, place))
+}
+
+/// That of process `pid` of a world.
+pub fn awaited_at(world: &World, pid: usize) -> Option<(Service, u8)>
+    requires process { pid < length world.now.processes }
+    ensures call { result ≡ awaited_at world.now pid }
+{
+    awaited(world.kernel(), pid, world.process(pid)?)
+}
+
+/// Process `pid`, where it waits for the object in a place.
+fn waiter(world: &World, place: u8, pid: usize) -> Option<Value>
+    requires process { pid < length world.now.processes }
+    ensures waiter { option_to_list (option_map view result)
+        ≡ waiter place pid (awaited_at world.now pid) }
+{
+    match awaited_at(world, pid) {
+        Some((_, awaited)) if awaited == place => Some(Value::from(pid)),
+        _ => None,
+    }
+}
+
+/// The processes that wait for the object in a place.
+#[tactic(auto, using(crate::proofs::ValueLemmas::all_below_none))]
+fn waiters(alloc: Global, world: &World, place: u8) -> Result<Vec<Value>, AllocError>
+    ensures waiters { IfOk result (λ v. map view v.items ≡ waiters world.now place) }
+{
+    let mut waiters = Vec::new(alloc);
+    for pid in 0..world.count() {
+        push_some(&mut waiters, waiter(world, place, pid))?;
+    }
+    Ok(waiters)
+}
+
+/// Process `pid`, where it took more units of the semaphore in a place than it gave, with how many more, and whether it has ended.
+fn taker_at(
+    alloc: Global,
+    world: &World,
+    tally: &Tally,
+    place: u8,
+    pid: usize,
+) -> Result<Option<Value>, AllocError>
+    ensures taker { IfOk result (λ v. option_to_list (option_map view v)
+        ≡ taker_at world.now tally.now place pid) }
+{
+    let count = tally.balance(place, pid);
     if count == 0 {
         return Ok(None);
     }
-    Ok(Some(json!(in alloc; [pid, count])?))
+    let ended = matches!(world.process(pid), Some(Process::Ended(_)));
+    Ok(Some(json!(in alloc; [pid, count, ended])?))
 }
 
 /// The processes that took more units of the semaphore in a place than they gave.
 #[tactic(auto, using(crate::proofs::ValueLemmas::all_below_none))]
-fn takers(alloc: Global, world: &World, tally: &Tally, place: u8) -> Result<Vec<Value>, AllocError>
+pub fn takers(
+    alloc: Global,
+    world: &World,
+    tally: &Tally,
+    place: u8,
+) -> Result<Vec<Value>, AllocError>
     ensures takers { IfOk result (λ v. map view v.items ≡ takers world.now tally.now place) }
 {
     let mut takers = Vec::new(alloc);
     for pid in 0..world.count() {
-        let taker = taker(alloc, pid, tally.balance(place, pid))?;
+        let taker = taker_at(alloc, world, tally, place, pid)?;
         push_some(&mut takers, taker)?;
     }
     Ok(takers)
@@ -63,8 +127,9 @@ fn semaphore_value(
         ≡ semaphore_data world.now tally.now made place (option_copied name.entry, value)) }
 {
     let name = name_value(alloc, name)?;
+    let waiters = waiters(alloc, world, place)?;
     let takers = takers(alloc, world, tally, place)?;
-    json!(in alloc; ["sem", place, name, value, made, takers])
+    json!(in alloc; ["sem", place, name, waiters, value, made, takers])
 }
 
 /// Where the messages in the queue in a place come from.
@@ -145,19 +210,21 @@ fn messages(alloc: Global, queue: &Queue, origins: &[Origin]) -> Result<Vec<Valu
 #[tactic(auto, unfolding(crate::specs::Objects::queue_data))]
 fn queue_value(
     alloc: Global,
+    world: &World,
     tally: &Tally,
     place: u8,
     name: Option<&Name>,
     queue: &Queue,
 ) -> Result<Value, AllocError>
     ensures value { IfOk result (λ v. view v
-        ≡ queue_data tally.now place (option_copied name.entry, queue.now)) }
+        ≡ queue_data world.now tally.now place (option_copied name.entry, queue.now)) }
 {
     let name = name_value(alloc, name)?;
     let (most, size, _) = queue.attr();
     let origins = origins_in(alloc, tally, place)?;
+    let waiters = waiters(alloc, world, place)?;
     let messages = messages(alloc, queue, &origins)?;
-    json!(in alloc; ["mq", place, name, most, size, messages])
+    json!(in alloc; ["mq", place, name, waiters, most, size, messages])
 }
 
 /// The object in a place, which was made with some level; else that it is gone.
@@ -173,7 +240,7 @@ pub fn object_value(
 {
     let kernel = world.kernel();
     if let Some((name, queue)) = kernel.queue_at(place) {
-        return queue_value(alloc, tally, place, name, queue);
+        return queue_value(alloc, world, tally, place, name, queue);
     }
     match kernel.semaphore_at(place) {
         Some((name, value)) => semaphore_value(alloc, world, tally, made, place, name, value),

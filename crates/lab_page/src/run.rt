@@ -96,7 +96,7 @@ fn outcome_value(
     let between = past.between.value(alloc)?;
     let holds = holds_value(alloc, &past.holds)?;
     let unreceived = steps_value(alloc, &past.unreceived)?;
-    let waits = waits_value(alloc, world)?;
+    let waits = waits_value(alloc, world, tally, &past.objects)?;
     let circles = circles_value(alloc, world, &past.holds)?;
     json!(in alloc; [verdict, stands, report, outputs, between, holds, unreceived, waits, circles])
 }

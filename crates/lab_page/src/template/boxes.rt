@@ -59,15 +59,11 @@ function link(a, kind, tip) {                     // from the box of a record to
 
 // ---- why a process waits for ever
 
-function openToo(open, use) {                     // of a stuck run: who has the object open waits for ever too
-  if (open.length === 0) return ['nobody', 'else has it open' + use];
-  return [listOf(open), (open.length > 1 ? 'have' : 'has') + ` it open${use}, stuck too`];
-}
-const others = new Map(WAITS);                    // of each process that waits those that could let it go on
 function lacking({ p, k }) {                      // who has taken a semaphore that was made above 0, or has the object open
-  const { call, on } = R[k], object = objectAt(on, R.length), open = others.get(p);
-  if (object.made > 0) return [takers(object, R.length) || 'nobody', object.taken.length > 1 ? 'have it' : 'has it'];
-  return openToo(open, call === 'mq_receive' ? ' to send' : call === 'mq_send' ? ' to receive' : '');
+  const [, taken, open] = WAITS.find(([process]) => process === p), has = who => (who.length > 1 ? 'have' : 'has') + ' it';
+  if (taken) return [takers(taken) || 'nobody', has(taken)];
+  const use = { mq_receive: ' to send', mq_send: ' to receive' }[R[k].call] || '';
+  return open.length ? [listOf(open), has(open) + ` open${use}, stuck too`] : ['nobody', 'else has it open' + use];
 }
 function circleText(circle) {                     // each of these waits for what the next has taken
   if (circle.length === 1) return `P${circle[0]} waits for a semaphore that it has taken itself.`;

@@ -13,7 +13,7 @@ function statusLine(p) {
 function whyText(p) {
   if (p.state !== 'waiting') return '';
   const object = objectAt(p.on, cur), text = `waits for ${nameOf(object)} since step ${p.step}`;
-  if (object.kind === 'sem') return text + ', taken by ' + (takers(object, cur) || 'nobody');
+  if (object.kind === 'sem') return text + ', taken by ' + (takers(object.taken) || 'nobody');
   return text + (object.messages.length === 0 ? ' (empty)' : ` (${object.messages.length} of ${object.most})`);
 }
 function registersOf(p, acts) {
@@ -60,16 +60,15 @@ function card(p, acts) {                          // of a process, and whether i
 
 // ---- the objects
 
-function showObjects(processes, e) {
+function showObjects(e) {
   const objects = places.map((_, place) => objectAt(place, cur)).filter(object => object), touched = e && e.changed || [];
-  const waiters = o => listOf(processes.filter(p => p.state === 'waiting' && p.on === o.place).map(p => p.process));
   const name = o => marked(touched.includes(o.place), esc(nameOf(o))) + (o.name === null ? ' (unlinked)' : '');
-  const cells = o => [name(o), o.value, takers(o, cur) || '-', waiters(o) || '-'];
+  const cells = o => [name(o), o.value, takers(o.taken) || '-', listOf(o.waiters) || '-'];
   const row = o => '<tr>' + cells(o).map(text => `<td>${text}`).join('') + '</tr>';
   const from = origin => origin ? `, from P${origin[0]} at ${origin[1]}` : '';
   const item = m => `<li>${esc(message(m))} prio ${m[0]}${from(m[2])}</li>`;
   const queue = o => `<div class="queue mono">${name(o)} ${o.messages.length} of ${o.most}, length up to ${o.size}` +
-    (waiters(o) ? ', waited for by ' + waiters(o) : '') +
+    (o.waiters.length ? ', waited for by ' + listOf(o.waiters) : '') +
     (o.messages.length ? '<ol>' + o.messages.map(item).join('') + '</ol>' : '') + '</div>';
   const head = '<tr><th>name<th>value<th>taken by<th>waited for by</tr>', none = '<p class="none">none</p>';
   const sems = objects.filter(o => o.kind === 'sem').map(row).join('');
@@ -92,9 +91,8 @@ function reveal(element) {                        // the card of the process tha
   if (top < view.scrollTop || end > view.scrollTop + view.clientHeight) view.scrollTop = top - 10;
 }
 function panel(e) {                               // e is the record of the last step, where there is one
-  const processes = PROCESSES.map(p => processAt(p, cur));
-  showObjects(processes, e);
-  for (const p of processes) showProcess(p, p === e);
+  showObjects(e);
+  for (const p of PROCESSES.map(p => processAt(p, cur))) showProcess(p, p === e);
   if (e) reveal($('card' + e.process));
 }
 "##;

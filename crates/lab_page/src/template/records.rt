@@ -15,10 +15,10 @@ const NAMES = DATA.processes.map(([name]) => visible(name).replace(/\t/g, '\\x09
 // ---- what stands in the arrays
 
 const stateOf = ([pc, cc, registers, first, code]) => ({ pc, cc, registers, first, code });
-function objectOf([kind, place, name, ...rest]) {
-  const [value, made, taken] = rest, [most, size, messages] = rest;
+function objectOf([kind, place, name, waiters, ...rest]) {
+  const [value, made, taken] = rest, [most, size, messages] = rest, known = { place, name, waiters };
   if (kind === 'gone') return null;
-  return kind === 'sem' ? { kind, place, name, value, made, taken } : { kind: 'queue', place, name, most, size, messages };
+  return kind === 'sem' ? { kind, ...known, value, made, taken } : { kind: 'queue', ...known, most, size, messages };
 }
 function didOf([what, ...rest]) {                 // ends, output or call
   if (what !== 'call') return { [what]: rest[0] };
@@ -42,25 +42,26 @@ const lives = starts.map((state, process) =>
   [{ ...stateOf(state), process, k: -1, state: 'running', written: '', open: [] }]);
 const places = [];                                // of each place its objects, null where one is gone
 const objectAt = (place, k) => places[place] ? latest(places[place], k).object : null;
-function keepObject(k, object) {                  // its place
-  const [, place] = object, list = places[place] = places[place] || [{ k: -1, object: null }];
-  list.push({ k, object: objectOf(object) });
-  return place;
+function keepObject(k, object) {
+  const [, place] = object;
+  (places[place] ??= [{ k: -1, object: null }]).push({ k, object: objectOf(object) });
 }
 const R = moments.map(([step, process, state, event, between], k) => {
   const was = lives[process][lives[process].length - 1], { written, open } = was;
   const e = { ...stateOf(state), k, step, process, state: 'running', from: was.pc, written, open };
   lives[process].push(e);
   if (!event) return e;
-  const [from, head, what, did, objects, opened, over] = event, changed = objects.map(object => keepObject(k, object));
+  const [from, head, what, did, objects, opened, over] = event;
+  const changed = objects.filter(([isChanged]) => isChanged).map(([, [, place]]) => place);
+  for (const [, object] of objects) keepObject(k, object);
   Object.assign(e, { from, head, what, changed, over, between, open: opened || open }, didOf(did));
   e.state = e.ends ? 'ended' : e.waits ? 'waiting' : 'running';
   if (e.output) e.written += shown(e.output);
   return e;
 });
 const EVENTS = R.filter(isEvent);
-const processAt = (p, k) => latest(lives[p], k), hasEnded = (p, k) => processAt(p, k).state === 'ended';
+const processAt = (p, k) => latest(lives[p], k);
 const wasOf = e => processAt(e.process, e.k);     // its process before it
-const takers = ({ taken }, k) =>
-  taken.map(([p, count]) => 'P' + p + (count > 1 ? '*' + count : '') + (hasEnded(p, k) ? '(ended)' : '')).join(' ');
+const takers = taken =>
+  taken.map(([p, count, hasEnded]) => 'P' + p + (count > 1 ? '*' + count : '') + (hasEnded ? '(ended)' : '')).join(' ');
 "##;

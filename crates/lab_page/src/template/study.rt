@@ -87,7 +87,7 @@ function levelAt(object, k) {                     // the value, or how many mess
     const { messages, most } = object, value = messages.length + '/' + most;
     return { k, value, who: messages.map(bodyText).join(' '), text, title: messages.map(message).join(' ') || 'empty' };
   }
-  const value = String(object.value), who = object.made > 0 ? takers(object, k + 1) : '';
+  const value = String(object.value), who = object.made > 0 ? takers(object.taken) : '';
   return { k, value, who, text, title: 'value ' + value + (who ? ', taken by ' + who : '') };
 }
 function followObject(e, place) {

@@ -1,5 +1,6 @@
 use Rattle.std.proofs.Common.{ℕ, Option, [], ◌∷◌, ap}
-use Rattle.lab_page.specs.Waits.{awaited_at, blocker_in}
+use Rattle.lab_page.specs.Objects.{awaited_at}
+use Rattle.lab_page.specs.Waits.{blocker_in}
 use Rattle.lab_page.proofs.KnownLemmas.{below-added}
 use Rattle.lab_page.proofs.circles.blockers.Goals as goal
 

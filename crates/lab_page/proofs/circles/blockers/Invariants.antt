@@ -1,6 +1,7 @@
 use Rattle.std.proofs.Common.{◌≡◌, [], ◌∷◌}
+use Rattle.lab_page.specs.Objects.{awaited_at}
 use Rattle.lab_page.specs.Values.{all_below}
-use Rattle.lab_page.specs.Waits.{awaited_at, blocker_in}
+use Rattle.lab_page.specs.Waits.{blocker_in}
 use Rattle.lab_page.proofs.circles.blockers.Given as goal
 
 -- those of the processes so far are added

@@ -2,9 +2,9 @@ use Rattle.std.proofs.Common.{◌≡◌, length, map}
 use Rattle.serde_json.specs.View.{view}
 use Rattle.lab_page.specs.Values.{all_below}
 use Rattle.lab_page.specs.Waits.{blocker, circle_from, followed}
-use Rattle.lab_page.proofs.circles.circles.Given as goal
+use Rattle.lab_page.proofs.circles.circles_value.Given as goal
 
 -- those of the processes so far are added
 abbrev pub invariant-loop-pid : goal.invariant-loop-pid
 invariant-loop-pid l =
-    map view l.circles.items ≡ all_below l.pid (λ p. circle_from p (followed l.blockers (length l.blockers) (blocker l.blockers p)))
+    map view l.circles.items ≡ all_below l.pid (λ p. circle_from p (followed l.blockers.items (length l.blockers.items) (blocker l.blockers.items p)))
