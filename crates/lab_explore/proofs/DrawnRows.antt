@@ -1,5 +1,5 @@
 -- Pictures: nodes of rows, and arrows of edges.
-use Rattle.std.proofs.Common.{ℕ, zero, suc, ◌≡◌, ◌<◌, ◌+◌, ◌++◌, All, IfSome, List, [], ◌∷◌, Option, Some, None, refl, sym, ap, subst, ◌∙◌, slice_get, set, get_or, length, map, arith}
+use Rattle.std.proofs.Common.{ℕ, zero, suc, ◌≡◌, ◌<◌, ◌+◌, ◌++◌, All, IfSome, List, [], ◌∷◌, Option, Some, None, refl, sym, ap, subst, ◌∙◌, slice_get, get_or, length, map, arith}
 use Rattle.std.specs.Option.{option_map}
 use Rattle.std.proofs.lemmas.List.{length-append}
 use Rattle.std.proofs.lemmas.Option.{slice_get-map, slice_get-get_or}
@@ -12,8 +12,6 @@ use Rattle.lab_explore.specs.declared.picture.Node.{Node}
 use Rattle.lab_explore.specs.declared.picture.Arrow.{Arrow}
 use Rattle.lab_explore.specs.declared.picture.Picture.{Picture}
 use Rattle.lab_explore.specs.declared.store.Edge.{Edge}
-use Rattle.lab_explore.specs.declared.store.Next.{Next}
-use Rattle.lab_explore.specs.declared.store.Next.TheVariants.{Nothing, To}
 use Rattle.lab_explore.specs.Private.Rows.{Row}
 use Rattle.lab_explore.specs.declared.store.Store.{Store}
 use Rattle.lab_explore.specs.declared.walking.Walk.{Walk}
@@ -24,14 +22,13 @@ use Rattle.lab_explore.specs.Ends.{IsEnd}
 use Rattle.lab_explore.specs.Untried.{GoesOn, NoneGoesOn, untried}
 use Rattle.lab_explore.specs.Pictures.{AreAtCalls, IsNode, IsStep, HaveAllSteps, BeginsAt, IsNearer, HaveFewestNodeCalls}
 use Rattle.lab_explore.specs.Private.Depths.{depth_of, IsNear, AreDepths}
-use Rattle.lab_explore.specs.Private.Drawn.{IsNodeOfRow, AreNodesOfRows, arrow_of, IsRowStep, IsPictureOf}
-use Rattle.lab_explore.specs.Private.Stored.{IsState, IsRow, IsAt, IsLike, IsReady, IsStore, IsNextAt, AreExpanded}
+use Rattle.lab_explore.specs.Private.Drawn.{IsNodeOfRow, AreNodesOfRows, arrow_of, IsPictureOf}
+use Rattle.lab_explore.specs.Private.Stored.{IsState, IsRow, IsAt, IsLike, IsReady, LeadsTo, IsStore, AreExpanded}
 use Rattle.lab_explore.specs.Private.Walked.{IsWalk}
 use Rattle.lab_explore.proofs.AlikeWorlds.{world_then, world_back, same_effect, step_alike, consistent_run}
 use Rattle.lab_explore.proofs.FirstWorlds.{at_unique, reached_advance}
 use Rattle.lab_explore.proofs.Growths.{state_kept}
 use Rattle.lab_explore.proofs.Pushes.{all_at}
-use Rattle.lab_explore.proofs.StepsOfRows.{moved_at, goes_on}
 
 some_at : {A : Type 0} (xs : List A) (i : ℕ) → i < length xs → (x : A) × (slice_get xs i ≡ Some x)
 some_at [] i within = absurd (omega (arith, within))
@@ -128,38 +125,22 @@ advance_from w v x a h = record {
   processes = subst (λ ps. Alongside IsAhead ps x.processes) a.processes h.processes;
 }
 
--- the step of an edge that is a move, which leads to the row that it names
-pub row_step : (t : Store) (e : Edge) (n : Next) (kernel state taken : ℕ) (r : Row) → IsStore t → IsNextAt t e.from e.pid n → n ≡ To kernel state taken → r.kernel ≡ kernel
-    → ((x : Row) × (slice_get t.rows e.from ≡ Some x) × (r.states ≡ set x.states e.pid state)) → slice_get t.rows e.to ≡ Some r → IsRowStep t (arrow_of e)
-row_step t e n kernel state taken r is next next-is kernel-is states to =
-    let w = all_at (λ x. (w : WorldState) × IsRow t x w) t.rows e.from states.0 is.rows states.1 in
-    let here : IsAt t e.from w.0 = (states.0, states.1, w.1) in
-    let m = moved_at t w.0 e.from e.pid kernel state taken n r is here next next-is kernel-is states in
-    record {
-      before = w.0;
-      after = m.0;
-      from = here;
-      to = (r, to, m.1);
-      goes_on = goes_on t w.0 e.from e.pid n here next (λ none. let clash : To kernel state taken ≡ Nothing = sym next-is ∙ none in absurd (cc));
-      leads = m.2;
-    }
-
 -- a step between the worlds of rows is one between nodes
-step_of_row : (start : WorldState) (t : Store) (depths : List ℕ) (ns : List Node) (a : Arrow) → IsConsistent start.kernel → AreNodesOfRows start t depths ns → IsRowStep t a → IsStep ns a
+step_of_row : (start : WorldState) (t : Store) (depths : List ℕ) (ns : List Node) (a : Arrow) → IsConsistent start.kernel → AreNodesOfRows start t depths ns → LeadsTo t a.from a.process a.to → IsStep ns a
 step_of_row start t depths ns a consistent nodes h =
-    let m = node_at start t depths ns a.from h.before nodes h.from in
-    let n = node_at start t depths ns a.to h.after nodes h.to in
+    let m = node_at start t depths ns a.from h.0 nodes h.2 in
+    let n = node_at start t depths ns a.to h.1 nodes h.3 in
     let held = node_consistent start m.0 consistent m.2.node in
-    let back = world_back h.before m.0.world m.3 in
+    let back = world_back h.0 m.0.world m.3 in
     record {
       before = m.0.world;
       after = n.0.world;
       from = (m.0, m.1, refl);
       to = (n.0, n.1, refl);
-      goes_on = subst GoesOn (same_effect m.0.world h.before a.process held back) h.goes_on;
+      goes_on = subst GoesOn (same_effect m.0.world h.0 a.process held back) h.5;
       leads =
-          advance_from (step m.0.world a.process) (step h.before a.process) n.0.world (step_alike m.0.world h.before a.process held back)
-          (advance_then (step h.before a.process) h.after n.0.world (reached_advance (step h.before a.process) h.after h.leads) n.3);
+          advance_from (step m.0.world a.process) (step h.0 a.process) n.0.world (step_alike m.0.world h.0 a.process held back)
+          (advance_then (step h.0 a.process) h.1 n.0.world (reached_advance (step h.0 a.process) h.1 h.4) n.3);
     }
 
 all_steps : (start : WorldState) (t : Store) (depths : List ℕ) (ns : List Node) (arrows : List Arrow) → IsConsistent start.kernel → AreNodesOfRows start t depths ns → arrows ≡ map arrow_of t.edges
@@ -213,14 +194,16 @@ fewest start t depths ns arrows nodes same deep = record {
 }
 
 -- the picture of a search in which each step was tried
-pub drawn : (start : WorldState) (t : Store) (depths : List ℕ) (x : Picture) → IsConsistent start.kernel → AreNodesOfRows start t depths x.nodes.items → x.arrows.items ≡ map arrow_of t.edges
-    → All (IsRowStep t) x.arrows.items → AreDepths depths t.edges → AreExpanded t → IsPictureOf start t x
-drawn start t depths x consistent nodes same steps deep expanded =
+pub drawn : (start : WorldState) (t : Store) (depths : List ℕ) (x : Picture) → IsConsistent start.kernel → IsStore t → AreNodesOfRows start t depths x.nodes.items → x.arrows.items ≡ map arrow_of t.edges
+    → AreDepths depths t.edges → AreExpanded t → IsPictureOf start t x
+drawn start t depths x consistent is nodes same deep expanded =
     let ns = x.nodes.items in
     let each : (k : ℕ) (d : Node) → k < length ns → IsNodeOfRow start t (depth_of depths k) k (get_or ns k d) = λ k d below. nodes.each k (get_or ns k d) (slice_get-get_or ns k d below) in
     record {
       nodes = λ k d below. (each k d below).node;
-      arrows = λ k d below. step_of_row start t depths ns (get_or x.arrows.items k d) consistent nodes (steps k d below);
+      arrows =
+          subst (λ xs. All (IsStep ns) xs) (sym same)
+          (all_arrows (IsStep ns) t.edges (λ k d below. step_of_row start t depths ns (arrow_of (get_or t.edges k d)) consistent nodes (is.edges k d below)));
       begins = begins_at start t depths ns nodes;
       steps = all_steps start t depths ns x.arrows.items consistent nodes same expanded;
       fewest = fewest start t depths ns x.arrows.items nodes same deep;

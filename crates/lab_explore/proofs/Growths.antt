@@ -24,7 +24,7 @@ use Rattle.ipc_kernel.specs.declared.place.Place.{Place}
 use Rattle.ipc_kernel.specs.declared.process.OpenTables.{OpenTables}
 use Rattle.lab_explore.specs.Private.Shorts.{Sharing, IsSameOrMore}
 use Rattle.lab_explore.specs.Private.Independent.{IsTriedAlone, IsTriedIn}
-use Rattle.lab_explore.specs.Private.Stored.{IsState, IsKernel, IsRow, IsAt, IsReady, IsStore, Grows, IsNext, IsMove, HasEdge, IsTried, IsExpanded}
+use Rattle.lab_explore.specs.Private.Stored.{IsState, IsKernel, IsRow, IsAt, IsReady, LeadsTo, IsStore, Grows, IsNext, IsMove, HasEdge, IsTried, IsExpanded}
 use Rattle.std.proofs.lemmas.List.Elements.{All-push, All-weaker}
 use Rattle.lab_explore.proofs.Pushes.{both_weaker, keeps_push, get_pushed}
 
@@ -102,16 +102,25 @@ tried_in_grows false t u i g h = expanded_grows t u i g h
 tried_in_grows true t u i g (inl h) = inl (expanded_grows t u i g h)
 tried_in_grows true t u i g (inr h) = inr (alone_grows t u i g h)
 
+-- where a row leads, it still does
+pub leads_grow : (t u : Store) (i p j : ℕ) → Grows t u → LeadsTo t i p j → LeadsTo u i p j
+leads_grow t u i p j g (w, v, from, to, reached, goes) = (w, v, at_grows t u i w g from, at_grows t u j v g to, reached, goes)
+
+edges_lead : (t u : Store) → IsStore t → Grows t u → All (λ (e : Edge). LeadsTo u e.from e.pid e.to) t.edges
+edges_lead t u s g =
+    All-weaker (λ (e : Edge). LeadsTo t e.from e.pid e.to) (λ (e : Edge). LeadsTo u e.from e.pid e.to) (λ e h. leads_grow t u e.from e.pid e.to g h) t.edges s.edges
+
 -- each row of a store stands for the world that it stood for
 rows_grow : (t u : Store) → IsStore t → Grows t u → All (λ r. (w : WorldState) × IsRow u r w) t.rows
 rows_grow t u s g =
     All-weaker (λ r. (w : WorldState) × IsRow t r w) (λ r. (w : WorldState) × IsRow u r w) (λ r h. (h.0, row_grows t u r h.0 g h.1)) t.rows s.rows
 
 -- a store that has more kernels, or more states
-pub store_grows : (t u : Store) → IsStore t → Grows t u → All IsReady u.states.processes → u.rows ≡ t.rows → IsStore u
-store_grows t u s g ready same = record {
+pub store_grows : (t u : Store) → IsStore t → Grows t u → All IsReady u.states.processes → u.rows ≡ t.rows → u.edges ≡ t.edges → IsStore u
+store_grows t u s g ready same edges = record {
   states = ready;
   rows = subst (λ xs. All (λ r. (w : WorldState) × IsRow u r w) xs) (sym same) (rows_grow t u s g);
+  edges = subst (λ xs. All (λ (e : Edge). LeadsTo u e.from e.pid e.to) xs) (sym edges) (edges_lead t u s g);
 }
 
 -- the same kernels
@@ -128,7 +137,7 @@ states_pushed t u k s ready states kernels rows edges =
       rows = λ i x e. subst (λ xs. slice_get xs i ≡ Some x) (sym rows) e;
       edges = λ i x e. subst (λ xs. slice_get xs i ≡ Some x) (sym edges) e;
     } in
-    (g, store_grows t u s g (subst (λ xs. All IsReady xs) (sym states) (All-push IsReady t.states.processes k s.states ready)) rows)
+    (g, store_grows t u s g (subst (λ xs. All IsReady xs) (sym states) (All-push IsReady t.states.processes k s.states ready)) rows edges)
 
 -- the same states, among other outputs
 states_same : (t u : Store) → IsStore t → u.states.processes ≡ t.states.processes → u.kernels ≡ t.kernels → u.rows ≡ t.rows → u.edges ≡ t.edges → Grows t u × IsStore u
@@ -139,7 +148,7 @@ states_same t u s states kernels rows edges =
       rows = λ i x e. subst (λ xs. slice_get xs i ≡ Some x) (sym rows) e;
       edges = λ i x e. subst (λ xs. slice_get xs i ≡ Some x) (sym edges) e;
     } in
-    (g, store_grows t u s g (subst (λ xs. All IsReady xs) (sym states) s.states) rows)
+    (g, store_grows t u s g (subst (λ xs. All IsReady xs) (sym states) s.states) rows edges)
 
 -- more kernels
 pub kernels_grown : (t u : Store) → IsStore t → GrowsKept t.kernels u.kernels → u.states ≡ t.states → u.rows ≡ t.rows → u.edges ≡ t.edges → Grows t u × IsStore u
@@ -150,7 +159,7 @@ kernels_grown t u s kernels states rows edges =
       rows = λ i x e. subst (λ xs. slice_get xs i ≡ Some x) (sym rows) e;
       edges = λ i x e. subst (λ xs. slice_get xs i ≡ Some x) (sym edges) e;
     } in
-    (g, store_grows t u s g (subst (λ (xs : Sharing). All IsReady xs.processes) (sym states) s.states) rows)
+    (g, store_grows t u s g (subst (λ (xs : Sharing). All IsReady xs.processes) (sym states) s.states) rows edges)
 
 -- the same rows
 pub rows_same : (t u : Store) → IsStore t → u.rows ≡ t.rows → u.kernels ≡ t.kernels → u.states ≡ t.states → u.edges ≡ t.edges → Grows t u × IsStore u
@@ -177,6 +186,7 @@ rows_pushed t u r s stands rows kernels states edges =
       record {
         states = subst (λ (xs : Sharing). All IsReady xs.processes) (sym states) s.states;
         rows = subst (λ xs. All (λ q. (w : WorldState) × IsRow u q w) xs) (sym rows) (All-push (λ q. (w : WorldState) × IsRow u q w) t.rows r old here);
+        edges = subst (λ xs. All (λ (e : Edge). LeadsTo u e.from e.pid e.to) xs) (sym edges) (edges_lead t u s g);
       },
     )
 
@@ -185,16 +195,23 @@ row_pushed t u r w n g rows is h =
     (r, ap (λ xs. slice_get xs n) rows ∙ ap (λ m. slice_get (t.rows ++ r ∷ []) m) is ∙ get_pushed t.rows r, row_grows t u r w g h)
 
 -- one edge more
-pub edges_pushed : (t u : Store) (e : Edge) → IsStore t → u.edges ≡ t.edges ++ e ∷ [] → u.kernels ≡ t.kernels → u.states ≡ t.states → u.rows ≡ t.rows
+pub edges_pushed : (t u : Store) (e : Edge) → IsStore t → LeadsTo t e.from e.pid e.to → u.edges ≡ t.edges ++ e ∷ [] → u.kernels ≡ t.kernels → u.states ≡ t.states → u.rows ≡ t.rows
     → Grows t u × IsStore u
-edges_pushed t u e s edges kernels states rows =
+edges_pushed t u e s leads edges kernels states rows =
     let g : Grows t u = record {
       kernels = same_kernels t u kernels;
       states = λ i x h. subst (λ (xs : Sharing). slice_get xs.processes i ≡ Some x) (sym states) h;
       rows = λ i x h. subst (λ xs. slice_get xs i ≡ Some x) (sym rows) h;
       edges = λ i x h. subst (λ xs. slice_get xs i ≡ Some x) (sym edges) (keeps_push t.edges e i x h);
     } in
-    (g, store_grows t u s g (subst (λ (xs : Sharing). All IsReady xs.processes) (sym states) s.states) rows)
+    let all = All-push (λ (x : Edge). LeadsTo u x.from x.pid x.to) t.edges e (edges_lead t u s g) (leads_grow t u e.from e.pid e.to g leads) in (
+      g,
+      record {
+        states = subst (λ (xs : Sharing). All IsReady xs.processes) (sym states) s.states;
+        rows = subst (λ xs. All (λ r. (w : WorldState) × IsRow u r w) xs) (sym rows) (rows_grow t u s g);
+        edges = subst (λ xs. All (λ (x : Edge). LeadsTo u x.from x.pid x.to) xs) (sym edges) all;
+      },
+    )
 
 -- tables and an object stay what they are
 parts_grow : (t u : Store) (tables object : ℕ) (x : OpenTables) (o : Place) → Grows t u → AreParts t tables object x o → AreParts u tables object x o

@@ -20,7 +20,7 @@ use Rattle.lab_explore.specs.declared.shorts.Short.{Short}
 use Rattle.lab_explore.specs.declared.store.Store.{Store}
 use Rattle.lab_explore.specs.Private.Rows.{Row}
 use Rattle.lab_explore.specs.Private.Shorts.{whole_of}
-use Rattle.lab_explore.specs.Private.Stored.{IsState, IsRow, IsAt}
+use Rattle.lab_explore.specs.Private.Stored.{IsState, IsExactly, IsRow, IsAt}
 use Rattle.lab_explore.specs.Private.Independent.{IsIndependent, unlinks, KeepAllNames, StatesKeepNames, KeepsNames}
 use Rattle.lab_explore.proofs.AfterLocalSteps.{same_some}
 use Rattle.lab_explore.proofs.Growths.{state_kept}
@@ -64,18 +64,24 @@ standing_independent k p (Waiting m d) c stands own = by (answer k p d).0 refl
     by Wait e = absurd (own_or_wait k.places d own_there (answer_may_wait k p d e))
 standing_independent k p (Ended e) c stands own = absurd stands
 
+-- the same of a process in a state over a kernel that are kept
+pub independent_over : (t : Store) (w : WorldState) (p kernel state : ℕ) (s : Process) (c : Call) → (x : Kept) × (slice_get t.states.processes state ≡ Some x) × StandsAt (process_view x) c
+    → ((k : KernelState) → slice_get t.kernels.kernels kernel ≡ Some k → is_own k.places c ≡ true) → IsExactly t kernel w.kernel → slice_get w.processes p ≡ Some s → IsState t state s
+    → IsIndependent w.kernel (step_effect_in w p)
+independent_over t w p kernel state s c stands own exactly at is =
+    let view : Some (process_view stands.0) ≡ Some s = sym (ap (option_map process_view) stands.1) ∙ is in
+    let same : process_view stands.0 ≡ s = cc in
+    subst (λ o. IsIndependent w.kernel (step_effect w.kernel p o)) (sym at) (standing_independent w.kernel p s c (subst (λ x. StandsAt x c) same stands.2) (own w.kernel exactly))
+
 -- the same in the world of a row
-pub independent_at : (t : Store) (w : WorldState) (at p kernel state : ℕ) (c : Call) → (r : Row) × (slice_get t.rows at ≡ Some r) × (r.kernel ≡ kernel) × (slice_get r.states p ≡ Some state)
-    → (s : Kept) × (slice_get t.states.processes state ≡ Some s) × StandsAt (process_view s) c
-    → ((k : KernelState) → slice_get t.kernels.kernels kernel ≡ Some k → is_own k.places c ≡ true) → IsAt t at w → IsIndependent w.kernel (step_effect_in w p)
-independent_at t w at p kernel state c placed stands own here =
+pub independent_at : (t : Store) (w : WorldState) (at p kernel state : ℕ) → (r : Row) × (slice_get t.rows at ≡ Some r) × (r.kernel ≡ kernel) × (slice_get r.states p ≡ Some state)
+    → ((s : Process) → IsExactly t kernel w.kernel → slice_get w.processes p ≡ Some s → IsState t state s → IsIndependent w.kernel (step_effect_in w p)) → IsAt t at w
+    → IsIndependent w.kernel (step_effect_in w p)
+independent_at t w at p kernel state placed independent here =
     let row : here.0 ≡ placed.0 = same_some here.0 placed.0 (slice_get t.rows at) here.1 placed.1 in
     let is : IsRow t placed.0 w = subst (λ r. IsRow t r w) row here.2 in
     let s = process_at t placed.0 w p state is placed.3 in
-    let view : Some (process_view stands.0) ≡ Some s.0 = sym (ap (option_map process_view) stands.1) ∙ s.2 in
-    let same : process_view stands.0 ≡ s.0 = cc in
-    let own_there = own w.kernel (subst (λ k. slice_get t.kernels.kernels k ≡ Some w.kernel) placed.2 is.kernel) in
-    subst (λ o. IsIndependent w.kernel (step_effect w.kernel p o)) (sym s.1) (standing_independent w.kernel p s.0 c (subst (λ x. StandsAt x c) same stands.2) own_there)
+    independent s.0 (subst (λ k. IsExactly t k w.kernel) placed.2 is.kernel) s.1 s.2
 
 -- whether a process takes a name away doesn't depend on its output
 unlinks_whole : (os : List (List ℕ)) (s : Short) → unlinks (process_view (whole_of os s)) ≡ unlinks (process_view s.process)

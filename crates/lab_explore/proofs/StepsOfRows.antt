@@ -17,8 +17,8 @@ use Rattle.lab_explore.specs.declared.store.Next.{Next}
 use Rattle.lab_explore.specs.declared.store.Next.TheVariants.{Nothing, Limit, To}
 use Rattle.lab_sched.specs.Held.{asked_by, stepped_of}
 use Rattle.lab_explore.specs.Calls.{IsAtCall, IsAhead, Both, Alongside}
-use Rattle.lab_explore.specs.Untried.{GoesOn}
-use Rattle.lab_explore.specs.Private.Stored.{IsReady, IsState, IsRow, IsAt, IsStore, Grows, IsExactly, IsNext, IsMove, IsMoveFrom, IsNextAt, IsReached, AreReached, HasEdge, IsTried, IsExpanded, IsRun}
+use Rattle.lab_explore.specs.Untried.{GoesOn, NoneGoesOn}
+use Rattle.lab_explore.specs.Private.Stored.{IsReady, IsState, IsRow, IsAt, LeadsTo, IsStore, Grows, IsExactly, IsNext, IsMove, IsMoveFrom, IsNextAt, IsReached, AreReached, HasEdge, IsTried, IsExpanded, IsRun}
 use Rattle.lab_explore.proofs.Pushes.{alongside_set, get_pushed, all_at}
 use Rattle.lab_explore.proofs.AfterLocalSteps.{same_some}
 use Rattle.lab_explore.proofs.FirstWorlds.{at_unique}
@@ -175,6 +175,28 @@ pub goes_on : (t : Store) (w : WorldState) (at p : ℕ) (next : Next) → IsAt t
 goes_on t w at p Nothing here m some = absurd (some refl)
 goes_on t w at p Limit here m some = let n = m w here in subst (λ o. GoesOn (step_effect w.kernel p o)) (sym n.1) n.2
 goes_on t w at p (To kernel state taken) here m some = let n = m w here in subst (λ o. GoesOn (step_effect w.kernel p o)) (sym n.1) n.2.4
+
+-- where a process goes on to the world of a row that is kept
+pub leads_after : (t u : Store) (at p kernel state taken j : ℕ) → IsStore t → Grows t u → IsNextAt t at p (To kernel state taken)
+    → (r : Row) × (slice_get t.rows at ≡ Some r) × (slice_get u.rows j ≡ Some (record { kernel = kernel; states = set r.states p state })) → LeadsTo u at p j
+leads_after t u at p kernel state taken j is g next after =
+    let w = all_at (λ r. (v : WorldState) × IsRow t r v) t.rows at after.0 is.rows after.1 in
+    let here : IsAt t at w.0 = (after.0, after.1, w.1) in
+    let row : Row = record { kernel = kernel; states = set after.0.states p state } in
+    let m = moved_at t w.0 at p kernel state taken (To kernel state taken) row is here next refl refl (after.0, after.1, refl) in
+    (w.0, m.0, at_grows t u at w.0 g here, (row, after.2, row_grows t u row m.0 g m.1), m.2, goes_on t w.0 at p (To kernel state taken) here next (λ none. absurd (cc)))
+
+-- an edge leads where it says
+pub leads_by : (t : Store) (at p to : ℕ) (e : Edge) → e.from ≡ at → e.pid ≡ p → e.to ≡ to → LeadsTo t at p to → LeadsTo t e.from e.pid e.to
+leads_by t at p to e from by there h = subst (λ i. LeadsTo t i e.pid e.to) (sym from) (subst (λ q. LeadsTo t at q e.to) (sym by) (subst (λ j. LeadsTo t at p j) (sym there) h))
+
+-- where an edge leads from a row, a process goes on from its world
+pub edge_goes_on : (t : Store) (w : WorldState) (at : ℕ) → IsStore t → (i : ℕ) × (e : Edge) × (slice_get t.edges i ≡ Some e) × (e.from ≡ at) → IsAt t at w → NoneGoesOn w → ⊥
+edge_goes_on t w at is edge here none =
+    let e = edge.1 in
+    let h = all_at (λ (x : Edge). LeadsTo t x.from x.pid x.to) t.edges edge.0 e is.edges edge.2 in
+    let same : h.0 ≡ w = at_unique t at h.0 w (subst (λ i. IsAt t i h.0) edge.3 h.2) here in
+    none e.pid (subst (λ v. GoesOn (step_effect_in v e.pid)) same h.5)
 
 -- one that makes none doesn't
 pub stays : (t : Store) (w : WorldState) (at p : ℕ) → IsAt t at w → IsNextAt t at p Nothing → GoesOn (step_effect_in w p) → ⊥

@@ -1,17 +1,17 @@
-//! The picture of the worlds of a search, read off its rows, its edges and its moves.
-ghost use Rattle.std.specs.Prelude.{◌≡◌, ◌≤◌, All, IsTrue, None, IfOk, IfSome, length, map};
+//! The picture of the worlds of a search, read off its rows and its edges.
+ghost use Rattle.std.specs.Prelude.{◌≡◌, ◌≤◌, IsTrue, None, IfOk, IfSome, length, map};
 ghost use Rattle.lab_sched.specs.Worlds.{WorldState};
 ghost use Rattle.lab_sched.specs.Starts.{AreStarts, initial_world};
 ghost use Rattle.lab_explore.specs.Ends.{IsEnd};
 ghost use Rattle.lab_explore.specs.Untried.{untried, NoneGoesOn};
-ghost use Rattle.lab_explore.specs.Private.Drawn.{IsNodeOfRow, AreNodesOfRows, arrow_of, IsRowStep, IsPictureOf};
+ghost use Rattle.lab_explore.specs.Private.Drawn.{IsNodeOfRow, AreNodesOfRows, arrow_of, IsPictureOf};
 ghost use Rattle.lab_explore.specs.Private.Known.{AreKnown};
 ghost use Rattle.lab_explore.specs.Private.Stored.{IsAt, IsLike, IsStore, AreExpanded};
 ghost use Rattle.lab_explore.specs.Private.Walked.{IsWalk};
 
 use crate::depths::depth_of;
 use crate::search::Search;
-use crate::store::{Edge, Next};
+use crate::store::Edge;
 use crate::trying::discard;
 use crate::walking::Walk;
 use crate::{Arrow, End, ExploreFault, MOST_DRAWN, Node, Picture};
@@ -31,6 +31,17 @@ fn node_of(walk: Walk, end: Option<End>) -> Node
     } = walk;
     discard(schedule);
     Node { world, calls, end }
+}
+
+/// The arrow of an edge.
+fn arrow_of(edge: &Edge) -> Arrow
+    ensures arrow { result ≡ arrow_of edge.now }
+{
+    Arrow {
+        from: edge.from,
+        to: edge.to,
+        process: edge.pid as u32,
+    }
 }
 
 impl Walk {
@@ -68,7 +79,7 @@ impl Search {
         depth: u32,
     ) -> Result<Option<End>, ExploreFault>
         requires starts { AreStarts processes.now }
-        requires known { AreKnown self.now.store self.now.moves }
+        requires store { IsStore self.now.store }
         ensures end { IfOk result (λ end. IfSome end (λ e.
             IsEnd (initial_world processes.now) e)) }
         ensures row { IfOk result (λ end. IfSome end (λ e.
@@ -76,7 +87,7 @@ impl Search {
         ensures none { IfOk result (λ end. end ≡ None → (w : WorldState)
             → IsAt self.now.store at w → NoneGoesOn w → ⊥) }
     {
-        if !self.may_rest(at)? {
+        if !self.may_rest(at) {
             return Ok(None);
         }
         let end = self.row_end(alloc, processes, at, depth)?;
@@ -133,39 +144,10 @@ impl Search {
         Ok(nodes)
     }
 
-    /// The arrow of an edge, which must be the move of its process from the row that it leads from.
-    fn arrow(&self, alloc: Global, edge: &Edge) -> Result<Arrow, ExploreFault>
-        requires store { IsStore self.now.store }
-        requires known { AreKnown self.now.store self.now.moves }
-        ensures arrow { IfOk result (λ a. a ≡ arrow_of edge.now) }
-        ensures step { IfOk result (λ a. IsRowStep self.now.store a) }
-    {
-        let from = edge.from as usize;
-        let process = edge.pid as u32;
-        let Some(next) = self.store.known_next(&self.moves, from, process) else {
-            return Err(ExploreFault::Unvouched);
-        };
-        let Next::To { kernel, state, .. } = next else {
-            return Err(ExploreFault::Unvouched);
-        };
-        let row = self.store.row_after(alloc, from, process, kernel, state)?;
-        if !self.store.is_row_at(edge.to as usize, row.as_slice()) {
-            return Err(ExploreFault::Unvouched);
-        }
-        Ok(Arrow {
-            from: edge.from,
-            to: edge.to,
-            process,
-        })
-    }
-
     /// The arrows of the edges.
     fn arrows(&self, alloc: Global) -> Result<Vec<Arrow>, ExploreFault>
-        requires store { IsStore self.now.store }
-        requires known { AreKnown self.now.store self.now.moves }
         ensures arrows { IfOk result (λ arrows.
             arrows.items ≡ map arrow_of self.now.store.edges) }
-        ensures steps { IfOk result (λ arrows. All (IsRowStep self.now.store) arrows.items) }
     {
         let mut arrows = Vec::with_capacity(alloc, self.store.edges.len())?;
         let mut row = 0;
@@ -173,8 +155,7 @@ impl Search {
             let Some(edge) = self.store.edges.get_after(at, row) else {
                 return Err(ExploreFault::Unvouched);
             };
-            let arrow = self.arrow(alloc, &edge)?;
-            arrows.push(arrow)?;
+            arrows.push(arrow_of(&edge))?;
             row = edge.from as usize;
         }
         Ok(arrows)

@@ -1,5 +1,6 @@
 //! The edges between the worlds that a search keeps.
 ghost use Rattle.std.specs.Prelude.{◌≡◌, ◌≤◌, ℕ, [], ◌∷◌, ◌++◌, false, Some, IsTrue, IfOk, IfSome, OnErr, length, slice_get};
+ghost use Rattle.lab_explore.specs.declared.store.Edge.{Edge};
 ghost use Rattle.lab_explore.specs.Private.Edges.{from_of, AreBetween, ArePast};
 
 use crate::store::{Edge, place_of};
@@ -147,6 +148,17 @@ impl Edges {
         match self.ends.get(row) {
             Some(end) => *end as usize,
             None => self.tos.len(),
+        }
+    }
+
+    /// Whether an edge leads from a row.
+    pub(crate) fn lead_from(&self, row: usize) -> bool
+        ensures yes { IsTrue result → (i : ℕ) × (e : Edge)
+            × (slice_get self.now i ≡ Some e) × (e.from ≡ row) }
+    {
+        match self.get_after(self.first_of(row), row) {
+            Some(edge) => edge.from as usize == row,
+            None => false,
         }
     }
 

@@ -5,8 +5,7 @@ ghost use Rattle.lab_sched.specs.Worlds.{WorldState};
 ghost use Rattle.lab_sched.specs.Starts.{AreStarts, initial_world};
 ghost use Rattle.lab_sched.specs.declared.verdict.Verdict.TheVariants.{Open};
 ghost use Rattle.lab_explore.specs.Untried.{untried, NoneGoesOn};
-ghost use Rattle.lab_explore.specs.Private.Known.{AreKnown};
-ghost use Rattle.lab_explore.specs.Private.Stored.{IsAt, IsLike, Keeps};
+ghost use Rattle.lab_explore.specs.Private.Stored.{IsAt, IsStore, IsLike, Keeps};
 ghost use Rattle.lab_explore.specs.Private.Depths.{waiting};
 ghost use Rattle.lab_explore.specs.Private.Walked.{IsWalk, HasRowEnd, HaveRowEnds};
 ghost use Rattle.lab_explore.specs.Ends.{IsEnd, AreEnds};
@@ -100,28 +99,13 @@ fn sort_by_calls(ends: &mut Vec<End>) -> Result<(), AllocError>
 }
 
 impl Search {
-    /// Whether it may be that no process goes on from the world of a row, from which one is known to go
-    /// on, or each of whose moves was made.
-    pub(crate) fn may_rest(&self, at: usize) -> Result<bool, ExploreFault>
-        requires known { AreKnown self.now.store self.now.moves }
-        ensures no { IfOk result (λ rests. rests ≡ false → (w : WorldState)
-            → IsAt self.now.store at w → NoneGoesOn w → ⊥) }
+    /// Whether it may be that no process goes on from the world of a row: no edge leads from it.
+    pub(crate) fn may_rest(&self, at: usize) -> bool
+        requires store { IsStore self.now.store }
+        ensures no { result ≡ false → (w : WorldState)
+            → IsAt self.now.store at w → NoneGoesOn w → ⊥ }
     {
-        let Some(count) = self.store.width(at) else {
-            return Err(ExploreFault::Unvouched);
-        };
-        let mut known = true;
-        for pid in 0..count {
-            match self.store.goes_on(&self.moves, at, pid) {
-                Some(true) => return Ok(false),
-                Some(false) => {}
-                None => known = false,
-            }
-        }
-        if !known {
-            return Err(ExploreFault::Unvouched);
-        }
-        Ok(true)
+        !self.store.edges.lead_from(at)
     }
 
     /// Whether each move from the world of a row was made, and is none.
@@ -134,16 +118,15 @@ impl Search {
 
     /// Whether the world of a row may be an end. In a search that isn't complete not each move was
     /// made: where one is unknown, the answer is no.
-    fn may_be_end(&self, at: usize) -> Result<bool, ExploreFault>
-        requires known { IsTrue self.now.complete → AreKnown self.now.store self.now.moves }
-        ensures no { IfOk result (λ may. IsTrue self.now.complete → may ≡ false
-            → (w : WorldState) → IsAt self.now.store at w → NoneGoesOn w → ⊥) }
+    fn may_be_end(&self, at: usize) -> bool
+        requires store { IsTrue self.now.complete → IsStore self.now.store }
+        ensures no { IsTrue self.now.complete → result ≡ false
+            → (w : WorldState) → IsAt self.now.store at w → NoneGoesOn w → ⊥ }
     {
         if !self.complete {
-            return Ok(self.is_still(at));
+            return self.is_still(at);
         }
-        let may = self.may_rest(at)?;
-        Ok(may)
+        self.may_rest(at)
     }
 
     /// The end of a row of this depth, reached again.
@@ -172,6 +155,28 @@ impl Search {
         }
     }
 
+    /// Adds the end of a row of this depth to others; with about how many bytes it takes.
+    #[inline(never)]
+    fn add_row_end(
+        &self,
+        alloc: Global,
+        processes: &[Process],
+        at: usize,
+        depth: u32,
+        ends: &mut Vec<End>,
+    ) -> Result<usize, ExploreFault>
+        requires starts { AreStarts processes.now }
+        ensures each { OnOk result (AreEnds (initial_world processes.now) ends.old.items
+            → AreEnds (initial_world processes.now) ends.new.items) }
+        ensures keeps { OnOk result (Keeps ends.old.items ends.new.items) }
+        ensures here { OnOk result (HasRowEnd self.now.store ends.new.items at depth) }
+    {
+        let end = self.row_end(alloc, processes, at, depth)?;
+        let size = end.size();
+        ends.push(end)?;
+        Ok(size)
+    }
+
     /// Adds the end of a row of this depth to others, if no process goes on from its world; with
     /// about how many bytes it takes.
     fn add_end(
@@ -183,19 +188,17 @@ impl Search {
         ends: &mut Vec<End>,
     ) -> Result<usize, ExploreFault>
         requires starts { AreStarts processes.now }
-        requires known { IsTrue self.now.complete → AreKnown self.now.store self.now.moves }
+        requires store { IsTrue self.now.complete → IsStore self.now.store }
         ensures each { OnOk result (AreEnds (initial_world processes.now) ends.old.items
             → AreEnds (initial_world processes.now) ends.new.items) }
         ensures keeps { OnOk result (Keeps ends.old.items ends.new.items) }
         ensures here { OnOk result (IsTrue self.now.complete
             → HasRowEnd self.now.store ends.new.items at depth) }
     {
-        if !self.may_be_end(at)? {
+        if !self.may_be_end(at) {
             return Ok(0);
         }
-        let end = self.row_end(alloc, processes, at, depth)?;
-        let size = end.size();
-        ends.push(end)?;
+        let size = self.add_row_end(alloc, processes, at, depth, ends)?;
         Ok(size)
     }
 
@@ -208,7 +211,7 @@ impl Search {
         room: usize,
     ) -> Result<Collected, ExploreFault>
         requires starts { AreStarts processes.now }
-        requires known { IsTrue self.now.complete → AreKnown self.now.store self.now.moves }
+        requires store { IsTrue self.now.complete → IsStore self.now.store }
         ensures ends { IfOk result (λ c. AreEnds (initial_world processes.now) c.ends.items) }
         ensures all { IfOk result (λ c. IsTrue c.whole → IsTrue self.now.complete
             → HaveRowEnds self.now.store c.ends.items) }
@@ -236,7 +239,7 @@ impl Search {
         room: usize,
     ) -> Result<Collected, ExploreFault>
         requires starts { AreStarts processes.now }
-        requires known { IsTrue self.now.complete → AreKnown self.now.store self.now.moves }
+        requires store { IsTrue self.now.complete → IsStore self.now.store }
         ensures ends { IfOk result (λ c. AreEnds (initial_world processes.now) c.ends.items) }
         ensures all { IfOk result (λ c. IsTrue c.whole → IsTrue self.now.complete
             → HaveRowEnds self.now.store c.ends.items) }

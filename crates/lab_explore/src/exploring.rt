@@ -3,6 +3,7 @@ ghost use Rattle.std.specs.Prelude.{◌≡◌, [], IsTrue, false, None, IfOk, If
 ghost use Rattle.std.specs.List.Sorted.{IsNonDecreasingBy};
 ghost use Rattle.lab_sched.specs.Starts.{AreStarts, initial_world};
 ghost use Rattle.lab_explore.specs.Private.Known.{AreKnown};
+ghost use Rattle.lab_explore.specs.Private.Stored.{IsStore};
 ghost use Rattle.lab_explore.specs.Private.Walked.{HaveRowEnds};
 ghost use Rattle.lab_explore.specs.Ends.{AreEnds, HaveAllEnds, HaveFewestCalls, NoneStuck, NeverStuck};
 ghost use Rattle.lab_explore.specs.Reached.{AreReached, AreKept};
@@ -161,6 +162,7 @@ impl Search {
         fair: bool,
     ) -> Result<Exploration, ExploreFault>
         requires starts { AreStarts processes.now }
+        requires store { IsTrue self.now.complete → IsStore self.now.store }
         requires known { IsTrue self.now.complete → AreKnown self.now.store self.now.moves }
         ensures ends { IfOk result (λ found.
             AreEnds (initial_world processes.now) found.ends.items) }

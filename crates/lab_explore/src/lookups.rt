@@ -168,11 +168,11 @@ impl Store {
     ) -> Result<Lookups, AllocError>
         ensures known { AreKnown self.now moves.now → IfOk result (AreLookups self.now) }
     {
-        let waiting = self.rows_ahead(at);
         let parts = workers.count;
-        if parts < 2 || waiting == 0 {
+        if parts < 2 || self.rows_ahead(at) == 0 {
             return Ok(Lookups::until(alloc, at.saturating_add(1)));
         }
+        let waiting = self.rows_ahead(at);
         let size = waiting / parts + 1;
         let end = at.saturating_add(waiting);
         let store = self;

@@ -18,9 +18,6 @@ use crate::trying::{Made, Tried, discard, try_step};
 use lab_sched::Process;
 use std::alloc::{AllocError, Global};
 
-/// So many worlds are few: each move between them is kept. A picture has fewer.
-const FEW: usize = 1_024;
-
 /// How many worlds there are at least for each kernel where kernels are come to often.
 const RETURNS: usize = 4;
 
@@ -249,8 +246,7 @@ impl Store {
         Ok(next)
     }
 
-    /// Keeps a move over a kernel that is kept, if its state is, where worlds are few or kernels are come
-    /// to often.
+    /// Keeps a move over a kernel that is kept, if its state is, where kernels are come to often.
     fn keep_move(
         &self,
         moves: &mut Moves,
@@ -268,7 +264,7 @@ impl Store {
             return Ok(());
         };
         let worlds = self.rows.len();
-        if worlds > FEW && worlds < self.kernels.len().saturating_mul(RETURNS) {
+        if worlds < self.kernels.len().saturating_mul(RETURNS) {
             return Ok(());
         }
         moves.keep(kernel, pid, state, next)?;

@@ -1,15 +1,14 @@
 //! What each process does next.
 ghost use Rattle.std.specs.Prelude.{◌≡◌, ℕ, IsTrue, IfOk, IfSome, OnOk};
-ghost use Rattle.lab_sched.specs.Worlds.{WorldState, step};
+ghost use Rattle.lab_sched.specs.Worlds.{WorldState};
 ghost use Rattle.lab_explore.specs.declared.store.Next.TheVariants.{Limit, To};
 ghost use Rattle.lab_explore.specs.Private.Known.{AreKnown};
 ghost use Rattle.lab_explore.specs.Private.Lookups.{IsKnownStep, AreLookups};
 ghost use Rattle.lab_explore.specs.Private.Rows.{row_of};
-ghost use Rattle.lab_explore.specs.Private.Stored.{IsRow, IsStore, Grows, AreReached, HasEdge, IsNextAt, IsAt, IsTried, IsExpanded};
+ghost use Rattle.lab_explore.specs.Private.Stored.{IsStore, Grows, LeadsTo, HasEdge, IsNextAt, IsAt, IsTried, IsExpanded};
 
 use crate::known::Moves;
 use crate::lookups::{Known, Lookups};
-use crate::parents::Parent;
 use crate::store::{Edge, Next, Store};
 use crate::{ExploreFault, Limits};
 use std::alloc::{AllocError, Global};
@@ -34,13 +33,6 @@ fn edge_of(from: usize, to: usize, pid: u32) -> Option<Edge>
     Some(Edge { from, to, pid })
 }
 
-/// The parent that is a row of this number, if it is small enough.
-fn parent_of(at: usize, pid: u32) -> Option<Parent> {
-    let row = u32::try_from(at).ok()?;
-    let pid = u8::try_from(pid).ok()?;
-    Some(Parent { row, pid })
-}
-
 impl Store {
     /// What process `pid` does next in the world of a row, if it has ended or this move was made.
     pub(crate) fn made_at(&self, moves: &Moves, at: usize, pid: u32) -> Option<Next>
@@ -49,19 +41,6 @@ impl Store {
     {
         let (kernel, state) = self.places(at, pid)?;
         let next = self.made_next(moves, kernel, pid, state)?;
-        Some(next)
-    }
-
-    /// What process `pid` does next in the world of a row, if it is known.
-    pub(crate) fn known_next(&self, moves: &Moves, at: usize, pid: u32) -> Option<Next>
-        ensures next { AreKnown self.now moves.now
-            → IfSome result (λ next. IsNextAt self.now at pid next) }
-    {
-        let (kernel, state) = self.places(at, pid)?;
-        if let Some(next) = self.made_next(moves, kernel, pid, state) {
-            return Some(next);
-        }
-        let next = self.touched_next(&moves.touches, kernel, pid, state)?;
         Some(next)
     }
 
@@ -122,11 +101,11 @@ impl Store {
     /// is kept now.
     pub(crate) fn add_edge(&mut self, at: usize, pid: u32, to: usize) -> Result<bool, AllocError>
         requires store { IsStore self.old }
+        requires leads { LeadsTo self.old at pid to }
         ensures store { OnOk result (IsStore self.new) }
         ensures grows { OnOk result (Grows self.old self.new) }
-        ensures edge { IfOk result (λ kept. IsTrue kept → (w v : WorldState)
-            → IsAt self.old to v → AreReached (step w pid) v
-            → (x : HasEdge self.new at w pid) × (x.1.to ≡ to)) }
+        ensures edge { IfOk result (λ kept. IsTrue kept → (w : WorldState)
+            → IsAt self.old at w → (x : HasEdge self.new at w pid) × (x.1.to ≡ to)) }
     {
         let Some(edge) = edge_of(at, to, pid) else {
             return Ok(false);
@@ -153,18 +132,12 @@ impl Store {
         requires next { (taken : ℕ) × IsNextAt self.old at pid (To kernel state taken) }
         ensures store { OnOk result (IsStore self.new) }
         ensures grows { OnOk result (Grows self.old self.new) }
-        ensures row { IfOk result (λ kept. IfSome kept (λ to. (w : WorldState)
-            → IsAt self.old at w
-            → (v : WorldState) × IsAt self.new to v × AreReached (step w pid) v)) }
+        ensures row { IfOk result (λ kept. IfSome kept (LeadsTo self.new at pid)) }
     {
         if let Some(to) = self.find_after(at, pid, kernel, state) {
             return Ok(Some(to));
         }
-        let row = self.row_after(alloc, at, pid, kernel, state)?;
-        let Some(parent) = parent_of(at, pid) else {
-            return Ok(None);
-        };
-        let kept = self.keep_row(row.as_slice(), parent, most)?;
+        let kept = self.keep_row_after(at, pid, kernel, state, most)?;
         Ok(kept)
     }
 

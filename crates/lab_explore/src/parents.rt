@@ -10,6 +10,15 @@ pub(crate) struct Parent {
     pub pid: u8,
 }
 
+impl Parent {
+    /// The parent that is a row of this number, if it is small enough.
+    pub(crate) fn of(at: usize, pid: u32) -> Option<Parent> {
+        let row = u32::try_from(at).ok()?;
+        let pid = u8::try_from(pid).ok()?;
+        Some(Parent { row, pid })
+    }
+}
+
 /// The parents of rows, in their order.
 #[derive(Drop)]
 pub(crate) struct Parents {

@@ -1,7 +1,7 @@
 //! Worlds as rows of numbers: of each that of its kernel, and then those of the states of its
 //! processes.
-ghost use Rattle.std.specs.Prelude.{◌≡◌, ◌≤◌, [], ◌∷◌, ◌++◌, false, Some, IfOk, IfSome, IsTrue, OnErr, length, slice_get};
-ghost use Rattle.lab_explore.specs.Private.Rows.{row_of};
+ghost use Rattle.std.specs.Prelude.{◌≡◌, ◌≤◌, [], ◌∷◌, ◌++◌, false, Some, IfOk, IfSome, IsTrue, OnErr, length, slice_get, slice_set};
+ghost use Rattle.lab_explore.specs.Private.Rows.{Row, row_of};
 
 use std::alloc::{AllocError, Global};
 use std::marker::Model;
@@ -102,6 +102,34 @@ impl Rows {
             return Ok(false);
         }
         self.numbers.extend_from_slice(numbers)?;
+        self.count += 1;
+        Ok(true)
+    }
+
+    /// Adds a row as it stands at a place, with another number of its kernel and another one of the state
+    /// of a process, if there are these; with whether it has added one.
+    pub(crate) fn push_after(
+        &mut self,
+        at: usize,
+        kernel: u32,
+        pid: usize,
+        state: u32,
+    ) -> Result<bool, AllocError>
+        ensures pushed { IfOk result (λ done. IsTrue done → (r : Row)
+            × (slice_get self.old at ≡ Some r)
+            × (self.new ≡ self.old
+            ++ (record { kernel = kernel; states = slice_set r.states pid state }) ∷ [])) }
+        ensures same { IfOk result (λ done. done ≡ false → self.new ≡ self.old) }
+        ensures err { OnErr result (self.new ≡ self.old) }
+    {
+        if at >= self.count || pid >= self.width.saturating_sub(1) || self.count == usize::MAX {
+            return Ok(false);
+        }
+        let start = at * self.width;
+        let first = self.numbers.len();
+        self.numbers.extend_from_within(start..start + self.width)?;
+        self.numbers[first] = kernel;
+        self.numbers[first + 1 + pid] = state;
         self.count += 1;
         Ok(true)
     }

@@ -5,29 +5,13 @@ ghost use Rattle.lab_explore.specs.Private.Lookups.{IsAfter};
 ghost use Rattle.lab_explore.specs.Private.Rows.{Row, row_of};
 ghost use Rattle.lab_explore.specs.Private.Stored.{IsRow, IsAt, IsStore, Grows};
 
-use crate::ExploreFault;
 use crate::parents::Parent;
 use crate::row::{digest_after, digest_of};
 use crate::store::{Store, place_of};
-use ipc_kernel::{are_same, are_with};
-use std::alloc::{AllocError, Global};
+use ipc_kernel::are_with;
+use std::alloc::AllocError;
 
 impl Store {
-    /// The number of a row of the same world, if one is kept.
-    fn find_row(&self, row: &[u32], hash: u64) -> Option<usize>
-        ensures found { IfSome result (λ i. slice_get self.now.rows i ≡ Some (row_of row.now)) }
-    {
-        let mut number = self.row_index.newest(hash);
-        while number > 0 {
-            let at = number - 1;
-            if self.is_row_at(at, row) {
-                return Some(at);
-            }
-            number = self.row_index.older(number);
-        }
-        None
-    }
-
     /// Whether the row with a number is the one at another place with this kernel and this state of
     /// process `pid`.
     fn is_after(&self, number: usize, states: &[u32], pid: u32, kernel: u32, state: u32) -> bool
@@ -60,46 +44,61 @@ impl Store {
         None
     }
 
-    /// Keeps the world of a row, if there are fewer than `most`; with its number, if it is kept
-    /// now.
-    pub(crate) fn keep_row(
-        &mut self,
-        row: &[u32],
-        parent: Parent,
-        most: u32,
-    ) -> Result<Option<usize>, AllocError>
+    /// Keeps the first world, by the numbers of its row, if there is room for one; with whether it is kept.
+    pub(crate) fn keep_first_row(&mut self, row: &[u32], most: u32) -> Result<bool, AllocError>
         requires store { IsStore self.old }
         requires row { (w : WorldState) × IsRow self.old (row_of row.now) w }
         ensures store { OnOk result (IsStore self.new) }
         ensures grows { OnOk result (Grows self.old self.new) }
-        ensures kept { IfOk result (λ kept. IfSome kept (λ i. (w : WorldState)
-            → IsRow self.old (row_of row.now) w → IsAt self.new i w)) }
+        ensures kept { IfOk result (λ kept. IsTrue kept → (w : WorldState)
+            → IsRow self.old (row_of row.now) w → IsAt self.new 0 w) }
     {
-        let hash = digest_of(row);
-        if let Some(at) = self.find_row(row, hash) {
-            return Ok(Some(at));
+        if self.rows.len() > 0 || most == 0 {
+            return Ok(false);
         }
-        let at = self.rows.len();
-        if at >= most as usize {
+        self.row_index.add(digest_of(row))?;
+        self.parents.push(Parent { row: 0, pid: 0 })?;
+        let pushed = self.rows.push(row)?;
+        if !pushed {
+            return Ok(false);
+        }
+        Ok(true)
+    }
+
+    /// Keeps the row that the one at a place is with this kernel and this state of process `pid`, if there
+    /// are fewer than `most`; with its number, if it is kept.
+    pub(crate) fn keep_row_after(
+        &mut self,
+        at: usize,
+        pid: u32,
+        kernel: u32,
+        state: u32,
+        most: u32,
+    ) -> Result<Option<usize>, AllocError>
+        requires store { IsStore self.old }
+        requires row { (r : Row) → slice_get self.old.rows at ≡ Some r → (w : WorldState)
+            × IsRow self.old (record { kernel = kernel; states = slice_set r.states pid state }) w }
+        ensures store { OnOk result (IsStore self.new) }
+        ensures grows { OnOk result (Grows self.old self.new) }
+        ensures kept { IfOk result (λ kept. IfSome kept (λ i. (r : Row)
+            × (slice_get self.old.rows at ≡ Some r) × (slice_get self.new.rows i ≡ Some
+            (record { kernel = kernel; states = slice_set r.states pid state })))) }
+    {
+        let number = self.rows.len();
+        if number >= most as usize {
             return Ok(None);
         }
+        let (Some(parent), Some((_, states))) = (Parent::of(at, pid), self.rows.get(at)) else {
+            return Ok(None);
+        };
+        let hash = digest_after(kernel, states, pid as usize, state);
         self.row_index.add(hash)?;
         self.parents.push(parent)?;
-        let pushed = self.rows.push(row)?;
+        let pushed = self.rows.push_after(at, kernel, pid as usize, state)?;
         if !pushed {
             return Ok(None);
         }
-        Ok(Some(at))
-    }
-
-    /// Whether the row with a number has these numbers.
-    pub(crate) fn is_row_at(&self, at: usize, row: &[u32]) -> bool
-        ensures same { IsTrue result → slice_get self.now.rows at ≡ Some (row_of row.now) }
-    {
-        match self.rows.numbers(at) {
-            Some(kept) => are_same(kept, row),
-            None => false,
-        }
+        Ok(Some(number))
     }
 
     /// The places of the kernel and of the state of process `pid` in a row.
@@ -123,32 +122,5 @@ impl Store {
             Ok(count) => Some(count),
             Err(_) => None,
         }
-    }
-
-    /// The numbers of the row with this kernel and this state of process `pid`, and else as a row
-    /// that is kept.
-    pub(crate) fn row_after(
-        &self,
-        alloc: Global,
-        at: usize,
-        pid: u32,
-        kernel: u32,
-        state: u32,
-    ) -> Result<Vec<u32>, ExploreFault>
-        ensures kernel { IfOk result (λ row. (row_of row.items).kernel ≡ kernel) }
-        ensures states { IfOk result (λ row. (r : Row) × (slice_get self.now.rows at ≡ Some r)
-            × ((row_of row.items).states ≡ slice_set r.states pid state)) }
-    {
-        let Some(numbers) = self.rows.numbers(at) else {
-            return Err(ExploreFault::Unvouched);
-        };
-        let mut row = Vec::from_slice(alloc, numbers)?;
-        let place = pid as usize + 1;
-        if place >= row.len() {
-            return Err(ExploreFault::Unvouched);
-        }
-        row[0] = kernel;
-        row[place] = state;
-        Ok(row)
     }
 }

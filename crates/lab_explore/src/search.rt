@@ -11,7 +11,6 @@ use crate::advance::{Ahead, advance};
 use crate::known::Moves;
 use crate::lookups::Lookups;
 use crate::moves::both;
-use crate::parents::Parent;
 use crate::store::Store;
 use crate::trying::discard;
 use crate::{ExploreFault, Limits, Observer, Workers};
@@ -145,6 +144,7 @@ impl Store {
             → StatesKeepNames self.new) }
     {
         let most = limits.worlds as usize;
+        let workers = workers.in_search(sparse);
         let mut whole = true;
         let mut lookups = Lookups::until(alloc, 0);
         for at in 0..most {
@@ -156,7 +156,7 @@ impl Store {
             }
             observer.see(at, self.rows.len() - at);
             if at >= lookups.end {
-                lookups = self.look_ahead(alloc, moves, at, workers)?;
+                lookups = self.look_ahead(alloc, moves, at, &workers)?;
             }
             let tried = self.expand_in(alloc, moves, &mut lookups, at, limits, sparse)?;
             whole = both(whole, tried);
@@ -226,11 +226,8 @@ impl Search {
         let Begun { states, firsts } = begun;
         self.firsts = firsts;
         let first = first_row(alloc, kernel, states.as_slice())?;
-        let none = Parent { row: 0, pid: 0 };
-        let Some(0) = self.store.keep_row(first.as_slice(), none, limits.worlds)? else {
-            return Ok(false);
-        };
-        Ok(true)
+        let kept = self.store.keep_first_row(first.as_slice(), limits.worlds)?;
+        Ok(kept)
     }
 
     /// Tries what is to be tried from each world, as far as the limits and the memory allow.
@@ -267,11 +264,11 @@ impl Search {
                 Ok(())
             }
             Ok(false) => {
-                self.store.forget(alloc);
+                self.store.close(alloc);
                 Ok(())
             }
             Err(ExploreFault::NoMemory) => {
-                self.store.forget(alloc);
+                self.store.close(alloc);
                 self.refused = true;
                 Ok(())
             }

@@ -1,46 +1,44 @@
 //! The search of fewer worlds: from a world in which the step of a process depends on no other's, that
 //! step alone is tried.
-ghost use Rattle.std.specs.Prelude.{◌≡◌, ◌<◌, true, Some, IsTrue, IfOk, IfSome, OnOk, slice_get};
-ghost use Rattle.lab_sched.specs.Worlds.{WorldState, step_effect_in};
+ghost use Rattle.std.specs.Prelude.{ℕ, ◌≡◌, ◌<◌, true, Some, IsTrue, IfOk, IfSome, OnOk, slice_get};
+ghost use Rattle.lab_sched.specs.Worlds.{Process as Seen, WorldState, step_effect_in};
 ghost use Rattle.lab_explore.specs.Private.Known.{AreKnown};
 ghost use Rattle.lab_explore.specs.Private.Lookups.{AreLookups};
 ghost use Rattle.lab_explore.specs.Private.Independent.{IsIndependent, IsTriedAlone, IsTriedIn};
 ghost use Rattle.lab_explore.specs.Private.Rows.{Row};
-ghost use Rattle.lab_explore.specs.Private.Stored.{IsAt, IsStore, Grows, HasEdge};
+ghost use Rattle.lab_explore.specs.Private.Stored.{IsExactly, IsState, IsAt, IsStore, Grows, HasEdge};
 
 use crate::known::Moves;
 use crate::lookups::Lookups;
-use crate::store::{Next, Store};
+use crate::store::{Next, Store, place_of};
 use crate::{ExploreFault, Limits};
 use ipc_kernel::Call;
 use std::alloc::Global;
 
 impl Store {
-    /// Whether the step of process `pid` from the world of a row depends on no other's.
-    fn is_independent(&self, at: usize, pid: u32) -> bool
-        ensures yes { IsTrue result → (w : WorldState) → IsAt self.now at w
-            → IsIndependent w.kernel (step_effect_in w pid) }
+    /// Whether the step of a process in a state over a kernel, which are kept, depends on no other's.
+    fn is_independent(&self, kernel: u32, state: u32) -> bool
+        ensures yes { IsTrue result → (w : WorldState) (p : ℕ) (s : Seen)
+            → IsExactly self.now kernel w.kernel → slice_get w.processes p ≡ Some s
+            → IsState self.now state s → IsIndependent w.kernel (step_effect_in w p) }
     {
-        let Some((kernel, state)) = self.places(at, pid) else {
-            return false;
-        };
-        let Some(call) = self.states.call(state) else {
-            return false;
-        };
-        self.kernels.is_own(kernel, call)
+        match self.states.call(state) {
+            Some(call) => self.kernels.is_own(kernel, call),
+            None => false,
+        }
     }
 
     /// Whether the step of process `pid` from the world of a row is an open on which no other's step
     /// depends.
     pub(crate) fn opens_own(&self, at: usize, pid: u32) -> bool {
-        let Some((_, state)) = self.places(at, pid) else {
+        let Some((kernel, state)) = self.places(at, pid) else {
             return false;
         };
         let opens = matches!(
             self.states.call(state),
             Some(Call::MqOpen { .. } | Call::SemOpen { .. })
         );
-        opens && self.is_independent(at, pid)
+        opens && self.is_independent(kernel, state)
     }
 
     /// The first process of which the step from the world of a row depends on no other's, if one does.
@@ -49,9 +47,12 @@ impl Store {
         ensures independent { IfSome result (λ p. (w : WorldState) → IsAt self.now at w
             → IsIndependent w.kernel (step_effect_in w p)) }
     {
-        let count = self.width(at)?;
-        for pid in 0..count {
-            if self.is_independent(at, pid) {
+        let (kernel, states) = self.rows.get(at)?;
+        for (pid, state) in states.iter().enumerate() {
+            if self.is_independent(kernel, *state) {
+                let Ok(pid) = place_of(pid) else {
+                    return None;
+                };
                 return Some(pid);
             }
         }

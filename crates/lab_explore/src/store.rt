@@ -100,22 +100,16 @@ impl Store {
             .saturating_add(moves.size())
     }
 
-    /// Lets go of what only `keep_state` and `keep_row` need.
+    /// Lets go of what only a search needs that goes on. No world, state or kernel is looked for any more.
     pub(crate) fn close(&mut self, alloc: Global)
         ensures kernels { self.new.kernels ≡ self.old.kernels }
         ensures states { self.new.states ≡ self.old.states }
         ensures rows { self.new.rows ≡ self.old.rows }
         ensures edges { self.new.edges ≡ self.old.edges }
     {
+        self.kernels.forget(alloc);
         self.states.forget(alloc);
         self.row_index = Index::none(alloc);
-    }
-
-    /// Lets go of what only a search needs that goes on or is whole. Where it isn't whole, no kernel is
-    /// looked for any more.
-    pub(crate) fn forget(&mut self, alloc: Global) {
-        self.kernels.forget(alloc);
-        self.close(alloc);
     }
 
     /// Keeps the state of a process at a call; with its place.

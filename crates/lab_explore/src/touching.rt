@@ -163,24 +163,6 @@ impl Store {
         Some(next)
     }
 
-    /// What process `pid` does next in a state and over a kernel that are kept, if it stands at a call
-    /// that works on one object, whose step was made, and the kernel after it is kept.
-    pub(crate) fn touched_next(
-        &self,
-        touches: &Touches,
-        kernel: u32,
-        pid: u32,
-        state: u32,
-    ) -> Option<Next>
-        ensures next { AreTouched self.now touches.now
-            → IfSome result (λ next. IsMoveFrom self.now kernel pid state next) }
-    {
-        let touch = self.touch_at(kernel, pid, state)?;
-        let effect = touches.find(touch)?;
-        let next = self.next_by(kernel, pid, touch.place, effect)?;
-        Some(next)
-    }
-
     /// Whether process `pid` goes on in a state and over a kernel that are kept, if it stands at a call
     /// that works on one object, whose step was made.
     fn touch_goes_on(&self, touches: &Touches, kernel: u32, pid: u32, state: u32) -> Option<bool>

@@ -1,5 +1,5 @@
 //! Threads that do parts of the work of a search side by side.
-ghost use Rattle.std.specs.Prelude.{◌≡◌};
+ghost use Rattle.std.specs.Prelude.{◌≡◌, if◌then◌else◌};
 
 use std::thread::Threads;
 
@@ -17,5 +17,14 @@ impl<'a, R: Threads> Workers<'a, R> {
         ensures count { result.count ≡ count }
     {
         Workers { rt, count }
+    }
+
+    /// The threads of a search: of one that is sparse one alone, since it goes on by few of the steps that
+    /// others would look up.
+    pub(crate) fn in_search(&self, sparse: bool) -> Workers<'a, R>
+        ensures count { result.count ≡ (if sparse then 1 else self.now.count) }
+    {
+        let count = if sparse { 1 } else { self.count };
+        Workers { rt: self.rt, count }
     }
 }

@@ -1,6 +1,6 @@
 -- Nodes and arrows of a picture, as rows and edges of a search have them.
 use Rattle.std.specs.Prelude.{ℕ, ◌≡◌, List, Some, All, length, slice_get}
-use Rattle.lab_sched.specs.Worlds.{WorldState, step_effect_in, step}
+use Rattle.lab_sched.specs.Worlds.{WorldState}
 use Rattle.lab_explore.specs.declared.picture.Node.{Node}
 use Rattle.lab_explore.specs.declared.picture.Arrow.{Arrow}
 use Rattle.lab_explore.specs.declared.picture.Picture.{Picture}
@@ -8,9 +8,8 @@ use Rattle.lab_explore.specs.declared.store.Edge.{Edge}
 use Rattle.lab_explore.specs.declared.store.Store.{Store}
 use Rattle.lab_explore.specs.Pictures.{IsNode, IsEndOfNode, HasEndAtRest, IsStep, HaveAllSteps, BeginsAt, HaveFewestNodeCalls}
 use Rattle.lab_explore.specs.Closed.{HasAdvance}
-use Rattle.lab_explore.specs.Untried.{GoesOn}
 use Rattle.lab_explore.specs.Private.Depths.{depth_of}
-use Rattle.lab_explore.specs.Private.Stored.{IsAt, IsLike, AreReached}
+use Rattle.lab_explore.specs.Private.Stored.{IsAt, IsLike}
 
 -- the node of row number i, by the depths of the rows
 pub record IsNodeOfRow (start : WorldState) (t : Store) (depth i : ℕ) (n : Node) : Type 0 where
@@ -28,16 +27,6 @@ pub record AreNodesOfRows (start : WorldState) (t : Store) (depths : List ℕ) (
 -- the arrow of an edge
 abbrev pub arrow_of : Edge → Arrow
 arrow_of e = record { from = e.from; to = e.to; process = e.pid }
-
--- the process of the arrow goes on from the world of a row, and the other row stands for the world
--- after that step and all local steps then
-pub record IsRowStep (t : Store) (a : Arrow) : Type 0 where
-  pub before : WorldState
-  pub after : WorldState
-  pub from : IsAt t a.from before
-  pub to : IsAt t a.to after
-  pub goes_on : GoesOn (step_effect_in before a.process)
-  pub leads : AreReached (step before a.process) after
 
 -- the picture shows the rows and the edges of a search in which each step was tried
 pub record IsPictureOf (start : WorldState) (t : Store) (x : Picture) : Type 0 where

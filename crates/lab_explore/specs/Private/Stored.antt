@@ -53,11 +53,6 @@ IsLike t i w = (v : WorldState) × IsAt t i v × AreAlike v w
 abbrev pub IsReady : Kept → Type 0
 IsReady s = IsHeld s × IsAtCall (process_view s)
 
--- each row stands for a world
-pub record IsStore (t : Store) : Type 0 where
-  pub states : All IsReady t.states.processes
-  pub rows : All (λ r. (w : WorldState) × IsRow t r w) t.rows
-
 -- nothing is lost
 pub record Grows (t u : Store) : Type 0 where
   pub kernels : GrowsKept t.kernels u.kernels
@@ -75,6 +70,19 @@ pub record IsReached (s u : Process) : Type 0 where
 pub record AreReached (w v : WorldState) : Type 0 where
   pub kernel : IsAlike w.kernel v.kernel
   pub processes : Alongside IsReached w.processes v.processes
+
+-- a step of process p by which it goes on, and then all local steps, lead from the world of row number i to that of row
+-- number j
+abbrev pub LeadsTo : Store → ℕ → ℕ → ℕ → Type 0
+LeadsTo t i p j =
+    (w : WorldState) × (v : WorldState) × IsAt t i w × IsAt t j v × AreReached (step w p) v
+    × GoesOn (step_effect_in w p)
+
+-- each row stands for a world, and each edge leads to where it says
+pub record IsStore (t : Store) : Type 0 where
+  pub states : All IsReady t.states.processes
+  pub rows : All (λ r. (w : WorldState) × IsRow t r w) t.rows
+  pub edges : All (λ (e : Edge). LeadsTo t e.from e.pid e.to) t.edges
 
 -- the kernel with this number is settled, and alike a kernel
 abbrev pub IsKernel : Store → ℕ → KernelState → Type 0

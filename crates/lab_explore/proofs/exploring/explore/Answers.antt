@@ -18,6 +18,7 @@ search_all-requires g c = (record { shared = c.type_bounds.sync-R.shared }, star
 pub report-requires : goal.report-requires
 report-requires g c = record {
   starts = subst AreStarts (sym c.deref-2.ensures.value) c.processes-processes.ensures.starts;
+  store = c.in_ok-search.ensures.store;
   known = c.in_ok-search.ensures.known;
 }
 

@@ -1,9 +1,10 @@
-use Rattle.lab_explore.specs.declared.store.Next.TheVariants.{Limit}
-use Rattle.lab_explore.proofs.StepsOfRows.{goes_on}
+use Rattle.std.proofs.Common.{◌≡◌, Bool, true, false, not, refl}
+use Rattle.lab_explore.proofs.StepsOfRows.{edge_goes_on}
 use Rattle.lab_explore.proofs.search.Search.may_rest.Goals as goal
 
-pub returns-in-Some-true : goal.returns-in-Some-true
-returns-in-Some-true c = record {
-  no = λ is w here none.
-      none c.loop-pid.pid (goes_on c.args.self.now.store w c.args.at c.loop-pid.pid Limit here ((rw c.in-Some-true.is at (c.goes_on.ensures.yes c.requires.known)) c.in-Some-true.field-0-test) (λ e. cc));
-}
+from_not : (b : Bool) → not b ≡ false → b ≡ true
+from_not true e = refl
+from_not false e = absurd (cc)
+
+pub returns : goal.returns
+returns c = record { no = λ is w here none. edge_goes_on c.args.self.now.store w c.args.at c.requires.store (c.lead_from.ensures.yes (from_not c.lead_from.result is)) here none }

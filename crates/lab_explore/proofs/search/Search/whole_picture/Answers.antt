@@ -13,7 +13,7 @@ returns c =
     let depths = c.in_ok-depths.depths.items in
     let nodes = c.in_ok-nodes.nodes in
     record {
-      picture = drawn start t depths (record { nodes = nodes; arrows = c.in_ok-arrows.arrows }) (fresh_consistent start (length ps) refl)
+      picture = drawn start t depths (record { nodes = nodes; arrows = c.in_ok-arrows.arrows }) (fresh_consistent start (length ps) refl) c.requires.store
           (subst (λ xs. AreNodesOfRows start t xs nodes.items) c.as_slice.ensures.value c.in_ok-nodes.ensures.nodes)
-          c.in_ok-arrows.ensures.arrows c.in_ok-arrows.ensures.steps c.in_ok-depths.ensures.depths c.requires.expanded;
+          c.in_ok-arrows.ensures.arrows c.in_ok-depths.ensures.depths c.requires.expanded;
     }

@@ -6,12 +6,14 @@ use Rattle.lab_explore.proofs.store.Store.try_alone.Goals as goal
 pub keep_after-requires-clause-next : goal.keep_after-requires-clause-next
 keep_after-requires-clause-next c = next_to c.next.new.self c.args.at c.args.pid c.in-To.kernel c.in-To.state _ c.in_ok-next.next c.in-To.is c.in_ok-next.ensures.next
 
+pub add_edge-requires-clause-leads : goal.add_edge-requires-clause-leads
+add_edge-requires-clause-leads c = rw c.in-Some.is at c.in_ok-to.ensures.row
+
 pub returns-clause-edge : goal.returns-clause-edge
 returns-clause-edge c is w here =
     let t = c.args.self.now in
-    let there = at_grows t c.next.new.self c.args.at w c.in_ok-next.ensures.grows here in
-    let v = (rw c.in-Some.is at c.in_ok-to.ensures.row) w there in
-    let x = c.in_ok-kept.ensures.edge is w v.0 v.1 v.2 in
+    let there = at_grows t c.keep_after.new.self c.args.at w (grows_more t c.next.new.self c.keep_after.new.self c.in_ok-next.ensures.grows c.in_ok-to.ensures.grows) here in
+    let x = c.in_ok-kept.ensures.edge is w there in
     let later = c.if-to-at.false in
     (x.0, subst (λ n. c.args.at < n) (sym x.1) (omega (arith, later)))
 

@@ -1,7 +1,7 @@
 use Rattle.std.proofs.Common.{refl, arith}
 use Rattle.lab_explore.specs.Private.Rows.{row_of}
 use Rattle.lab_explore.proofs.Growths.{rows_pushed, row_pushed, rows_same}
-use Rattle.lab_explore.proofs.store.Store.keep_row.Goals as goal
+use Rattle.lab_explore.proofs.store.Store.keep_first_row.Goals as goal
 
 pub returns-clause-store : goal.returns-clause-store
 returns-clause-store c = (rows_pushed c.args.self.now _ (row_of c.args.row.now) c.requires.store c.requires.row (c.in_ok-pushed.ensures.pushed c.if-not-pushed.false) refl refl refl).1
@@ -10,9 +10,9 @@ pub returns-clause-grows : goal.returns-clause-grows
 returns-clause-grows c = (rows_pushed c.args.self.now _ (row_of c.args.row.now) c.requires.store c.requires.row (c.in_ok-pushed.ensures.pushed c.if-not-pushed.false) refl refl refl).0
 
 pub returns-clause-kept : goal.returns-clause-kept
-returns-clause-kept c w h =
+returns-clause-kept c is w h =
     let pushed = c.in_ok-pushed.ensures.pushed c.if-not-pushed.false in
-    row_pushed c.args.self.now _ (row_of c.args.row.now) w c.len-at.result (rows_pushed c.args.self.now _ (row_of c.args.row.now) c.requires.store c.requires.row pushed refl refl refl).0
+    row_pushed c.args.self.now _ (row_of c.args.row.now) w 0 (rows_pushed c.args.self.now _ (row_of c.args.row.now) c.requires.store c.requires.row pushed refl refl refl).0
     pushed (omega arith) h
 
 pub returns-then-not-pushed-clause-store : goal.returns-then-not-pushed-clause-store

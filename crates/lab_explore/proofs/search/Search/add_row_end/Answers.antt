@@ -5,7 +5,7 @@ use Rattle.lab_sched.specs.Starts.{initial_world}
 use Rattle.lab_explore.specs.Ends.{IsEnd}
 use Rattle.lab_explore.proofs.Pushes.{keeps_push}
 use Rattle.lab_explore.proofs.Explorations.{end_pushed}
-use Rattle.lab_explore.proofs.search.Search.add_end.Goals as goal
+use Rattle.lab_explore.proofs.search.Search.add_row_end.Goals as goal
 
 pub returns-clause-each : goal.returns-clause-each
 returns-clause-each c old =
@@ -16,5 +16,5 @@ pub returns-clause-keeps : goal.returns-clause-keeps
 returns-clause-keeps c = subst (λ xs. Keeps c.args.ends.now.items xs) (sym c.in_ok-push.ensures.items) (keeps_push c.args.ends.now.items c.in_ok-end.end)
 
 pub returns-clause-here : goal.returns-clause-here
-returns-clause-here c is w there rest =
+returns-clause-here c w there rest =
     end_pushed c.args.self.now.store c.args.at c.args.depth w c.in_ok-end.end c.args.ends.now.items c.push.new.self.items c.in_ok-push.ensures.items c.in_ok-end.ensures.row c.in_ok-end.ensures.few there
