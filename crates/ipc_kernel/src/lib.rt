@@ -20,6 +20,6 @@ pub use index::Index;
 pub use kept::Kernels;
 pub use kernel::Kernel;
 pub use limits::{OBJECT_PLACES, OPEN_MAX, OPENS_MAX, PROCESS_MAX, limits_are_defined};
-pub use numbers::{are_same, are_with};
+pub use numbers::are_with;
 pub use place::Place;
 pub use process::{Descriptor, OpenTables, Slot};

@@ -2,7 +2,7 @@
 ghost use Rattle.std.specs.Prelude.{◌≡◌, ◌<◌, length, slice_index, slice_set, IsTrue};
 
 /// Whether these are the same numbers.
-pub fn are_same(numbers: &[u32], others: &[u32]) -> bool
+pub(crate) fn are_same(numbers: &[u32], others: &[u32]) -> bool
     ensures same { IsTrue result → numbers.now ≡ others.now }
     ensures other { numbers.now ≡ others.now → IsTrue result }
 {

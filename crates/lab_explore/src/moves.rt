@@ -121,7 +121,6 @@ impl Store {
     /// of it, if there are fewer than `most`; with the number of its row, if it is kept now.
     pub(crate) fn keep_after(
         &mut self,
-        alloc: Global,
         at: usize,
         pid: u32,
         kernel: u32,
@@ -145,7 +144,6 @@ impl Store {
     /// of it, and the edge to that world, if there are fewer than `most`; with whether both are kept now.
     fn keep_next(
         &mut self,
-        alloc: Global,
         at: usize,
         pid: u32,
         kernel: u32,
@@ -159,7 +157,7 @@ impl Store {
         ensures edge { IfOk result (λ kept. IsTrue kept → (w : WorldState)
             → IsAt self.old at w → HasEdge self.new at w pid) }
     {
-        let Some(to) = self.keep_after(alloc, at, pid, kernel, state, most)? else {
+        let Some(to) = self.keep_after(at, pid, kernel, state, most)? else {
             return Ok(false);
         };
         let kept = self.add_edge(at, pid, to)?;
@@ -168,14 +166,7 @@ impl Store {
 
     /// Keeps the world to which the step of process `pid` from the world of a row leads, and the edge to
     /// it, by what the process does next; with whether that could be done.
-    fn go_to(
-        &mut self,
-        alloc: Global,
-        at: usize,
-        pid: u32,
-        next: Next,
-        most: u32,
-    ) -> Result<bool, ExploreFault>
+    fn go_to(&mut self, at: usize, pid: u32, next: Next, most: u32) -> Result<bool, ExploreFault>
         requires store { IsStore self.old }
         requires next { IsNextAt self.old at pid next }
         ensures store { OnOk result (IsStore self.new) }
@@ -187,21 +178,14 @@ impl Store {
             Next::Nothing => Ok(true),
             Next::Limit => Ok(false),
             Next::To { kernel, state, .. } => {
-                let kept = self.keep_next(alloc, at, pid, kernel, state, most)?;
+                let kept = self.keep_next(at, pid, kernel, state, most)?;
                 Ok(kept)
             }
         }
     }
 
     /// The same by what is known of the step.
-    fn follow(
-        &mut self,
-        alloc: Global,
-        at: usize,
-        pid: u32,
-        known: Known,
-        most: u32,
-    ) -> Result<bool, ExploreFault>
+    fn follow(&mut self, at: usize, pid: u32, known: Known, most: u32) -> Result<bool, ExploreFault>
         requires store { IsStore self.old }
         requires known { IsKnownStep self.old at pid known }
         ensures store { OnOk result (IsStore self.new) }
@@ -210,7 +194,7 @@ impl Store {
             → IsAt self.old at w → IsTried self.new at w pid) }
     {
         match known {
-            Known::Next(next) => self.go_to(alloc, at, pid, next, most),
+            Known::Next(next) => self.go_to(at, pid, next, most),
             Known::Row(to) => Ok(self.add_edge(at, pid, to)?),
         }
     }
@@ -237,11 +221,11 @@ impl Store {
             → IsAt self.old at w → IsTried self.new at w pid) }
     {
         if let Some(known) = lookups.take(at, pid) {
-            let followed = self.follow(alloc, at, pid, known, limits.worlds)?;
+            let followed = self.follow(at, pid, known, limits.worlds)?;
             return Ok(followed);
         }
         let next = self.next(alloc, moves, at, pid, limits.steps)?;
-        let tried = self.go_to(alloc, at, pid, next, limits.worlds)?;
+        let tried = self.go_to(at, pid, next, limits.worlds)?;
         Ok(tried)
     }
 

@@ -81,7 +81,7 @@ impl Store {
         let Next::To { kernel, state, .. } = next else {
             return Ok(false);
         };
-        let Some(to) = self.keep_after(alloc, at, pid, kernel, state, limits.worlds)? else {
+        let Some(to) = self.keep_after(at, pid, kernel, state, limits.worlds)? else {
             return Ok(false);
         };
         if to <= at {
