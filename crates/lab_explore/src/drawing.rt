@@ -5,7 +5,6 @@ ghost use Rattle.lab_sched.specs.Starts.{AreStarts, initial_world};
 ghost use Rattle.lab_explore.specs.Ends.{IsEnd};
 ghost use Rattle.lab_explore.specs.Untried.{untried, NoneGoesOn};
 ghost use Rattle.lab_explore.specs.Private.Drawn.{IsNodeOfRow, AreNodesOfRows, arrow_of, IsPictureOf};
-ghost use Rattle.lab_explore.specs.Private.Known.{AreKnown};
 ghost use Rattle.lab_explore.specs.Private.Stored.{IsAt, IsLike, IsStore, AreExpanded};
 ghost use Rattle.lab_explore.specs.Private.Walked.{IsWalk};
 
@@ -104,7 +103,6 @@ impl Search {
     ) -> Result<Node, ExploreFault>
         requires starts { AreStarts processes.now }
         requires store { IsStore self.now.store }
-        requires known { AreKnown self.now.store self.now.moves }
         ensures node { IfOk result (λ n.
             IsNodeOfRow (initial_world processes.now) self.now.store depth at n) }
     {
@@ -131,7 +129,6 @@ impl Search {
     ) -> Result<Vec<Node>, ExploreFault>
         requires starts { AreStarts processes.now }
         requires store { IsStore self.now.store }
-        requires known { AreKnown self.now.store self.now.moves }
         ensures nodes { IfOk result (λ nodes.
             AreNodesOfRows (initial_world processes.now) self.now.store depths.now nodes.items) }
     {
@@ -165,7 +162,6 @@ impl Search {
     fn whole_picture(&self, alloc: Global, processes: &[Process]) -> Result<Picture, ExploreFault>
         requires starts { AreStarts processes.now }
         requires store { IsStore self.now.store }
-        requires known { AreKnown self.now.store self.now.moves }
         requires expanded { AreExpanded self.now.store }
         ensures picture { IfOk result (λ x.
             IsPictureOf (initial_world processes.now) self.now.store x) }
@@ -184,7 +180,6 @@ impl Search {
     ) -> Result<Option<Picture>, ExploreFault>
         requires starts { AreStarts processes.now }
         requires store { IsTrue self.now.complete → IsStore self.now.store }
-        requires known { IsTrue self.now.complete → AreKnown self.now.store self.now.moves }
         requires expanded { IsTrue self.now.complete → AreExpanded self.now.store }
         ensures complete { IfOk result (λ d. IfSome d (λ x. IsTrue self.now.complete)) }
         ensures picture { IfOk result (λ d. IfSome d (λ x.

@@ -155,7 +155,8 @@ impl Search {
         }
     }
 
-    /// Adds the end of a row of this depth to others; with about how many bytes it takes.
+    /// Adds the end of a row of this depth to others; with about how many bytes it takes. It is compiled
+    /// by itself, so that the room for an end isn't cleared for each row.
     #[inline(never)]
     fn add_row_end(
         &self,

@@ -15,7 +15,6 @@ pub picture-requires : goal.picture-requires
 picture-requires g c = record {
   starts = subst AreStarts (sym c.deref-2.ensures.value) c.processes-processes.ensures.starts;
   store = c.in_ok-search.ensures.store;
-  known = c.in_ok-search.ensures.known;
   expanded = λ is. (whole_search c.in_ok-search.search.sparse _ c.in_ok-search.search.store (c.in_ok-search.ensures.sparse refl) (c.in_ok-search.ensures.complete is)).expanded;
 }
 
