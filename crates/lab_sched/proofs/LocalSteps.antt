@@ -22,7 +22,7 @@ use Rattle.ipc_traps.proofs.Laws.{room_prepared, asked_end, asked_local}
 use Rattle.lab_sched.specs.declared.process.Process.{Process as Kept}
 use Rattle.lab_sched.specs.declared.process.Process.TheVariants as kept
 use Rattle.lab_sched.specs.declared.stepped.Stepped.TheVariants as stepped
-use Rattle.lab_sched.specs.Worlds.{Process, Running, Waiting, Ended, machine_of, WorldState, calls, next_action, action_for, process_after_answer, first_try, kernel_step}
+use Rattle.lab_sched.specs.Worlds.{Process, Running, Waiting, Ended, machine_of, WorldState, calls, next_action, action_for, process_after_answer, process_after_reply_to, first_try, kernel_step}
 use Rattle.lab_sched.specs.Held.{process_view, IsHeld, StepResult, step_result, local_told, stepped_of, HasStepped}
 use Rattle.lab_sched.specs.LocalRun.{IsLocalStep, AreLocal}
 use Rattle.lab_sched.specs.Settling.{AsksFor}
@@ -94,6 +94,18 @@ tried_wait k j p m c is answered =
 pub tried_refused : (k : KernelState) (p : ℕ) (m n : Machine) (e : Errno) → next_request m ≡ Refuses e → IsLocalStep (Running m) (Running n)
     → HasStepped k p (Running m) k (Running n) (stepped.Refused e)
 tried_refused k p m n e asked local = local_first k p m (Refuses e) (Running n) (Running n, local, refl) asked
+
+-- there is room for the reply to a running process
+pub running_room : (x : Kept) (h : Held) (reply : Reply) → x ≡ kept.Running h → CanTakeReply x reply → HasRoom h reply
+running_room x h reply is can =
+    let so : CanTakeReply (kept.Running h) reply = subst (λ y. CanTakeReply y reply) is can in
+    room_prepared h so.0 reply so.1.1 so.1.0 so.2
+
+-- a running process, after its reply
+pub running_told : (x : Kept) (h : Held) (reply : Reply) (q : Machine) → x ≡ kept.Running h → CanTakeReply x reply → q ≡ process_after_reply h.process reply → Running q ≡ after_reply (process_view x) reply
+running_told x h reply q is can q-is =
+    let so : CanTakeReply (kept.Running h) reply = subst (λ y. CanTakeReply y reply) is can in
+    ap Running q-is ∙ sym (ap (λ n. process_after_reply_to h.process n reply) so.1.0) ∙ ap (λ y. after_reply (process_view y) reply) (sym is)
 
 -- there is room for the reply to a process that waits
 pub reply_room : (x : Kept) (h : Held) (c : Call) (reply : Reply) → x ≡ kept.Waiting h c → IsHeld x → CanTakeReply x reply → HasRoom h reply

@@ -11,12 +11,13 @@ use Rattle.ipc_kernel.specs.declared.call.Call.{Call}
 use Rattle.ipc_kernel.specs.declared.call.Reply.{Reply}
 use Rattle.ipc_kernel.specs.declared.call.Answer.TheVariants.{Done}
 use Rattle.ipc_kernel.specs.Replies.{IsReplyTo}
-use Rattle.ipc_traps.specs.Asked.{Calls, next_request}
+use Rattle.ipc_traps.specs.Asked.{Refuses, Calls, next_request}
+use Rattle.ipc_traps.specs.declared.Asked.{Asked}
+use Rattle.ipc_traps.specs.declared.Asked.TheVariants as asked_for
 use Rattle.lab_sched.specs.declared.process.Process.{Process as Kept}
 use Rattle.lab_sched.specs.declared.process.Process.TheVariants as kept
-use Rattle.lab_sched.specs.declared.stepping.Asking.{Asking}
-use Rattle.lab_sched.specs.declared.stepping.Asking.TheVariants as asking
-use Rattle.lab_sched.specs.Worlds.{Process, Running, Waiting, Ended, process_after_answer}
+use Rattle.lab_sched.specs.Worlds.{Process, Running, Waiting, Ended, process_after_answer, process_after_reply_to}
+use Rattle.lab_sched.specs.Held.{IsHeld}
 use Rattle.lab_sched.specs.LocalRun.{IsLocalStep}
 
 -- a running process whose next step is this trap or end
@@ -33,23 +34,33 @@ StopsBy (Running m) progress.Short = Unit {0}
 StopsBy (Waiting m c) p = Unit {0}
 StopsBy (Ended e) p = Unit {0}
 
--- what came of a running process that stood before a trap
-abbrev pub IsAsking : Process → Asking → Process → Type 0
-IsAsking (Running m) asking.Waits u = (c : Call) × (next_request m ≡ Calls c) × (u ≡ Waiting m c)
-IsAsking (Running m) asking.Refused u = IsLocalStep (Running m) u
-IsAsking (Running m) asking.Short u = u ≡ Running m
-IsAsking (Waiting m c) a u = ⊥
-IsAsking (Ended e) a u = ⊥
+-- a running process has asked by its trap, and is u: a call of the kernel, which changes nothing, or one that was refused, a local step
+abbrev pub IsAsked : Process → Asked → Process → Type 0
+IsAsked (Running m) (asked_for.Kernel c) u = (next_request m ≡ Calls c) × (u ≡ Running m)
+IsAsked (Running m) (asked_for.Refused e) u = (next_request m ≡ Refuses e) × IsLocalStep (Running m) u
+IsAsked (Waiting m c) a u = ⊥
+IsAsked (Ended e) a u = ⊥
 
--- a process that waits for a call with this reply
+-- a running process that may wait for this call: it asks for it, and all that a reply writes is ready
+abbrev pub MayWait : Kept → Call → Type 0
+MayWait (kept.Running h) c = IsHeld (kept.Waiting h c)
+MayWait (kept.Waiting h d) c = ⊥
+MayWait (kept.Ended e) c = ⊥
+
+-- the same where it has asked the kernel
+abbrev pub MayWaitWhere : Kept → Asked → Type 0
+MayWaitWhere s (asked_for.Kernel c) = MayWait s c
+MayWaitWhere s (asked_for.Refused e) = Unit {0}
+
+-- a process that asks or waits for a call with this reply
 abbrev pub CanTakeReply : Kept → Reply → Type 0
-CanTakeReply (kept.Running m) r = ⊥
+CanTakeReply (kept.Running h) r = (c : Call) × MayWait (kept.Running h) c × IsReplyTo c r
 CanTakeReply (kept.Waiting h c) r = IsReplyTo c r
 CanTakeReply (kept.Ended e) r = ⊥
 
--- a waiting process after the reply to its call
+-- a process that asks or waits for a call after the reply
 abbrev pub after_reply : Process → Reply → Process
-after_reply (Running m) r = Running m
+after_reply (Running m) r = process_after_reply_to m (next_request m) r
 after_reply (Waiting m c) r = process_after_answer m c (Done r)
 after_reply (Ended e) r = Ended e
 

@@ -20,9 +20,7 @@ pub use next::{Next, find_next};
 pub use process::Process;
 pub use schedule::{Block, MOST_STEPS, SchedFault, Schedule};
 pub use stepped::Stepped;
-pub use stepping::{
-    Asking, begin_call, end_process, local_steps, take_back, take_reply, take_step,
-};
+pub use stepping::{answer_call, ask_call, begin_wait, end_process, local_steps, take_step};
 pub use trace::{Trace, TracedCall};
 pub use verdict::Verdict;
 pub use world::{RunStop, StepFault, Unwatched, Watch, World};

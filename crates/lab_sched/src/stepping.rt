@@ -4,11 +4,9 @@ ghost use Rattle.lc3_machine.specs.Steps.{AreOwnSteps};
 ghost use Rattle.lc3_machine.specs.declared.want.Want.TheVariants.{Trap, End};
 ghost use Rattle.lab_sched.specs.Held.{process_view, HasStepped, IsHeld};
 ghost use Rattle.lab_sched.specs.LocalRun.{AreLocal};
-ghost use Rattle.lab_sched.specs.Settling.{AsksFor};
 ghost use Rattle.lab_sched.specs.Verdicts.{IsWaiting};
 ghost use Rattle.lab_sched.specs.Worlds.{Waiting as WaitingSeen, machine_of};
-ghost use Rattle.lab_sched.specs.Private.Calling.{MayWait};
-ghost use Rattle.lab_sched.specs.Stepping.{CanTakeReply, IsAsking, StandsBefore, StopsBy, after_end, after_reply, before_wait};
+ghost use Rattle.lab_sched.specs.Stepping.{CanTakeReply, IsAsked, MayWait, MayWaitWhere, StandsBefore, StopsBy, after_end, after_reply};
 
 mod untold;
 
@@ -20,17 +18,6 @@ use ipc_traps::Asked;
 use lc3_machine::{How, Progress, Want};
 use std::alloc::{AllocError, Global};
 pub(crate) use untold::move_on;
-
-/// What came of a running process that stood before a trap of the kernel.
-#[derive(Clone, Copy, PartialEq, Eq, Debug)]
-pub enum Asking {
-    /// It waits for the answer to its call, which the kernel hasn't seen yet.
-    Waits,
-    /// Its call was refused without the kernel: a local step.
-    Refused,
-    /// Memory was refused, and nothing has changed.
-    Short,
-}
 
 /// The trap that a process stands before, by its vector, and the call that it makes by it.
 #[derive(Drop)]
@@ -71,9 +58,9 @@ fn waiting(process: Process, at: CallAt) -> (Process, ())
     }
 }
 
-/// Lets a running process wait for the answer to its call.
+/// Lets a running process wait for the answer to the call that it makes by the trap with this vector.
 #[inline(always)]
-fn begin_wait(process: &mut Process, vector: u8, call: Call)
+pub fn begin_wait(process: &mut Process, vector: u8, call: Call)
     requires stands { StandsBefore (process_view process.old) (Trap vector) }
     requires may { MayWait process.old call }
     ensures waits { process_view process.new
@@ -83,44 +70,33 @@ fn begin_wait(process: &mut Process, vector: u8, call: Call)
     replace_with(process, CallAt { vector, call }, waiting)
 }
 
-/// Reads the call of a process that stands before a trap of the kernel. The process waits for the
-/// answer then, and there is room for each reply; a call that is refused without the kernel is a
-/// local step.
-pub fn begin_call(alloc: Global, process: &mut Process, vector: u8) -> Asking
+/// Reads the call that a process makes by the trap with this vector, which it stands before. It may
+/// wait for the answer then, and there is room for each reply; a call that is refused without the
+/// kernel is a local step, which it takes. An error is want of memory: nothing has changed.
+pub fn ask_call(alloc: Global, process: &mut Process, vector: u8) -> Result<Asked, AllocError>
     requires stands { StandsBefore (process_view process.old) (Trap vector) }
-    ensures asking { IsAsking (process_view process.old) result (process_view process.new) }
+    ensures asked { IfOk result
+        (λ asked. IsAsked (process_view process.old) asked (process_view process.new)) }
+    ensures may { IfOk result (λ asked. MayWaitWhere process.new asked) }
     ensures held { IsHeld process.new }
+    ensures err { OnErr result (process_view process.new ≡ process_view process.old) }
 {
     match process {
-        Process::Running(running) => match ask_with_room(alloc, running, vector) {
-            Ok(Asked::Kernel(call)) => {
-                begin_wait(process, vector, call);
-                Asking::Waits
-            }
-            Ok(Asked::Refused(_)) => Asking::Refused,
-            Err(_) => Asking::Short,
-        },
+        Process::Running(running) => ask_with_room(alloc, running, vector),
         Process::Waiting(_, _) | Process::Ended(_) => unreachable!(),
     }
 }
 
-/// The process that the reply to its call makes of one that waits; with the call.
-#[inline(always)]
-fn replied_with_call(process: Process, reply: &Reply) -> (Process, Call)
-    requires held { IsHeld process }
-    requires reply { CanTakeReply process reply.now }
-    ensures told { process_view result.0 ≡ after_reply (process_view process) reply.now }
-    ensures call { AsksFor (process_view process) result.1 }
-    ensures held { IsHeld result.0 }
+/// Gives a running process the reply to the call that it makes by the trap with this vector.
+pub fn answer_call(process: &mut Process, vector: u8, reply: &Reply)
+    requires stands { StandsBefore (process_view process.old) (Trap vector) }
+    requires reply { CanTakeReply process.old reply.now }
+    ensures told { process_view process.new ≡ after_reply (process_view process.old) reply.now }
+    ensures held { IsHeld process.new }
 {
     match process {
-        Process::Waiting(waiting, call) => {
-            let vector = waiting.vector();
-            let mut running = waiting.back();
-            give_reply(&mut running, vector, reply);
-            (Process::Running(running), call)
-        }
-        Process::Running(_) | Process::Ended(_) => unreachable!(),
+        Process::Running(running) => give_reply(running, vector, reply),
+        Process::Waiting(_, _) | Process::Ended(_) => unreachable!(),
     }
 }
 
@@ -128,45 +104,20 @@ fn replied_with_call(process: Process, reply: &Reply) -> (Process, Call)
 #[inline(always)]
 fn replied(process: Process, reply: &Reply) -> (Process, ())
     requires held { IsHeld process }
+    requires waits { IsWaiting (process_view process) }
     requires reply { CanTakeReply process reply.now }
     ensures told { process_view result.0 ≡ after_reply (process_view process) reply.now }
     ensures held { IsHeld result.0 }
 {
-    let (process, _) = replied_with_call(process, reply);
-    (process, ())
-}
-
-/// Gives a process that waits the reply to its call, of which it keeps nothing; with the call.
-pub fn take_reply(process: &mut Process, reply: &Reply) -> Call
-    requires held { IsHeld process.old }
-    requires reply { CanTakeReply process.old reply.now }
-    ensures told { process_view process.new ≡ after_reply (process_view process.old) reply.now }
-    ensures call { AsksFor (process_view process.old) result }
-    ensures held { IsHeld process.new }
-{
-    replace_with(process, reply, replied_with_call)
-}
-
-/// The process as it was before it began to wait.
-fn resumed(process: Process, (): ()) -> (Process, ())
-    requires held { IsHeld process }
-    ensures process { process_view result.0 ≡ before_wait (process_view process) }
-    ensures held { IsHeld result.0 }
-{
     match process {
-        Process::Waiting(waiting, _) => (Process::Running(waiting.back()), ()),
-        other => (other, ()),
+        Process::Waiting(waiting, _) => {
+            let vector = waiting.vector();
+            let mut running = waiting.back();
+            give_reply(&mut running, vector, reply);
+            (Process::Running(running), ())
+        }
+        Process::Running(_) | Process::Ended(_) => unreachable!(),
     }
-}
-
-/// Lets a process be as it was before it began to wait.
-#[inline(always)]
-pub fn take_back(process: &mut Process)
-    requires held { IsHeld process.old }
-    ensures process { process_view process.new ≡ before_wait (process_view process.old) }
-    ensures held { IsHeld process.new }
-{
-    replace_with(process, (), resumed)
 }
 
 /// The process that has ended.

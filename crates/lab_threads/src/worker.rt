@@ -1,13 +1,11 @@
 //! Workers, which step one process each.
-ghost use Rattle.std.specs.Prelude.{◌≡◌, ◌≤◌, ◌<◌, ◌+◌, ◌^◌, IsTrue, IfOk, vec_len, vec_capacity};
+ghost use Rattle.std.specs.Prelude.{◌≡◌, ◌≤◌, ◌<◌, ◌+◌, ◌^◌, vec_len, vec_capacity};
 ghost use Rattle.lc3_machine.specs.declared.want.Want.TheVariants.{Trap, End};
 ghost use Rattle.lab_sched.specs.Held.{process_view, IsHeld};
 ghost use Rattle.lab_sched.specs.LocalRun.{AreLocal};
 ghost use Rattle.lab_sched.specs.Worlds.{Process as Seen};
-ghost use Rattle.lab_sched.specs.Settling.{AsksFor};
-ghost use Rattle.lab_sched.specs.Stepping.{StandsBefore, before_wait};
-ghost use Rattle.lab_sched.specs.Verdicts.{IsRunning, IsWaiting};
-ghost use Rattle.lab_threads.specs.Private.CallOutcome.{IsCallOutcome};
+ghost use Rattle.lab_sched.specs.Stepping.{MayWait, StandsBefore};
+ghost use Rattle.lab_sched.specs.Verdicts.{IsRunning};
 ghost use Rattle.lab_threads.specs.Private.WorkerLogs.{LeadsOn, allowance};
 ghost use Rattle.lab_threads.specs.Private.WorkerResults.{IsWorkerResult};
 
@@ -17,11 +15,10 @@ use crate::monitor::{CallOutcome, Monitor};
 use crate::worker_log::WorkerLog;
 use crate::worker_result::WorkerResult;
 use ipc_kernel::{Answer, Call};
-use lab_sched::{
-    Asking, Process, Trace, begin_call, end_process, local_steps, take_back, take_reply,
-};
+use ipc_traps::Asked;
+use lab_sched::{Process, Trace, answer_call, ask_call, begin_wait, end_process, local_steps};
 use lc3_machine::{How, Progress, Want};
-use std::alloc::{AllocError, Global};
+use std::alloc::Global;
 use std::sync::Wait;
 
 /// Whether a worker goes on.
@@ -126,67 +123,13 @@ fn step_trap<R: Wait, G: Gate>(
     if log.reserve().is_err() {
         return Continuation::Stops;
     }
-    match begin_call(context.alloc, process, vector) {
-        Asking::Waits => make_call(rt, context, process, log),
-        Asking::Refused => {
+    match ask_call(context.alloc, process, vector) {
+        Ok(Asked::Kernel(call)) => make_call(rt, context, process, vector, call, log),
+        Ok(Asked::Refused(_)) => {
             write_local(context, log, 1);
             Continuation::GoesOn
         }
-        Asking::Short => Continuation::Stops,
-    }
-}
-
-/// Makes the call that a process has begun to wait for. Where it isn't made the process runs again.
-fn make_call<R: Wait, G: Gate>(
-    rt: &R,
-    context: &WorkerContext<'_, G>,
-    process: &mut Process,
-    log: &mut WorkerLog,
-) -> Continuation
-    requires held { IsHeld process.old }
-    requires waits { IsWaiting (process_view process.old) }
-    requires some { 0 < log.old.left }
-    requires room { vec_len log.old.trace.calls + 2 ≤ vec_capacity log.old.trace.calls }
-    ensures alone { LeadsOn log.old (before_wait (process_view process.old)) log.new
-        (process_view process.new) }
-    ensures held { IsHeld process.new }
-    ensures allowed { allowance log.new ≡ allowance log.old }
-{
-    let may_wait = log.left > 1;
-    match outcome_of(rt, context, process, may_wait, &mut log.calls) {
-        Ok((call, outcome)) => write_down(process, call, outcome, may_wait, log),
-        Err(_) => run_again(process, Continuation::Stops),
-    }
-}
-
-/// Lets a process run again whose call wasn't made.
-fn run_again(process: &mut Process, continuation: Continuation) -> Continuation
-    requires held { IsHeld process.old }
-    ensures process { process_view process.new ≡ before_wait (process_view process.old) }
-    ensures held { IsHeld process.new }
-{
-    take_back(process);
-    continuation
-}
-
-/// What comes of the call that a process waits for, with a copy of the call.
-fn outcome_of<R: Wait, G: Gate>(
-    rt: &R,
-    context: &WorkerContext<'_, G>,
-    process: &Process,
-    may_wait: bool,
-    calls: &mut u32,
-) -> Result<(Call, CallOutcome), AllocError>
-    requires waits { IsWaiting (process_view process.now) }
-    ensures call { IfOk result (λ r. AsksFor (process_view process.now) r.0) }
-    ensures outcome { IfOk result (λ r. IsCallOutcome r.0 may_wait r.1) }
-{
-    match process {
-        Process::Waiting(_, call) => {
-            let copy = call.copy()?;
-            Ok((copy, context.call(rt, call, may_wait, calls)))
-        }
-        Process::Running(_) | Process::Ended(_) => unreachable!(),
+        Err(_) => Continuation::Stops,
     }
 }
 
@@ -199,42 +142,46 @@ fn after_wait(fits: bool) -> Continuation {
     }
 }
 
-/// Writes down what came of the call of a process, and gives it the reply if there is one.
-fn write_down(
+/// Makes the call of a process that stands before its trap, gives it the reply or lets it wait, and
+/// writes down what came of it. Where the call isn't made nothing changes.
+fn make_call<R: Wait, G: Gate>(
+    rt: &R,
+    context: &WorkerContext<'_, G>,
     process: &mut Process,
+    vector: u8,
     call: Call,
-    outcome: CallOutcome,
-    may_wait: bool,
     log: &mut WorkerLog,
 ) -> Continuation
+    requires stands { StandsBefore (process_view process.old) (Trap vector) }
+    requires may { MayWait process.old call }
     requires held { IsHeld process.old }
-    requires waits { IsWaiting (process_view process.old) }
-    requires call { AsksFor (process_view process.old) call }
-    requires outcome { IsCallOutcome call may_wait outcome }
     requires some { 0 < log.old.left }
-    requires two { IsTrue may_wait → 1 < log.old.left }
     requires room { vec_len log.old.trace.calls + 2 ≤ vec_capacity log.old.trace.calls }
-    ensures alone { LeadsOn log.old (before_wait (process_view process.old)) log.new
-        (process_view process.new) }
+    ensures alone { LeadsOn log.old (process_view process.old) log.new (process_view process.new) }
     ensures held { IsHeld process.new }
     ensures allowed { allowance log.new ≡ allowance log.old }
 {
-    match outcome {
-        CallOutcome::NoMemory => run_again(process, Continuation::Stops),
-        CallOutcome::Rejected => run_again(process, Continuation::Misfits),
+    let Ok(copy) = call.copy() else {
+        return Continuation::Stops;
+    };
+    let may_wait = log.left > 1;
+    match context.call(rt, &call, may_wait, &mut log.calls) {
+        CallOutcome::NoMemory => Continuation::Stops,
+        CallOutcome::Rejected => Continuation::Misfits,
         CallOutcome::Blocked { fits } => {
-            log.add_call(call, Answer::Wait);
+            begin_wait(process, vector, call);
+            log.add_call(copy, Answer::Wait);
             after_wait(fits)
         }
         CallOutcome::Answered(reply) => {
-            let _ = take_reply(process, &reply);
+            answer_call(process, vector, &reply);
             log.add_call(call, Answer::Done(reply));
             Continuation::GoesOn
         }
         CallOutcome::AnsweredAfterWait(reply) => {
-            log.add_call(call, Answer::Wait);
-            let again = take_reply(process, &reply);
-            log.add_call(again, Answer::Done(reply));
+            answer_call(process, vector, &reply);
+            log.add_call(copy, Answer::Wait);
+            log.add_call(call, Answer::Done(reply));
             Continuation::GoesOn
         }
     }

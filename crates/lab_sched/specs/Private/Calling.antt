@@ -27,12 +27,6 @@ abbrev pub HasRoomFor : Asked → Held → Type 0
 HasRoomFor (asked_for.Kernel c) h = IsPrepared h
 HasRoomFor (asked_for.Refused e) h = Unit {0}
 
--- a running process that may wait for this call
-abbrev pub MayWait : Kept → Call → Type 0
-MayWait (kept.Running h) c = IsHeld (kept.Waiting h c)
-MayWait (kept.Waiting h d) c = ⊥
-MayWait (kept.Ended e) c = ⊥
-
 -- process p, which ran as m over kernel k, has tried its call for the first time: it runs as h over kernel j
 abbrev pub HasTried : KernelState → ℕ → Machine → KernelState → Held → FirstTry → Type 0
 HasTried k p m j h (Refused e) = HasStepped k p (Running m) j (Running h.process) (stepped.Refused e)

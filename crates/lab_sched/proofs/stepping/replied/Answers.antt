@@ -2,14 +2,14 @@ use Rattle.std.proofs.Common.{◌≡◌, subst, sym}
 use Rattle.lc3_machine.specs.Process.{Held}
 use Rattle.ipc_traps.specs.Reply.{HasRoom, process_after_reply}
 use Rattle.lab_sched.proofs.LocalSteps.{reply_room, reply_told}
-use Rattle.lab_sched.proofs.stepping.replied_with_call.Goals as goal
+use Rattle.lab_sched.proofs.stepping.replied.Goals as goal
 
 pub give_reply-requires-clause-room : goal.give_reply-requires-clause-room
 give_reply-requires-clause-room c =
     subst (λ h. HasRoom h c.args.reply.now) (sym c.back-running.ensures.same)
-    (reply_room c.args.process c.in-Waiting.waiting c.in-Waiting.call c.args.reply.now c.in-Waiting.is c.requires.held c.requires.reply)
+    (reply_room c.args.process c.in-Waiting.waiting c.in-Waiting.field-1 c.args.reply.now c.in-Waiting.is c.requires.held c.requires.reply)
 
 pub returns-clause-told : goal.returns-clause-told
 returns-clause-told c =
     let replied = subst (λ (h : Held). c.give_reply.new.running.process ≡ process_after_reply h.process c.args.reply.now) c.back-running.ensures.same c.give_reply.ensures.replied in
-    reply_told c.args.process c.in-Waiting.waiting c.in-Waiting.call c.args.reply.now c.give_reply.new.running.process c.in-Waiting.is c.requires.held replied
+    reply_told c.args.process c.in-Waiting.waiting c.in-Waiting.field-1 c.args.reply.now c.give_reply.new.running.process c.in-Waiting.is c.requires.held replied
