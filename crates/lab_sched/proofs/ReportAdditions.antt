@@ -1,5 +1,5 @@
 -- Steps that are added to a report, and to what processes have left.
-use Rattle.std.proofs.Common.{ℕ, ◌+◌, ◌-◌, ◌≡◌, ◌<◌, ◌≤◌, ◌++◌, List, [], ◌∷◌, Bool, true, refl, sym, ap, subst, ◌∙◌, arith, length, set, map, get_or, inl, inr, ◌⊎◌, slice_get, zero, suc, ◌≢◌, Some, replicate}
+use Rattle.std.proofs.Common.{ℕ, ◌+◌, ◌-◌, ◌≡◌, ◌<◌, ◌≤◌, ◌++◌, List, [], ◌∷◌, Bool, true, refl, sym, ap, subst, ◌∙◌, arith, length, set, map, get_or, inl, inr, ◌⊎◌, slice_get, zero, suc, ◌≢◌, Option, Some, replicate}
 use Rattle.std.proofs.lemmas.List.{append-nil, append_assoc, replicate-append-replicate, length-set, get_or-set_same, get_or-set_other, map-set}
 use Rattle.std.proofs.lemmas.Bool.Decides.{eqb_tells}
 use Rattle.std.specs.List.{sum}
@@ -17,12 +17,14 @@ use Rattle.lab_sched.specs.declared.entry.Entry.{Entry}
 use Rattle.lab_sched.specs.declared.next.Next.{Next}
 use Rattle.lab_sched.specs.declared.next.Next.TheVariants as next
 use Rattle.lab_sched.specs.Worlds.{Process, Running, Waiting, Ended, WorldState, first_try, retry, nothing, kernel_step, step_effect, step_effect_in, step, after, run, IsEffective}
-use Rattle.lab_sched.specs.Held.{process_view}
+use Rattle.ipc_traps.specs.Asked.{Request}
+use Rattle.lab_sched.specs.declared.stepped.Stepped.{Stepped}
+use Rattle.lab_sched.specs.Held.{process_view, asked_by, stepped_of, told_in}
 use Rattle.lab_sched.specs.Verdicts.{HasEnded}
 use Rattle.lab_sched.specs.Execution.{IsExecution}
 use Rattle.lab_sched.specs.Settled.{Report, report, IsAdded, IsSettled, HasStopped, IsShort}
 use Rattle.lab_sched.specs.Settling.{AsksFor, IsNext}
-use Rattle.lab_sched.specs.Private.Settling.{AsksIn, IsNextIn, IsTaken}
+use Rattle.lab_sched.specs.Private.Settling.{AsksIn, IsNextIn, IsTaken, answer_told}
 use Rattle.lab_sched.proofs.Runs.{run-none}
 use Rattle.lab_sched.proofs.Executions.{execution_none, execution_append, execution_step, execution_length, execution_local, with_process, count-append, count-replicate_same, count-replicate_other}
 use Rattle.lab_sched.proofs.Commutes.{after_other}
@@ -201,10 +203,17 @@ effect_asked w p c (Waiting m d) at asks h =
     (m, here ∙ retry_told m d (answer w.kernel p d).0 (subst IsEffective here h) ∙ ap (λ x. kernel_step m x (answer w.kernel p x).0) asks)
 effect_asked w p c (Ended e) at asks h = absurd asks
 
-pub taken_call : (w v : WorldState) (es fs : List Entry) (p : ℕ) (c : Call) (a : Answer) → IsEffective (step_effect_in w p) → AsksIn w p c → a ≡ (answer w.kernel p c).0 → v ≡ step w p
-    → fs ≡ es ++ record { pid = p; call = c; answer = a } ∷ [] → IsTaken w es (replicate 1 p) v fs
-taken_call w v es fs p c a h asks a-is v-is fs-is =
+answer_stepped : (q : Option Request) (m : Machine) (c : Call) (a : Answer) → answer_told (stepped_of q (kernel_step m c a)) ≡ a
+answer_stepped q m c (Done r) = refl
+answer_stepped q m c Wait = refl
+
+-- a call is taken, and its answer is what is told of its step
+pub taken_call : (w v : WorldState) (es fs : List Entry) (p : ℕ) (c : Call) (stepped : Stepped) (a : Answer) → IsEffective (step_effect_in w p) → AsksIn w p c → stepped ≡ told_in w p
+    → a ≡ answer_told stepped → v ≡ step w p → fs ≡ es ++ record { pid = p; call = c; answer = a } ∷ [] → IsTaken w es (replicate 1 p) v fs
+taken_call w v es fs p c stepped a h asks told-is a-told v-is fs-is =
+    let q = asked_by (slice_get w.processes p) in
     let t = effect_asked w p c asks.0 asks.1 asks.2 h in
+    let a-is : a ≡ (answer w.kernel p c).0 = a-told ∙ ap answer_told told-is ∙ ap (λ e. answer_told (stepped_of q e)) t.1 ∙ answer_stepped q t.0 c (answer w.kernel p c).0 in
     let is : step_effect_in w p ≡ kernel_step t.0 c a = t.1 ∙ ap (λ b. kernel_step t.0 c b) (sym a-is) in
     let told : List Entry = record { pid = p; call = c; answer = a } ∷ [] in
     record {

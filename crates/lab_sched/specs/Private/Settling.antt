@@ -6,6 +6,10 @@ use Rattle.lab_sched.specs.Execution.{IsExecution}
 use Rattle.lab_sched.specs.declared.entry.Entry.{Entry}
 use Rattle.lab_sched.specs.declared.next.Next.{Next}
 use Rattle.lab_sched.specs.declared.next.Next.TheVariants as next
+use Rattle.ipc_kernel.specs.declared.call.Answer.{Answer}
+use Rattle.ipc_kernel.specs.declared.call.Answer.TheVariants.{Done, Wait}
+use Rattle.lab_sched.specs.declared.stepped.Stepped.{Stepped}
+use Rattle.lab_sched.specs.declared.stepped.Stepped.TheVariants as stepped
 use Rattle.lab_sched.specs.Settling.{AsksFor}
 use Rattle.lc3_machine.specs.declared.machine.Progress.{Progress}
 use Rattle.lab_sched.specs.Stepping.{StopsBy}
@@ -26,6 +30,11 @@ pub record IsTaken (w : WorldState) (es : List Entry) (ps : List ℕ) (v : World
   pub told : List Entry
   pub execution : IsExecution w ps v told
   pub entries : fs ≡ es ++ told
+
+-- the answer of a call, by what is told of its step
+abbrev pub answer_told : Stepped → Answer
+answer_told (stepped.Called r) = Done r
+answer_told other = Wait
 
 -- what kept process p from its next local step
 abbrev pub StopsByIn : WorldState → ℕ → Progress → Type 0

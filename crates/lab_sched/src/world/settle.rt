@@ -4,14 +4,14 @@ ghost use Rattle.std.specs.Int.{bit_at};
 ghost use Rattle.lab_sched.specs.Worlds.{nothing, step_effect_in, IsEffective};
 ghost use Rattle.lab_sched.specs.Schedules.{steps_of, total_of, most_steps};
 ghost use Rattle.lab_sched.specs.Settled.{report, IsAdded, IsSettled, HaveStopped, IsShort};
-ghost use Rattle.lab_sched.specs.Private.Settling.{AsksIn, IsNextIn, IsTaken};
+ghost use Rattle.lab_sched.specs.Private.Settling.{AsksIn, IsNextIn, IsTaken, answer_told};
 ghost use Rattle.ipc_kernel.specs.Limits.{process_max};
 
 use super::World;
 use super::bits::{has_bit, with_bit};
 use crate::next::find_next;
-use crate::{Entry, Next, Schedule};
-use ipc_kernel::Call;
+use crate::{Entry, Next, Schedule, Stepped};
+use ipc_kernel::{Answer, Call};
 
 /// Whether there was a step.
 fn has_moved(moved: bool, taken: u32) -> bool
@@ -19,6 +19,16 @@ fn has_moved(moved: bool, taken: u32) -> bool
     ensures no { result ≡ false → (moved ≡ false) × (taken ≡ 0) }
 {
     moved || taken > 0
+}
+
+/// The answer of a call, by what its step was.
+fn answer_of(stepped: Stepped) -> Answer
+    ensures answer { result ≡ answer_told stepped }
+{
+    match stepped {
+        Stepped::Called(reply) => Answer::Done(reply),
+        _ => Answer::Wait,
+    }
 }
 
 impl World {
@@ -44,15 +54,13 @@ impl World {
             (replicate result pid) self.new entries.new.items }
         ensures within { result ≤ 1 }
     {
-        let Ok(answer) = self.kernel.answer(pid, &call) else {
-            return 0;
-        };
         let Ok(()) = entries.reserve(1) else {
             return 0;
         };
-        let Ok(_) = self.step(pid) else {
+        let Ok(stepped) = self.step(pid) else {
             return 0;
         };
+        let answer = answer_of(stepped);
         entries.push_reserved(Entry { pid, call, answer });
         1
     }

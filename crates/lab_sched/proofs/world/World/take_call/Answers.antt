@@ -1,14 +1,9 @@
 use Rattle.std.proofs.Common.{◌++◌, ◌∷◌, [], refl, ap, ◌∙◌}
-use Rattle.ipc_kernel.specs.Answer.{answer}
-use Rattle.lab_sched.specs.Worlds.{WorldState}
 use Rattle.lab_sched.proofs.ReportAdditions.{taken_none, taken_call}
 use Rattle.lab_sched.proofs.world.World.take_call.Goals as goal
 
 pub returns-in_default-clause-taken : goal.returns-in_default-clause-taken
-returns-in_default-clause-taken c = taken_none c.args.self.now c.args.self.now c.args.entries.now.items c.args.entries.now.items c.args.pid refl refl
-
-pub returns-in_default-reserve-clause-taken : goal.returns-in_default-reserve-clause-taken
-returns-in_default-reserve-clause-taken c =
+returns-in_default-clause-taken c =
     taken_none c.args.self.now c.args.self.now c.args.entries.now.items c.reserve.new.self.items c.args.pid refl c.reserve.ensures.items
 
 pub returns-in_default-step-clause-taken : goal.returns-in_default-step-clause-taken
@@ -17,8 +12,6 @@ returns-in_default-step-clause-taken c =
 
 pub returns-clause-taken : goal.returns-clause-taken
 returns-clause-taken c =
-    taken_call c.args.self.now c.step.new.self c.args.entries.now.items c.push_reserved.new.self.items c.args.pid c.args.call c.in-Ok.answer
-    c.requires.effective c.requires.asks
-    (c.in-Ok.ensures.answered ∙ ap (λ (x : WorldState). (answer x.kernel c.args.pid c.args.call).0) c.self.view_is)
-    c.in-Ok-step.ensures.world
-    (c.push_reserved.ensures.items ∙ ap (λ es. es ++ record { pid = c.args.pid; call = c.args.call; answer = c.in-Ok.answer } ∷ []) c.reserve.ensures.items)
+    taken_call c.args.self.now c.step.new.self c.args.entries.now.items c.push_reserved.new.self.items c.args.pid c.args.call c.in-Ok-step.stepped c.answer_of-answer.result
+    c.requires.effective c.requires.asks c.in-Ok-step.ensures.told c.answer_of-answer.ensures.answer c.in-Ok-step.ensures.world
+    (c.push_reserved.ensures.items ∙ ap (λ es. es ++ record { pid = c.args.pid; call = c.args.call; answer = c.answer_of-answer.result } ∷ []) c.reserve.ensures.items)
