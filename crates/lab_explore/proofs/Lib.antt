@@ -10,6 +10,7 @@ mod StepsOfRows
 mod LookupLemmas
 mod PieceLemmas
 mod SilentProcesses
+mod StepCounts
 mod StepsBehind
 mod ShortStates
 mod StandingStates

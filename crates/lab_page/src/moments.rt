@@ -22,7 +22,7 @@ use crate::past::Past;
 use crate::state::states;
 use crate::values::{push_more, push_value};
 use lab_sched::{Block, World};
-use lab_trace::{Form, Tally, step_line, steps_done, trace_step};
+use lab_trace::{Form, Tally, step_line, steps_told, trace_step};
 use serde_json::Value;
 use std::alloc::{AllocError, Global};
 use std::marker::Model;
@@ -144,7 +144,7 @@ impl Moments {
         let past = &self.past;
         let moment = moment_by(alloc, world, tally, past, form, whole, number, pid, &told);
         let line = step_line(alloc, labels, number, pid, &told);
-        let done = steps_done(&told, most);
+        let done = steps_told(&told, most);
         let kept = self
             .past
             .keep(world, tally, number, pid, waits, &told, done);

@@ -3,26 +3,15 @@ ghost use Rattle.std.specs.Prelude.{◌≡◌, ◌++◌, ◌<◌, IfOk, OnOk, ma
 ghost use Rattle.std.specs.Option.{option_map};
 ghost use Rattle.serde_json.specs.View.{view};
 ghost use Rattle.ipc_kernel.specs.Limits.{open_max};
-ghost use Rattle.lab_texts.specs.Objects.{access_text};
 ghost use Rattle.lab_page.specs.Values.{all_below};
 ghost use Rattle.lab_page.specs.Objects.{descriptor_data, slot_data, descriptor_at, slot_at, open_data};
 
 use crate::values::push_some;
 use ipc_kernel::{Descriptor, OPEN_MAX, Slot};
 use lab_sched::World;
+use lab_texts::access_name;
 use serde_json::{Value, json};
 use std::alloc::{AllocError, Global};
-
-/// To receive, to send, or both.
-fn access_name(access: u8) -> &'static str
-    ensures text { result.now ≡ access_text access }
-{
-    match access {
-        0 => "r",
-        1 => "w",
-        _ => "rw",
-    }
-}
 
 /// A descriptor, where it is open.
 fn descriptor_value(

@@ -4,13 +4,13 @@ ghost use Rattle.serde_json.specs.View.{view};
 ghost use Rattle.lc3_machine.specs.Process.{reg};
 ghost use Rattle.lab_sched.specs.Held.{process_view};
 ghost use Rattle.lab_sched.specs.Worlds.{machine_of};
-ghost use Rattle.lab_texts.specs.Texts.{code_text};
 ghost use Rattle.lab_page.specs.States.{word_data, shown_count, words_from, registers, state_data, state_in, states};
 
 use lab_sched::{Process, World};
+use lab_texts::code_name;
 use lab_trace::service_of_word;
 use lc3_table::text;
-use lc3_word::{Cc, FIRST_DEVICE, Reg};
+use lc3_word::{FIRST_DEVICE, Reg};
 use serde_json::{Value, json};
 use std::alloc::{AllocError, Global};
 
@@ -75,17 +75,6 @@ fn registers(alloc: Global, process: &Process) -> Result<Vec<Value>, AllocError>
     Ok(registers)
 }
 
-/// A condition code by its letter.
-fn letter(code: Cc) -> &'static str
-    ensures text { result.now ≡ code_text code }
-{
-    match code {
-        Cc::N => "N",
-        Cc::Z => "Z",
-        Cc::P => "P",
-    }
-}
-
 /// How many words are shown around a program counter.
 fn shown_count(pc: u16) -> u32
     ensures count { result ≡ shown_count pc }
@@ -101,7 +90,7 @@ fn state_value(alloc: Global, process: &Process) -> Result<Value, AllocError>
     ensures value { IfOk result (λ v. view v ≡ state_data (machine_of (process_view process.now))) }
 {
     let pc = process.machine().pc();
-    let code = letter(process.machine().cc());
+    let code = code_name(process.machine().cc());
     let first = pc.saturating_sub(BEFORE);
     let registers = Value::Array(registers(alloc, process)?);
     let words = words_from(alloc, process, u32::from(first), shown_count(pc))?;

@@ -7,8 +7,8 @@ use ipc_kernel::{Descriptor, OPEN_MAX, Slot};
 use lab_sched::World;
 use std::alloc::AllocError;
 
-/// To receive, to send, or both.
-fn access_name(access: u8) -> &'static str
+/// What a descriptor is open for, as `rw`: 0 to receive, 1 to send, else both.
+pub fn access_name(access: u8) -> &'static str
     ensures text { result.now ≡ access_text access }
 {
     match access {

@@ -12,7 +12,9 @@ mod semaphores;
 mod status;
 mod texts;
 
+pub use descriptors::access_name;
 pub use output::Escape;
+pub use registers::code_name;
 pub use status::how_name;
 pub use texts::{
     dis_text, fds_text, mem_text, mqs_text, out_text, procs_text, profile_text, regs_text,

@@ -10,8 +10,8 @@ use lab_sched::{Process, World};
 use lc3_word::{Cc, Hex, Reg};
 use std::alloc::AllocError;
 
-/// A condition code by its letter.
-fn code_name(code: Cc) -> &'static str
+/// A condition code by its letter, as `Z`.
+pub fn code_name(code: Cc) -> &'static str
     ensures text { result.now ≡ code_text code }
 {
     match code {

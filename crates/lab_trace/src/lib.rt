@@ -40,4 +40,4 @@ pub use step::trace_step;
 pub use tally::{Account, Tally};
 pub use text::{Bytes, Text};
 pub use told::{Act, Called, Event, Told};
-pub use tracing::{ending, missing_after, stands, steps_done, trace};
+pub use tracing::{ending, missing_after, stands, steps_told, trace};

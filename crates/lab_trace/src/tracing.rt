@@ -56,7 +56,7 @@ fn write_text<W: Write>(text: &str, output: &mut Output<W>) -> Result<(), TraceF
 }
 
 /// How many of a block's steps a step stands for: one without effect for the rest of them.
-pub fn steps_done(told: &Told, most: u32) -> u32
+pub fn steps_told(told: &Told, most: u32) -> u32
     requires some { 1 ≤ most }
     ensures other { (told.now ≡ Nothing → ⊥) → result ≡ 1 }
     ensures some { 1 ≤ result }
@@ -100,7 +100,7 @@ fn trace_one<W: Write>(
 {
     let told = trace_step(alloc, world, tally, number, pid)?;
     let line = step_line(alloc, form, number, pid, &told);
-    let done = steps_done(&told, most);
+    let done = steps_told(&told, most);
     drop(told);
     write_text(&line?, output)?;
     Ok(done)

@@ -7,7 +7,6 @@ use Rattle.ipc_traps.specs.Asked.{Refuses, Calls, next_request}
 use Rattle.ipc_traps.specs.declared.Asked.{Asked}
 use Rattle.ipc_traps.specs.declared.Asked.TheVariants as asked_for
 use Rattle.ipc_traps.specs.Reply.{IsPrepared}
-use Rattle.lab_sched.specs.declared.process.Process.{Process as Kept}
 use Rattle.lab_sched.specs.declared.process.Process.TheVariants as kept
 use Rattle.lab_sched.specs.declared.stepped.Stepped.TheVariants as stepped
 use Rattle.lab_sched.specs.declared.calling.FirstTry.{FirstTry}
