@@ -46,6 +46,9 @@ pub(crate) struct Search {
     pub refused: bool,
 }
 
+/// After how many worlds it is looked once more how much memory is taken.
+const OFTEN: usize = 16;
+
 impl Store {
     /// Keeps the state of a process that stands at its call, if it does.
     fn keep_ahead(&mut self, alloc: Global, ahead: Ahead) -> Result<Option<Come>, ExploreFault>
@@ -151,7 +154,7 @@ impl Store {
             if at >= self.rows.len() {
                 return Ok(both(whole, self.keeps_names(sparse)));
             }
-            if self.size(moves) > limits.memory || !self.keeps_names(sparse) {
+            if !self.keeps_names(sparse) || at % OFTEN == 0 && self.size(moves) > limits.memory {
                 return Ok(false);
             }
             observer.see(at, self.rows.len() - at);
