@@ -6,6 +6,7 @@ ghost use Rattle.lc3_table.specs.Text.{operand_text, branch_text, unnamed_trap_t
 
 use crate::decoding::decode;
 use crate::instr::{Instr, Operand};
+use crate::trap::ConsoleTrap;
 use lc3_word::{Hex, Image, Off};
 use std::alloc::{AllocError, Global};
 use std::fmt;
@@ -85,14 +86,12 @@ impl fmt::Display for Vector {
 
     fn fmt<W: fmt::Write>(&self, f: &mut fmt::Formatter<W>) -> fmt::Result {
         let vector = self.0;
-        match vector {
-            0x20 => write!(f, "GETC"),
-            0x21 => write!(f, "OUT"),
-            0x22 => write!(f, "PUTS"),
-            0x23 => write!(f, "IN"),
-            0x24 => write!(f, "PUTSP"),
-            0x25 => write!(f, "HALT"),
-            _ => {
+        match ConsoleTrap::of_vector(vector) {
+            Some(trap) => {
+                let name = trap.name();
+                write!(f, "{name}")
+            }
+            None => {
                 let unnamed = Unnamed(vector);
                 write!(f, "{unnamed}")
             }

@@ -3,10 +3,13 @@
 ghost use Rattle.std.specs.Prelude.{◌≡◌, ◌≤◌, [], ◌∷◌};
 ghost use Rattle.lc3_word.specs.Words.{low_bits};
 ghost use Rattle.lc3_table.specs.Meaning.{Encodes};
+ghost use Rattle.lc3_table.specs.Traps.{console_vector};
+ghost use Rattle.lc3_table.specs.declared.instr.Instr.TheVariants.{Trap};
 ghost use Rattle.lc3_table.specs.declared.fields.Field.TheVariants.{Register, Number};
 
 use crate::instr::{Instr, Operand};
 use crate::operation::Operation;
+use crate::trap::ConsoleTrap;
 use lc3_word::{Off, Reg};
 
 /// What an operand puts into a field of its instruction.
@@ -43,6 +46,13 @@ fn low_byte(number: i64) -> u8
     (low_word(number) & 255) as u8
 }
 
+fn console_trap(trap: ConsoleTrap) -> Instr
+    ensures trap { result ≡ Trap (console_vector trap) }
+{
+    let vector = trap.vector();
+    Instr::Trap { vector }
+}
+
 #[tactic(auto, unfolding(crate::specs::Meaning::instruction))]
 fn without_operands(operation: Operation) -> Option<Instr>
     ensures words { Encodes result operation [] }
@@ -53,12 +63,12 @@ fn without_operands(operation: Operation) -> Option<Instr>
             Some(Instr::Jmp { base })
         }
         Operation::ReturnInterrupt => Some(Instr::Rti),
-        Operation::Getc => Some(Instr::Trap { vector: 0x20 }),
-        Operation::Out => Some(Instr::Trap { vector: 0x21 }),
-        Operation::Puts => Some(Instr::Trap { vector: 0x22 }),
-        Operation::In => Some(Instr::Trap { vector: 0x23 }),
-        Operation::Putsp => Some(Instr::Trap { vector: 0x24 }),
-        Operation::Halt => Some(Instr::Trap { vector: 0x25 }),
+        Operation::Getc => Some(console_trap(ConsoleTrap::Getc)),
+        Operation::Out => Some(console_trap(ConsoleTrap::Out)),
+        Operation::Puts => Some(console_trap(ConsoleTrap::Puts)),
+        Operation::In => Some(console_trap(ConsoleTrap::In)),
+        Operation::Putsp => Some(console_trap(ConsoleTrap::Putsp)),
+        Operation::Halt => Some(console_trap(ConsoleTrap::Halt)),
         Operation::NoOperation => Some(Instr::Br {
             n: false,
             z: false,

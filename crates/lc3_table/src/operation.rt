@@ -4,6 +4,8 @@ ghost use Rattle.std.specs.Prelude.{◌≡◌};
 ghost use Rattle.lc3_table.specs.Words.{name, operations};
 ghost use Rattle.lc3_table.specs.declared.operation.Operation.TheVariants as op;
 
+use crate::trap::ConsoleTrap;
+
 /// An operation or directive, as a line names it.
 #[derive(Clone, Copy, Debug, PartialEq, Eq)]
 pub enum Operation {
@@ -206,12 +208,12 @@ impl Operation {
             Operation::StoreBaseOffset => "STR",
             Operation::Trap => "TRAP",
             Operation::NoOperation => "NOP",
-            Operation::Getc => "GETC",
-            Operation::Out => "OUT",
-            Operation::Puts => "PUTS",
-            Operation::In => "IN",
-            Operation::Putsp => "PUTSP",
-            Operation::Halt => "HALT",
+            Operation::Getc => ConsoleTrap::Getc.name(),
+            Operation::Out => ConsoleTrap::Out.name(),
+            Operation::Puts => ConsoleTrap::Puts.name(),
+            Operation::In => ConsoleTrap::In.name(),
+            Operation::Putsp => ConsoleTrap::Putsp.name(),
+            Operation::Halt => ConsoleTrap::Halt.name(),
             Operation::Origin => ".ORIG",
             Operation::Fill => ".FILL",
             Operation::Block => ".BLKW",

@@ -5,7 +5,7 @@ ghost use Rattle.lc3_asm.specs.Views.{seen_line, seen_operand};
 ghost use Rattle.lc3_warnings.specs.Flows.{is_known_trap, trap_flow, trap_flow_of, operation_flow, flow_of, next_from};
 
 use lc3_asm::{Line, Operand};
-use lc3_table::Operation;
+use lc3_table::{ConsoleTrap, Operation, is_kernel_vector};
 
 /// What a line with words is to execution.
 #[derive(Clone, Copy)]
@@ -29,14 +29,17 @@ pub struct Next {
 pub fn is_known_trap(vector: i64) -> bool
     ensures value { result ≡ is_known_trap vector }
 {
-    matches!(vector, 0x20..=0x25 | 0x40..=0x46 | 0x50..=0x56)
+    match u8::try_from(vector) {
+        Ok(vector) => ConsoleTrap::of_vector(vector).is_some() || is_kernel_vector(vector),
+        Err(_) => false,
+    }
 }
 
 /// Where execution goes from a TRAP with this vector.
 fn trap_flow(vector: i64) -> Flow
     ensures value { result ≡ trap_flow vector }
 {
-    if is_known_trap(vector) && vector != 0x25 {
+    if is_known_trap(vector) && vector != i64::from(ConsoleTrap::Halt.vector()) {
         Flow::GoesOn
     } else {
         Flow::Stops

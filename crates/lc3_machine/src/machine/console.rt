@@ -9,6 +9,7 @@ ghost use Rattle.lc3_machine.specs.Private.Carried.{CarriedOut};
 use super::{Machine, Progress};
 use crate::memory::Memory;
 use crate::want::{How, Want};
+use lc3_table::{ConsoleTrap, is_kernel_vector};
 
 /// What IN writes before it reads.
 const PROMPT: &[u8] = b"Input a character> ";
@@ -110,15 +111,15 @@ impl Machine {
         ensures trap { CarriedOut (outcome_of_trap vector self.old.process)
             self.old.process result self.new.process }
     {
-        match vector {
-            0x20 => self.getc(),
-            0x21 => self.out(),
-            0x22 => self.puts(),
-            0x23 => self.ask(),
-            0x24 => self.putsp(),
-            0x25 => Progress::Stopped(Want::End(How::Halt)),
-            0x40..=0x46 | 0x50..=0x56 => Progress::Stopped(Want::Trap(vector)),
-            _ => Progress::Stopped(Want::End(How::BadTrap)),
+        match ConsoleTrap::of_vector(vector) {
+            Some(ConsoleTrap::Getc) => self.getc(),
+            Some(ConsoleTrap::Out) => self.out(),
+            Some(ConsoleTrap::Puts) => self.puts(),
+            Some(ConsoleTrap::In) => self.ask(),
+            Some(ConsoleTrap::Putsp) => self.putsp(),
+            Some(ConsoleTrap::Halt) => Progress::Stopped(Want::End(How::Halt)),
+            None if is_kernel_vector(vector) => Progress::Stopped(Want::Trap(vector)),
+            None => Progress::Stopped(Want::End(How::BadTrap)),
         }
     }
 }
