@@ -13,7 +13,8 @@ use Rattle.ipc_kernel.specs.contracts.process.DescriptorPartialEq.TheImpl as des
 use Rattle.ipc_kernel.specs.contracts.process.SlotPartialEq.TheImpl as slot_eq
 use Rattle.ipc_kernel.specs.contracts.process.OpenTablesPartialEq.TheImpl as process_eq
 
-option_decides : {X : Type 0} (eq : X → X → Bool) → ((a b : X) → Decides (eq a b) (a ≡ b)) → (o p : Option X) → Decides (option_eq eq o p) (o ≡ p)
+-- optional values are compared
+pub option_decides : {X : Type 0} (eq : X → X → Bool) → ((a b : X) → Decides (eq a b) (a ≡ b)) → (o p : Option X) → Decides (option_eq eq o p) (o ≡ p)
 option_decides eq each None None = (λ _. refl, λ _. refl)
 option_decides eq each None (Some y) = (λ e. cc, λ e. cc)
 option_decides eq each (Some x) None = (λ e. cc, λ e. cc)

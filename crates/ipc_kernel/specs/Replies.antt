@@ -1,5 +1,5 @@
 -- Which replies a call can have.
-use Rattle.std.specs.Prelude.{◌≤◌, Bool, true, false, length}
+use Rattle.std.specs.Prelude.{◌≤◌, length}
 use Rattle.ipc_objects.specs.Limits.{mq_msgsize_max}
 use Rattle.ipc_kernel.specs.declared.call.Call.{Call}
 use Rattle.ipc_kernel.specs.declared.call.Call.TheVariants.{MqReceive, MqGetattr, MqSetattr, SemGetvalue}
@@ -21,8 +21,3 @@ IsReplyTo call reply = ⊥
 abbrev pub IsAnswerTo : Call → Answer → Type 0
 IsAnswerTo call (Done reply) = IsReplyTo call reply
 IsAnswerTo call Wait = Unit {0}
-
--- whether a reply is a message
-abbrev pub is_message : Reply → Bool
-is_message (Message words prio) = true
-is_message other = false

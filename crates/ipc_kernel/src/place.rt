@@ -14,7 +14,7 @@ use ipc_objects::{Queue, Semaphore, Words};
 use std::alloc::AllocError;
 
 /// What an object place holds: nothing, or a queue or a semaphore. An unlinked object has no name.
-#[derive(Drop)]
+#[derive(PartialEq, Eq, Drop)]
 pub enum Place {
     Empty,
     Mq {

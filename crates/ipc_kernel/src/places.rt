@@ -59,7 +59,7 @@ fn send_at(
         (with_message priority words.now q)) }
     ensures err { OnErr result (places.new.items ≡ places.old.items) }
 {
-    let words = words.copy()?;
+    let words = words.clone()?;
     let place = &mut places[place as usize];
     place.send(priority, words)
 }
@@ -338,7 +338,7 @@ impl Places {
         ensures err { OnErr result (self.new ≡ self.old) }
     {
         let queue = empty_queue(self.alloc, max_messages, message_size)?;
-        let kept = name.copy()?;
+        let kept = name.clone()?;
         self.queue_names.put(self.alloc, name, place)?;
         put_queue_at(&mut self.places, place, kept, queue);
         Ok(())
@@ -358,7 +358,7 @@ impl Places {
         ensures ok { OnOk result (self.new ≡ slice_set self.old place (Sem (Some name.now) value)) }
         ensures err { OnErr result (self.new ≡ self.old) }
     {
-        let kept = name.copy()?;
+        let kept = name.clone()?;
         self.semaphore_names.put(self.alloc, name, place)?;
         put_semaphore_at(&mut self.places, place, kept, value);
         Ok(())

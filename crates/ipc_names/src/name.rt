@@ -1,6 +1,8 @@
 //! Names of queues and semaphores.
 ghost use Rattle.std.specs.Prelude.{◌≡◌, IfOk, string_bytes};
-ghost use Rattle.std.specs.Prelude.{◌<◌, All};
+ghost use Rattle.std.specs.Prelude.{◌<◌, ◌==◌, All};
+ghost use Rattle.std.specs.Cmp.{partial_equiv_from_equiv};
+ghost use Rattle.std.specs.Cmp.Lexicographic.{pointwise, nat_list_eq_equiv};
 ghost use Rattle.std.specs.List.{list_all};
 ghost use Rattle.ipc_names.specs.Name.{IsName, is_name_character, has_name_form, name_read};
 
@@ -95,13 +97,29 @@ impl Name {
     {
         self.text.as_str()
     }
+}
 
-    /// The same name, which is shared. Takes no memory: an error is that it is shared 2^63 times.
+/// The same name, which is shared. Takes no memory: an error is that it is shared 2^63 times.
+impl Clone for Name {
+    ghost is_clone = { λ name copy. copy ≡ name };
+
     #[inline(always)]
-    pub fn copy(&self) -> Result<Name, AllocError>
-        ensures equal { IfOk result (λ copy. copy ≡ self.now) }
-    {
+    fn clone(&self) -> Result<Name, AllocError> {
         let text = self.text.clone()?;
         Ok(Name { text })
     }
+}
+
+impl PartialEq for Name {
+    ghost eq = { pointwise ◌==◌ };
+
+    ghost laws = { partial_equiv_from_equiv nat_list_eq_equiv };
+
+    fn eq(&self, other: &Name) -> bool {
+        self.text() == other.text()
+    }
+}
+
+impl Eq for Name {
+    ghost laws = { nat_list_eq_equiv };
 }

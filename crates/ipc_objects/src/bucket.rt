@@ -86,11 +86,11 @@ impl Bucket {
     pub(crate) fn copy(&self, alloc: Global) -> Result<Bucket, AllocError>
         ensures equal { IfOk result (λ copy. copy ≡ self.now) }
     {
-        let oldest = self.oldest.copy()?;
+        let oldest = self.oldest.clone()?;
         let mut later = VecDeque::new(alloc);
         for i in 0..self.later.len() {
             let message = &self.later[i];
-            later.push_back(message.copy()?)?;
+            later.push_back(message.clone()?)?;
         }
         Ok(Bucket { oldest, later })
     }

@@ -1,7 +1,8 @@
 //! Short lists of words.
-ghost use Rattle.std.specs.Prelude.{◌≡◌, ◌<◌, [], ◌∷◌, ◌++◌, length};
+ghost use Rattle.std.specs.Prelude.{◌≡◌, ◌<◌, [], ◌∷◌, ◌++◌, length, ⊤};
 ghost use Rattle.ipc_objects.specs.Limits.{few_words};
 
+use std::alloc::AllocError;
 use std::marker::Model;
 
 /// The greatest number of words that take no memory of their own.
@@ -51,14 +52,17 @@ impl FewWords {
     {
         &self.words[..self.count as usize]
     }
+}
 
-    /// The same words.
-    pub(crate) fn copy(&self) -> FewWords
-        ensures equal { result ≡ self.now }
-    {
-        FewWords {
+impl Clone for FewWords {
+    ghost is_clone = { λ words copy. copy ≡ words };
+
+    ghost is_infallible = { λ _. ⊤ };
+
+    fn clone(&self) -> Result<FewWords, AllocError> {
+        Ok(FewWords {
             words: self.words,
             count: self.count,
-        }
+        })
     }
 }

@@ -11,7 +11,7 @@ use std::alloc::{AllocError, Global};
 use std::marker::Model;
 
 /// A message with its priority.
-#[derive(Drop)]
+#[derive(Clone, PartialEq, Eq, Drop)]
 pub struct Message {
     /// Less than `MQ_PRIO_MAX`. Messages of greater priority are received first.
     pub priority: u16,

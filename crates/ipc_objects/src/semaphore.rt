@@ -5,7 +5,7 @@ ghost use Rattle.ipc_objects.specs.Limits.{sem_value_max};
 use std::marker::Model;
 
 /// A semaphore, seen as its value, 0 to `SEM_VALUE_MAX` (POSIX.1-2017, `sem_open`).
-#[derive(Drop)]
+#[derive(Clone, PartialEq, Eq, Drop)]
 pub struct Semaphore {
     value: u16,
 }
@@ -17,6 +17,8 @@ impl Model for Semaphore {
     ghost Value = { ℕ };
 
     ghost view = { λ a. a.value };
+
+    ghost inverse = { λ value. record { value = value } };
 
     ghost invariant = { λ a. a.value ≤ sem_value_max };
 }

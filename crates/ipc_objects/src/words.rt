@@ -1,5 +1,7 @@
 //! Lists of words.
-ghost use Rattle.std.specs.Prelude.{◌≡◌, length, IfOk};
+ghost use Rattle.std.specs.Prelude.{◌≡◌, ◌==◌, length, IfOk};
+ghost use Rattle.std.specs.Cmp.{partial_equiv_from_equiv};
+ghost use Rattle.std.specs.Cmp.Lexicographic.{pointwise, nat_list_eq_equiv};
 ghost use Rattle.std.specs.Arc.{arc_slice_items};
 ghost use Rattle.ipc_objects.specs.Words.{words_of_store};
 
@@ -9,7 +11,7 @@ use std::marker::Model;
 use std::sync::ArcSlice;
 
 /// Where words are kept.
-#[derive(Drop)]
+#[derive(Clone, Drop)]
 enum Store {
     Few(FewWords),
     Shared(ArcSlice<u16>),
@@ -71,15 +73,28 @@ impl Words {
     {
         self.as_slice().len()
     }
+}
 
-    /// Equal words. Takes no memory: an error is that the words are shared 2^63 times.
-    pub fn copy(&self) -> Result<Words, AllocError>
-        ensures equal { IfOk result (λ copy. copy ≡ self.now) }
-    {
-        let store = match &self.store {
-            Store::Few(few) => Store::Few(few.copy()),
-            Store::Shared(items) => Store::Shared(items.clone()?),
-        };
+/// Equal words. Takes no memory: an error is that the words are shared 2^63 times.
+impl Clone for Words {
+    ghost is_clone = { λ words copy. copy ≡ words };
+
+    fn clone(&self) -> Result<Words, AllocError> {
+        let store = self.store.clone()?;
         Ok(Words { store })
     }
+}
+
+impl PartialEq for Words {
+    ghost eq = { pointwise ◌==◌ };
+
+    ghost laws = { partial_equiv_from_equiv nat_list_eq_equiv };
+
+    fn eq(&self, other: &Words) -> bool {
+        self.as_slice() == other.as_slice()
+    }
+}
+
+impl Eq for Words {
+    ghost laws = { nat_list_eq_equiv };
 }

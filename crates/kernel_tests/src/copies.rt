@@ -106,9 +106,9 @@ fn numbers_of_processes_differ(rt: HostRuntime) {
 }
 
 fn is_copied(rt: &impl Abort, call: Call) {
-    let copy = call.copy().expect(rt, "it takes no memory");
-    assert!(rt; copy.is_same(&call), "the same call");
-    assert!(rt; !copy.is_same(&Call::SemClose { slot: 7 }), "another call");
+    let copy = call.clone().expect(rt, "it takes no memory");
+    assert!(rt; copy == call, "the same call");
+    assert!(rt; copy != Call::SemClose { slot: 7 }, "another call");
 }
 
 #[test]
@@ -118,6 +118,6 @@ fn copies_of_calls_and_answers(rt: HostRuntime) {
     is_copied(&rt, mq_send(&rt, alloc, &[5, 6], 3));
     let words = words_of(&rt, alloc, &[5, 6]);
     let message = Answer::Done(Reply::Message { words, prio: 3 });
-    let copy = message.copy().expect(&rt, "it takes no memory");
+    let copy = message.clone().expect(&rt, "it takes no memory");
     assert!(rt; is_message(&copy, &[5, 6], 3), "the same message");
 }

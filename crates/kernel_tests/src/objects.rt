@@ -30,7 +30,7 @@ fn send(rt: &impl Abort, queue: &mut Queue, priority: u16, words: Words) {
 
 /// Neither of two queues is the other, and their digests differ.
 fn differ(rt: &impl Abort, one: &Queue, other: &Queue) {
-    assert!(rt; !one.is_same(other) && !other.is_same(one), "not the same");
+    assert!(rt; one != other && other != one, "not the same");
     assert!(rt; one.digest() != other.digest(), "the digests");
 }
 
@@ -49,7 +49,7 @@ fn a_copy_of_a_queue(rt: HostRuntime) {
         Err(_) => queue.copy(alloc).expect(&rt, "memory"),
     };
     assert!(rt;
-        queue.is_same(&copy) && queue.digest() == copy.digest(),
+        queue == copy && queue.digest() == copy.digest(),
         "the same"
     );
     let (_, _, count) = queue.attr();
@@ -62,7 +62,7 @@ fn a_copy_of_a_queue(rt: HostRuntime) {
     differ(&rt, &queue, &copy);
     send(&rt, &mut queue, 32767, words);
     assert!(rt;
-        queue.is_same(&copy) && queue.digest() == copy.digest(),
+        queue == copy && queue.digest() == copy.digest(),
         "the same again"
     );
 }

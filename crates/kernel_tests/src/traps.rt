@@ -43,7 +43,7 @@ fn a_receive_into_a_long_buffer(rt: HostRuntime) {
         len: 0xbdff,
     };
     match &asked {
-        Asked::Kernel(call) => assert!(rt; call.is_same(&long), "the call"),
+        Asked::Kernel(call) => assert!(rt; *call == long, "the call"),
         Asked::Refused(_) => panic!(rt; "it is a call"),
     }
     assert!(rt; !process.ready(0x4001, 256), "not yet");

@@ -1,5 +1,5 @@
 //! Semaphores and queues by their names.
-ghost use Rattle.std.specs.Prelude.{◌≡◌, ◌↔◌, ◌<◌, ℕ, IsTrue};
+ghost use Rattle.std.specs.Prelude.{◌↔◌, ◌<◌, ℕ, IsTrue};
 ghost use Rattle.ipc_kernel.specs.Limits.{object_places};
 ghost use Rattle.lab_conditions.specs.Conditions.{Compares, IsSemaphoreIn, IsQueueIn};
 
@@ -20,13 +20,6 @@ impl Relation {
     }
 }
 
-/// Whether two names are the same.
-fn is_same(name: &Name, other: &Name) -> bool
-    ensures same { IsTrue result ↔ (name.now ≡ other.now) }
-{
-    name.text() == other.text()
-}
-
 /// Whether a place has the semaphore of a name, with a value that stands so to a number.
 fn is_semaphore_in(kernel: &Kernel, place: u8, name: &Name, relation: Relation, value: u16) -> bool
     requires within { place < object_places }
@@ -34,7 +27,7 @@ fn is_semaphore_in(kernel: &Kernel, place: u8, name: &Name, relation: Relation, 
 {
     match kernel.semaphore_at(place) {
         Some((Some(other), held)) => {
-            is_same(name, other) && relation.compares(usize::from(held), usize::from(value))
+            name == other && relation.compares(usize::from(held), usize::from(value))
         }
         _ => false,
     }
@@ -48,8 +41,7 @@ fn is_queue_in(kernel: &Kernel, place: u8, name: &Name, relation: Relation, valu
 {
     match kernel.queue_at(place) {
         Some((Some(other), queue)) => {
-            is_same(name, other)
-                && relation.compares(usize::from(queue.attr().2), usize::from(value))
+            name == other && relation.compares(usize::from(queue.attr().2), usize::from(value))
         }
         _ => false,
     }

@@ -32,7 +32,7 @@ pub fn call_of(alloc: Global, process: &Process) -> Result<Option<Call>, AllocEr
 {
     match process {
         Process::Running(running) => call_next(alloc, running),
-        Process::Waiting(_, call) => Ok(Some(call.copy()?)),
+        Process::Waiting(_, call) => Ok(Some(call.clone()?)),
         Process::Ended(_) => Ok(None),
     }
 }

@@ -1,5 +1,5 @@
 //! Semaphores and queues that conditions name.
-ghost use Rattle.std.specs.Prelude.{◌≡◌, ◌↔◌, [], ◌∷◌, ◌++◌, All, AllPairs, Contains, IfOk, IsTrue, OnOk, flat_map};
+ghost use Rattle.std.specs.Prelude.{◌≡◌, [], ◌∷◌, ◌++◌, All, AllPairs, Contains, IfOk, OnOk, flat_map};
 ghost use Rattle.std.specs.Option.{option_to_list};
 ghost use Rattle.lab_questions.specs.Objects.{objects_in, objects_of, named, StandsBefore};
 ghost use Rattle.lab_questions.specs.Private.Presences.{AddsNew};
@@ -10,7 +10,7 @@ use std::alloc::{AllocError, Global};
 use std::fmt;
 
 /// A semaphore or a queue, by its name. It is shown as a condition names it.
-#[derive(Drop)]
+#[derive(Clone, PartialEq, Eq, Drop)]
 pub enum Object {
     Semaphore(Name),
     Queue(Name),
@@ -30,55 +30,13 @@ impl fmt::Display for Object {
     }
 }
 
-/// Whether two names are the same.
-fn is_same_name(name: &Name, other: &Name) -> bool
-    ensures same { IsTrue result ↔ (name.now ≡ other.now) }
-{
-    name.text() == other.text()
-}
-
-impl Object {
-    /// The same object.
-    pub(crate) fn copy(&self) -> Result<Object, AllocError>
-        ensures equal { IfOk result (λ copy. copy ≡ self.now) }
-    {
-        match self {
-            Object::Semaphore(name) => Ok(Object::Semaphore(name.copy()?)),
-            Object::Queue(name) => Ok(Object::Queue(name.copy()?)),
-        }
-    }
-
-    /// Whether another object is the same.
-    fn is_same(&self, other: &Object) -> bool
-        ensures same { IsTrue result ↔ (self.now ≡ other.now) }
-    {
-        match (self, other) {
-            (Object::Semaphore(name), Object::Semaphore(same)) => is_same_name(name, same),
-            (Object::Queue(name), Object::Queue(same)) => is_same_name(name, same),
-            _ => false,
-        }
-    }
-
-    /// Whether the object is among others.
-    fn is_among(&self, objects: &[Object]) -> bool
-        ensures among { IsTrue result ↔ Contains objects.now self.now }
-    {
-        for object in objects {
-            if object.is_same(self) {
-                return true;
-            }
-        }
-        false
-    }
-}
-
 /// The object that a part of a condition names, if it names one.
 fn object_in(part: &Part) -> Result<Option<Object>, AllocError>
     ensures object { IfOk result (λ object. option_to_list object ≡ objects_in part.now) }
 {
     match part {
-        Part::Semaphore { name, .. } => Ok(Some(Object::Semaphore(name.copy()?))),
-        Part::Queue { name, .. } => Ok(Some(Object::Queue(name.copy()?))),
+        Part::Semaphore { name, .. } => Ok(Some(Object::Semaphore(name.clone()?))),
+        Part::Queue { name, .. } => Ok(Some(Object::Queue(name.clone()?))),
         Part::Of { .. } | Part::MoreThan { .. } => Ok(None),
     }
 }
@@ -132,10 +90,10 @@ fn push_new(objects: &mut Vec<Object>, object: &Object) -> Result<(), AllocError
     ensures added { OnOk result
         (AddsNew objects.old.items object.now objects.new.items) }
 {
-    if object.is_among(objects) {
+    if objects.contains(object) {
         return Ok(());
     }
-    let copy = object.copy()?;
+    let copy = object.clone()?;
     objects.push(copy)?;
     Ok(())
 }

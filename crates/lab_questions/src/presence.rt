@@ -20,12 +20,12 @@ fn part_of(object: &Object) -> Result<Part, AllocError>
 {
     match object {
         Object::Semaphore(name) => Ok(Part::Semaphore {
-            name: name.copy()?,
+            name: name.clone()?,
             relation: Relation::Less,
             value: MORE_THAN_ANY,
         }),
         Object::Queue(name) => Ok(Part::Queue {
-            name: name.copy()?,
+            name: name.clone()?,
             relation: Relation::Less,
             value: MORE_THAN_ANY,
         }),
@@ -69,7 +69,7 @@ fn push_unseen(
     if has_schedule(schedule) {
         return Ok(());
     }
-    let copy = object.copy()?;
+    let copy = object.clone()?;
     unseen.push(copy)?;
     Ok(())
 }

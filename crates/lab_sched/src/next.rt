@@ -57,7 +57,7 @@ fn next_call(alloc: Global, process: &mut Process, progress: Progress) -> Next
             Progress::Stopped(Want::End(_)) => Next::Asks(Call::Exit),
             Progress::Short | Progress::Moved => Next::Short,
         },
-        Process::Waiting(_, call) => match call.copy() {
+        Process::Waiting(_, call) => match call.clone() {
             Ok(copy) => Next::Asks(copy),
             Err(_) => Next::Short,
         },

@@ -42,15 +42,15 @@ impl Process {
     pub fn copy(&self, alloc: Global) -> Result<Process, AllocError>
         ensures equal { IfOk result (λ copy. copy ≡ self.now) }
     {
-        Ok(match self {
-            Process::Running(running) => Process::Running(running.copy(alloc)?),
+        match self {
+            Process::Running(running) => Ok(Process::Running(running.copy(alloc)?)),
             Process::Waiting(waiting, call) => {
                 let waiting = waiting.copy(alloc)?;
-                let call = call.copy()?;
-                Process::Waiting(waiting, call)
+                let call = call.clone()?;
+                Ok(Process::Waiting(waiting, call))
             }
-            Process::Ended(ended) => Process::Ended(ended.copy(alloc)?),
-        })
+            Process::Ended(ended) => Ok(Process::Ended(ended.copy(alloc)?)),
+        }
     }
 
     /// Puts this output in the place of the process's own.
@@ -72,7 +72,7 @@ impl Process {
         match (self, other) {
             (Process::Running(running), Process::Running(other)) => running.is_same(other),
             (Process::Waiting(waiting, call), Process::Waiting(other, other_call)) => {
-                waiting.is_same(other) && call.is_same(other_call)
+                waiting.is_same(other) && call == other_call
             }
             (Process::Ended(ended), Process::Ended(other)) => ended.is_same(other),
             _ => false,

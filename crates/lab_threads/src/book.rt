@@ -69,6 +69,13 @@ fn has_entry(waited: bool, answer: &Answer) -> bool
     }
 }
 
+/// An equal call, by a clause that names no variant.
+pub(crate) fn clone_of(call: &Call) -> Result<Call, AllocError>
+    ensures equal { IfOk result (λ copy. copy ≡ call.now) }
+{
+    call.clone()
+}
+
 impl Book {
     /// The book of `count` processes that have made no call, over an empty kernel.
     pub fn new(alloc: Global, count: usize) -> Result<Book, AllocError>
@@ -142,7 +149,7 @@ impl Book {
         }
         match self.waits(pid) {
             None => true,
-            Some(waits) => waits.is_same(call),
+            Some(waits) => waits == call,
         }
     }
 
@@ -175,8 +182,8 @@ impl Book {
         ensures err { OnErr result (self.new ≡ self.old) }
     {
         let waited = self.is_waiting(pid);
-        let pending = call.copy()?;
-        let written = call.copy()?;
+        let pending = clone_of(call)?;
+        let written = clone_of(call)?;
         self.history.reserve(1)?;
         let (answer, copy) = self.kernel.call_with_copy(pid, call)?;
         if !has_entry(waited, &answer) {

@@ -5,38 +5,15 @@ ghost use Rattle.lab_sched.specs.Schedules.{steps_of};
 ghost use Rattle.lab_threads.specs.Private.Merged.{IsFound, IsItem, AreCounted, HaveAllSteps, AreCallsMerged, CompletesMerge, LeadToResults};
 
 use crate::worker_result::WorkerResult;
-use ipc_kernel::{Answer, Reply};
 use lab_sched::{Entry, MOST_STEPS, Schedule, TracedCall};
 use std::alloc::{AllocError, Global};
 
-/// Whether two replies are the same.
-fn is_same_reply(reply: &Reply, other: &Reply) -> bool
-    ensures same { IsTrue result → reply.now ≡ other.now }
+/// Whether a call of a trace is the entry's, with its answer.
+fn is_entry(told: &TracedCall, entry: &Entry) -> bool
+    ensures call { IsTrue result → told.now.call ≡ entry.now.call }
+    ensures answer { IsTrue result → told.now.answer ≡ entry.now.answer }
 {
-    match (reply, other) {
-        (Reply::Plain(word), Reply::Plain(other)) => word == other,
-        (
-            Reply::Message { words, prio },
-            Reply::Message {
-                words: other_words,
-                prio: other_prio,
-            },
-        ) => words.as_slice() == other_words.as_slice() && prio == other_prio,
-        (Reply::Attr(words), Reply::Attr(other)) => words == other,
-        (Reply::Value(word), Reply::Value(other)) => word == other,
-        _ => false,
-    }
-}
-
-/// Whether two answers are the same.
-fn is_same_answer(answer: &Answer, other: &Answer) -> bool
-    ensures same { IsTrue result → answer.now ≡ other.now }
-{
-    match (answer, other) {
-        (Answer::Done(reply), Answer::Done(other)) => is_same_reply(reply, other),
-        (Answer::Wait, Answer::Wait) => true,
-        _ => false,
-    }
+    told.call == entry.call && told.answer == entry.answer
 }
 
 /// The number of local steps before the call that stands there, if it is the entry's.
@@ -49,10 +26,7 @@ fn find(calls: &[TracedCall], at: usize, entry: &Entry) -> Option<u32>
         return None;
     }
     let told = &calls[at];
-    if told.before < u32::MAX
-        && told.call.is_same(&entry.call)
-        && is_same_answer(&told.answer, &entry.answer)
-    {
+    if told.before < u32::MAX && is_entry(told, entry) {
         Some(told.before)
     } else {
         None

@@ -10,6 +10,7 @@ ghost use Rattle.lab_threads.specs.Private.WorkerLogs.{LeadsOn, allowance};
 ghost use Rattle.lab_threads.specs.Private.WorkerResults.{IsWorkerResult};
 
 use crate::Gate;
+use crate::book::clone_of;
 use crate::context::WorkerContext;
 use crate::monitor::{CallOutcome, Monitor};
 use crate::worker_log::WorkerLog;
@@ -161,7 +162,7 @@ fn make_call<R: Wait, G: Gate>(
     ensures held { IsHeld process.new }
     ensures allowed { allowance log.new ≡ allowance log.old }
 {
-    let Ok(copy) = call.copy() else {
+    let Ok(copy) = clone_of(&call) else {
         return Continuation::Stops;
     };
     let may_wait = log.left > 1;

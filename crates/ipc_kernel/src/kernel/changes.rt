@@ -212,7 +212,7 @@ impl Kernel {
         let Some(message) = queue.first() else {
             unreachable!();
         };
-        let words = message.words.copy()?;
+        let words = message.words.clone()?;
         let prio = message.priority;
         Ok(Reply::Message { words, prio })
     }

@@ -3,29 +3,10 @@ ghost use Rattle.std.specs.Prelude.{◌≡◌, ◌↔◌, IfOk, IsTrue};
 
 use super::Place;
 use ipc_names::Name;
-use ipc_objects::{Message, Semaphore};
+use ipc_objects::Message;
 use std::alloc::{AllocError, Global};
 use std::hash::{FoldHasher, Hasher};
 use std::mem::size_of;
-
-fn copy_of_name(name: &Option<Name>) -> Result<Option<Name>, AllocError>
-    ensures equal { IfOk result (λ copy. copy ≡ name.now) }
-{
-    match name {
-        Some(name) => Ok(Some(name.copy()?)),
-        None => Ok(None),
-    }
-}
-
-fn is_same_name(name: &Option<Name>, other: &Option<Name>) -> bool
-    ensures same { IsTrue result ↔ (name.now ≡ other.now) }
-{
-    match (name, other) {
-        (Some(name), Some(other)) => name.text() == other.text(),
-        (None, None) => true,
-        _ => false,
-    }
-}
 
 /// Adds a name to a digest.
 fn feed_name(name: &Option<Name>, hasher: &mut FoldHasher) {
@@ -55,13 +36,13 @@ impl Place {
         Ok(match self {
             Place::Empty => Place::Empty,
             Place::Mq { name, queue } => {
-                let name = copy_of_name(name)?;
+                let name = name.clone()?;
                 let queue = queue.copy(alloc)?;
                 Place::Mq { name, queue }
             }
             Place::Sem { name, semaphore } => {
-                let name = copy_of_name(name)?;
-                let semaphore = Semaphore::new(semaphore.value());
+                let name = name.clone()?;
+                let semaphore = semaphore.clone()?;
                 Place::Sem { name, semaphore }
             }
         })
@@ -71,24 +52,7 @@ impl Place {
     pub(crate) fn is_same(&self, other: &Place) -> bool
         ensures same { IsTrue result ↔ (self.now ≡ other.now) }
     {
-        match (self, other) {
-            (Place::Empty, Place::Empty) => true,
-            (
-                Place::Mq { name, queue },
-                Place::Mq {
-                    name: other_name,
-                    queue: other_queue,
-                },
-            ) => is_same_name(name, other_name) && queue.is_same(other_queue),
-            (
-                Place::Sem { name, semaphore },
-                Place::Sem {
-                    name: other_name,
-                    semaphore: other_semaphore,
-                },
-            ) => is_same_name(name, other_name) && semaphore.value() == other_semaphore.value(),
-            _ => false,
-        }
+        *self == *other
     }
 
     /// About how many bytes the place takes, with its messages and the entry of its name. The words of

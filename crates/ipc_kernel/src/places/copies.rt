@@ -16,20 +16,6 @@ fn copies_of(alloc: Global, places: &[Place]) -> Result<Vec<Place>, AllocError>
     Ok(copies)
 }
 
-fn are_same(places: &[Place], others: &[Place]) -> bool
-    ensures same { IsTrue result ↔ (places.now ≡ others.now) }
-{
-    if places.len() != others.len() {
-        return false;
-    }
-    for (i, place) in places.iter().enumerate() {
-        if !place.is_same(&others[i]) {
-            return false;
-        }
-    }
-    true
-}
-
 impl Places {
     /// Equal places.
     pub(crate) fn copy(&self, alloc: Global) -> Result<Places, AllocError>
@@ -50,7 +36,7 @@ impl Places {
     pub(crate) fn is_same(&self, other: &Places) -> bool
         ensures same { IsTrue result ↔ (self.now ≡ other.now) }
     {
-        are_same(self.places.as_slice(), other.places.as_slice())
+        self.places.as_slice() == other.places.as_slice()
     }
 
     /// About how many bytes the places take, with what they hold and with the entries of their names.

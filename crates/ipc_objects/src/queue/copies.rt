@@ -6,17 +6,6 @@ use std::alloc::{AllocError, Global};
 use std::hash::{FoldHasher, Hasher};
 
 impl Message {
-    /// An equal message, whose words are shared.
-    pub(crate) fn copy(&self) -> Result<Message, AllocError>
-        ensures equal { IfOk result (λ copy. copy ≡ self.now) }
-    {
-        let words = self.words.copy()?;
-        Ok(Message {
-            priority: self.priority,
-            words,
-        })
-    }
-
     /// Adds the message to a digest.
     pub(crate) fn feed(&self, hasher: &mut FoldHasher) {
         hasher.write_u16(self.priority);
@@ -55,11 +44,29 @@ impl Queue {
         }
     }
 
-    /// Whether two queues have the same attributes, and the same messages in the same order of
-    /// receive.
-    pub fn is_same(&self, other: &Queue) -> bool
-        ensures same { IsTrue result ↔ (self.now ≡ other.now) }
-    {
+    /// A number that is the same for equal queues and, as a rule, another for others.
+    pub fn digest(&self) -> u64 {
+        let mut hasher = FoldHasher::default();
+        hasher.write_u16(self.max_messages);
+        hasher.write_u16(self.message_size);
+        hasher.write_u16(self.count);
+        self.messages.feed(&mut hasher);
+        hasher.finish()
+    }
+}
+
+/// Two queues are equal if they have the same attributes, and the same messages in the same order
+/// of receive.
+impl PartialEq for Queue {
+    ghost use Rattle.std.specs.Cmp.{partial_equiv_from_equiv};
+    ghost use Rattle.ipc_objects.specs.Equality.{queue_eq, queue_eq_equiv};
+
+    ghost eq = { queue_eq };
+
+    ghost laws = { partial_equiv_from_equiv queue_eq_equiv };
+
+    #[tactic(auto, using(crate::proofs::QueueCopies::told_apart))]
+    fn eq(&self, other: &Queue) -> bool {
         let (max_messages, message_size, count) = self.attr();
         if other.attr() != (max_messages, message_size, count) {
             return false;
@@ -71,14 +78,10 @@ impl Queue {
         }
         true
     }
+}
 
-    /// A number that is the same for equal queues and, as a rule, another for others.
-    pub fn digest(&self) -> u64 {
-        let mut hasher = FoldHasher::default();
-        hasher.write_u16(self.max_messages);
-        hasher.write_u16(self.message_size);
-        hasher.write_u16(self.count);
-        self.messages.feed(&mut hasher);
-        hasher.finish()
-    }
+impl Eq for Queue {
+    ghost use Rattle.ipc_objects.specs.Equality.{queue_eq_equiv};
+
+    ghost laws = { queue_eq_equiv };
 }

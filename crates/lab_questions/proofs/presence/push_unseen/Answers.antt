@@ -1,4 +1,4 @@
-use Rattle.std.proofs.Common.{◌++◌, ◌∷◌, [], ap, refl, subst, sym, ◌∙◌}
+use Rattle.std.proofs.Common.{◌≡◌, ◌++◌, ◌∷◌, [], ap, refl, rules, subst, sym, ◌∙◌}
 use Rattle.lab_questions.specs.Private.Presences.{AddsUnseen}
 use Rattle.lab_questions.proofs.presence.push_unseen.Goals as goal
 
@@ -12,5 +12,6 @@ pub returns : goal.returns
 returns c =
     let olds = c.args.unseen.now.items in
     let none = c.has_schedule.ensures.no c.if-has_schedule.false in
-    let added = c.in_ok-push.ensures.items ∙ ap (λ o. olds ++ o ∷ []) c.in_ok-copy.ensures.equal in
+    let same : c.in_ok-copy.copy ≡ c.args.object.now = search rules in
+    let added = c.in_ok-push.ensures.items ∙ ap (λ o. olds ++ o ∷ []) same in
     record { added = subst (λ s. AddsUnseen olds c.args.object.now s c.push.new.self.items) (sym none) added }

@@ -15,4 +15,4 @@ invariant_of-self-2 c =
     let absent = place_named-get queue_name c.self.inside.places.items c.self.inside.queue_names c.args.name.now refl c.self.invariant.queue_index ∙ (rw (← c.self.view_is) at c.requires.absent) in
     rw c.in_ok-put.ensures.ok
     (indexed_put_queue c.self.inside.places.items _ c.self.inside.queue_names c.self.inside.semaphore_names c.args.place (empty_queue (c.args.max_messages, c.args.message_size)) c.args.name.now c.self.invariant c.requires.place
-    (rw (← c.self.view_is) at c.requires.empty) absent (rw (c.in_ok-kept.ensures.equal, c.in_ok-queue.ensures.empty) at c.put_queue_at.ensures.put))
+    (rw (← c.self.view_is) at c.requires.empty) absent (rw (c.in_ok-kept.ensures.cases, c.in_ok-queue.ensures.empty) at c.put_queue_at.ensures.put))

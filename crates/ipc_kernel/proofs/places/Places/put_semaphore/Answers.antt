@@ -14,4 +14,4 @@ invariant_of-self-2 c =
     let absent = place_named-get semaphore_name c.self.inside.places.items c.self.inside.semaphore_names c.args.name.now refl c.self.invariant.semaphore_index ∙ (rw (← c.self.view_is) at c.requires.absent) in
     rw c.in_ok-put.ensures.ok
     (indexed_put_semaphore c.self.inside.places.items _ c.self.inside.queue_names c.self.inside.semaphore_names c.args.place c.args.value c.args.name.now c.self.invariant c.requires.place
-    (rw (← c.self.view_is) at c.requires.empty) absent (rw c.in_ok-kept.ensures.equal at c.put_semaphore_at.ensures.put))
+    (rw (← c.self.view_is) at c.requires.empty) absent (rw c.in_ok-kept.ensures.cases at c.put_semaphore_at.ensures.put))
