@@ -35,7 +35,7 @@ pub told_world : (w : WorldState) (p : ℕ) → told_in w p ≡ stepped.Same →
 told_world w p e = ap (λ t. after w p t) (told_same w p e)
 
 -- a process that is served is served along more steps
-contained_more : (ps qs : List ℕ) (p : ℕ) → Contains ps p → Contains (ps ++ qs) p
+pub contained_more : (ps qs : List ℕ) (p : ℕ) → Contains ps p → Contains (ps ++ qs) p
 contained_more ps qs p h =
     let long = length-append ps qs in
     let within = h.1 in

@@ -6,7 +6,6 @@ pub mod Shorts
 pub mod Standing
 pub mod Stored
 pub mod Touched
-pub mod Wholes
 pub mod Known
 pub mod Lookups
 pub mod Depths

@@ -1,20 +1,36 @@
 //! Conditions that are judged of the worlds that a search keeps.
-ghost use Rattle.std.specs.Prelude.{◌≡◌, ◌↔◌, ℕ, List, None, IsTrue, map, IfOk, IfSome};
+ghost use Rattle.std.specs.Prelude.{◌≡◌, ◌↔◌, ◌<◌, false, ℕ, List, None, Contains, IsTrue, length, map, IfOk, IfSome, OnOk};
 ghost use Rattle.lab_sched.specs.Worlds.{Process as Seen, WorldState};
 ghost use Rattle.lab_sched.specs.Held.{process_view};
 ghost use Rattle.lab_conditions.specs.Conditions.{Holds};
 ghost use Rattle.lab_explore.specs.Calls.{Alongside};
 ghost use Rattle.lab_explore.specs.Private.Stored.{IsExactly, IsState, IsAt};
-ghost use Rattle.lab_explore.specs.Private.Wholes.{AreWholes};
+ghost use Rattle.lab_explore.specs.Private.Judged.{RowHolds, RowFails, NoRowHolds};
 ghost use Rattle.lab_explore.specs.Private.Shorts.{silent};
 
 use crate::ExploreFault;
 use crate::store::Store;
-use crate::wholes::Wholes;
 use ipc_kernel::Kernel;
 use lab_conditions::Condition;
 use lab_sched::Process;
-use std::alloc::Global;
+use std::alloc::{AllocError, Global};
+
+/// A kernel that was put together, with its number.
+#[derive(Drop)]
+struct Whole {
+    number: u32,
+    kernel: Kernel,
+}
+
+/// Whether a row stands before the first that was found, if one was.
+fn is_before(at: usize, first: Option<usize>) -> bool
+    ensures some { result ≡ false → first ≡ None → ⊥ }
+{
+    match first {
+        Some(found) => at < found,
+        None => true,
+    }
+}
 
 impl Store {
     /// The processes in states that are kept, in order, but for their outputs, of which no condition
@@ -34,65 +50,116 @@ impl Store {
         Ok(processes)
     }
 
-    /// The kernel with a number, put together if it wasn't before.
-    fn whole_kernel(
-        &self,
-        alloc: Global,
-        wholes: &mut Wholes,
-        number: u32,
-    ) -> Result<Kernel, ExploreFault>
-        requires wholes { AreWholes self.now wholes.old }
-        ensures wholes { AreWholes self.now wholes.new }
-        ensures exactly { IfOk result (λ kernel. IsExactly self.now number kernel) }
+    /// The kernel with a number, put together of its parts.
+    fn whole(&self, alloc: Global, number: u32) -> Result<Whole, ExploreFault>
+        ensures exactly { IfOk result (λ whole. IsExactly self.now whole.number whole.kernel) }
+        ensures number { IfOk result (λ whole. whole.number ≡ number) }
     {
-        if let Some(kernel) = wholes.take(number) {
-            return Ok(kernel);
-        }
         let found = self.kernels.get(alloc, number)?;
-        found.ok_or(ExploreFault::Unvouched)
+        let kernel = found.ok_or(ExploreFault::Unvouched)?;
+        Ok(Whole { number, kernel })
     }
 
-    /// Whether a condition holds of the world of a row.
+    /// Puts the kernel with a number together, if it isn't the one that was put together last.
+    fn put_together(&self, alloc: Global, last: &mut Whole, number: u32) -> Result<(), ExploreFault>
+        requires last { IsExactly self.now last.old.number last.old.kernel }
+        ensures number { OnOk result (last.new.number ≡ number) }
+        ensures exactly { OnOk result (IsExactly self.now number last.new.kernel) }
+    {
+        if last.number != number {
+            *last = self.whole(alloc, number)?;
+        }
+        Ok(())
+    }
+
+    /// Whether a condition holds of the world of a row, by the kernel that was put together last.
     fn row_holds(
         &self,
         alloc: Global,
-        wholes: &mut Wholes,
+        last: &mut Whole,
         at: usize,
         condition: &Condition,
     ) -> Result<bool, ExploreFault>
-        requires wholes { AreWholes self.now wholes.old }
-        ensures wholes { AreWholes self.now wholes.new }
+        requires last { IsExactly self.now last.old.number last.old.kernel }
+        ensures last { OnOk result (IsExactly self.now last.new.number last.new.kernel) }
         ensures holds { IfOk result (λ holds. (w : WorldState) → IsAt self.now at w
             → IsTrue holds ↔ Holds condition.now w) }
     {
         let Some((number, states)) = self.rows.get(at) else {
             return Err(ExploreFault::Unvouched);
         };
+        self.put_together(alloc, last, number)?;
         let processes = self.processes_in(alloc, states)?;
-        let kernel = self.whole_kernel(alloc, wholes, number)?;
-        let judged = condition.holds_in(alloc, &kernel, processes.as_slice());
-        wholes.put(number, kernel);
-        let holds = judged?;
+        let holds = condition.holds_in(alloc, &last.kernel, processes.as_slice())?;
         Ok(holds)
     }
 
-    /// The first row of whose world a condition holds.
+    /// The first row of whose world a condition holds: this one, or one that was found before.
+    fn first_holding(
+        &self,
+        alloc: Global,
+        last: &mut Whole,
+        at: usize,
+        condition: &Condition,
+        first: Option<usize>,
+    ) -> Result<Option<usize>, ExploreFault>
+        requires last { IsExactly self.now last.old.number last.old.kernel }
+        requires some { IfSome first (RowHolds self.now condition.now) }
+        ensures last { OnOk result (IsExactly self.now last.new.number last.new.kernel) }
+        ensures some { IfOk result (λ found. IfSome found (RowHolds self.now condition.now)) }
+        ensures none { IfOk result (λ found. found ≡ None → (first ≡ None)
+            × RowFails self.now condition.now at) }
+    {
+        if !is_before(at, first) {
+            return Ok(first);
+        }
+        let holds = self.row_holds(alloc, last, at, condition)?;
+        if holds {
+            return Ok(Some(at));
+        }
+        Ok(first)
+    }
+
+    /// The number of the kernel of a row.
+    fn kernel_of(&self, at: usize) -> u32 {
+        match self.rows.get(at) {
+            Some((kernel, _)) => kernel,
+            None => 0,
+        }
+    }
+
+    /// The numbers of all rows, of which those over the same kernel stand beside one another.
+    fn rows_by_kernel(&self, alloc: Global) -> Result<Vec<usize>, AllocError>
+        ensures all { IfOk result (λ rows. (i : ℕ) → i < length self.now.rows
+            → Contains rows.items i) }
+    {
+        let count = self.rows.len();
+        let mut rows = Vec::with_capacity(alloc, count)?;
+        for at in 0..count {
+            rows.push(at)?;
+        }
+        rows.sort_by_key(|at| self.kernel_of(*at))?;
+        Ok(rows)
+    }
+
+    /// The first row of whose world a condition holds. Each kernel is put together once.
     pub(crate) fn first_where(
         &self,
         alloc: Global,
         condition: &Condition,
     ) -> Result<Option<usize>, ExploreFault>
-        ensures some { IfOk result (λ first. IfSome first (λ at. (w : WorldState)
-            → IsAt self.now at w → Holds condition.now w)) }
-        ensures none { IfOk result (λ first. first ≡ None → (i : ℕ) (w : WorldState)
-            → IsAt self.now i w → Holds condition.now w → ⊥) }
+        ensures some { IfOk result (λ first. IfSome first (RowHolds self.now condition.now)) }
+        ensures none { IfOk result (λ first. first ≡ None → NoRowHolds self.now condition.now) }
     {
-        let mut wholes = Wholes::new(alloc)?;
-        for at in 0..self.rows.len() {
-            if self.row_holds(alloc, &mut wholes, at, condition)? {
-                return Ok(Some(at));
-            }
+        let rows = self.rows_by_kernel(alloc)?;
+        if rows.is_empty() {
+            return Ok(None);
         }
-        Ok(None)
+        let mut last = self.whole(alloc, self.kernel_of(rows[0]))?;
+        let mut first = None;
+        for place in 0..rows.len() {
+            first = self.first_holding(alloc, &mut last, rows[place], condition, first)?;
+        }
+        Ok(first)
     }
 }

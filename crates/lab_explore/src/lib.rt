@@ -45,7 +45,6 @@ mod tours;
 mod trying;
 mod walking;
 mod wandering;
-mod wholes;
 mod workers;
 
 pub use ends::End;

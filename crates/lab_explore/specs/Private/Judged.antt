@@ -11,9 +11,17 @@ use Rattle.lab_explore.specs.declared.store.Edge.{Edge}
 use Rattle.lab_explore.specs.declared.store.Store.{Store}
 use Rattle.lab_explore.specs.Private.Stored.{IsAt}
 
--- the condition holds of the world of no row
+-- the condition holds of the world of row number i
+abbrev pub RowHolds : Store → Condition → ℕ → Type 0
+RowHolds t c i = (w : WorldState) → IsAt t i w → Holds c w
+
+-- it doesn't
+abbrev pub RowFails : Store → Condition → ℕ → Type 0
+RowFails t c i = (w : WorldState) → IsAt t i w → Holds c w → ⊥
+
+-- it holds of the world of no row
 abbrev pub NoRowHolds : Store → Condition → Type 0
-NoRowHolds t c = (i : ℕ) (w : WorldState) → IsAt t i w → Holds c w → ⊥
+NoRowHolds t c = (i : ℕ) → RowFails t c i
 
 -- the edge is a step to fewer messages, of a process that receives none
 pub record IsLoss (t : Store) (e : Edge) : Type 0 where
