@@ -12,7 +12,7 @@ returns-in-Blocked-clause-alone g c s before =
     let p = c.args.process.now in
     let u = process_view c.begin_wait.new.process in
     let told = told_wait p u c.args.call c.requires.may c.begin_wait.ensures.waits in
-    c.add_call.ensures.alone (process_view p) u (subst (λ (d : Call). TakesAnswer (process_view p) d Wait u) (sym c.in-Ok.ensures.copy) told) s before
+    c.add_call.ensures.alone (process_view p) u (subst (λ (d : Call). TakesAnswer (process_view p) d Wait u) (sym c.in-Ok.ensures.equal) told) s before
 
 pub returns-in-Answered-clause-alone : goal.returns-in-Answered-clause-alone
 returns-in-Answered-clause-alone g c s before =
@@ -26,5 +26,5 @@ returns-in-AnsweredAfterWait-clause-alone g c s before =
     let w : Process = Waiting (machine_of (process_view p)) c.args.call in
     let u = process_view c.answer_call-in-AnsweredAfterWait.new.process in
     let told = told_wait p w c.args.call c.requires.may refl in
-    let waited = c.add_call-in-AnsweredAfterWait.ensures.alone (process_view p) w (subst (λ (d : Call). TakesAnswer (process_view p) d Wait w) (sym c.in-Ok.ensures.copy) told) s before in
+    let waited = c.add_call-in-AnsweredAfterWait.ensures.alone (process_view p) w (subst (λ (d : Call). TakesAnswer (process_view p) d Wait w) (sym c.in-Ok.ensures.equal) told) s before in
     c.add_call-in-AnsweredAfterWait-2.ensures.alone w u (told_later p u c.args.call c.in-AnsweredAfterWait.reply c.requires.may c.answer_call-in-AnsweredAfterWait.ensures.told) s waited
