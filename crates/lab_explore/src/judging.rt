@@ -1,5 +1,5 @@
 //! Conditions that are judged of the worlds that a search keeps.
-ghost use Rattle.std.specs.Prelude.{◌≡◌, ◌↔◌, ◌<◌, false, ℕ, List, None, Contains, IsTrue, length, map, IfOk, IfSome, OnOk};
+ghost use Rattle.std.specs.Prelude.{◌≡◌, ◌↔◌, ◌<◌, ◌≤◌, false, ℕ, List, None, Contains, IsTrue, length, map, IfOk, IfSome, OnOk};
 ghost use Rattle.lab_sched.specs.Worlds.{Process as Seen, WorldState};
 ghost use Rattle.lab_sched.specs.Held.{process_view};
 ghost use Rattle.lab_conditions.specs.Conditions.{Holds};
@@ -14,6 +14,9 @@ use ipc_kernel::Kernel;
 use lab_conditions::Condition;
 use lab_sched::Process;
 use std::alloc::{AllocError, Global};
+
+/// How many rows are judged kernel by kernel before it is looked whether a condition holds of one.
+const TOGETHER: usize = 1 << 16;
 
 /// A kernel that was put together, with its number.
 #[derive(Drop)]
@@ -128,30 +131,39 @@ impl Store {
         }
     }
 
-    /// The numbers of all rows, of which those over the same kernel stand beside one another.
-    fn rows_by_kernel(&self, alloc: Global) -> Result<Vec<usize>, AllocError>
-        ensures all { IfOk result (λ rows. (i : ℕ) → i < length self.now.rows
+    /// The numbers of the rows from one up to another, of which those over the same kernel stand beside
+    /// one another.
+    fn rows_by_kernel(
+        &self,
+        alloc: Global,
+        start: usize,
+        end: usize,
+    ) -> Result<Vec<usize>, AllocError>
+        ensures all { IfOk result (λ rows. (i : ℕ) → start ≤ i → i < end
             → Contains rows.items i) }
     {
-        let count = self.rows.len();
-        let mut rows = Vec::with_capacity(alloc, count)?;
-        for at in 0..count {
+        let mut rows = Vec::new(alloc);
+        for at in start..end {
             rows.push(at)?;
         }
         rows.sort_by_key(|at| self.kernel_of(*at))?;
         Ok(rows)
     }
 
-    /// The first row of whose world a condition holds. Each kernel is put together once.
-    pub(crate) fn first_where(
+    /// The first row of whose world a condition holds, of those from one up to another. Each kernel is put
+    /// together once.
+    fn first_among(
         &self,
         alloc: Global,
         condition: &Condition,
+        start: usize,
+        end: usize,
     ) -> Result<Option<usize>, ExploreFault>
         ensures some { IfOk result (λ first. IfSome first (RowHolds self.now condition.now)) }
-        ensures none { IfOk result (λ first. first ≡ None → NoRowHolds self.now condition.now) }
+        ensures none { IfOk result (λ first. first ≡ None → (i : ℕ) → start ≤ i → i < end
+            → RowFails self.now condition.now i) }
     {
-        let rows = self.rows_by_kernel(alloc)?;
+        let rows = self.rows_by_kernel(alloc, start, end)?;
         if rows.is_empty() {
             return Ok(None);
         }
@@ -161,5 +173,26 @@ impl Store {
             first = self.first_holding(alloc, &mut last, rows[place], condition, first)?;
         }
         Ok(first)
+    }
+
+    /// The first row of whose world a condition holds.
+    pub(crate) fn first_where(
+        &self,
+        alloc: Global,
+        condition: &Condition,
+    ) -> Result<Option<usize>, ExploreFault>
+        ensures some { IfOk result (λ first. IfSome first (RowHolds self.now condition.now)) }
+        ensures none { IfOk result (λ first. first ≡ None → NoRowHolds self.now condition.now) }
+    {
+        let count = self.rows.len();
+        let mut start = 0;
+        while start < count {
+            let end = start.saturating_add(TOGETHER).min(count);
+            if let Some(at) = self.first_among(alloc, condition, start, end)? {
+                return Ok(Some(at));
+            }
+            start = end;
+        }
+        Ok(None)
     }
 }

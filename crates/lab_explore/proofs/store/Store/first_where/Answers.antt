@@ -1,30 +1,15 @@
-use Rattle.std.proofs.Common.{ℕ, ◌≡◌, Some, ap, arith, below_more, slice_get, subst, sym, ◌∙◌}
-use Rattle.std.proofs.lemmas.Option.{slice_get-get_or}
+use Rattle.std.proofs.Common.{◌<◌, arith, inl, inr}
+use Rattle.std.proofs.lemmas.Bool.{cases_lt}
 use Rattle.lab_sched.proofs.ListPlaces.{get_past}
-use Rattle.lab_explore.specs.Private.Judged.{RowFails}
-use Rattle.lab_explore.proofs.AfterLocalSteps.{same_some}
 use Rattle.lab_explore.proofs.store.Store.first_where.Goals as goal
 
-pub loop-place-preserved : goal.loop-place-preserved
-loop-place-preserved c =
-    let rows = c.in_ok-rows.rows.items in
-    let at = c.index-in-loop-place.result.now in
-    record {
-      last = c.in_ok-first.ensures.last;
-      some = c.in_ok-first.ensures.some;
-      none = λ none k i below.
-          let both = c.in_ok-first.ensures.none none in
-          below_more (λ j. (i : ℕ) → slice_get rows j ≡ Some i → RowFails c.args.self.now c.args.condition.now i) c.loop-place.place
-          (λ j within i there. c.loop-place.invariant.none both.0 j i within there)
-          (λ i there.
-          let here : slice_get rows c.loop-place.place ≡ Some at = slice_get-get_or rows c.loop-place.place at (omega (arith, c.loop-place-test.true, c.len-place-end.ensures)) ∙ ap Some (sym c.index-in-loop-place.ensures) in
-          subst (RowFails c.args.self.now c.args.condition.now) (same_some at i (slice_get rows c.loop-place.place) here there) both.1)
-          k below i;
-    }
+pub loop-start-preserved : goal.loop-start-preserved
+loop-start-preserved c i below = elim (cases_lt i c.loop-start.start) [
+  | inl before ↦ c.loop-start.invariant i before
+  | inr from ↦ c.in_ok-at.ensures.none c.in_default.is i from below
+]
 
 pub returns-clause-none : goal.returns-clause-none
 returns-clause-none c none i w here =
-    let rows = c.in_ok-rows.rows.items in
     let below = get_past c.args.self.now.rows i here.0 here.1 in
-    let there = c.in_ok-rows.ensures.all i (omega arith) in
-    c.loop-place.invariant.none none there.0 i (omega arith) (slice_get-get_or rows there.0 i there.1 ∙ ap Some there.2) w here
+    c.loop-start.invariant i (omega (arith, below, c.loop-start-test.false, c.len-count.ensures.count)) w here
