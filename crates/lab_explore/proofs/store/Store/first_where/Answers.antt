@@ -1,4 +1,4 @@
-use Rattle.std.proofs.Common.{◌<◌, arith, inl, inr}
+use Rattle.std.proofs.Common.{arith, inl, inr}
 use Rattle.std.proofs.lemmas.Bool.{cases_lt}
 use Rattle.lab_sched.proofs.ListPlaces.{get_past}
 use Rattle.lab_explore.proofs.store.Store.first_where.Goals as goal
