@@ -123,7 +123,7 @@ impl Store {
         Ok(first)
     }
 
-    /// The number of the kernel of a row.
+    /// The number of the kernel of a row, or 0.
     fn kernel_of(&self, at: usize) -> u32 {
         match self.rows.get(at) {
             Some((kernel, _)) => kernel,

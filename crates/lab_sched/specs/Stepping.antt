@@ -47,10 +47,10 @@ MayWait (kept.Running h) c = IsHeld (kept.Waiting h c)
 MayWait (kept.Waiting h d) c = ⊥
 MayWait (kept.Ended e) c = ⊥
 
--- the same where it has asked the kernel
-abbrev pub MayWaitWhere : Kept → Asked → Type 0
-MayWaitWhere s (asked_for.Kernel c) = MayWait s c
-MayWaitWhere s (asked_for.Refused e) = Unit {0}
+-- the same for the call of what it has asked, if that is one of the kernel
+abbrev pub MayWaitIfAsked : Kept → Asked → Type 0
+MayWaitIfAsked s (asked_for.Kernel c) = MayWait s c
+MayWaitIfAsked s (asked_for.Refused e) = Unit {0}
 
 -- a process that asks or waits for a call with this reply
 abbrev pub CanTakeReply : Kept → Reply → Type 0

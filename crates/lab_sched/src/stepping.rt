@@ -6,7 +6,7 @@ ghost use Rattle.lab_sched.specs.Held.{process_view, HasStepped, IsHeld};
 ghost use Rattle.lab_sched.specs.LocalRun.{AreLocal};
 ghost use Rattle.lab_sched.specs.Verdicts.{IsWaiting};
 ghost use Rattle.lab_sched.specs.Worlds.{Waiting as WaitingSeen, machine_of};
-ghost use Rattle.lab_sched.specs.Stepping.{CanTakeReply, IsAsked, MayWait, MayWaitWhere, StandsBefore, StopsBy, after_end, after_reply};
+ghost use Rattle.lab_sched.specs.Stepping.{CanTakeReply, IsAsked, MayWait, MayWaitIfAsked, StandsBefore, StopsBy, after_end, after_reply};
 
 mod untold;
 
@@ -77,7 +77,7 @@ pub fn ask_call(alloc: Global, process: &mut Process, vector: u8) -> Result<Aske
     requires stands { StandsBefore (process_view process.old) (Trap vector) }
     ensures asked { IfOk result
         (λ asked. IsAsked (process_view process.old) asked (process_view process.new)) }
-    ensures may { IfOk result (λ asked. MayWaitWhere process.new asked) }
+    ensures may { IfOk result (λ asked. MayWaitIfAsked process.new asked) }
     ensures held { IsHeld process.new }
     ensures err { OnErr result (process_view process.new ≡ process_view process.old) }
 {
