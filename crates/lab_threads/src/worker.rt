@@ -6,6 +6,7 @@ ghost use Rattle.lab_sched.specs.LocalRun.{AreLocal};
 ghost use Rattle.lab_sched.specs.Worlds.{Process as Seen};
 ghost use Rattle.lab_sched.specs.Stepping.{MayWait, StandsBefore};
 ghost use Rattle.lab_sched.specs.Verdicts.{IsRunning};
+ghost use Rattle.lab_threads.specs.declared.worker.Continuation.TheVariants.{GoesOn};
 ghost use Rattle.lab_threads.specs.Private.WorkerLogs.{LeadsOn, allowance};
 ghost use Rattle.lab_threads.specs.Private.WorkerResults.{IsWorkerResult};
 
@@ -160,6 +161,7 @@ fn make_call<R: Wait, G: Gate>(
     requires room { vec_len log.old.trace.calls + 2 ≤ vec_capacity log.old.trace.calls }
     ensures alone { LeadsOn log.old (process_view process.old) log.new (process_view process.new) }
     ensures held { IsHeld process.new }
+    ensures step { result ≡ GoesOn → log.new.left < log.old.left }
     ensures allowed { allowance log.new ≡ allowance log.old }
 {
     let Ok(copy) = clone_of(&call) else {
