@@ -5,4 +5,5 @@ pub mod WordLemmas
 pub mod PartLemmas
 pub mod AddressLemmas
 pub mod CarriedConditions
+pub mod KernelFree
 pub mod MessageCounts

@@ -120,3 +120,7 @@ NamesOnly count (Semaphore name r x) = Unit {0}
 NamesOnly count (Queue name r x) = Unit {0}
 NamesOnly count (Of p x) = p < count
 NamesOnly count (MoreThan x n) = Unit {0}
+
+-- a condition holds of some processes over any kernel, where it holds of them over one
+abbrev pub HoldsOverAny : Condition → Type 0
+HoldsOverAny c = (k j : KernelState) (ps : List Process) → Holds c (world_of k ps) → Holds c (world_of j ps)

@@ -1,8 +1,9 @@
 //! Whether conditions hold of worlds.
-ghost use Rattle.std.specs.Prelude.{◌≡◌, ◌↔◌, ◌<◌, ℕ, All, Some, IfOk, IfSome, IsTrue, length, map, slice_get};
+ghost use Rattle.std.specs.Prelude.{◌≡◌, ◌↔◌, ◌<◌, ℕ, false, All, Some, IfOk, IfSome, IsTrue, length, map, slice_get};
 ghost use Rattle.lab_sched.specs.Held.{process_view};
 ghost use Rattle.lab_sched.specs.Worlds.{Process as Seen};
-ghost use Rattle.lab_conditions.specs.Conditions.{is_so, how_many, PartHolds, Holds, NamesOnly, world_of};
+ghost use Rattle.lab_conditions.specs.Conditions.{is_so, how_many, PartHolds, Holds, NamesOnly, world_of, HoldsOverAny};
+ghost use Rattle.lab_conditions.specs.Private.KernelFree.{IsSoOverAny, PartHoldsOverAny};
 
 use crate::places::{has_queue, has_semaphore};
 use crate::{Condition, Part, State};
@@ -47,6 +48,15 @@ fn is_one_so(
     }
 }
 
+impl State {
+    /// Whether it depends on the kernel whether a process stands so.
+    fn needs_kernel(self) -> bool
+        ensures no { result ≡ false → IsSoOverAny self }
+    {
+        matches!(self, State::Blocked)
+    }
+}
+
 impl Part {
     /// Whether the part holds of the world of some processes over a kernel. An error is want of
     /// memory.
@@ -86,6 +96,16 @@ impl Part {
             Part::Semaphore { .. } | Part::Queue { .. } | Part::MoreThan { .. } => true,
         }
     }
+
+    /// Whether it depends on the kernel whether the part holds.
+    fn needs_kernel(&self) -> bool
+        ensures no { result ≡ false → PartHoldsOverAny self.now }
+    {
+        match self {
+            Part::Semaphore { .. } | Part::Queue { .. } => true,
+            Part::Of { state, .. } | Part::MoreThan { state, .. } => state.needs_kernel(),
+        }
+    }
 }
 
 impl Condition {
@@ -118,5 +138,18 @@ impl Condition {
             }
         }
         true
+    }
+
+    /// Whether it depends on the kernel whether the condition holds: whether one of its parts
+    /// speaks of a semaphore, of a queue, or of processes that are blocked.
+    pub fn needs_kernel(&self) -> bool
+        ensures no { result ≡ false → HoldsOverAny self.now }
+    {
+        for part in &self.parts {
+            if part.needs_kernel() {
+                return true;
+            }
+        }
+        false
     }
 }
