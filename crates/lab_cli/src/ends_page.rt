@@ -58,7 +58,7 @@ fn explore_on_page<'a, T: Files + Threads + Sync, W: Write, P: Progress>(
     let (found, inquiry) = find_ends(rt, alloc, programs, setup.profile, question, progress)?;
     let told = tell_ends(alloc, &found, &inquiry, output, progress);
     let list = list_of(alloc, setup, programs, &found, page)?;
-    let worlds = worlds_of(rt, alloc, setup, programs, &found, inquiry.limits)?;
+    let worlds = worlds_of(alloc, setup, programs, &found, inquiry.limits)?;
     let names = names_of(alloc, words).at("run")?;
     let endless = endless_of(found.exploration());
     let extent = extent_of(found.exploration(), found.schedules().len(), &inquiry);

@@ -75,7 +75,7 @@ at_grows t u i w g h = (h.0, g.rows i h.0 h.1, row_grows t u h.0 w g h.2)
 pub kernel_grows : (t u : Store) (i : ℕ) (k : KernelState) → Grows t u → IsKernel t i k → IsKernel u i k
 kernel_grows t u i k g h = (h.0, g.kernels.kernels i h.0 h.1, h.2, h.3)
 
-pub next_grows : (t u : Store) (k : KernelState) (p : ℕ) (s : Process) (n : Next) → Grows t u → IsNext t k p s n → IsNext u k p s n
+next_grows : (t u : Store) (k : KernelState) (p : ℕ) (s : Process) (n : Next) → Grows t u → IsNext t k p s n → IsNext u k p s n
 next_grows t u k p s Nothing g h = h
 next_grows t u k p s Limit g h = h
 next_grows t u k p s (To kernel state taken) g h = (h.0, kernel_grows t u kernel _ g h.1, state_grows t u state h.0 g h.2, h.3, h.4)

@@ -7,7 +7,6 @@ mod StepsToCalls
 mod Pushes
 mod Growths
 mod StepsOfRows
-mod LookupLemmas
 mod PieceLemmas
 mod SilentProcesses
 mod StepCounts

@@ -22,7 +22,7 @@ use Rattle.lab_explore.specs.Private.Stored.{IsReady, IsState, IsRow, IsAt, Lead
 use Rattle.lab_explore.proofs.Pushes.{alongside_set, get_pushed, all_at}
 use Rattle.lab_explore.proofs.AfterLocalSteps.{same_some}
 use Rattle.lab_explore.proofs.FirstWorlds.{at_unique}
-use Rattle.lab_explore.proofs.Growths.{state_kept, at_grows, row_grows, next_grows}
+use Rattle.lab_explore.proofs.Growths.{state_kept, at_grows, row_grows}
 
 pub both_left : {A B : Type 0} (R : A → B → Type 0) (x : A) (o : Option B) → Both R (Some x) o → (y : B) × (o ≡ Some y) × R x y
 both_left R x None h = absurd h
@@ -137,15 +137,6 @@ moved_at t w at p kernel state taken next r' is here m next-is kernel-is states 
     let row : states.0 ≡ r = same_some states.0 r (slice_get t.rows at) states.1 here.1 in
     let n = m w here in
     moved t r r' w p kernel state taken n.0 is here.2 n.1 (subst (λ n'. IsNext t w.kernel p n.0 n') next-is n.2) kernel-is (states.2 ∙ ap (λ (x : Row). set x.states p state) row)
-
--- what a process does next stays so
-pub next_at_grows : (t u : Store) (at p : ℕ) (n : Next) → IsStore t → Grows t u → (r : Row) × (slice_get t.rows at ≡ Some r) → IsNextAt t at p n → IsNextAt u at p n
-next_at_grows t u at p n is g row m w here =
-    let v = all_at (λ r. (v : WorldState) × IsRow t r v) t.rows at row.0 is.rows row.1 in
-    let old : IsAt t at v.0 = (row.0, row.1, v.1) in
-    let same : v.0 ≡ w = at_unique u at v.0 w (at_grows t u at v.0 g old) here in
-    let next = subst (λ x. (s : Process) × (slice_get x.processes p ≡ Some s) × IsNext t x.kernel p s n) same (m v.0 old) in
-    (next.0, next.1, next_grows t u w.kernel p next.0 n g next.2)
 
 -- each process of a world was tried
 pub all_tried : (t u : Store) (at count pid : ℕ) → IsStore t → Grows t u → ((r : Row) × (slice_get t.rows at ≡ Some r) × (count ≡ length r.states)) → count ≤ pid

@@ -7,7 +7,6 @@ pub mod Standing
 pub mod Stored
 pub mod Touched
 pub mod Known
-pub mod Lookups
 pub mod Depths
 pub mod Walked
 pub mod Rising

@@ -108,9 +108,7 @@ pub fn explore<O: Observer, R: Threads + Sync>(
     let processes = fresh.processes();
     let kernel = Kernel::new(alloc, processes.len())?;
     let sparse = may_be_sparse(nevers, fair);
-    let search = search_all(
-        alloc, &processes, &kernel, limits, observer, workers, sparse,
-    )?;
+    let search = search_all(alloc, &processes, &kernel, limits, observer, sparse)?;
     let room = room_for_ends(limits, search.size());
     match search.report(alloc, &processes, room, nevers, fair) {
         Ok(found) => {

@@ -18,7 +18,6 @@ mod judging;
 mod known;
 pub mod laws;
 mod limits;
-mod lookups;
 mod losses;
 mod making;
 mod moves;

@@ -3,12 +3,10 @@ ghost use Rattle.std.specs.Prelude.{◌≡◌, ℕ, IsTrue, IfOk, IfSome, OnOk};
 ghost use Rattle.lab_sched.specs.Worlds.{WorldState};
 ghost use Rattle.lab_explore.specs.declared.store.Next.TheVariants.{Limit, To};
 ghost use Rattle.lab_explore.specs.Private.Known.{AreKnown};
-ghost use Rattle.lab_explore.specs.Private.Lookups.{IsKnownStep, AreLookups};
 ghost use Rattle.lab_explore.specs.Private.Rows.{row_of};
 ghost use Rattle.lab_explore.specs.Private.Stored.{IsStore, Grows, LeadsTo, HasEdge, IsNextAt, IsAt, IsTried, IsExpanded};
 
 use crate::known::Moves;
-use crate::lookups::{Known, Lookups};
 use crate::store::{Edge, Next, Store};
 use crate::{ExploreFault, Limits};
 use std::alloc::{AllocError, Global};
@@ -34,16 +32,6 @@ fn edge_of(from: usize, to: usize, pid: u32) -> Option<Edge>
 }
 
 impl Store {
-    /// What process `pid` does next in the world of a row, if it has ended or this move was made.
-    pub(crate) fn made_at(&self, moves: &Moves, at: usize, pid: u32) -> Option<Next>
-        ensures next { AreKnown self.now moves.now
-            → IfSome result (λ next. IsNextAt self.now at pid next) }
-    {
-        let (kernel, state) = self.places(at, pid)?;
-        let next = self.made_next(moves, kernel, pid, state)?;
-        Some(next)
-    }
-
     /// Whether process `pid` goes on from the world of a row, if it is known.
     pub(crate) fn goes_on(&self, moves: &Moves, at: usize, pid: u32) -> Option<bool>
         ensures yes { AreKnown self.now moves.now → IfSome result (λ goes. IsTrue goes
@@ -184,46 +172,24 @@ impl Store {
         }
     }
 
-    /// The same by what is known of the step.
-    fn follow(&mut self, at: usize, pid: u32, known: Known, most: u32) -> Result<bool, ExploreFault>
-        requires store { IsStore self.old }
-        requires known { IsKnownStep self.old at pid known }
-        ensures store { OnOk result (IsStore self.new) }
-        ensures grows { OnOk result (Grows self.old self.new) }
-        ensures tried { IfOk result (λ whole. IsTrue whole → (w : WorldState)
-            → IsAt self.old at w → IsTried self.new at w pid) }
-    {
-        match known {
-            Known::Next(next) => self.go_to(at, pid, next, most),
-            Known::Row(to) => Ok(self.add_edge(at, pid, to)?),
-        }
-    }
-
     /// Tries process `pid` from the world of a row, and keeps the world where it comes; with
     /// whether that could be done.
     pub(crate) fn try_process(
         &mut self,
         alloc: Global,
         moves: &mut Moves,
-        lookups: &mut Lookups,
         at: usize,
         pid: u32,
         limits: Limits,
     ) -> Result<bool, ExploreFault>
         requires store { IsStore self.old }
         requires known { AreKnown self.old moves.old }
-        requires lookups { AreLookups self.old lookups.old }
         ensures store { OnOk result (IsStore self.new) }
         ensures known { OnOk result (AreKnown self.new moves.new) }
-        ensures lookups { OnOk result (AreLookups self.new lookups.new) }
         ensures grows { OnOk result (Grows self.old self.new) }
         ensures tried { IfOk result (λ whole. IsTrue whole → (w : WorldState)
             → IsAt self.old at w → IsTried self.new at w pid) }
     {
-        if let Some(known) = lookups.take(at, pid) {
-            let followed = self.follow(at, pid, known, limits.worlds)?;
-            return Ok(followed);
-        }
         let next = self.next(alloc, moves, at, pid, limits.steps)?;
         let tried = self.go_to(at, pid, next, limits.worlds)?;
         Ok(tried)
@@ -234,16 +200,13 @@ impl Store {
         &mut self,
         alloc: Global,
         moves: &mut Moves,
-        lookups: &mut Lookups,
         at: usize,
         limits: Limits,
     ) -> Result<bool, ExploreFault>
         requires store { IsStore self.old }
         requires known { AreKnown self.old moves.old }
-        requires lookups { AreLookups self.old lookups.old }
         ensures store { OnOk result (IsStore self.new) }
         ensures known { OnOk result (AreKnown self.new moves.new) }
-        ensures lookups { OnOk result (AreLookups self.new lookups.new) }
         ensures grows { OnOk result (Grows self.old self.new) }
         ensures expanded { IfOk result (λ whole. IsTrue whole → IsExpanded self.new at) }
     {
@@ -252,7 +215,7 @@ impl Store {
         };
         let mut whole = true;
         for pid in 0..count {
-            let tried = self.try_process(alloc, moves, lookups, at, pid, limits)?;
+            let tried = self.try_process(alloc, moves, at, pid, limits)?;
             whole = both(whole, tried);
         }
         Ok(whole)

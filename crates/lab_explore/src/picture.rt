@@ -5,11 +5,10 @@ ghost use Rattle.lab_explore.specs.Pictures.{IsNode, IsEndOfNode, HasEndAtRest, 
 
 use crate::search::search_all;
 use crate::trying::discard;
-use crate::{End, ExploreFault, Limits, Observer, Workers};
+use crate::{End, ExploreFault, Limits, Observer};
 use ipc_kernel::Kernel;
 use lab_sched::{Fresh, World};
 use std::alloc::Global;
-use std::thread::Threads;
 
 /// The most worlds of which a picture is drawn.
 pub const MOST_DRAWN: u32 = 500;
@@ -51,12 +50,7 @@ impl Observer for Nobody {
 /// fewer calls than are told; each arrow is a call of a process that goes on; and each such call from a
 /// node has its arrow, so that there is no other world, but for the numbers of places in the kernel and
 /// for who waits. A world from which no process goes on has its end.
-pub fn draw<R: Threads + Sync>(
-    alloc: Global,
-    fresh: Fresh,
-    limits: Limits,
-    workers: &Workers<'_, R>,
-) -> Result<Option<Picture>, ExploreFault>
+pub fn draw(alloc: Global, fresh: Fresh, limits: Limits) -> Result<Option<Picture>, ExploreFault>
     ensures nodes { IfOk result (λ d. IfSome d (λ x. All (IsNode fresh) x.nodes.items)) }
     ensures arrows { IfOk result (λ d. IfSome d (λ x.
         All (IsStep x.nodes.items) x.arrows.items)) }
@@ -76,15 +70,7 @@ pub fn draw<R: Threads + Sync>(
         ..limits
     };
     let mut nobody = Nobody;
-    let search = search_all(
-        alloc,
-        &processes,
-        &kernel,
-        limits,
-        &mut nobody,
-        workers,
-        false,
-    )?;
+    let search = search_all(alloc, &processes, &kernel, limits, &mut nobody, false)?;
     match search.picture(alloc, &processes) {
         Ok(picture) => {
             discard(search);

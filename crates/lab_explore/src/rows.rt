@@ -1,9 +1,8 @@
 //! The worlds that a search keeps.
 ghost use Rattle.std.specs.Prelude.{◌≡◌, Some, IsTrue, length, slice_get, slice_set, IfOk, IfSome, OnOk};
 ghost use Rattle.lab_sched.specs.Worlds.{WorldState};
-ghost use Rattle.lab_explore.specs.Private.Lookups.{IsAfter};
 ghost use Rattle.lab_explore.specs.Private.Rows.{Row, row_of};
-ghost use Rattle.lab_explore.specs.Private.Stored.{IsRow, IsAt, IsStore, Grows};
+ghost use Rattle.lab_explore.specs.Private.Stored.{IsRow, IsAt, IsAfter, IsStore, Grows};
 
 use crate::parents::Parent;
 use crate::row::{digest_after, digest_of};

@@ -9,15 +9,13 @@ ghost use Rattle.lab_explore.specs.Private.Stored.{IsState, IsReady, IsAt, IsSto
 
 use crate::advance::{Ahead, advance};
 use crate::known::Moves;
-use crate::lookups::Lookups;
 use crate::moves::both;
 use crate::store::Store;
 use crate::trying::discard;
-use crate::{ExploreFault, Limits, Observer, Workers};
+use crate::{ExploreFault, Limits, Observer};
 use ipc_kernel::Kernel;
 use lab_sched::Process;
 use std::alloc::{AllocError, Global};
-use std::thread::Threads;
 
 /// The state that a process comes to by so many local steps, by its place.
 #[derive(Clone, Copy, Drop)]
@@ -128,13 +126,12 @@ impl Store {
 
     /// Tries what is to be tried from each world, in a search that is sparse or isn't; with whether that
     /// could be done, and no process is about to take a name away where the search is sparse.
-    fn expand_all<O: Observer, R: Threads + Sync>(
+    fn expand_all<O: Observer>(
         &mut self,
         alloc: Global,
         moves: &mut Moves,
         limits: Limits,
         observer: &mut O,
-        workers: &Workers<'_, R>,
         sparse: bool,
     ) -> Result<bool, ExploreFault>
         requires store { IsStore self.old }
@@ -147,9 +144,7 @@ impl Store {
             → StatesKeepNames self.new) }
     {
         let most = limits.worlds as usize;
-        let workers = workers.in_search(sparse);
         let mut whole = true;
-        let mut lookups = Lookups::until(alloc, 0);
         for at in 0..most {
             if at >= self.rows.len() {
                 return Ok(both(whole, self.keeps_names(sparse)));
@@ -158,10 +153,7 @@ impl Store {
                 return Ok(false);
             }
             observer.see(at, self.rows.len() - at);
-            if at >= lookups.end {
-                lookups = self.look_ahead(alloc, moves, at, &workers)?;
-            }
-            let tried = self.expand_in(alloc, moves, &mut lookups, at, limits, sparse)?;
+            let tried = self.expand_in(alloc, moves, at, limits, sparse)?;
             whole = both(whole, tried);
         }
         let within = both(whole, self.rows.len() <= most);
@@ -234,12 +226,11 @@ impl Search {
     }
 
     /// Tries what is to be tried from each world, as far as the limits and the memory allow.
-    fn go_on<O: Observer, R: Threads + Sync>(
+    fn go_on<O: Observer>(
         &mut self,
         alloc: Global,
         limits: Limits,
         observer: &mut O,
-        workers: &Workers<'_, R>,
     ) -> Result<(), ExploreFault>
         requires store { IsStore self.old.store }
         requires none { HasNone self.old.moves }
@@ -259,7 +250,7 @@ impl Search {
         let moves = &mut self.moves;
         match self
             .store
-            .expand_all(alloc, moves, limits, observer, workers, sparse)
+            .expand_all(alloc, moves, limits, observer, sparse)
         {
             Ok(true) => {
                 self.store.close(alloc);
@@ -281,14 +272,13 @@ impl Search {
 
     /// Keeps every world that processes over a kernel can come to, as far as the limits and the memory
     /// allow.
-    fn fill<O: Observer, R: Threads + Sync>(
+    fn fill<O: Observer>(
         &mut self,
         alloc: Global,
         processes: &[Process],
         kernel: &Kernel,
         limits: Limits,
         observer: &mut O,
-        workers: &Workers<'_, R>,
     ) -> Result<(), ExploreFault>
         requires store { IsStore self.old.store }
         requires none { HasNone self.old.moves }
@@ -306,20 +296,19 @@ impl Search {
         if !kept {
             return Ok(());
         }
-        self.go_on(alloc, limits, observer, workers)?;
+        self.go_on(alloc, limits, observer)?;
         Ok(())
     }
 }
 
 /// Searches the worlds that processes over a kernel can come to, as far as the limits allow, in a search
 /// that is sparse or isn't.
-fn search_in<O: Observer, R: Threads + Sync>(
+fn search_in<O: Observer>(
     alloc: Global,
     processes: &[Process],
     kernel: &Kernel,
     limits: Limits,
     observer: &mut O,
-    workers: &Workers<'_, R>,
     sparse: bool,
 ) -> Result<Search, ExploreFault>
     requires held { All IsHeld processes.now }
@@ -330,7 +319,7 @@ fn search_in<O: Observer, R: Threads + Sync>(
         (record { processes = map process_view processes.now; kernel = kernel.now }) s.store) }
 {
     let mut search = Search::new(alloc, processes.len(), sparse)?;
-    match search.fill(alloc, processes, kernel, limits, observer, workers) {
+    match search.fill(alloc, processes, kernel, limits, observer) {
         Ok(()) => Ok(search),
         Err(fault) => {
             discard(search);
@@ -341,13 +330,12 @@ fn search_in<O: Observer, R: Threads + Sync>(
 
 /// Searches every world that processes over a kernel can come to, as far as the limits allow, or, if
 /// that may be and none of them takes a name away, as many as show every end.
-pub(crate) fn search_all<O: Observer, R: Threads + Sync>(
+pub(crate) fn search_all<O: Observer>(
     alloc: Global,
     processes: &[Process],
     kernel: &Kernel,
     limits: Limits,
     observer: &mut O,
-    workers: &Workers<'_, R>,
     sparse: bool,
 ) -> Result<Search, ExploreFault>
     requires held { All IsHeld processes.now }
@@ -357,11 +345,11 @@ pub(crate) fn search_all<O: Observer, R: Threads + Sync>(
     ensures complete { IfOk result (λ s. IsTrue s.complete → IsSearchedIn s.sparse
         (record { processes = map process_view processes.now; kernel = kernel.now }) s.store) }
 {
-    let search = search_in(alloc, processes, kernel, limits, observer, workers, sparse)?;
+    let search = search_in(alloc, processes, kernel, limits, observer, sparse)?;
     if !sparse || !search.store.states.unlinks() {
         return Ok(search);
     }
     discard(search);
-    let whole = search_in(alloc, processes, kernel, limits, observer, workers, false)?;
+    let whole = search_in(alloc, processes, kernel, limits, observer, false)?;
     Ok(whole)
 }

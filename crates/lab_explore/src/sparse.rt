@@ -3,13 +3,11 @@
 ghost use Rattle.std.specs.Prelude.{ℕ, ◌≡◌, ◌<◌, true, Some, IsTrue, IfOk, IfSome, OnOk, slice_get};
 ghost use Rattle.lab_sched.specs.Worlds.{Process as Seen, WorldState, step_effect_in};
 ghost use Rattle.lab_explore.specs.Private.Known.{AreKnown};
-ghost use Rattle.lab_explore.specs.Private.Lookups.{AreLookups};
 ghost use Rattle.lab_explore.specs.Private.Independent.{IsIndependent, IsTriedAlone, IsTriedIn};
 ghost use Rattle.lab_explore.specs.Private.Rows.{Row};
 ghost use Rattle.lab_explore.specs.Private.Stored.{IsExactly, IsState, IsAt, IsStore, Grows, HasEdge};
 
 use crate::known::Moves;
-use crate::lookups::Lookups;
 use crate::store::{Next, Store, place_of};
 use crate::{ExploreFault, Limits};
 use ipc_kernel::Call;
@@ -120,16 +118,13 @@ impl Store {
         &mut self,
         alloc: Global,
         moves: &mut Moves,
-        lookups: &mut Lookups,
         at: usize,
         limits: Limits,
     ) -> Result<bool, ExploreFault>
         requires store { IsStore self.old }
         requires known { AreKnown self.old moves.old }
-        requires lookups { AreLookups self.old lookups.old }
         ensures store { OnOk result (IsStore self.new) }
         ensures known { OnOk result (AreKnown self.new moves.new) }
-        ensures lookups { OnOk result (AreLookups self.new lookups.new) }
         ensures grows { OnOk result (Grows self.old self.new) }
         ensures tried { IfOk result (λ whole. IsTrue whole → IsTriedIn true self.new at) }
     {
@@ -137,7 +132,7 @@ impl Store {
         if alone {
             return Ok(true);
         }
-        let expanded = self.expand(alloc, moves, lookups, at, limits)?;
+        let expanded = self.expand(alloc, moves, at, limits)?;
         Ok(expanded)
     }
 
@@ -147,25 +142,22 @@ impl Store {
         &mut self,
         alloc: Global,
         moves: &mut Moves,
-        lookups: &mut Lookups,
         at: usize,
         limits: Limits,
         sparse: bool,
     ) -> Result<bool, ExploreFault>
         requires store { IsStore self.old }
         requires known { AreKnown self.old moves.old }
-        requires lookups { AreLookups self.old lookups.old }
         ensures store { OnOk result (IsStore self.new) }
         ensures known { OnOk result (AreKnown self.new moves.new) }
-        ensures lookups { OnOk result (AreLookups self.new lookups.new) }
         ensures grows { OnOk result (Grows self.old self.new) }
         ensures tried { IfOk result (λ whole. IsTrue whole → IsTriedIn sparse self.new at) }
     {
         if sparse {
-            let tried = self.expand_sparsely(alloc, moves, lookups, at, limits)?;
+            let tried = self.expand_sparsely(alloc, moves, at, limits)?;
             return Ok(tried);
         }
-        let expanded = self.expand(alloc, moves, lookups, at, limits)?;
+        let expanded = self.expand(alloc, moves, at, limits)?;
         Ok(expanded)
     }
 }

@@ -1,5 +1,5 @@
 -- What a search keeps: kernels, states of processes, and worlds as places among these.
-use Rattle.std.specs.Prelude.{ℕ, ◌≡◌, ◌<◌, ◌^◌, List, [], Option, Some, None, All, get_or, length, slice_get}
+use Rattle.std.specs.Prelude.{ℕ, ◌≡◌, ◌<◌, ◌^◌, List, [], Option, Some, None, All, get_or, length, slice_get, slice_set}
 use Rattle.std.specs.Option.{option_map}
 use Rattle.ipc_kernel.specs.Kernel.{KernelState, IsSettled}
 use Rattle.ipc_kernel.specs.Kept.{GrowsKept}
@@ -44,6 +44,12 @@ pub record IsRow (t : Store) (r : Row) (w : WorldState) : Type 0 where
 -- row number i stands for the world
 abbrev pub IsAt : Store → ℕ → WorldState → Type 0
 IsAt t i w = (r : Row) × (slice_get t.rows i ≡ Some r) × IsRow t r w
+
+-- row number j is row number i with this kernel and this state of process p
+abbrev pub IsAfter : Store → ℕ → ℕ → ℕ → ℕ → ℕ → Type 0
+IsAfter t i p kernel state j =
+    (r : Row) × (slice_get t.rows i ≡ Some r)
+    × (slice_get t.rows j ≡ Some (record { kernel = kernel; states = slice_set r.states p state }))
 
 -- row number i stands for a world that the world is alike
 abbrev pub IsLike : Store → ℕ → WorldState → Type 0

@@ -13,7 +13,7 @@ use Rattle.lab_explore.proofs.JudgedRows.{same_reached, are_kept_in}
 use Rattle.lab_explore.proofs.exploring.explore.Goals as goal
 
 pub search_all-requires : goal.search_all-requires
-search_all-requires g c = (record { shared = c.type_bounds.sync-R.shared }, starts_held c.processes-processes.result.items c.deref.result.now c.deref.ensures.value c.processes-processes.ensures.starts)
+search_all-requires g c = record { held = starts_held c.processes-processes.result.items c.deref.result.now c.deref.ensures.value c.processes-processes.ensures.starts }
 
 pub report-requires : goal.report-requires
 report-requires g c = record {

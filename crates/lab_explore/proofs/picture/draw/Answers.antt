@@ -9,17 +9,17 @@ use Rattle.lab_explore.proofs.DrawnRows.{some_both}
 use Rattle.lab_explore.proofs.picture.draw.Goals as goal
 
 pub search_all-requires : goal.search_all-requires
-search_all-requires g c = (record { shared = c.type_bounds.sync-R.shared }, starts_held c.processes-processes.result.items c.deref.result.now c.deref.ensures.value c.processes-processes.ensures.starts)
+search_all-requires c = record { held = starts_held c.processes-processes.result.items c.deref.result.now c.deref.ensures.value c.processes-processes.ensures.starts }
 
 pub picture-requires : goal.picture-requires
-picture-requires g c = record {
+picture-requires c = record {
   starts = subst AreStarts (sym c.deref-2.ensures.value) c.processes-processes.ensures.starts;
   store = c.in_ok-search.ensures.store;
   expanded = λ is. (whole_search c.in_ok-search.search.sparse _ c.in_ok-search.search.store (c.in_ok-search.ensures.sparse refl) (c.in_ok-search.ensures.complete is)).expanded;
 }
 
 pub returns-in-Ok : goal.returns-in-Ok
-returns-in-Ok g c =
+returns-in-Ok c =
     let qs = c.processes-processes.result.items in
     let ps = c.deref.result.now in
     let t = c.in_ok-search.search.store in

@@ -12,7 +12,6 @@ loop-pid-preserved c =
     record {
       store = c.in_ok-tried.ensures.store;
       known = c.in_ok-tried.ensures.known;
-      lookups = c.in_ok-tried.ensures.lookups;
       grows = grows_more c.args.self.now t u c.loop-pid.invariant.grows g;
       tried = λ is w here. below_more (λ p. IsTried u c.args.at w p) c.loop-pid.pid
           (λ p below. tried_grows t u c.args.at w p g (c.loop-pid.invariant.tried (c.both-whole.ensures.first is) w here p below))

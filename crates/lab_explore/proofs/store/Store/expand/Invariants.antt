@@ -1,7 +1,6 @@
 use Rattle.std.proofs.Common.{ℕ, ◌<◌, IsTrue}
 use Rattle.lab_sched.specs.Worlds.{WorldState}
 use Rattle.lab_explore.specs.Private.Known.{AreKnown}
-use Rattle.lab_explore.specs.Private.Lookups.{AreLookups}
 use Rattle.lab_explore.specs.Private.Stored.{IsStore, Grows, IsAt, IsTried}
 use Rattle.lab_explore.proofs.store.Store.expand.Given as goal
 
@@ -9,7 +8,6 @@ abbrev pub invariant-loop-pid : goal.invariant-loop-pid
 invariant-loop-pid l = record {
   store : IsStore l.self;
   known : AreKnown l.self l.moves;
-  lookups : AreLookups l.self l.lookups;
   grows : Grows l.fn.self l.self;
   tried : IsTrue l.whole → (w : WorldState) → IsAt l.fn.self l.at w → (p : ℕ) → p < l.pid → IsTried l.self l.at w p;
 }

@@ -2,14 +2,6 @@ use Rattle.std.proofs.Common.{below_more}
 use Rattle.lab_explore.specs.Private.Independent.{IsTriedIn}
 use Rattle.lab_explore.proofs.Growths.{grows_more, tried_in_grows}
 use Rattle.lab_explore.proofs.store.Store.expand_all.Goals as goal
-use Rattle.lab_explore.proofs.store.Store.expand_all.Goals.{then-at-lookups+in_ok-lookups, else-at-lookups}
-
-pub expand_in-requires-clause-lookups : goal.expand_in-requires-clause-lookups
-expand_in-requires-clause-lookups g c =
-    elim c.if-at-lookups.branch [
-      | then-at-lookups+in_ok-lookups w ↦ rw w.lookups-is (w.in_ok-lookups.ensures.known c.loop-at.invariant.known)
-      | else-at-lookups w ↦ rw w.lookups-is c.loop-at.invariant.lookups
-    ]
 
 pub loop-at-preserved : goal.loop-at-preserved
 loop-at-preserved g c =
@@ -19,7 +11,6 @@ loop-at-preserved g c =
     record {
       store = c.in_ok-tried.ensures.store;
       known = c.in_ok-tried.ensures.known;
-      lookups = c.in_ok-tried.ensures.lookups;
       grows = grows_more c.args.self.now t u c.loop-at.invariant.grows g;
       all = λ is. below_more (λ i. IsTriedIn c.args.sparse u i) c.loop-at.at
           (λ i below. tried_in_grows c.args.sparse t u i g (c.loop-at.invariant.all (c.both-whole.ensures.first is) i below))

@@ -1,6 +1,5 @@
 use Rattle.std.proofs.Common.{ℕ, ◌<◌, IsTrue}
 use Rattle.lab_explore.specs.Private.Known.{AreKnown}
-use Rattle.lab_explore.specs.Private.Lookups.{AreLookups}
 use Rattle.lab_explore.specs.Private.Independent.{IsTriedIn}
 use Rattle.lab_explore.specs.Private.Stored.{IsStore, Grows}
 use Rattle.lab_explore.proofs.store.Store.expand_all.Given as goal
@@ -9,7 +8,6 @@ abbrev pub invariant-loop-at : goal.invariant-loop-at
 invariant-loop-at g l = record {
   store : IsStore l.self;
   known : AreKnown l.self l.moves;
-  lookups : AreLookups l.self l.lookups;
   grows : Grows l.fn.self l.self;
   all : IsTrue l.whole → (i : ℕ) → i < l.at → IsTriedIn l.sparse l.self i;
 }

@@ -1,13 +1,6 @@
 use Rattle.std.proofs.Common.{inl, inr}
 use Rattle.lab_explore.proofs.Growths.{grows_more}
-use Rattle.lab_explore.proofs.LookupLemmas.{lookups_grow}
 use Rattle.lab_explore.proofs.store.Store.expand_sparsely.Goals as goal
-
-pub expand-requires-clause-lookups : goal.expand-requires-clause-lookups
-expand-requires-clause-lookups c = lookups_grow c.args.self.now c.try_independent.new.self c.args.lookups.now c.requires.store c.in_ok-alone.ensures.grows c.requires.lookups
-
-pub returns-then-alone-clause-lookups : goal.returns-then-alone-clause-lookups
-returns-then-alone-clause-lookups c = lookups_grow c.args.self.now c.try_independent.new.self c.args.lookups.now c.requires.store c.in_ok-alone.ensures.grows c.requires.lookups
 
 pub returns-then-alone-clause-tried : goal.returns-then-alone-clause-tried
 returns-then-alone-clause-tried c is = inr (c.in_ok-alone.ensures.alone c.if-alone.true)
