@@ -16,7 +16,7 @@ use Rattle.lab_conditions.specs.declared.condition.Condition.{Condition}
 use Rattle.lab_conditions.specs.declared.never.Never.{Never}
 use Rattle.lab_conditions.specs.declared.never.Never.TheVariants as never
 use Rattle.lab_conditions.specs.Losses.{Loses}
-use Rattle.lab_conditions.specs.Conditions.{Holds, world_of}
+use Rattle.lab_conditions.specs.Conditions.{Holds, HoldsOverAny, world_of}
 use Rattle.ipc_kernel.specs.Alike.{IsConsistent}
 use Rattle.lab_explore.specs.Private.Rows.{Row}
 use Rattle.lab_explore.specs.declared.store.Store.{Store}
@@ -24,11 +24,11 @@ use Rattle.lab_explore.specs.Calls.{Both, Alongside}
 use Rattle.lab_explore.specs.Untried.{untried, AskAgain}
 use Rattle.lab_explore.specs.Reached.{LeadsTo, LeadsToLoss, Violates, IsKept, ViolatesIfSome, KeptIfNone, AreKept, AreReached}
 use Rattle.lab_explore.specs.Private.Shorts.{silent, IsButForOutput}
-use Rattle.lab_explore.specs.Private.Stored.{IsState, IsRow, IsAt, IsLike, IsSearched}
+use Rattle.lab_explore.specs.Private.Stored.{IsExactly, IsState, IsRow, IsAt, IsLike, IsSearched}
 use Rattle.lab_explore.specs.declared.walking.Walk.{Walk}
 use Rattle.lab_explore.specs.Private.Walked.{IsWalk}
 use Rattle.lab_explore.specs.Private.Independent.{IsSearchedIn}
-use Rattle.lab_explore.specs.Private.Judged.{IsUnseen, UnseenIfNone}
+use Rattle.lab_explore.specs.Private.Judged.{IsUnseen, UnseenIfNone, JudgesFor}
 use Rattle.lab_explore.proofs.AlikeWorlds.{consistent_run}
 use Rattle.lab_explore.proofs.AfterLocalSteps.{same_some}
 use Rattle.lab_explore.proofs.Pushes.{both_weaker, alongside_push}
@@ -80,17 +80,28 @@ pub map_twice : {A B C : Type 0} (f : B → C) (g : A → B) (xs : List A) → m
 map_twice f g [] = refl
 map_twice f g (x ∷ xs) = ap (λ ys. f (g x) ∷ ys) (map_twice f g xs)
 
--- what is judged of a row's parts is judged of its world
-pub row_judged : (t : Store) (r : Row) (at : ℕ) (c : Condition) (k : KernelState) (ps : List Process) (holds : Bool) → slice_get t.rows at ≡ Some r → slice_get t.kernels.kernels r.kernel ≡ Some k
+-- a kernel judges for itself
+pub judges_exactly : (t : Store) (c : Condition) (i : ℕ) (k : KernelState) → IsExactly t i k → JudgesFor t c i k
+judges_exactly t c i k is j ps other =
+    let same = same_some k j (slice_get t.kernels.kernels i) is other in (
+      λ h. subst (λ k. Holds c (world_of k ps)) same h,
+      λ h. subst (λ k. Holds c (world_of k ps)) (sym same) h,
+    )
+
+-- any does where the condition needs none
+pub judges_over_any : (t : Store) (c : Condition) (i : ℕ) (k : KernelState) → HoldsOverAny c → JudgesFor t c i k
+judges_over_any t c i k any j ps other = (any k j ps, any j k ps)
+
+-- what is judged of a row's processes, over a kernel that judges for its own, is judged of its world
+pub row_judged : (t : Store) (r : Row) (at : ℕ) (c : Condition) (k : KernelState) (ps : List Process) (holds : Bool) → slice_get t.rows at ≡ Some r → JudgesFor t c r.kernel k
     → ((ss : List Process) → Alongside (IsState t) r.states ss → map silent ps ≡ map silent ss) → (IsTrue holds ↔ Holds c (world_of k ps)) → (w : WorldState) → IsAt t at w → (IsTrue holds ↔ Holds c w)
-row_judged t r at c k ps holds there kernel processes judged w row =
+row_judged t r at c k ps holds there judges processes judged w row =
     let same : row.0 ≡ r = same_some row.0 r (slice_get t.rows at) row.1 there in
     let is : IsRow t r w = subst (λ r. IsRow t r w) same row.2 in
-    let first : k ≡ w.kernel = same_some k w.kernel (slice_get t.kernels.kernels r.kernel) kernel is.kernel in
+    let over = judges w.kernel ps is.kernel in
     let alike = processes w.processes is.states in (
-      λ h. subst (λ j. Holds c (world_of j w.processes)) first (holds_silently c k ps w.processes alike (judged.0 h)),
-      λ h.
-          judged.1 (holds_silently c k w.processes ps (sym alike) (subst (λ j. Holds c (world_of j w.processes)) (sym first) h)),
+      λ h. holds_silently c w.kernel ps w.processes alike (over.0 (judged.0 h)),
+      λ h. judged.1 (over.1 (holds_silently c w.kernel w.processes ps (sym alike) h)),
     )
 
 -- one condition more

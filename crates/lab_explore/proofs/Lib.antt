@@ -30,6 +30,7 @@ mod KeptConditions
 mod KeptLosses
 mod LossesOfRows
 mod JudgedRows
+mod FirstRows
 mod DrawnRows
 mod StepsOnObjects
 mod IndependentCalls

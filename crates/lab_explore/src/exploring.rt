@@ -110,7 +110,7 @@ pub fn explore<O: Observer, R: Threads + Sync>(
     let sparse = may_be_sparse(nevers, fair);
     let search = search_all(alloc, &processes, &kernel, limits, observer, sparse)?;
     let room = room_for_ends(limits, search.size());
-    match search.report(alloc, &processes, room, nevers, fair) {
+    match search.report(alloc, &processes, room, nevers, fair, workers) {
         Ok(found) => {
             discard(search);
             Ok(found)
@@ -151,13 +151,14 @@ impl Search {
 
     /// What was found, with the ends, as long as they take about so many bytes, steps to what must
     /// never be so, and a round, if there is one.
-    pub(crate) fn report(
+    pub(crate) fn report<R: Threads + Sync>(
         &self,
         alloc: Global,
         processes: &[Process],
         room: usize,
         nevers: &[Never],
         fair: bool,
+        workers: &Workers<'_, R>,
     ) -> Result<Exploration, ExploreFault>
         requires starts { AreStarts processes.now }
         requires store { IsTrue self.now.complete → IsStore self.now.store }
@@ -184,7 +185,7 @@ impl Search {
         ensures complete { IfOk result (λ found. IsTrue found.complete → IsTrue self.now.complete) }
     {
         let Collected { ends, whole } = self.ends(alloc, processes, room)?;
-        let reached = self.reached(alloc, processes, nevers)?;
+        let reached = self.reached(alloc, processes, nevers, workers)?;
         let Rounds { round, shown } = self.rounds(alloc, processes, fair)?;
         Ok(Exploration {
             ends,

@@ -1,22 +1,26 @@
 //! Conditions that are judged of the worlds that a search keeps.
-ghost use Rattle.std.specs.Prelude.{◌≡◌, ◌↔◌, ◌<◌, ◌≤◌, false, ℕ, List, None, Contains, IsTrue, length, map, IfOk, IfSome, OnOk};
+ghost use Rattle.std.specs.Prelude.{◌≡◌, ◌↔◌, ◌<◌, ◌≤◌, ◌⊎◌, false, ℕ, List, Some, Ok, All, Contains, IsTrue, is_ok, length, map, IfOk, IfSome, OnOk};
 ghost use Rattle.lab_sched.specs.Worlds.{Process as Seen, WorldState};
 ghost use Rattle.lab_sched.specs.Held.{process_view};
 ghost use Rattle.lab_conditions.specs.Conditions.{Holds};
 ghost use Rattle.lab_explore.specs.Calls.{Alongside};
 ghost use Rattle.lab_explore.specs.Private.Stored.{IsExactly, IsState, IsAt};
-ghost use Rattle.lab_explore.specs.Private.Judged.{RowHolds, RowFails, NoRowHolds};
+ghost use Rattle.lab_explore.specs.Private.Judged.{RowHolds, JudgesFor, StandsBefore, FailsBefore, IsFirst};
 ghost use Rattle.lab_explore.specs.Private.Shorts.{silent};
 
-use crate::ExploreFault;
 use crate::store::Store;
+use crate::{ExploreFault, Workers};
 use ipc_kernel::Kernel;
 use lab_conditions::Condition;
 use lab_sched::Process;
 use std::alloc::{AllocError, Global};
+use std::thread::{Threads, map_chunks};
 
 /// How many rows are judged kernel by kernel before it is looked whether a condition holds of one.
 const TOGETHER: usize = 1 << 16;
+
+/// The fewest rows that are worth the work of making threads.
+const FEWEST: usize = 1 << 10;
 
 /// A kernel that was put together, with its number.
 #[derive(Drop)]
@@ -25,14 +29,44 @@ struct Whole {
     kernel: Kernel,
 }
 
-/// Whether a row stands before the first that was found, if one was.
-fn is_before(at: usize, first: Option<usize>) -> bool
-    ensures some { result ≡ false → first ≡ None → ⊥ }
+/// Whether a row stands before the one that was found, if one was.
+fn stands_before(at: usize, first: Option<usize>) -> bool
+    ensures yes { IsTrue result → StandsBefore first at }
+    ensures no { result ≡ false → StandsBefore first at → ⊥ }
 {
     match first {
         Some(found) => at < found,
         None => true,
     }
+}
+
+/// That of two rows that stands first, of those that were found.
+fn first_of_both(found: Option<usize>, other: Option<usize>) -> Option<usize>
+    ensures one { (result ≡ found) ⊎ (result ≡ other) }
+    ensures found { (i : ℕ) → StandsBefore result i → StandsBefore found i }
+    ensures other { (i : ℕ) → StandsBefore result i → StandsBefore other i }
+{
+    if let Some(at) = found {
+        if stands_before(at, other) {
+            return found;
+        }
+    }
+    other
+}
+
+/// The row that stands first of those that were found in parts.
+fn first_found(parts: &[Result<Option<usize>, ExploreFault>]) -> Result<Option<usize>, ExploreFault>
+    ensures one { IfOk result (λ first. IfSome first (λ at. Contains parts.now (Ok (Some at)))) }
+    ensures first { IfOk result (λ first. All (λ part. IfOk part (λ found. (i : ℕ)
+        → StandsBefore first i → StandsBefore found i)) parts.now) }
+    ensures whole { IfOk result (λ first. All (λ part. IsTrue (is_ok part)) parts.now) }
+{
+    let mut first = None;
+    for part in parts {
+        let found = (*part)?;
+        first = first_of_both(found, first);
+    }
+    Ok(first)
 }
 
 impl Store {
@@ -75,7 +109,28 @@ impl Store {
         Ok(())
     }
 
-    /// Whether a condition holds of the world of a row, by the kernel that was put together last.
+    /// Puts the kernel with a number together, if a condition can't be judged without it and it isn't the
+    /// one that was put together last.
+    fn put_for(
+        &self,
+        alloc: Global,
+        last: &mut Whole,
+        number: u32,
+        condition: &Condition,
+    ) -> Result<(), ExploreFault>
+        requires last { IsExactly self.now last.old.number last.old.kernel }
+        ensures last { OnOk result (IsExactly self.now last.new.number last.new.kernel) }
+        ensures judges { OnOk result (JudgesFor self.now condition.now number last.new.kernel) }
+    {
+        if !condition.needs_kernel() {
+            return Ok(());
+        }
+        self.put_together(alloc, last, number)?;
+        Ok(())
+    }
+
+    /// Whether a condition holds of the world of a row, by the kernel that was put together last where
+    /// that is the row's or the condition needs none.
     fn row_holds(
         &self,
         alloc: Global,
@@ -91,7 +146,7 @@ impl Store {
         let Some((number, states)) = self.rows.get(at) else {
             return Err(ExploreFault::Unvouched);
         };
-        self.put_together(alloc, last, number)?;
+        self.put_for(alloc, last, number, condition)?;
         let processes = self.processes_in(alloc, states)?;
         let holds = condition.holds_in(alloc, &last.kernel, processes.as_slice())?;
         Ok(holds)
@@ -110,10 +165,12 @@ impl Store {
         requires some { IfSome first (RowHolds self.now condition.now) }
         ensures last { OnOk result (IsExactly self.now last.new.number last.new.kernel) }
         ensures some { IfOk result (λ found. IfSome found (RowHolds self.now condition.now)) }
-        ensures none { IfOk result (λ found. found ≡ None → (first ≡ None)
-            × RowFails self.now condition.now at) }
+        ensures before { IfOk result (λ found. FailsBefore self.now condition.now found at) }
+        ensures others { IfOk result (λ found. (i : ℕ)
+            → StandsBefore found i → StandsBefore first i) }
+        ensures one { IfOk result (λ found. (found ≡ Some at) ⊎ (found ≡ first)) }
     {
-        if !is_before(at, first) {
+        if !stands_before(at, first) {
             return Ok(first);
         }
         let holds = self.row_holds(alloc, last, at, condition)?;
@@ -132,64 +189,110 @@ impl Store {
     }
 
     /// The numbers of the rows from one up to another, of which those over the same kernel stand beside
-    /// one another.
-    fn rows_by_kernel(
+    /// one another where a condition needs kernels.
+    fn rows_to_judge(
         &self,
         alloc: Global,
+        condition: &Condition,
         start: usize,
         end: usize,
     ) -> Result<Vec<usize>, AllocError>
         ensures all { IfOk result (λ rows. (i : ℕ) → start ≤ i → i < end
             → Contains rows.items i) }
+        ensures within { IfOk result (λ rows. All (λ i. i < end) rows.items) }
     {
         let mut rows = Vec::new(alloc);
         for at in start..end {
             rows.push(at)?;
         }
+        if !condition.needs_kernel() {
+            return Ok(rows);
+        }
         rows.sort_by_key(|at| self.kernel_of(*at))?;
         Ok(rows)
     }
 
-    /// The first row of whose world a condition holds, of those from one up to another. Each kernel is put
-    /// together once.
-    fn first_among(
+    /// The first row of whose world a condition holds, of some rows. Each kernel is put together once where
+    /// the rows over it stand beside one another.
+    fn first_of(
+        &self,
+        alloc: Global,
+        condition: &Condition,
+        rows: &[usize],
+    ) -> Result<Option<usize>, ExploreFault>
+        ensures first { IfOk result (IsFirst self.now condition.now rows.now) }
+    {
+        let Some(one) = rows.first() else {
+            return Ok(None);
+        };
+        let mut last = self.whole(alloc, self.kernel_of(*one))?;
+        let mut first = None;
+        for at in rows {
+            first = self.first_holding(alloc, &mut last, *at, condition, first)?;
+        }
+        Ok(first)
+    }
+
+    /// The same, where each thread judges a part of the rows, if they are many.
+    fn first_by_parts<R: Threads + Sync>(
+        &self,
+        alloc: Global,
+        condition: &Condition,
+        rows: &[usize],
+        workers: &Workers<'_, R>,
+    ) -> Result<Option<usize>, ExploreFault>
+        ensures first { IfOk result (IsFirst self.now condition.now rows.now) }
+    {
+        if workers.count < 2 || rows.len() < FEWEST {
+            return self.first_of(alloc, condition, rows);
+        }
+        let store = self;
+        let judge = |_: usize, part: &[usize]| -> Result<Option<usize>, ExploreFault>
+            ensures { IfOk result (IsFirst store.entry.now condition.entry.now part.now) }
+        { store.first_of(alloc, condition, part) };
+        let size = rows.len() / workers.count + 1;
+        let parts = map_chunks(workers.rt, alloc, rows, size, &judge)?;
+        let first = first_found(parts.as_slice())?;
+        Ok(first)
+    }
+
+    /// The first row of whose world a condition holds, of those from one up to another.
+    fn first_among<R: Threads + Sync>(
         &self,
         alloc: Global,
         condition: &Condition,
         start: usize,
         end: usize,
+        workers: &Workers<'_, R>,
     ) -> Result<Option<usize>, ExploreFault>
         ensures some { IfOk result (λ first. IfSome first (RowHolds self.now condition.now)) }
-        ensures none { IfOk result (λ first. first ≡ None → (i : ℕ) → start ≤ i → i < end
-            → RowFails self.now condition.now i) }
+        ensures before { IfOk result (λ first. (i : ℕ) → start ≤ i → i < end
+            → FailsBefore self.now condition.now first i) }
+        ensures within { IfOk result (λ first. IfSome first (λ at. at < end)) }
     {
-        let rows = self.rows_by_kernel(alloc, start, end)?;
-        if rows.is_empty() {
-            return Ok(None);
-        }
-        let mut last = self.whole(alloc, self.kernel_of(rows[0]))?;
-        let mut first = None;
-        for place in 0..rows.len() {
-            first = self.first_holding(alloc, &mut last, rows[place], condition, first)?;
-        }
+        let rows = self.rows_to_judge(alloc, condition, start, end)?;
+        let first = self.first_by_parts(alloc, condition, rows.as_slice(), workers)?;
         Ok(first)
     }
 
     /// The first row of whose world a condition holds.
-    pub(crate) fn first_where(
+    pub(crate) fn first_where<R: Threads + Sync>(
         &self,
         alloc: Global,
         condition: &Condition,
+        workers: &Workers<'_, R>,
     ) -> Result<Option<usize>, ExploreFault>
         ensures some { IfOk result (λ first. IfSome first (RowHolds self.now condition.now)) }
-        ensures none { IfOk result (λ first. first ≡ None → NoRowHolds self.now condition.now) }
+        ensures first { IfOk result (λ first. (i : ℕ)
+            → FailsBefore self.now condition.now first i) }
     {
         let count = self.rows.len();
         let mut start = 0;
         while start < count {
             let end = start.saturating_add(TOGETHER).min(count);
-            if let Some(at) = self.first_among(alloc, condition, start, end)? {
-                return Ok(Some(at));
+            let found = self.first_among(alloc, condition, start, end, workers)?;
+            if found.is_some() {
+                return Ok(found);
             }
             start = end;
         }

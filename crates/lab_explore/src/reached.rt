@@ -10,14 +10,15 @@ ghost use Rattle.lab_explore.specs.Private.Walked.{IsWalk};
 ghost use Rattle.lab_explore.specs.Calls.{Alongside};
 ghost use Rattle.lab_explore.specs.Reached.{LeadsTo, LeadsToLoss, Violates, AreReached};
 
-use crate::ExploreFault;
 use crate::search::Search;
 use crate::store::Edge;
 use crate::trying::discard;
 use crate::walking::Walk;
+use crate::{ExploreFault, Workers};
 use lab_conditions::{Condition, Never};
 use lab_sched::{Process, Schedule};
 use std::alloc::Global;
+use std::thread::Threads;
 
 /// The schedule of a walk.
 fn schedule_of(walk: Walk) -> Schedule
@@ -58,11 +59,12 @@ impl Search {
 
     /// The steps that lead from the start to the first world that was found of which a condition
     /// holds, if there is one.
-    fn reach_condition(
+    fn reach_condition<R: Threads + Sync>(
         &self,
         alloc: Global,
         processes: &[Process],
         condition: &Condition,
+        workers: &Workers<'_, R>,
     ) -> Result<Option<Schedule>, ExploreFault>
         requires starts { AreStarts processes.now }
         ensures reached { IfOk result (λ found. IfSome found (λ s.
@@ -70,7 +72,7 @@ impl Search {
         ensures none { IfOk result (λ found. found ≡ None
             → NoRowHolds self.now.store condition.now) }
     {
-        let Some(at) = self.store.first_where(alloc, condition)? else {
+        let Some(at) = self.store.first_where(alloc, condition, workers)? else {
             return Ok(None);
         };
         let schedule = self.schedule_to(alloc, processes, at)?;
@@ -128,11 +130,12 @@ impl Search {
 
     /// The steps that lead from the start to what must never be so, where it was found first, if it
     /// was.
-    fn reach(
+    fn reach<R: Threads + Sync>(
         &self,
         alloc: Global,
         processes: &[Process],
         never: &Never,
+        workers: &Workers<'_, R>,
     ) -> Result<Option<Schedule>, ExploreFault>
         requires starts { AreStarts processes.now }
         ensures reached { IfOk result (λ found. IfSome found (λ s.
@@ -140,18 +143,19 @@ impl Search {
         ensures none { IfOk result (λ found. found ≡ None → IsUnseen self.now.store never.now) }
     {
         match never {
-            Never::Holds(condition) => self.reach_condition(alloc, processes, condition),
+            Never::Holds(condition) => self.reach_condition(alloc, processes, condition, workers),
             Never::Lost => self.reach_loss(alloc, processes),
         }
     }
 
     /// For each thing that must never be so, in order, the steps that lead to it from the start, where
     /// it was found first, if it was.
-    pub(crate) fn reached(
+    pub(crate) fn reached<R: Threads + Sync>(
         &self,
         alloc: Global,
         processes: &[Process],
         nevers: &[Never],
+        workers: &Workers<'_, R>,
     ) -> Result<Vec<Option<Schedule>>, ExploreFault>
         requires starts { AreStarts processes.now }
         ensures reached { IfOk result (λ found.
@@ -161,7 +165,7 @@ impl Search {
     {
         let mut found = Vec::with_capacity(alloc, nevers.len())?;
         for never in nevers {
-            let schedule = self.reach(alloc, processes, never)?;
+            let schedule = self.reach(alloc, processes, never, workers)?;
             found.push(schedule)?;
         }
         Ok(found)

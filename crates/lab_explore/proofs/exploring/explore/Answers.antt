@@ -16,11 +16,10 @@ pub search_all-requires : goal.search_all-requires
 search_all-requires g c = record { held = starts_held c.processes-processes.result.items c.deref.result.now c.deref.ensures.value c.processes-processes.ensures.starts }
 
 pub report-requires : goal.report-requires
-report-requires g c = record {
-  starts = subst AreStarts (sym c.deref-2.ensures.value) c.processes-processes.ensures.starts;
-  store = c.in_ok-search.ensures.store;
-  known = c.in_ok-search.ensures.known;
-}
+report-requires g c = (
+  record { shared = c.type_bounds.sync-R.shared },
+  (subst AreStarts (sym c.deref-2.ensures.value) c.processes-processes.ensures.starts, (c.in_ok-search.ensures.store, c.in_ok-search.ensures.known)),
+)
 
 pub returns-in-Ok : goal.returns-in-Ok
 returns-in-Ok g c =

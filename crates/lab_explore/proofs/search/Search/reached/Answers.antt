@@ -5,7 +5,7 @@ use Rattle.lab_explore.proofs.JudgedRows.{next_along, violates_if, unseen_if}
 use Rattle.lab_explore.proofs.search.Search.reached.Goals as goal
 
 pub loop-never-preserved : goal.loop-never-preserved
-loop-never-preserved c =
+loop-never-preserved g c =
     let start = initial_world c.args.processes.now in
     let t = c.args.self.now.store in
     let ns = c.args.nevers.now in

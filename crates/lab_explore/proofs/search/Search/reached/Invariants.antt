@@ -6,7 +6,7 @@ use Rattle.lab_explore.specs.Private.Judged.{UnseenIfNone}
 use Rattle.lab_explore.proofs.search.Search.reached.Given as goal
 
 abbrev pub invariant-loop-never : goal.invariant-loop-never
-invariant-loop-never l = record {
+invariant-loop-never g l = record {
   reached : AreReached (initial_world l.processes) (take l.never-index l.nevers) l.found.items;
   none : Alongside (UnseenIfNone l.self.store) (take l.never-index l.nevers) l.found.items;
 }

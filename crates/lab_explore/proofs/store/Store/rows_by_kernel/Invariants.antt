@@ -1,6 +1,0 @@
-use Rattle.std.proofs.Common.{ℕ, ◌<◌, ◌≤◌}
-use Rattle.std.specs.Prelude.{Contains}
-use Rattle.lab_explore.proofs.store.Store.rows_by_kernel.Given as goal
-
-abbrev pub invariant-loop-at : goal.invariant-loop-at
-invariant-loop-at l = (i : ℕ) → l.start ≤ i → i < l.at → Contains l.rows.items i
