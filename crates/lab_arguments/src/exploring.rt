@@ -30,7 +30,7 @@ pub(crate) fn explore<'a>(alloc: Global) -> Result<Command<'a>, AllocError> {
 fn with_limits<'a>(alloc: Global, command: Command<'a>) -> Result<Command<'a>, AllocError> {
     let steps = "The most steps of a process without a call";
     let memory = "The most memory to take, in megabytes";
-    let threads = "How many threads look steps up [default: 1]";
+    let threads = "How many threads judge conditions [default: as many as processors]";
     command
         .arg(limit(alloc, "limit", "N", MOST_LOCAL_STEPS, steps))?
         .arg(number(alloc, "memory", "MB", MOST_MEMORY, memory).default_value("2048"))?

@@ -10,7 +10,7 @@ pub struct Question<'a> {
     pub memory: u32,
     /// The most local steps of a process in a row.
     pub steps: u32,
-    /// How many threads look steps up; none stands for one.
+    /// How many threads judge conditions; none stands for as many as there are processors.
     pub threads: Option<u32>,
     /// What each end must be like.
     pub required: Requirements,

@@ -18,7 +18,7 @@ use lc3_table::Profile;
 use std::alloc::Global;
 use std::io::Write;
 use std::rt::Files;
-use std::thread::Threads;
+use std::thread::{Threads, available_parallelism};
 
 /// What an exploration found.
 #[derive(Drop)]
@@ -147,6 +147,17 @@ fn take_walks<P: Progress>(
     outcome.map(Found::Answers)
 }
 
+/// So many threads as were asked for, or as there are processors.
+fn thread_count<T: Threads>(rt: &T, asked: Option<u32>) -> usize {
+    if let Some(count) = asked {
+        return count as usize;
+    }
+    match available_parallelism(rt) {
+        Ok(count) => count.get(),
+        Err(_) => 1,
+    }
+}
+
 /// Visits every interleaving of the programs of a laboratory, as far as the limits allow, and judges what is asked.
 fn visit_all<T: Threads + Sync, P: Progress>(
     rt: &T,
@@ -157,7 +168,7 @@ fn visit_all<T: Threads + Sync, P: Progress>(
     progress: &P,
 ) -> Result<Found, ExploreFault> {
     let mut count = WorldCount::new(alloc, progress);
-    let workers = Workers::new(rt, inquiry.threads.unwrap_or(1) as usize);
+    let workers = Workers::new(rt, thread_count(rt, inquiry.threads));
     let limits = inquiry.limits;
     let outcome = match asked {
         Asked::Verdict(required) => {

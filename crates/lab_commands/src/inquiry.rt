@@ -16,7 +16,7 @@ const MEGABYTE: usize = 1_048_576;
 #[derive(Clone, Copy)]
 pub struct Inquiry {
     pub limits: Limits,
-    /// How many threads look steps up; none stands for one.
+    /// How many threads judge conditions; none stands for as many as there are processors.
     pub threads: Option<u32>,
     /// The walks that are taken in place of every interleaving.
     pub walks: Option<Walks>,

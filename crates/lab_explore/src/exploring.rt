@@ -71,7 +71,7 @@ fn room_for_ends(limits: Limits, taken: usize) -> usize {
 /// some number of them. If only fair rounds are asked for, each process takes a step in a round or has
 /// no effective one at some world along it; where the exploration is complete and has none, no more
 /// than some number of such passes can follow each other. The observer is told of the worlds as they
-/// are visited; workers do parts of the search side by side, and what is found doesn't depend on them.
+/// are visited; workers judge conditions side by side, and what is found doesn't depend on them.
 pub fn explore<O: Observer, R: Threads + Sync>(
     alloc: Global,
     fresh: Fresh,

@@ -44,8 +44,8 @@ fn tell(alloc: Global, found: &Exploration) -> Result<Told, AllocError>
 /// end once, as a number, the report on it and a schedule that leads to it; a round, if there is
 /// one; and whether these are all ends. If they are, no steps lead to rest with a report that isn't
 /// told, or by fewer calls than the schedule that is. The shortfall is none exactly where no verdict
-/// is required, or the exploration shows that the programs always come to the one that is. Workers do
-/// parts of the search side by side.
+/// is required, or the exploration shows that the programs always come to the one that is. The workers
+/// have no condition to judge.
 pub fn find<O: Observer, R: Threads + Sync>(
     alloc: Global,
     fresh: Fresh,

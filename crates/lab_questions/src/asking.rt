@@ -48,7 +48,7 @@ pub struct Answers {
 /// queues that conditions name are unopened which no steps lead to. They are told once, in the order in
 /// which the conditions name them first. If only fair rounds are asked for, a
 /// round that is told is fair; where the exploration is complete and has none, no more than some number
-/// of passes that serve each process can follow each other. Workers do parts of the search side by side.
+/// of passes that serve each process can follow each other. Workers judge conditions side by side.
 pub fn ask<O: Observer, R: Threads + Sync>(
     alloc: Global,
     fresh: Fresh,
