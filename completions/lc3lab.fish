@@ -29,7 +29,7 @@ complete -c lc3lab -n '__fish_seen_subcommand_from run' -r -l page -d 'Also writ
 complete -c lc3lab -n '__fish_seen_subcommand_from explore' -x -l profile -a 'a b' -d 'The machine: of the book, or with traps that leave R7'
 complete -c lc3lab -n '__fish_seen_subcommand_from explore' -x -l worlds -d 'The most worlds to visit, or those of a walk'
 complete -c lc3lab -n '__fish_seen_subcommand_from explore' -x -l memory -d 'The most memory to take, in megabytes'
-complete -c lc3lab -n '__fish_seen_subcommand_from explore' -x -l threads -d 'How many threads look steps up'
+complete -c lc3lab -n '__fish_seen_subcommand_from explore' -x -l threads -d 'How many threads judge conditions'
 complete -c lc3lab -n '__fish_seen_subcommand_from explore' -x -l random -d 'Takes so many walks by random numbers instead'
 complete -c lc3lab -n '__fish_seen_subcommand_from explore' -x -l seed -d 'The seed of the random numbers'
 complete -c lc3lab -n '__fish_seen_subcommand_from explore' -x -l limit -d 'The most steps of a process without a call'
