@@ -30,7 +30,7 @@ pub const MOST_WORLDS: u32 = 100_000_000;
 /// The most megabytes of memory that can be asked for.
 pub const MOST_MEMORY: u32 = 1_000_000;
 
-/// The most threads of a search that can be asked for.
+/// The most threads that can be asked for.
 pub const MOST_THREADS: u32 = 256;
 
 /// The most local steps of a process in a row that can be asked for.

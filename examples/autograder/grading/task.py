@@ -52,7 +52,7 @@ class Run:
         """The words of explore but for the programs."""
         said = self.options
         found = ["--profile", said["profile"], "--limit", str(said["limit"]), "--worlds", str(said["worlds"]),
-                 "--memory", str(said["memory"])]
+                 "--memory", str(said["memory"]), "--threads", "1"]
         found += ["--require", said["require"]] if said["require"] else []
         for option in "may-wait", "never":
             found += [word for it in said[option] for word in (f"--{option}", it)]
