@@ -16,7 +16,8 @@ use lab_sched::Process;
 use std::alloc::{AllocError, Global};
 use std::thread::{Threads, map_chunks};
 
-/// How many rows are judged kernel by kernel before it is looked whether a condition holds of one.
+/// How many rows are judged before it is looked whether a condition holds of one of them. Then it is
+/// looked each time as many are judged as were before.
 const TOGETHER: usize = 1 << 16;
 
 /// The fewest rows that are worth the work of making threads.
@@ -289,7 +290,7 @@ impl Store {
         let count = self.rows.len();
         let mut start = 0;
         while start < count {
-            let end = start.saturating_add(TOGETHER).min(count);
+            let end = start.saturating_add(start.max(TOGETHER)).min(count);
             let found = self.first_among(alloc, condition, start, end, workers)?;
             if found.is_some() {
                 return Ok(found);
