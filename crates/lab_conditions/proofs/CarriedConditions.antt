@@ -1,13 +1,13 @@
 -- Conditions that are carried from one world to another.
-use Rattle.std.proofs.Common.{ℕ, suc, ◌+◌, ◌≡◌, ◌<◌, ◌≤◌, Bool, true, false, not, ◌&&◌, nat_le, cond, List, [], ◌∷◌, All, Option, Some, None, length, get_or, refl, sym, ap, subst, ◌∙◌, slice_get, arith}
+use Rattle.std.proofs.Common.{ℕ, suc, ◌+◌, ◌≡◌, ◌≤◌, Bool, true, false, not, cond, List, [], ◌∷◌, Option, Some, None, get_or, refl, sym, ap, subst, ◌∙◌, slice_get, arith}
 use Rattle.std.specs.List.{count_by, enumerate_from}
 use Rattle.std.proofs.lemmas.List.Sums.{sum_by-cons}
 use Rattle.ipc_kernel.specs.declared.call.Call.{Call}
 use Rattle.ipc_kernel.specs.Kernel.{KernelState}
-use Rattle.ipc_kernel.specs.Answer.{answer, is_done}
+use Rattle.ipc_kernel.specs.Answer.{is_done}
 use Rattle.ipc_kernel.specs.Alike.{IsAlike, IsConsistent}
 use Rattle.ipc_kernel.proofs.LikeAnswers.{answers_alike}
-use Rattle.lab_sched.specs.Worlds.{Process, WorldState, machine_of}
+use Rattle.lab_sched.specs.Worlds.{Process, WorldState}
 use Rattle.lab_conditions.specs.declared.condition.State.{State}
 use Rattle.lab_conditions.specs.declared.condition.State.TheVariants as state
 use Rattle.lab_conditions.specs.declared.condition.Part.{Part}

@@ -1,5 +1,5 @@
 -- Calls of processes that a kernel doesn't know.
-use Rattle.std.proofs.Common.{ℕ, ◌≡◌, ◌≤◌, true, false, not, List, [], length, Option, Some, None, IsTrue, refl, sym, ap, subst, ◌∙◌, slice_get, unwrap_or, arith}
+use Rattle.std.proofs.Common.{ℕ, ◌≡◌, ◌≤◌, true, false, not, List, [], length, Option, None, IsTrue, refl, ap, ◌∙◌, slice_get, unwrap_or, arith}
 use Rattle.std.specs.Option.{option_map, option_and_then}
 use Rattle.std.proofs.lemmas.Option.{slice_get_past}
 use Rattle.ipc_kernel.specs.declared.process.Slot.{Slot}
@@ -12,7 +12,7 @@ use Rattle.ipc_kernel.specs.declared.call.Answer.TheVariants.{Done, Wait}
 use Rattle.ipc_objects.specs.Queue.{QueueState}
 use Rattle.ipc_kernel.specs.Places.{place_at, queue_in, semaphore_value}
 use Rattle.ipc_kernel.specs.Kernel.{KernelState}
-use Rattle.ipc_kernel.specs.Processes.{process_at, descriptor_of, slot_of}
+use Rattle.ipc_kernel.specs.Processes.{process_at}
 use Rattle.ipc_kernel.specs.Outcomes.{open_queue, open_semaphore}
 use Rattle.ipc_kernel.specs.Queues.{mq_send, mq_receive}
 use Rattle.ipc_kernel.specs.Semaphores.{sem_wait}

@@ -1,4 +1,4 @@
-use Rattle.std.proofs.Common.{ℕ, ◌≡◌, inl, inr, All, Contains, IsTrue, IfOk, IfSome, Result, Ok, Some, None, Option, get_or, take, refl, subst, sym, ◌∙◌}
+use Rattle.std.proofs.Common.{ℕ, ◌≡◌, inl, inr, Contains, IsTrue, IfOk, IfSome, Result, Ok, Some, None, Option, get_or, take, refl, subst, sym, ◌∙◌}
 use Rattle.std.specs.Prelude.{is_ok}
 use Rattle.std.proofs.lemmas.List.{get_or_default}
 use Rattle.std.proofs.lemmas.List.Elements.{All-weaker}

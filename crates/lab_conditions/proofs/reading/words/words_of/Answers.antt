@@ -1,4 +1,4 @@
-use Rattle.std.proofs.Common.{rules, tests, ap, lit<, ◌∙◌}
+use Rattle.std.proofs.Common.{rules, tests, lit<}
 use Rattle.std.proofs.lemmas.Iterator.Consumers.{map_from_collect, YieldsList-from_filter}
 use Rattle.std.proofs.lemmas.Iterator.Splits.{YieldsList-from_str_split}
 use Rattle.lab_conditions.specs.Written.{has_byte}

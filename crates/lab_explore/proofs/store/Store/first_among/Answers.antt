@@ -1,4 +1,4 @@
-use Rattle.std.proofs.Common.{◌<◌, ◌∙◌, Contains, IfSome, All, subst, sym}
+use Rattle.std.proofs.Common.{◌<◌}
 use Rattle.lab_explore.specs.Private.Judged.{FailsBefore}
 use Rattle.lab_explore.proofs.FirstRows.{all_contained, some_contained}
 use Rattle.lab_explore.proofs.store.Store.first_among.Goals as goal

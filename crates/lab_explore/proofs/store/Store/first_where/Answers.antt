@@ -1,4 +1,4 @@
-use Rattle.std.proofs.Common.{arith, inl, inr, IfSome}
+use Rattle.std.proofs.Common.{arith, inl, inr}
 use Rattle.std.proofs.lemmas.Bool.{cases_lt}
 use Rattle.lab_sched.proofs.ListPlaces.{get_past}
 use Rattle.lab_explore.proofs.FirstRows.{none_found, before_within}
