@@ -141,6 +141,6 @@ none_found None i none = tt
 none_found (Some at) i none = let clash : false ≡ true = none in absurd (cc)
 
 -- a row that stands before one that was found, below a number, is below that number
-pub before_within : (first : Option ℕ) (i end : ℕ) → true ≡ is_some first → IfSome first (λ at. at < end) → StandsBefore first i → i < end
-before_within None i end some within before = let clash : true ≡ false = some in absurd (cc)
-before_within (Some at) i end some within before = omega (arith, within, before)
+pub before_within : (first : Option ℕ) (i start end : ℕ) → true ≡ is_some first → IfSome first (λ at. (start ≤ at) × (at < end)) → StandsBefore first i → i < end
+before_within None i start end some within before = let clash : true ≡ false = some in absurd (cc)
+before_within (Some at) i start end some within before = omega (arith, within.1, before)

@@ -200,7 +200,7 @@ impl Store {
     ) -> Result<Vec<usize>, AllocError>
         ensures all { IfOk result (λ rows. (i : ℕ) → start ≤ i → i < end
             → Contains rows.items i) }
-        ensures within { IfOk result (λ rows. All (λ i. i < end) rows.items) }
+        ensures within { IfOk result (λ rows. All (λ i. (start ≤ i) × (i < end)) rows.items) }
     {
         let mut rows = Vec::new(alloc);
         for at in start..end {
@@ -269,7 +269,7 @@ impl Store {
         ensures some { IfOk result (λ first. IfSome first (RowHolds self.now condition.now)) }
         ensures before { IfOk result (λ first. (i : ℕ) → start ≤ i → i < end
             → FailsBefore self.now condition.now first i) }
-        ensures within { IfOk result (λ first. IfSome first (λ at. at < end)) }
+        ensures within { IfOk result (λ first. IfSome first (λ at. (start ≤ at) × (at < end))) }
     {
         let rows = self.rows_to_judge(alloc, condition, start, end)?;
         let first = self.first_by_parts(alloc, condition, rows.as_slice(), workers)?;

@@ -3,7 +3,6 @@ ghost use Rattle.std.specs.Prelude.{◌≡◌, ℕ, IsTrue, IfOk, IfSome, OnOk};
 ghost use Rattle.lab_sched.specs.Worlds.{WorldState};
 ghost use Rattle.lab_explore.specs.declared.store.Next.TheVariants.{Limit, To};
 ghost use Rattle.lab_explore.specs.Private.Known.{AreKnown};
-ghost use Rattle.lab_explore.specs.Private.Rows.{row_of};
 ghost use Rattle.lab_explore.specs.Private.Stored.{IsStore, Grows, LeadsTo, HasEdge, IsNextAt, IsAt, IsTried, IsExpanded};
 
 use crate::known::Moves;

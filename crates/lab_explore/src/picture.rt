@@ -1,6 +1,5 @@
 //! Pictures of all worlds at calls.
-ghost use Rattle.std.specs.Prelude.{◌≡◌, ◌≤◌, All, IsTrue, IfOk, IfSome, length};
-ghost use Rattle.lab_sched.specs.Starts.{AreStarts, initial_world};
+ghost use Rattle.std.specs.Prelude.{◌≤◌, All, IfOk, IfSome, length};
 ghost use Rattle.lab_explore.specs.Pictures.{IsNode, IsEndOfNode, HasEndAtRest, IsStep, HaveAllSteps, BeginsAt, HaveFewestNodeCalls};
 
 use crate::search::search_all;

@@ -1,4 +1,4 @@
-use Rattle.std.proofs.Common.{◌<◌}
+use Rattle.std.proofs.Common.{◌<◌, ◌≤◌}
 use Rattle.lab_explore.specs.Private.Judged.{FailsBefore}
 use Rattle.lab_explore.proofs.FirstRows.{all_contained, some_contained}
 use Rattle.lab_explore.proofs.store.Store.first_among.Goals as goal
@@ -11,5 +11,5 @@ returns g c =
     record {
       some = told.holds;
       before = λ i from below. all_contained (FailsBefore c.args.self.now c.args.condition.now first) c.as_slice.result.now rows i c.as_slice.ensures.value told.before (c.in_ok-rows.ensures.all i from below);
-      within = some_contained (λ i. i < c.args.end) c.as_slice.result.now rows first c.as_slice.ensures.value c.in_ok-rows.ensures.within told.among;
+      within = some_contained (λ i. (c.args.start ≤ i) × (i < c.args.end)) c.as_slice.result.now rows first c.as_slice.ensures.value c.in_ok-rows.ensures.within told.among;
     }

@@ -12,7 +12,7 @@ loop-start-preserved g c i below = elim (cases_lt i c.loop-start.start) [
 
 pub returns-then-is_some-clause-first : goal.returns-then-is_some-clause-first
 returns-then-is_some-clause-first g c i before =
-    let below = before_within c.in_ok-found.found i c.min-end.result (c.if-is_some.ensures) c.in_ok-found.ensures.within before in
+    let below = before_within c.in_ok-found.found i c.loop-start.start c.min-end.result (c.if-is_some.ensures) c.in_ok-found.ensures.within before in
     elim (cases_lt i c.loop-start.start) [
       | inl early ↦ c.loop-start.invariant i early
       | inr from ↦ c.in_ok-found.ensures.before i from below before

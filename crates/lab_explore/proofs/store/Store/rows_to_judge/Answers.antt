@@ -15,7 +15,8 @@ loop-at-preserved c =
           (λ i within from. subst (λ (xs : List ℕ). Contains xs i) (sym c.in_ok-push.ensures.items) (contained_more rows (at ∷ []) i (c.loop-at.invariant.all i from within)))
           (λ from. subst (λ (xs : List ℕ). Contains xs at) (sym c.in_ok-push.ensures.items) (Contains-push rows at))
           i below from;
-      within = subst (All (λ i. i < c.args.end)) (sym c.in_ok-push.ensures.items) (All-push (λ i. i < c.args.end) rows at c.loop-at.invariant.within (omega (arith, c.loop-at-test.true)));
+      within = subst (All (λ i. (c.args.start ≤ i) × (i < c.args.end))) (sym c.in_ok-push.ensures.items)
+          (All-push (λ i. (c.args.start ≤ i) × (i < c.args.end)) rows at c.loop-at.invariant.within (c.loop-at.auto.at, c.loop-at-test.true));
     }
 
 pub returns-then-not-needs_kernel : goal.returns-then-not-needs_kernel
@@ -29,5 +30,5 @@ returns c = record {
   all = λ i from below.
       let within : i < c.loop-at.at = omega (arith, from, below, c.loop-at-test.false) in
       Contains-permutation c.loop-at.rows.items c.sort_by_key.new.self.items i c.in_ok-sort_by_key.ensures.permutation (c.loop-at.invariant.all i from within);
-  within = All-permutation (λ i. i < c.args.end) c.loop-at.rows.items c.sort_by_key.new.self.items c.in_ok-sort_by_key.ensures.permutation c.loop-at.invariant.within;
+  within = All-permutation (λ i. (c.args.start ≤ i) × (i < c.args.end)) c.loop-at.rows.items c.sort_by_key.new.self.items c.in_ok-sort_by_key.ensures.permutation c.loop-at.invariant.within;
 }
