@@ -1,5 +1,5 @@
 //! The command `explore`.
-ghost use Rattle.std.specs.Prelude.{◌≡◌, false};
+ghost use Rattle.std.specs.Prelude.{◌≡◌, false, IfSome};
 
 use crate::complaint::{At, Complaint, Reason};
 use crate::files::write_text;
@@ -148,7 +148,9 @@ fn take_walks<P: Progress>(
 }
 
 /// So many threads as were asked for, or as there are processors.
-fn thread_count<T: Threads>(rt: &T, asked: Option<u32>) -> usize {
+fn thread_count<T: Threads>(rt: &T, asked: Option<u32>) -> usize
+    ensures asked { IfSome asked (λ count. result ≡ count) }
+{
     if let Some(count) = asked {
         return count as usize;
     }
