@@ -1,26 +1,52 @@
 -- Conditions that hold over any kernel.
-use Rattle.std.proofs.Common.{ℕ, ◌≤◌, List, All, ◌∙◌, arith}
+use Rattle.std.proofs.Common.{ℕ, ◌≡◌, ◌≤◌, ◌||◌, Bool, true, false, List, [], ◌∷◌, All, refl, ◌∙◌, arith}
+use Rattle.std.specs.List.{list_any}
+use Rattle.std.proofs.lemmas.List.Elements.{All-nil, All-cons}
 use Rattle.ipc_kernel.specs.Kernel.{KernelState}
 use Rattle.lab_sched.specs.Worlds.{Process}
 use Rattle.lab_conditions.specs.declared.condition.State.{State}
-use Rattle.lab_conditions.specs.declared.condition.Part.TheVariants.{Of, MoreThan}
+use Rattle.lab_conditions.specs.declared.condition.State.TheVariants as state
+use Rattle.lab_conditions.specs.declared.condition.Part.{Part}
+use Rattle.lab_conditions.specs.declared.condition.Part.TheVariants.{Semaphore, Queue, Of, MoreThan}
 use Rattle.lab_conditions.specs.declared.condition.Condition.{Condition}
-use Rattle.lab_conditions.specs.Conditions.{is_so, how_many, world_of, HoldsOverAny}
-use Rattle.lab_conditions.specs.Private.KernelFree.{IsSoOverAny, PartHoldsOverAny}
+use Rattle.lab_conditions.specs.Conditions.{is_so, how_many, PartHolds, world_of, needs_kernel, part_needs_kernel, HoldsOverAny}
 use Rattle.lab_conditions.proofs.CarriedConditions.{count_le}
+
+-- a process stands so, or doesn't, whatever the kernel
+abbrev IsSoOverAny : State → Type 0
+IsSoOverAny x = (k j : KernelState) (p : ℕ) (s : Process) → is_so x k p s ≡ is_so x j p s
+
+so_over_any : (x : State) → needs_kernel x ≡ false → IsSoOverAny x
+so_over_any state.Blocked free = let clash : true ≡ false = free in absurd (cc)
+so_over_any state.Ended free = λ k j p s. refl
+so_over_any state.Crashed free = λ k j p s. refl
+so_over_any (state.At first last) free = λ k j p s. refl
 
 -- no fewer processes stand so over another kernel
 no_fewer : (x : State) → IsSoOverAny x → (k j : KernelState) (ps : List Process) → how_many x (world_of k ps) ≤ how_many x (world_of j ps)
 no_fewer x any k j ps = count_le (λ p s. is_so x k p s) (λ p s. is_so x j p s) 0 ps ps (λ i p e s at so. (s, at, any j k p s ∙ so))
 
--- a process that stands so over one kernel does over any
-pub one_so : (p : ℕ) (x : State) → IsSoOverAny x → PartHoldsOverAny (Of p x)
-one_so p x any k j ps h = (h.0, h.1, any j k p h.0 ∙ h.2)
+-- a part holds of some processes over any kernel, where it holds of them over one
+abbrev PartHoldsOverAny : Part → Type 0
+PartHoldsOverAny part = (k j : KernelState) (ps : List Process) → PartHolds part (world_of k ps) → PartHolds part (world_of j ps)
 
--- and so do more than so many
-pub more_so : (x : State) (n : ℕ) → IsSoOverAny x → PartHoldsOverAny (MoreThan x n)
-more_so x n any k j ps h = let few = no_fewer x any k j ps in omega (arith, h)
+part_over_any : (part : Part) → part_needs_kernel part ≡ false → PartHoldsOverAny part
+part_over_any (Semaphore name r x) free = let clash : true ≡ false = free in absurd (cc)
+part_over_any (Queue name r x) free = let clash : true ≡ false = free in absurd (cc)
+part_over_any (Of p x) free = λ k j ps h. (h.0, h.1, so_over_any x free j k p h.0 ∙ h.2)
+part_over_any (MoreThan x n) free = λ k j ps h. let few = no_fewer x (so_over_any x free) k j ps in omega (arith, h, few)
 
--- a condition does where each of its parts does
-pub parts_over_any : (c : Condition) → All PartHoldsOverAny c.parts.items → HoldsOverAny c
-parts_over_any c any k j ps holds = λ i d within. any i d within k j ps (holds i d within)
+-- where neither is so
+neither : (a b : Bool) → (a || b) ≡ false → (a ≡ false) × (b ≡ false)
+neither true b none = let clash : true ≡ false = none in absurd (cc)
+neither false b none = (refl, none)
+
+parts_over_any : (parts : List Part) → list_any part_needs_kernel parts ≡ false → All PartHoldsOverAny parts
+parts_over_any [] none = All-nil PartHoldsOverAny
+parts_over_any (part ∷ parts) none =
+    let both = neither (part_needs_kernel part) (list_any part_needs_kernel parts) none in
+    All-cons PartHoldsOverAny part parts (part_over_any part both.0) (parts_over_any parts both.1)
+
+-- a condition holds over any kernel where none of its parts needs one
+pub condition_over_any : (c : Condition) → list_any part_needs_kernel c.parts.items ≡ false → HoldsOverAny c
+condition_over_any c none k j ps holds = λ i d within. parts_over_any c.parts.items none i d within k j ps (holds i d within)

@@ -121,6 +121,20 @@ NamesOnly count (Queue name r x) = Unit {0}
 NamesOnly count (Of p x) = p < count
 NamesOnly count (MoreThan x n) = Unit {0}
 
+-- whether it depends on the kernel whether processes stand so
+abbrev pub needs_kernel : State → Bool
+needs_kernel state.Blocked = true
+needs_kernel state.Ended = false
+needs_kernel state.Crashed = false
+needs_kernel (state.At first last) = false
+
+-- whether it depends on the kernel whether a part holds
+abbrev pub part_needs_kernel : Part → Bool
+part_needs_kernel (Semaphore name r x) = true
+part_needs_kernel (Queue name r x) = true
+part_needs_kernel (Of p x) = needs_kernel x
+part_needs_kernel (MoreThan x n) = needs_kernel x
+
 -- a condition holds of some processes over any kernel, where it holds of them over one
 abbrev pub HoldsOverAny : Condition → Type 0
 HoldsOverAny c = (k j : KernelState) (ps : List Process) → Holds c (world_of k ps) → Holds c (world_of j ps)

@@ -1,4 +1,3 @@
 pub mod Conditions
 pub mod Written
 pub mod Losses
-pub mod Private

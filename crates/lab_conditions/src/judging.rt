@@ -1,9 +1,9 @@
 //! Whether conditions hold of worlds.
 ghost use Rattle.std.specs.Prelude.{◌≡◌, ◌↔◌, ◌<◌, ℕ, false, All, Some, IfOk, IfSome, IsTrue, length, map, slice_get};
+ghost use Rattle.std.specs.List.{list_any};
 ghost use Rattle.lab_sched.specs.Held.{process_view};
 ghost use Rattle.lab_sched.specs.Worlds.{Process as Seen};
-ghost use Rattle.lab_conditions.specs.Conditions.{is_so, how_many, PartHolds, Holds, NamesOnly, world_of, HoldsOverAny};
-ghost use Rattle.lab_conditions.specs.Private.KernelFree.{IsSoOverAny, PartHoldsOverAny};
+ghost use Rattle.lab_conditions.specs.Conditions.{is_so, how_many, PartHolds, Holds, NamesOnly, world_of, needs_kernel, part_needs_kernel, HoldsOverAny};
 
 use crate::places::{has_queue, has_semaphore};
 use crate::{Condition, Part, State};
@@ -51,7 +51,7 @@ fn is_one_so(
 impl State {
     /// Whether it depends on the kernel whether a process stands so.
     fn needs_kernel(self) -> bool
-        ensures no { result ≡ false → IsSoOverAny self }
+        ensures value { result ≡ needs_kernel self }
     {
         matches!(self, State::Blocked)
     }
@@ -99,13 +99,20 @@ impl Part {
 
     /// Whether it depends on the kernel whether the part holds.
     fn needs_kernel(&self) -> bool
-        ensures no { result ≡ false → PartHoldsOverAny self.now }
+        ensures value { result ≡ part_needs_kernel self.now }
     {
         match self {
             Part::Semaphore { .. } | Part::Queue { .. } => true,
             Part::Of { state, .. } | Part::MoreThan { state, .. } => state.needs_kernel(),
         }
     }
+}
+
+/// Whether it depends on the kernel whether one of some parts holds.
+fn need_kernel(parts: &[Part]) -> bool
+    ensures value { result ≡ list_any part_needs_kernel parts.now }
+{
+    parts.iter().any(|part| part.needs_kernel())
 }
 
 impl Condition {
@@ -143,13 +150,9 @@ impl Condition {
     /// Whether it depends on the kernel whether the condition holds: whether one of its parts
     /// speaks of a semaphore, of a queue, or of processes that are blocked.
     pub fn needs_kernel(&self) -> bool
+        ensures value { result ≡ list_any part_needs_kernel self.now.parts.items }
         ensures no { result ≡ false → HoldsOverAny self.now }
     {
-        for part in &self.parts {
-            if part.needs_kernel() {
-                return true;
-            }
-        }
-        false
+        need_kernel(self.parts.as_slice())
     }
 }
