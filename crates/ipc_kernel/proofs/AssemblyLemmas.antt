@@ -9,9 +9,8 @@ use Rattle.ipc_names.specs.Table.{NameMap}
 use Rattle.ipc_kernel.specs.declared.place.Place.{Place}
 use Rattle.ipc_kernel.specs.declared.place.Place.TheVariants.{Empty}
 use Rattle.ipc_kernel.specs.declared.process.OpenTables.{OpenTables}
-use Rattle.ipc_kernel.specs.Places.{place_at, place_or_empty, places_or_empty}
+use Rattle.ipc_kernel.specs.Places.{place_at, place_or_empty, places_or_empty, padded}
 use Rattle.ipc_kernel.specs.Private.Index.{IsIndexOf, name_at}
-use Rattle.ipc_kernel.specs.Rows.{padded}
 use Rattle.ipc_kernel.proofs.PlaceLemmas.{get_or-emptied, length-emptied}
 use Rattle.ipc_kernel.proofs.IndexLemmas.{index_put, index_same, same_or_other, place_at-get_or, place_at-past}
 

@@ -11,7 +11,8 @@ use Rattle.ipc_kernel.specs.Processes.{slot_refers, descriptor_refers, process_r
 use Rattle.ipc_kernel.specs.Places.{place_at, has_name}
 use Rattle.ipc_kernel.specs.Kernel.{KernelState, IsSettled}
 use Rattle.ipc_kernel.specs.Alike.{renamed_descriptor, renamed_slot, renamed_process, IsPermutation, IsRenaming, IsAlike}
-use Rattle.ipc_kernel.specs.Private.Renamings.{renamed_by, Permutes, Follows}
+use Rattle.ipc_kernel.specs.Renamings.{renamed_by, Permutes}
+use Rattle.ipc_kernel.specs.Private.Renamings.{Follows}
 use Rattle.ipc_kernel.proofs.Alikes.{place_at-emptied}
 
 or_left : (a b : Bool) → a ≡ true → (a || b) ≡ true

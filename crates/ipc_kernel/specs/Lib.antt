@@ -8,8 +8,7 @@ pub mod Semaphores
 pub mod Answer
 pub mod Replies
 pub mod Alike
+pub mod Renamings
 pub mod Operands
 pub mod OwnCalls
-pub mod Kept
-pub mod Rows
 pub mod Private

@@ -1,6 +1,6 @@
 -- The object places: queues and semaphores, each with a name or, once it is unlinked, without. A name in brackets is the page
 -- of POSIX.1-2017.
-use Rattle.std.specs.Prelude.{ℕ, nat_le, Bool, true, false, ◌||◌, ◌&&◌, List, Option, Some, None, is_some, unwrap_or, slice_get, slice_set, map, position, if◌then◌else◌}
+use Rattle.std.specs.Prelude.{ℕ, ◌-◌, nat_le, Bool, true, false, ◌||◌, ◌&&◌, List, ◌++◌, length, replicate, Option, Some, None, is_some, unwrap_or, slice_get, slice_set, map, position, if◌then◌else◌}
 use Rattle.std.specs.List.{enumerate_from}
 use Rattle.std.specs.Str.{bytes_eq}
 use Rattle.ipc_objects.specs.Queue.{QueueState}
@@ -120,3 +120,7 @@ semaphore_named ps n = place_named semaphore_name ps n
 -- whether mq_maxmsg and mq_msgsize are in their ranges
 abbrev pub are_sizes : ℕ × ℕ → Bool
 are_sizes sizes = nat_le 1 sizes.0 && nat_le sizes.0 mq_maxmsg_max && nat_le 1 sizes.1 && nat_le sizes.1 mq_msgsize_max
+
+-- places with empty ones behind them, so many in all
+unfoldable pub padded : ℕ → List Place → List Place
+padded n ps = ps ++ replicate (n - length ps) Empty

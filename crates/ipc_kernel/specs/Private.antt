@@ -4,4 +4,3 @@ pub mod Counts
 pub mod Index
 pub mod Renamings
 pub mod Messages
-pub mod KeptRows

@@ -1,19 +1,19 @@
 //! Orders of the object places.
-ghost use Rattle.ipc_kernel.specs.Private.Renamings.{Permutes};
+ghost use Rattle.ipc_kernel.specs.Renamings.{Permutes};
 
 use crate::limits::OBJECT_PLACES;
 use crate::renaming::Renaming;
 
 /// A renaming that takes so many places to the first ones, in the order in which they were taken.
 #[derive(Clone, Copy, Drop)]
-pub(crate) struct Arrangement {
+pub struct Arrangement {
     pub renaming: Renaming,
     pub count: u8,
 }
 
 impl Arrangement {
     /// No place is taken.
-    pub(crate) fn new() -> Arrangement
+    pub fn new() -> Arrangement
         ensures permutation { Permutes result.renaming }
     {
         Arrangement {
@@ -23,7 +23,7 @@ impl Arrangement {
     }
 
     /// Whether a place is taken.
-    pub(crate) fn has(&self, place: u8) -> bool {
+    pub fn has(&self, place: u8) -> bool {
         match self.renaming.to.get(place as usize) {
             Some(to) => *to < self.count,
             None => true,
@@ -31,7 +31,7 @@ impl Arrangement {
     }
 
     /// Takes a place to the next of the first ones, if it isn't taken.
-    pub(crate) fn take(&mut self, place: u8)
+    pub fn take(&mut self, place: u8)
         requires permutation { Permutes self.old.renaming }
         ensures permutation { Permutes self.new.renaming }
     {
@@ -42,7 +42,7 @@ impl Arrangement {
     }
 
     /// Whether each place stays where it is.
-    pub(crate) fn is_none(&self) -> bool {
+    pub fn is_none(&self) -> bool {
         for (place, to) in self.renaming.to.iter().enumerate() {
             if place != *to as usize {
                 return false;

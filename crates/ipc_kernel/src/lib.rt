@@ -3,23 +3,20 @@
 
 mod arrangement;
 mod call;
-mod index;
-mod kept;
 mod kernel;
 pub mod laws;
 mod limits;
-mod numbers;
 mod place;
 mod places;
 mod process;
 mod processes;
 mod renaming;
 
+pub use arrangement::Arrangement;
 pub use call::{Answer, Call, Handle, Reply};
-pub use index::Index;
-pub use kept::Kernels;
 pub use kernel::Kernel;
 pub use limits::{OBJECT_PLACES, OPEN_MAX, OPENS_MAX, PROCESS_MAX, limits_are_defined};
-pub use numbers::are_with;
 pub use place::Place;
 pub use process::{Descriptor, OpenTables, Slot};
+pub use processes::{is_renamed_process, renamed_process};
+pub use renaming::{Renaming, renamed_by};

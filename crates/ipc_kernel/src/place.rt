@@ -39,13 +39,15 @@ impl Place {
     ghost use Rattle.ipc_kernel.specs.Places.{is_empty, has_name, queue_name, semaphore_name, semaphore_value, with_value, without_name, queue_in, with_queue, queue_and_name, value_and_name};
     ghost use Rattle.ipc_kernel.specs.Private.Messages.{HasRoomFor, HasMessage};
 
-    pub(crate) fn is_empty(&self) -> bool
+    /// Whether the place holds nothing.
+    pub fn is_empty(&self) -> bool
         ensures empty { result ≡ is_empty self.now }
     {
         matches!(self, Place::Empty)
     }
 
-    pub(crate) fn has_name(&self) -> bool
+    /// Whether the place holds an object with a name.
+    pub fn has_name(&self) -> bool
         ensures named { result ≡ has_name self.now }
     {
         match self {
@@ -56,7 +58,7 @@ impl Place {
     }
 
     /// The name of the queue, if it is one that has a name.
-    pub(crate) fn queue_name(&self) -> Option<&Name>
+    pub fn queue_name(&self) -> Option<&Name>
         ensures name { option_copied result ≡ queue_name self.now }
     {
         match self {
@@ -66,7 +68,7 @@ impl Place {
     }
 
     /// The name of the semaphore, if it is one that has a name.
-    pub(crate) fn semaphore_name(&self) -> Option<&Name>
+    pub fn semaphore_name(&self) -> Option<&Name>
         ensures name { option_copied result ≡ semaphore_name self.now }
     {
         match self {
@@ -195,7 +197,7 @@ impl Place {
     }
 
     /// Whether the object is before another by its kind and its name.
-    pub(crate) fn is_before(&self, other: &Place) -> bool {
+    pub fn is_before(&self, other: &Place) -> bool {
         let (kind, name) = self.kind_and_name();
         let (other_kind, other_name) = other.kind_and_name();
         kind < other_kind || (kind == other_kind && name < other_name)

@@ -37,14 +37,14 @@ pub struct OpenTables {
 
 impl OpenTables {
     /// Whether the tables are the same.
-    pub(crate) fn is_same(&self, other: &OpenTables) -> bool
+    pub fn is_same(&self, other: &OpenTables) -> bool
         ensures same { IsTrue result ↔ (self.now ≡ other.now) }
     {
         *self == *other
     }
 
     /// A number for the tables.
-    pub(crate) fn digest(&self) -> u64 {
+    pub fn digest(&self) -> u64 {
         let mut hasher = FoldHasher::default();
         for (i, descriptor) in self.descriptors.iter().enumerate() {
             if let Some(held) = descriptor {

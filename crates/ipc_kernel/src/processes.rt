@@ -14,8 +14,8 @@ use crate::process::{
     Descriptor, OpenTables, Slot, descriptor_at, first_free_descriptor, first_free_slot,
     first_that_refers, slot_at, write_descriptor, write_slot,
 };
-pub(crate) use alike::is_renamed_process;
-pub(crate) use arranged::renamed_process;
+pub use alike::is_renamed_process;
+pub use arranged::renamed_process;
 use std::alloc::{AllocError, Global};
 use std::marker::Model;
 

@@ -1,13 +1,14 @@
 //! Renamings of the object places.
 ghost use Rattle.std.specs.Prelude.{◌≡◌, ℕ};
 ghost use Rattle.ipc_kernel.specs.Alike.{IsPermutation};
-ghost use Rattle.ipc_kernel.specs.Private.Renamings.{Permutes, Follows, renamed_by};
+ghost use Rattle.ipc_kernel.specs.Renamings.{Permutes, renamed_by};
+ghost use Rattle.ipc_kernel.specs.Private.Renamings.{Follows};
 
 use crate::limits::OBJECT_PLACES;
 
 /// Where a list of numbers takes a place; one behind its end stays.
 #[inline(always)]
-pub(crate) fn renamed_by(to: &[u8], place: u8) -> u8
+pub fn renamed_by(to: &[u8], place: u8) -> u8
     ensures renamed { result ≡ renamed_by to.now place }
 {
     match to.get(place as usize) {
@@ -18,7 +19,7 @@ pub(crate) fn renamed_by(to: &[u8], place: u8) -> u8
 
 /// A renaming of the object places: where each is taken, and back.
 #[derive(Clone, Copy, Drop)]
-pub(crate) struct Renaming {
+pub struct Renaming {
     pub to: [u8; OBJECT_PLACES],
     pub from: [u8; OBJECT_PLACES],
 }

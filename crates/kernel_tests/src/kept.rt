@@ -1,7 +1,8 @@
 //! Kernels that are kept as their parts. That each part is kept once is in no contract, nor that kernels that are alike
 //! become equal, nor of which calls `Kernels::operand` tells an object.
 use crate::support::{Q, S, kernel_of, mq_open, name, sem_open, succeeds};
-use ipc_kernel::{Call, Kernel, Kernels};
+use ipc_kernel::{Call, Kernel};
+use ipc_store::Kernels;
 use std::alloc::Global;
 use std::process::Abort;
 

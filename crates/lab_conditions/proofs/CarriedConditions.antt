@@ -6,7 +6,7 @@ use Rattle.ipc_kernel.specs.declared.call.Call.{Call}
 use Rattle.ipc_kernel.specs.Kernel.{KernelState}
 use Rattle.ipc_kernel.specs.Answer.{is_done}
 use Rattle.ipc_kernel.specs.Alike.{IsAlike, IsConsistent}
-use Rattle.ipc_kernel.proofs.LikeAnswers.{answers_alike}
+use Rattle.ipc_store.proofs.LikeAnswers.{answers_alike}
 use Rattle.lab_sched.specs.Worlds.{Process, WorldState}
 use Rattle.lab_conditions.specs.declared.condition.State.{State}
 use Rattle.lab_conditions.specs.declared.condition.State.TheVariants as state

@@ -5,9 +5,9 @@ use Rattle.lab_sched.specs.declared.process.Process.{Process as Kept}
 use Rattle.lab_sched.specs.declared.process.Process.TheVariants as kept
 use Rattle.std.proofs.lemmas.List.Elements.{All-weaker}
 use Rattle.ipc_kernel.specs.Alike.{IsConsistent}
-use Rattle.ipc_kernel.proofs.Consistents.{consistent_empty}
+use Rattle.ipc_store.proofs.Consistents.{consistent_empty}
 use Rattle.ipc_kernel.specs.Operands.{are_named}
-use Rattle.ipc_kernel.proofs.CommutingCalls.{own_calls_commute, start_named, stay_named, own_alike}
+use Rattle.ipc_store.proofs.CommutingCalls.{own_calls_commute, start_named, stay_named, own_alike}
 use Rattle.lab_explore.specs.Calls.{AreAlike}
 use Rattle.lab_explore.proofs.AlikeWorlds.{world_then, world_back, one_verdict, consistent_run}
 use Rattle.lab_sched.specs.Worlds.{Process, Running, Waiting, Ended, WorldState, step_effect, step_effect_in, run, entries}

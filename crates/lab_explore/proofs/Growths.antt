@@ -19,7 +19,7 @@ use Rattle.lab_explore.specs.declared.touches.Touches.{Touches}
 use Rattle.lab_explore.specs.declared.touches.Effect.{Effect}
 use Rattle.lab_explore.specs.declared.touches.Effect.TheVariants as effect
 use Rattle.lab_explore.specs.declared.known.Move.{Move}
-use Rattle.ipc_kernel.specs.Kept.{GrowsKept}
+use Rattle.ipc_store.specs.Kept.{GrowsKept}
 use Rattle.ipc_kernel.specs.declared.place.Place.{Place}
 use Rattle.ipc_kernel.specs.declared.process.OpenTables.{OpenTables}
 use Rattle.lab_explore.specs.Private.Shorts.{Sharing, IsSameOrMore}

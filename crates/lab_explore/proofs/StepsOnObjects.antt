@@ -9,9 +9,9 @@ use Rattle.ipc_kernel.specs.declared.call.Answer.TheVariants.{Done, Wait}
 use Rattle.ipc_kernel.specs.Kernel.{KernelState, IsSettled}
 use Rattle.ipc_kernel.specs.Answer.{answer}
 use Rattle.ipc_kernel.specs.Operands.{operand_in, with_operand, HasOperand, IsAnsweredAlike}
-use Rattle.ipc_kernel.proofs.LocalCalls.{kept}
-use Rattle.ipc_kernel.proofs.OperandAnswers.{answers_by_operand, operand_left}
-use Rattle.ipc_kernel.proofs.SettledAnswers.{stays_settled}
+use Rattle.ipc_store.proofs.LocalCalls.{kept}
+use Rattle.ipc_store.proofs.OperandAnswers.{answers_by_operand, operand_left}
+use Rattle.ipc_store.proofs.SettledAnswers.{stays_settled}
 use Rattle.lab_sched.specs.Worlds.{Process, Running, Waiting, Ended, calls, next_action, StepEffect, nothing, local_step, kernel_step, step_effect, first_try, retry, process_after, kernel_after}
 use Rattle.lab_sched.specs.Held.{step_of}
 use Rattle.lab_conditions.specs.Conditions.{StandsAt}

@@ -3,7 +3,7 @@ ghost use Rattle.std.specs.Prelude.{◌≡◌, ◌<◌, ◌≤◌, ◌+◌, [], 
 ghost use Rattle.lab_explore.specs.Private.Outputs.{AreChained, Extends, joined, outputs_of};
 
 use crate::store::place_of;
-use ipc_kernel::Index;
+use ipc_store::Index;
 use std::alloc::{AllocError, Global};
 use std::hash::{FoldHasher, Hasher};
 use std::marker::Model;

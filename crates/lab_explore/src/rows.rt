@@ -7,7 +7,7 @@ ghost use Rattle.lab_explore.specs.Private.Stored.{IsRow, IsAt, IsAfter, IsStore
 use crate::parents::Parent;
 use crate::row::{digest_after, digest_of};
 use crate::store::{Store, place_of};
-use ipc_kernel::are_with;
+use ipc_store::are_with;
 use std::alloc::AllocError;
 
 impl Store {

@@ -12,7 +12,8 @@ ghost use Rattle.lab_explore.specs.Private.Standing.{IsStanding};
 
 use crate::store::place_of;
 use crate::trying::discard;
-use ipc_kernel::{Call, Index};
+use ipc_kernel::Call;
+use ipc_store::Index;
 use lab_conditions::call_of;
 use lab_sched::Process;
 use std::alloc::{AllocError, Global};

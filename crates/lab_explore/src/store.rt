@@ -12,7 +12,8 @@ use crate::parents::Parents;
 use crate::row::Rows;
 use crate::shorts::Short;
 use crate::states::States;
-use ipc_kernel::{Index, Kernel, Kernels};
+use ipc_kernel::Kernel;
+use ipc_store::{Index, Kernels};
 use lab_sched::Process;
 use std::alloc::{AllocError, Global};
 

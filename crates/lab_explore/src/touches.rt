@@ -5,7 +5,7 @@ ghost use Rattle.lab_explore.specs.declared.touches.Effect.TheVariants.{Nothing}
 ghost use Rattle.lab_explore.specs.Private.Touched.{IsTouched, AreTouched};
 
 use crate::row::digest_of;
-use ipc_kernel::Index;
+use ipc_store::Index;
 use std::alloc::{AllocError, Global};
 use std::mem::size_of;
 

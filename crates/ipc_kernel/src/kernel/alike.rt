@@ -1,7 +1,7 @@
 //! Whether two kernels are alike: equal but for the numbers of the places.
 ghost use Rattle.std.specs.Prelude.{◌≡◌, ◌↔◌, IsTrue};
 ghost use Rattle.ipc_kernel.specs.Alike.{IsAlike, IsRenaming};
-ghost use Rattle.ipc_kernel.specs.Private.Renamings.{Permutes, renamed_by};
+ghost use Rattle.ipc_kernel.specs.Renamings.{Permutes, renamed_by};
 
 use super::Kernel;
 use crate::renaming::Renaming;
@@ -31,7 +31,7 @@ impl Kernel {
     }
 
     /// Whether another kernel is this one, or this one with its places renamed. Then no answer
-    /// tells them apart (`laws::alike_law`).
+    /// tells them apart (`ipc_store::laws::alike_law`).
     #[tactic(auto, using(crate::proofs::Alikes::alike_same))]
     pub fn is_alike(&self, other: &Kernel) -> bool
         ensures alike { IsTrue result ↔ IsAlike self.now other.now }

@@ -2,7 +2,7 @@
 //! objects with a name leave that order as it was.
 ghost use Rattle.std.specs.Prelude.{IfOk, IfSome};
 ghost use Rattle.ipc_kernel.specs.Alike.{IsAlike};
-ghost use Rattle.ipc_kernel.specs.Private.Renamings.{Permutes};
+ghost use Rattle.ipc_kernel.specs.Renamings.{Permutes};
 
 use super::Kernel;
 use crate::arrangement::Arrangement;

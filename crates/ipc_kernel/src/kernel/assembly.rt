@@ -2,7 +2,7 @@
 ghost use Rattle.std.specs.Prelude.{◌≡◌, IfOk, IfSome};
 ghost use Rattle.ipc_kernel.specs.Limits.{object_places};
 ghost use Rattle.ipc_kernel.specs.Kernel.{IsSettled};
-ghost use Rattle.ipc_kernel.specs.Rows.{padded};
+ghost use Rattle.ipc_kernel.specs.Places.{padded};
 
 use super::Kernel;
 use crate::place::Place;
@@ -14,7 +14,7 @@ use std::alloc::{AllocError, Global};
 impl Kernel {
     /// The kernel with these objects, in this order of the places, and with these tables of its
     /// processes, if there is one.
-    pub(crate) fn assemble(
+    pub fn assemble(
         alloc: Global,
         objects: Vec<Place>,
         tables: Vec<OpenTables>,
@@ -38,7 +38,7 @@ impl Kernel {
     }
 
     /// The places, up to the last that is not empty.
-    pub(crate) fn objects(&self) -> &[Place]
+    pub fn objects(&self) -> &[Place]
         ensures objects { padded object_places result.now ≡ self.now.places }
         ensures settled { IsSettled self.now }
     {
@@ -46,7 +46,7 @@ impl Kernel {
     }
 
     /// The tables of the processes.
-    pub(crate) fn tables(&self) -> &[OpenTables]
+    pub fn tables(&self) -> &[OpenTables]
         ensures tables { result.now ≡ self.now.processes }
     {
         self.processes.tables()

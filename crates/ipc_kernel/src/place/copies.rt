@@ -30,7 +30,7 @@ fn entry_size(name: &Option<Name>) -> usize {
 
 impl Place {
     /// An equal place. Its name, and the words of its messages, are shared.
-    pub(crate) fn copy(&self, alloc: Global) -> Result<Place, AllocError>
+    pub fn copy(&self, alloc: Global) -> Result<Place, AllocError>
         ensures equal { IfOk result (λ copy. copy ≡ self.now) }
     {
         Ok(match self {
@@ -49,7 +49,7 @@ impl Place {
     }
 
     /// Whether two places hold the same, with the same name.
-    pub(crate) fn is_same(&self, other: &Place) -> bool
+    pub fn is_same(&self, other: &Place) -> bool
         ensures same { IsTrue result ↔ (self.now ≡ other.now) }
     {
         *self == *other
@@ -57,7 +57,7 @@ impl Place {
 
     /// About how many bytes the place takes, with its messages and the entry of its name. The words of
     /// messages are shared.
-    pub(crate) fn size(&self) -> usize {
+    pub fn size(&self) -> usize {
         let held = match self {
             Place::Empty => 0,
             Place::Mq { name, queue } => {
@@ -87,7 +87,7 @@ impl Place {
     }
 
     /// A number for what the place holds, and 0 for an empty place.
-    pub(crate) fn digest(&self) -> u64 {
+    pub fn digest(&self) -> u64 {
         if self.is_empty() {
             return 0;
         }

@@ -3,7 +3,8 @@ ghost use Rattle.std.specs.Prelude.{◌≡◌, ◌↔◌, ◌<◌, ℕ, IsTrue, 
 ghost use Rattle.ipc_kernel.specs.Limits.{object_places};
 ghost use Rattle.ipc_kernel.specs.Places.{place_at, has_name};
 ghost use Rattle.ipc_kernel.specs.Alike.{IsPermutation};
-ghost use Rattle.ipc_kernel.specs.Private.Renamings.{Permutes, Follows, renamed_by};
+ghost use Rattle.ipc_kernel.specs.Renamings.{Permutes, renamed_by};
+ghost use Rattle.ipc_kernel.specs.Private.Renamings.{Follows};
 
 use super::Places;
 use crate::limits::OBJECT_PLACES;

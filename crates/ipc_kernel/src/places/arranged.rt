@@ -1,5 +1,5 @@
 //! Places in the order of their names, and places that are renamed.
-ghost use Rattle.ipc_kernel.specs.Private.Renamings.{Permutes};
+ghost use Rattle.ipc_kernel.specs.Renamings.{Permutes};
 
 use super::Places;
 use crate::arrangement::Arrangement;

@@ -1,8 +1,7 @@
 //! Places from objects.
 ghost use Rattle.std.specs.Prelude.{◌≡◌, ◌+◌, ◌≤◌, ◌++◌, ◌-◌, ℕ, IsTrue, IfOk, IfSome, length, take};
 ghost use Rattle.ipc_kernel.specs.Limits.{object_places};
-ghost use Rattle.ipc_kernel.specs.Places.{places_or_empty, queue_name, semaphore_name};
-ghost use Rattle.ipc_kernel.specs.Rows.{padded};
+ghost use Rattle.ipc_kernel.specs.Places.{places_or_empty, queue_name, semaphore_name, padded};
 ghost use Rattle.ipc_kernel.specs.Private.Index.{IsIndexOf, name_at};
 ghost use Rattle.ipc_kernel.specs.declared.place.Place.TheVariants.{Empty};
 

@@ -5,7 +5,8 @@ ghost use Rattle.std.specs.Option.{option_map};
 ghost use Rattle.ipc_kernel.specs.Limits.{object_places};
 ghost use Rattle.ipc_kernel.specs.Processes.{descriptor_refers, slot_refers, process_refers, is_referred};
 ghost use Rattle.ipc_kernel.specs.Alike.{IsPermutation};
-ghost use Rattle.ipc_kernel.specs.Private.Renamings.{Permutes, Follows, renamed_by};
+ghost use Rattle.ipc_kernel.specs.Renamings.{Permutes, renamed_by};
+ghost use Rattle.ipc_kernel.specs.Private.Renamings.{Follows};
 ghost use Rattle.ipc_kernel.specs.Alike.{renamed_descriptor, renamed_slot, renamed_process};
 
 use super::Processes;
@@ -75,7 +76,7 @@ fn are_renamed_slots(helds: &[Option<Slot>], others: &[Option<Slot>], to: &[u8])
 }
 
 /// Whether the tables of another process are these, with each place where a list takes it.
-pub(crate) fn is_renamed_process(process: &OpenTables, other: &OpenTables, to: &[u8]) -> bool
+pub fn is_renamed_process(process: &OpenTables, other: &OpenTables, to: &[u8]) -> bool
     ensures renamed { IsTrue result ↔ (other.now
         ≡ renamed_process (renamed_by to.now) process.now) }
 {

@@ -1,5 +1,5 @@
 //! The order in which processes have places open, and tables in which places are renamed.
-ghost use Rattle.ipc_kernel.specs.Private.Renamings.{Permutes};
+ghost use Rattle.ipc_kernel.specs.Renamings.{Permutes};
 
 use super::Processes;
 use crate::arrangement::Arrangement;
@@ -63,7 +63,7 @@ fn rename_slots(slots: &mut [Option<Slot>], to: &[u8]) {
 }
 
 /// The tables of a process with the places renamed.
-pub(crate) fn renamed_process(process: &OpenTables, to: &[u8]) -> OpenTables {
+pub fn renamed_process(process: &OpenTables, to: &[u8]) -> OpenTables {
     let mut renamed = *process;
     rename_descriptors(&mut renamed.descriptors, to);
     rename_slots(&mut renamed.slots, to);

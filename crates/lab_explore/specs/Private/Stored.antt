@@ -2,7 +2,7 @@
 use Rattle.std.specs.Prelude.{ℕ, ◌≡◌, ◌<◌, ◌^◌, List, [], Option, Some, None, All, get_or, length, slice_get, slice_set}
 use Rattle.std.specs.Option.{option_map}
 use Rattle.ipc_kernel.specs.Kernel.{KernelState, IsSettled}
-use Rattle.ipc_kernel.specs.Kept.{GrowsKept}
+use Rattle.ipc_store.specs.Kept.{GrowsKept}
 use Rattle.ipc_kernel.specs.Alike.{IsAlike}
 use Rattle.lab_sched.specs.declared.process.Process.{Process as Kept}
 use Rattle.lab_sched.specs.Worlds.{Process, WorldState, step_effect, step_effect_in, step}

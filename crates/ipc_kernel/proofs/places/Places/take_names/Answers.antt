@@ -1,5 +1,6 @@
 use Rattle.std.proofs.Common.{◌+◌, subst, sym}
-use Rattle.ipc_kernel.specs.Private.Renamings.{Permutes, Follows}
+use Rattle.ipc_kernel.specs.Renamings.{Permutes}
+use Rattle.ipc_kernel.specs.Private.Renamings.{Follows}
 use Rattle.ipc_kernel.proofs.FollowingRenamings.{NamedBelow, name_taken, no_name_taken}
 use Rattle.ipc_kernel.proofs.places.Places.take_names.Goals as goal
 use Rattle.ipc_kernel.proofs.places.Places.take_names.Goals.{in-Some, in_default}

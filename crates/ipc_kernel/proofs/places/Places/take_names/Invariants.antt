@@ -1,7 +1,8 @@
 use Rattle.std.proofs.Common.{◌≡◌, ℕ}
 use Rattle.ipc_kernel.specs.Places.{place_at}
 use Rattle.ipc_kernel.specs.Alike.{IsPermutation}
-use Rattle.ipc_kernel.specs.Private.Renamings.{Permutes, Follows}
+use Rattle.ipc_kernel.specs.Renamings.{Permutes}
+use Rattle.ipc_kernel.specs.Private.Renamings.{Follows}
 use Rattle.ipc_kernel.proofs.FollowingRenamings.{NamedBelow}
 use Rattle.ipc_kernel.proofs.places.Places.take_names.Given as goal
 

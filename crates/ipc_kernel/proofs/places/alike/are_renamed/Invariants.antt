@@ -1,6 +1,6 @@
 use Rattle.std.proofs.Common.{ℕ, ◌<◌, ◌≡◌}
 use Rattle.ipc_kernel.specs.Places.{place_at}
-use Rattle.ipc_kernel.specs.Private.Renamings.{renamed_by}
+use Rattle.ipc_kernel.specs.Renamings.{renamed_by}
 use Rattle.ipc_kernel.proofs.places.alike.are_renamed.Given as goal
 
 abbrev pub invariant-loop-at : goal.invariant-loop-at

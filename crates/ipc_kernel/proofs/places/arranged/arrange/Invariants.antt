@@ -1,4 +1,4 @@
-use Rattle.ipc_kernel.specs.Private.Renamings.{Permutes}
+use Rattle.ipc_kernel.specs.Renamings.{Permutes}
 use Rattle.ipc_kernel.proofs.places.arranged.arrange.Given as goal
 
 abbrev pub invariant-loop : goal.invariant-loop

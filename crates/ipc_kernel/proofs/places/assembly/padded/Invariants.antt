@@ -1,6 +1,6 @@
 use Rattle.std.proofs.Common.{◌≡◌, ◌≤◌, ◌-◌, length}
 use Rattle.ipc_kernel.specs.Limits.{object_places}
-use Rattle.ipc_kernel.specs.Rows.{padded}
+use Rattle.ipc_kernel.specs.Places.{padded}
 use Rattle.ipc_kernel.proofs.places.assembly.padded.Given as goal
 
 abbrev pub invariant-loop-all : goal.invariant-loop-all

@@ -1,6 +1,6 @@
 use Rattle.std.proofs.Common.{arith, refl, ap, sym, ◌∙◌, length}
 use Rattle.std.proofs.lemmas.List.{take_all}
-use Rattle.ipc_kernel.specs.Rows.{padded}
+use Rattle.ipc_kernel.specs.Places.{padded}
 use Rattle.ipc_kernel.proofs.PlaceLemmas.{empty_of}
 use Rattle.ipc_kernel.proofs.AssemblyLemmas.{padded_full, padded_less}
 use Rattle.ipc_kernel.proofs.places.assembly.used_count.Goals as goal

@@ -1,5 +1,5 @@
 use Rattle.std.proofs.Common.{◌≡◌, ◌≤◌, length, take}
-use Rattle.ipc_kernel.specs.Rows.{padded}
+use Rattle.ipc_kernel.specs.Places.{padded}
 use Rattle.ipc_kernel.proofs.places.assembly.used_count.Given as goal
 
 abbrev pub invariant-loop-count : goal.invariant-loop-count

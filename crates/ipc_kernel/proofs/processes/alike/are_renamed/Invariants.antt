@@ -1,6 +1,6 @@
 use Rattle.std.proofs.Common.{◌≡◌, take, map}
 use Rattle.ipc_kernel.specs.Alike.{renamed_process}
-use Rattle.ipc_kernel.specs.Private.Renamings.{renamed_by}
+use Rattle.ipc_kernel.specs.Renamings.{renamed_by}
 use Rattle.ipc_kernel.proofs.processes.alike.are_renamed.Given as goal
 
 abbrev pub invariant-loop-i : goal.invariant-loop-i

@@ -3,7 +3,8 @@ use Rattle.std.specs.List.{list_any}
 use Rattle.std.specs.Option.{option_map}
 use Rattle.ipc_kernel.specs.Processes.{descriptor_refers}
 use Rattle.ipc_kernel.specs.Alike.{IsPermutation, renamed_descriptor}
-use Rattle.ipc_kernel.specs.Private.Renamings.{Permutes, Follows}
+use Rattle.ipc_kernel.specs.Renamings.{Permutes}
+use Rattle.ipc_kernel.specs.Private.Renamings.{Follows}
 use Rattle.ipc_kernel.proofs.processes.alike.take_descriptors.Given as goal
 
 abbrev pub invariant-loop-at : goal.invariant-loop-at

@@ -1,6 +1,6 @@
 use Rattle.std.proofs.Common.{ℕ, ◌<◌, ◌≡◌, length}
 use Rattle.ipc_kernel.specs.Limits.{object_places}
-use Rattle.ipc_kernel.specs.Private.Renamings.{renamed_by}
+use Rattle.ipc_kernel.specs.Renamings.{renamed_by}
 use Rattle.ipc_kernel.proofs.renaming.Renaming.new.Given as goal
 
 abbrev pub invariant-loop-place : goal.invariant-loop-place

@@ -1,8 +1,0 @@
-use Rattle.std.proofs.Common.{sym}
-use Rattle.ipc_kernel.proofs.KeptLemmas.{tables_there}
-use Rattle.ipc_kernel.proofs.kept.Kernels.tables_at.Goals as goal
-
-pub returns-clause-tables : goal.returns-clause-tables
-returns-clause-tables c =
-    rw (← c.self.view_is) (tables_there c.self.inside.objects c.self.inside.tables c.self.inside.rows c.args.kernel c.args.pid c.in_ok-number.number c.in_ok-tables.field-0-0.now c.in_ok-tables.tables.now
-    c.self.invariant c.in_ok-tables.ensures.row (sym c.in_ok-number.ensures.number))

@@ -1,5 +1,0 @@
-use Rattle.ipc_kernel.proofs.LikeAnswers.{stays_consistent}
-use Rattle.ipc_kernel.proofs.laws.consistent_law.Goals as goal
-
-pub returns : goal.returns
-returns c = record { consistent = stays_consistent }

@@ -1,5 +1,0 @@
-use Rattle.ipc_kernel.proofs.Consistents.{consistent_empty}
-use Rattle.ipc_kernel.proofs.laws.empty_law.Goals as goal
-
-pub returns : goal.returns
-returns c = record { consistent = consistent_empty }

@@ -1,0 +1,17 @@
+pub mod Consistents
+pub mod AlikeOutcomes
+pub mod LikeAnswers
+pub mod OperandAnswers
+pub mod SettledAnswers
+mod NumberLemmas
+mod ArrangedRows
+mod RowLemmas
+mod KeptLemmas
+pub mod LocalCalls
+mod OpeningCalls
+mod SettledTables
+mod OperandRows
+mod NamedPlaces
+mod TableCalls
+mod NamedCalls
+pub mod CommutingCalls

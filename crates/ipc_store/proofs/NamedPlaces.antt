@@ -1,0 +1,99 @@
+-- Places where each object has a name: what is written into one leaves them so, and leaves each name where it was.
+use Rattle.std.proofs.Common.{◌≡◌, ℕ, ◌+◌, Bool, true, false, cond, not, ◌||◌, ◌&&◌, List, [], ◌∷◌, zero, suc, length-set, set, Option, Some, None, unwrap_or, slice_get, position, refl, sym, ap, ◌∙◌}
+use Rattle.std.specs.List.{list_all, position_or_len}
+use Rattle.ipc_objects.specs.Queue.{QueueState}
+use Rattle.ipc_kernel.specs.declared.place.Place.{Place}
+use Rattle.ipc_kernel.specs.declared.place.Place.TheVariants.{Empty, Mq, Sem}
+use Rattle.ipc_kernel.specs.Places.{place_at, is_empty, has_name, is_name, queue_name, semaphore_name, place_named, queue_named, semaphore_named, with_queue, with_value, with_queue_in, with_value_in}
+use Rattle.ipc_kernel.specs.Operands.{are_named}
+use Rattle.ipc_store.proofs.SettledTables.{and_first, and_rest}
+use Rattle.ipc_kernel.proofs.IndexLemmas.{is_name-true, queue_name-with_queue, semaphore_name-with_queue, queue_name-with_value, semaphore_name-with_value}
+
+-- whether what is in a place is nothing, or has a name
+abbrev pub is_named : Place → Bool
+is_named p = is_empty p || has_name p
+
+-- each object of the second places has a name, and each name of the first stands in its place
+pub record KeepNames (ps qs : List Place) : Type 0 where
+  pub named : are_named qs ≡ true
+  pub queues : (n : List ℕ) (i : ℕ) → queue_named ps n ≡ Some i → queue_named qs n ≡ Some i
+  pub semaphores : (n : List ℕ) (i : ℕ) → semaphore_named ps n ≡ Some i → semaphore_named qs n ≡ Some i
+
+pub names_kept : (ps : List Place) → are_named ps ≡ true → KeepNames ps ps
+names_kept ps named = record { named = named; queues = λ n i e. e; semaphores = λ n i e. e }
+
+-- what all pass, one of them passes
+pub all_at : {A : Type 0} (test : A → Bool) (xs : List A) (i : ℕ) (d : A) → test d ≡ true → list_all test xs ≡ true → test (unwrap_or (slice_get xs i) d) ≡ true
+all_at test [] i d past e = past
+all_at test (x ∷ xs) zero d past e = and_first (test x) (list_all test xs) e
+all_at test (x ∷ xs) (suc i) d past e = all_at test xs i d past (and_rest (test x) (list_all test xs) e)
+
+-- what each passes, all pass
+pub all_by : {A : Type 0} (test : A → Bool) (xs : List A) (d : A) → ((i : ℕ) → test (unwrap_or (slice_get xs i) d) ≡ true) → list_all test xs ≡ true
+all_by test [] d each = refl
+all_by test (x ∷ xs) d each = ap (λ b. b && list_all test xs) (each 0) ∙ all_by test xs d (λ i. each (suc i))
+
+all_set : {A : Type 0} (test : A → Bool) (xs : List A) (i : ℕ) (y : A) → test y ≡ true → list_all test xs ≡ true → list_all test (set xs i y) ≡ true
+all_set test [] i y new e = refl
+all_set test (x ∷ xs) zero y new e = ap (λ b. b && list_all test xs) new ∙ and_rest (test x) (list_all test xs) e
+all_set test (x ∷ xs) (suc i) y new e =
+    ap (λ b. b && list_all test (set xs i y)) (and_first (test x) (list_all test xs) e) ∙ all_set test xs i y new (and_rest (test x) (list_all test xs) e)
+
+-- the first that passes a test stays it, where what is written passes as what was there did
+first_set : {A : Type 0} (test : A → Bool) (xs : List A) (i : ℕ) (y d : A) → test y ≡ test (unwrap_or (slice_get xs i) d) → position_or_len test (set xs i y) ≡ position_or_len test xs
+first_set test [] i y d same = refl
+first_set test (x ∷ xs) zero y d same = ap (λ b. cond (not b) (1 + position_or_len test xs) 0) same
+first_set test (x ∷ xs) (suc i) y d same = ap (λ n. cond (not (test x)) (1 + n) 0) (first_set test xs i y d same)
+
+position_set : {A : Type 0} (test : A → Bool) (xs : List A) (i : ℕ) (y d : A) → test y ≡ test (unwrap_or (slice_get xs i) d) → position test (set xs i y) ≡ position test xs
+position_set test xs i y d same = rw (first_set test xs i y d same, length-set xs i y) refl
+
+-- names stay where they are, where what is written has those of what was there, as far as they are found
+keeps_written : (ps : List Place) (i : ℕ) (y : Place) → are_named ps ≡ true → is_named y ≡ true
+    → ((n : List ℕ) (m : ℕ) → queue_named ps n ≡ Some m → is_name n (queue_name y) ≡ is_name n (queue_name (place_at ps i)))
+    → ((n : List ℕ) (m : ℕ) → semaphore_named ps n ≡ Some m → is_name n (semaphore_name y) ≡ is_name n (semaphore_name (place_at ps i)))
+    → KeepNames ps (set ps i y)
+keeps_written ps i y named new queues semaphores = record {
+  named = all_set is_named ps i y new named;
+  queues = λ n m e. position_set (λ p. is_name n (queue_name p)) ps i y Empty (queues n m e) ∙ e;
+  semaphores = λ n m e. position_set (λ p. is_name n (semaphore_name p)) ps i y Empty (semaphores n m e) ∙ e;
+}
+
+named_queue : (q : QueueState) (p : Place) → is_named (with_queue q p) ≡ is_named p
+named_queue q Empty = refl
+named_queue q (Mq name queue) = refl
+named_queue q (Sem name value) = refl
+
+-- another state of a queue
+pub keeps_queue : (ps : List Place) (i : ℕ) (q : QueueState) → are_named ps ≡ true → KeepNames ps (with_queue_in ps i q)
+keeps_queue ps i q named = keeps_written ps i (with_queue q (place_at ps i)) named (named_queue q (place_at ps i) ∙ all_at is_named ps i Empty refl named)
+    (λ n m e. ap (is_name n) (queue_name-with_queue q (place_at ps i))) (λ n m e. ap (is_name n) (semaphore_name-with_queue q (place_at ps i)))
+
+named_value : (v : ℕ) (p : Place) → is_named (with_value v p) ≡ is_named p
+named_value v Empty = refl
+named_value v (Mq name queue) = refl
+named_value v (Sem name value) = refl
+
+-- another value of a semaphore
+pub keeps_value : (ps : List Place) (i v : ℕ) → are_named ps ≡ true → KeepNames ps (with_value_in ps i v)
+keeps_value ps i v named = keeps_written ps i (with_value v (place_at ps i)) named (named_value v (place_at ps i) ∙ all_at is_named ps i Empty refl named)
+    (λ n m e. ap (is_name n) (queue_name-with_value v (place_at ps i))) (λ n m e. ap (is_name n) (semaphore_name-with_value v (place_at ps i)))
+
+-- a name that is found isn't one that isn't
+other_name : (name_of : Place → Option (List ℕ)) (ps : List Place) (name n : List ℕ) (m : ℕ) → place_named name_of ps name ≡ None → place_named name_of ps n ≡ Some m → is_name n (Some name) ≡ false
+other_name name_of ps name n m absent e = by (is_name n (Some name)) refl
+  where
+    by : (b : Bool) → is_name n (Some name) ≡ b → is_name n (Some name) ≡ false
+    by false f = f
+    by true f = let same : Some name ≡ Some n = is_name-true n (Some name) f in let is : name ≡ n = cc in let no : None ≡ Some m = sym absent ∙ ap (place_named name_of ps) is ∙ e in absurd (cc)
+
+-- a new object with a name that none had
+pub keeps_new_queue : (ps : List Place) (i : ℕ) (name : List ℕ) (q : QueueState) → are_named ps ≡ true → queue_named ps name ≡ None → place_at ps i ≡ Empty → KeepNames ps (set ps i (Mq (Some name) q))
+keeps_new_queue ps i name q named absent empty = keeps_written ps i (Mq (Some name) q) named refl
+    (λ n m e. other_name queue_name ps name n m absent e ∙ sym (ap (λ p. is_name n (queue_name p)) empty))
+    (λ n m e. sym (ap (λ p. is_name n (semaphore_name p)) empty))
+
+pub keeps_new_semaphore : (ps : List Place) (i : ℕ) (name : List ℕ) (v : ℕ) → are_named ps ≡ true → semaphore_named ps name ≡ None → place_at ps i ≡ Empty → KeepNames ps (set ps i (Sem (Some name) v))
+keeps_new_semaphore ps i name v named absent empty = keeps_written ps i (Sem (Some name) v) named refl
+    (λ n m e. sym (ap (λ p. is_name n (queue_name p)) empty))
+    (λ n m e. other_name semaphore_name ps name n m absent e ∙ sym (ap (λ p. is_name n (semaphore_name p)) empty))

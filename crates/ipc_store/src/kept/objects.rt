@@ -1,0 +1,286 @@
+//! Objects, each once.
+ghost use Rattle.std.specs.Prelude.{◌≡◌, ◌||◌, ℕ, [], Some, map, position, slice_get, IfOk, IfSome};
+ghost use Rattle.std.specs.List.{list_all};
+ghost use Rattle.std.specs.Str.{bytes_eq};
+ghost use Rattle.std.specs.Option.{option_copied, option_or};
+ghost use Rattle.ipc_kernel.specs.declared.place.Place.{Place};
+ghost use Rattle.ipc_kernel.specs.declared.place.Place.TheVariants.{Empty};
+ghost use Rattle.ipc_kernel.specs.Limits.{object_places};
+ghost use Rattle.ipc_kernel.specs.Places.{place_at, is_empty, has_name, is_name, queue_name, semaphore_name, padded};
+
+use super::rows::number_of;
+use crate::index::Index;
+use ipc_kernel::{OBJECT_PLACES, Place};
+use ipc_names::Name;
+use std::alloc::{AllocError, Global};
+use std::marker::Model;
+
+/// Whether texts are equal. Names that differ mostly do so in their lengths or their last
+/// characters, which are looked at first.
+#[inline(always)]
+fn is_text(text: &str, other: &str) -> bool
+    ensures same { result ≡ bytes_eq text.now other.now }
+{
+    let (bytes, others) = (text.as_bytes(), other.as_bytes());
+    if bytes.len() != others.len() || bytes.last() != others.last() {
+        return false;
+    }
+    text == other
+}
+
+/// Whether a name is this one.
+#[inline(always)]
+fn is_name(name: &Name, other: Option<&Name>) -> bool
+    ensures same { result ≡ is_name name.now (option_copied other.entry) }
+{
+    match other {
+        Some(other) => is_text(name.text(), other.text()),
+        None => false,
+    }
+}
+
+/// The number of what is kept first.
+const FIRST: u32 = 0;
+
+/// Objects, each with a number, from 0.
+#[derive(Drop)]
+pub(crate) struct Objects {
+    objects: Vec<Place>,
+    index: Index,
+    /// About how many bytes the objects take.
+    held: usize,
+}
+
+impl Model for Objects {
+    ghost use Rattle.std.specs.Prelude.{List};
+    ghost use Rattle.ipc_kernel.specs.declared.place.Place.{Place};
+
+    ghost Value = { List Place };
+
+    ghost view = { λ a. a.objects.items };
+}
+
+impl Objects {
+    /// No object.
+    pub(crate) fn new(alloc: Global) -> Result<Objects, AllocError>
+        ensures none { IfOk result (λ objects. objects ≡ []) }
+    {
+        Ok(Objects {
+            objects: Vec::new(alloc),
+            index: Index::new(alloc)?,
+            held: 0,
+        })
+    }
+
+    /// The object with a number, if there is one.
+    pub(crate) fn get(&self, number: u32) -> Option<&Place>
+        ensures object { option_copied result ≡ slice_get self.now number }
+    {
+        self.objects.get(number as usize)
+    }
+
+    /// Whether an object is a queue with a name.
+    fn is_queue(&self, number: u32, name: &Name) -> bool
+        ensures named { result ≡ is_name name.now (queue_name (place_at self.now number)) }
+    {
+        match self.get(number) {
+            Some(object) => is_name(name, object.queue_name()),
+            None => false,
+        }
+    }
+
+    /// Whether an object is a semaphore with a name.
+    fn is_semaphore(&self, number: u32, name: &Name) -> bool
+        ensures named { result ≡ is_name name.now (semaphore_name (place_at self.now number)) }
+    {
+        match self.get(number) {
+            Some(object) => is_name(name, object.semaphore_name()),
+            None => false,
+        }
+    }
+
+    /// Whether an object has a name.
+    pub(crate) fn has_name(&self, number: u32) -> bool
+        ensures named { result ≡ has_name (place_at self.now number) }
+    {
+        match self.get(number) {
+            Some(object) => object.has_name(),
+            None => false,
+        }
+    }
+
+    /// Whether an object is none.
+    fn is_empty(&self, number: u32) -> bool
+        ensures empty { result ≡ is_empty (place_at self.now number) }
+    {
+        match self.get(number) {
+            Some(object) => object.is_empty(),
+            None => true,
+        }
+    }
+
+    /// Whether an object is none, or has a name.
+    fn is_empty_or_named(&self, number: u32) -> bool
+        ensures named { result
+            ≡ (is_empty (place_at self.now number) || has_name (place_at self.now number)) }
+    {
+        match self.get(number) {
+            Some(object) => object.is_empty() || object.has_name(),
+            None => true,
+        }
+    }
+
+    /// The place of the queue with a name among objects, which are given by their numbers.
+    pub(crate) fn queue_named(&self, numbers: &[u32], name: &Name) -> Option<usize>
+        ensures found { result
+            ≡ position (λ n. is_name name.now (queue_name (place_at self.now n))) numbers.now }
+    {
+        numbers
+            .iter()
+            .position(|number| self.is_queue(*number, name))
+    }
+
+    /// The place of the semaphore with a name among objects, which are given by their numbers.
+    pub(crate) fn semaphore_named(&self, numbers: &[u32], name: &Name) -> Option<usize>
+        ensures found { result
+            ≡ position (λ n. is_name name.now (semaphore_name (place_at self.now n))) numbers.now }
+    {
+        numbers
+            .iter()
+            .position(|number| self.is_semaphore(*number, name))
+    }
+
+    /// The first that is none among objects, which are given by their numbers.
+    fn first_empty(&self, numbers: &[u32]) -> Option<usize>
+        ensures first { result ≡ position (λ n. is_empty (place_at self.now n)) numbers.now }
+    {
+        numbers.iter().position(|number| self.is_empty(*number))
+    }
+
+    /// The least empty place of a kernel, whose objects are given by their numbers, up to the last.
+    fn empty_place(&self, numbers: &[u32]) -> Option<usize>
+        ensures place { result ≡ position is_empty
+            (padded object_places (map (place_at self.now) numbers.now)) }
+    {
+        if let Some(place) = self.first_empty(numbers) {
+            return Some(place);
+        }
+        if numbers.len() < OBJECT_PLACES {
+            return Some(numbers.len());
+        }
+        None
+    }
+
+    /// The place that is named, if there is one, or else the least empty place.
+    pub(crate) fn named_or_empty(&self, numbers: &[u32], named: Option<usize>) -> Option<usize>
+        ensures place { result ≡ option_or named (position is_empty
+            (padded object_places (map (place_at self.now) numbers.now))) }
+    {
+        named.or_else(|| self.empty_place(numbers))
+    }
+
+    /// Whether each of some objects, which are given by their numbers, has a name.
+    pub(crate) fn are_named(&self, numbers: &[u32]) -> bool
+        ensures named { result ≡ list_all (λ n. is_empty (place_at self.now n)
+            || has_name (place_at self.now n)) numbers.now }
+    {
+        numbers.iter().all(|number| self.is_empty_or_named(*number))
+    }
+
+    /// The number of an equal object, if one is kept.
+    fn find(&self, object: &Place, digest: u64) -> Option<u32>
+        ensures found { IfSome result (λ i. slice_get self.now i ≡ Some object.now) }
+    {
+        let mut number = self.index.newest(digest);
+        while number > 0 {
+            if let Ok(at) = u32::try_from(number - 1) {
+                if let Some(kept) = self.get(at) {
+                    if kept.is_same(object) {
+                        return Some(at);
+                    }
+                }
+            }
+            number = self.index.older(number);
+        }
+        None
+    }
+
+    /// The number of no object, which an empty place holds, if it was kept first.
+    pub(crate) fn empty(&self) -> Option<u32>
+        ensures empty { IfSome result (λ i. slice_get self.now i ≡ Some Empty) }
+    {
+        match self.get(FIRST) {
+            Some(Place::Empty) => Some(FIRST),
+            _ => None,
+        }
+    }
+
+    /// Keeps an object; with its number.
+    pub(crate) fn keep(&mut self, alloc: Global, object: &Place) -> Result<u32, AllocError>
+        ensures kept { IfOk result (λ i. slice_get self.new i ≡ Some object.now) }
+        ensures grows { (i : ℕ) (x : Place)
+            → slice_get self.old i ≡ Some x → slice_get self.new i ≡ Some x }
+    {
+        let digest = object.digest();
+        if let Some(number) = self.find(object, digest) {
+            return Ok(number);
+        }
+        let number = number_of(self.objects.len())?;
+        let copy = object.copy(alloc)?;
+        self.objects.reserve(1)?;
+        self.index.add(digest)?;
+        self.objects.push(copy)?;
+        self.held = self.held.saturating_add(object.size());
+        Ok(number)
+    }
+
+    /// Keeps objects; with their numbers.
+    pub(crate) fn keep_all(
+        &mut self,
+        alloc: Global,
+        objects: &[Place],
+    ) -> Result<Vec<u32>, AllocError>
+        ensures kept { IfOk result (λ numbers.
+            map (slice_get self.new) numbers.items ≡ map Some objects.now) }
+        ensures grows { (i : ℕ) (x : Place)
+            → slice_get self.old i ≡ Some x → slice_get self.new i ≡ Some x }
+    {
+        let mut numbers = Vec::with_capacity(alloc, objects.len())?;
+        for object in objects {
+            numbers.push(self.keep(alloc, object)?)?;
+        }
+        Ok(numbers)
+    }
+
+    /// Copies of the objects with these numbers, if there are all, with room for those of a kernel.
+    pub(crate) fn copies(
+        &self,
+        alloc: Global,
+        numbers: &[u32],
+    ) -> Result<Option<Vec<Place>>, AllocError>
+        ensures equal { IfOk result (λ found. IfSome found (λ copies.
+            map (slice_get self.now) numbers.now ≡ map Some copies.items)) }
+    {
+        let mut copies = Vec::with_capacity(alloc, OBJECT_PLACES)?;
+        for number in numbers {
+            let Some(object) = self.get(*number) else {
+                return Ok(None);
+            };
+            copies.push(object.copy(alloc)?)?;
+        }
+        Ok(Some(copies))
+    }
+
+    /// About how many bytes the objects take.
+    pub(crate) fn size(&self) -> usize {
+        self.held
+            .saturating_add(Index::ENTRY.saturating_mul(self.objects.len()))
+    }
+
+    /// Lets go of the index.
+    pub(crate) fn forget(&mut self, alloc: Global)
+        ensures same { self.new ≡ self.old }
+    {
+        self.index = Index::none(alloc);
+    }
+}

@@ -1,0 +1,155 @@
+//! The object places that calls work on, in kernels that are kept.
+ghost use Rattle.std.specs.Prelude.{◌≡◌, false, Some, is_some, position, slice_get, IfSome, IsTrue};
+ghost use Rattle.std.specs.Option.{option_or};
+ghost use Rattle.ipc_kernel.specs.declared.process.OpenTables.{OpenTables};
+ghost use Rattle.ipc_kernel.specs.Kernel.{KernelState};
+ghost use Rattle.ipc_kernel.specs.Places.{is_empty, queue_named, semaphore_named};
+ghost use Rattle.ipc_kernel.specs.OwnCalls.{is_own};
+ghost use Rattle.ipc_kernel.specs.Operands.{place_of, if_named, are_named, operand_in};
+
+use super::Kernels;
+use ipc_kernel::{Call, Handle};
+use ipc_names::Name;
+
+/// The number of a place, if it is small enough.
+fn as_place(at: usize) -> Option<u8>
+    ensures place { IfSome result (λ i. i ≡ at) }
+{
+    u8::try_from(at).ok()
+}
+
+impl Kernels {
+    /// The place of the queue with a name in a kernel, or else the least empty one.
+    fn queue_opened(&self, kernel: u32, name: &Name) -> Option<u8>
+        ensures place { IfSome result (λ i. (k : KernelState)
+            → slice_get self.now.kernels kernel ≡ Some k
+            → option_or (queue_named k.places name.now) (position is_empty k.places) ≡ Some i) }
+    {
+        let (objects, _) = self.rows.row(kernel)?;
+        let named = self.objects.queue_named(objects, name);
+        let first = self.objects.named_or_empty(objects, named)?;
+        let place = as_place(first)?;
+        Some(place)
+    }
+
+    /// The place of the semaphore with a name in a kernel, or else the least empty one.
+    fn semaphore_opened(&self, kernel: u32, name: &Name) -> Option<u8>
+        ensures place { IfSome result (λ i. (k : KernelState)
+            → slice_get self.now.kernels kernel ≡ Some k
+            → option_or (semaphore_named k.places name.now) (position is_empty k.places)
+            ≡ Some i) }
+    {
+        let (objects, _) = self.rows.row(kernel)?;
+        let named = self.objects.semaphore_named(objects, name);
+        let first = self.objects.named_or_empty(objects, named)?;
+        let place = as_place(first)?;
+        Some(place)
+    }
+
+    /// A place of a kernel, if the object in it has a name.
+    fn if_named(&self, kernel: u32, place: u8) -> Option<u8>
+        ensures place { IfSome result (λ i. (k : KernelState)
+            → slice_get self.now.kernels kernel ≡ Some k
+            → if_named k.places place ≡ Some i) }
+    {
+        let object = self.object_at(kernel, place)?;
+        if self.objects.has_name(object) {
+            return Some(place);
+        }
+        None
+    }
+
+    /// Whether each object of a kernel has a name.
+    fn are_named(&self, kernel: u32) -> bool
+        ensures named { IsTrue result → (k : KernelState)
+            → slice_get self.now.kernels kernel ≡ Some k → IsTrue (are_named k.places) }
+    {
+        match self.rows.row(kernel) {
+            Some((objects, _)) => self.objects.are_named(objects),
+            None => false,
+        }
+    }
+
+    /// The place to which a descriptor or slot refers by tables that are kept, if it is open.
+    fn place_of(&self, tables: u32, handle: Handle) -> Option<u8>
+        ensures place { IfSome result (λ i. (t : OpenTables)
+            → slice_get self.now.tables tables ≡ Some t → place_of t handle ≡ Some i) }
+    {
+        self.tables.get(tables)?.place_of(handle)
+    }
+
+    /// Whether a queue has a name in a kernel.
+    fn has_queue(&self, kernel: u32, name: &Name) -> bool
+        ensures yes { IsTrue result → (k : KernelState)
+            → slice_get self.now.kernels kernel ≡ Some k
+            → IsTrue (is_some (queue_named k.places name.now)) }
+        ensures no { result ≡ false → (k : KernelState)
+            → slice_get self.now.kernels kernel ≡ Some k
+            → is_some (queue_named k.places name.now) ≡ false }
+    {
+        match self.rows.row(kernel) {
+            Some((objects, _)) => self.objects.queue_named(objects, name).is_some(),
+            None => false,
+        }
+    }
+
+    /// Whether a semaphore has a name in a kernel.
+    fn has_semaphore(&self, kernel: u32, name: &Name) -> bool
+        ensures yes { IsTrue result → (k : KernelState)
+            → slice_get self.now.kernels kernel ≡ Some k
+            → IsTrue (is_some (semaphore_named k.places name.now)) }
+        ensures no { result ≡ false → (k : KernelState)
+            → slice_get self.now.kernels kernel ≡ Some k
+            → is_some (semaphore_named k.places name.now) ≡ false }
+    {
+        match self.rows.row(kernel) {
+            Some((objects, _)) => self.objects.semaphore_named(objects, name).is_some(),
+            None => false,
+        }
+    }
+
+    /// Whether a call changes the tables of its process alone, over a kernel that is kept, where each
+    /// object in it has a name: whether it is the end of a process, a close, or an open of a name that
+    /// an object has.
+    pub fn is_own(&self, kernel: u32, call: &Call) -> bool
+        ensures own { IsTrue result → (k : KernelState)
+            → slice_get self.now.kernels kernel ≡ Some k → IsTrue (is_own k.places call.now) }
+        ensures other { result ≡ false → (k : KernelState)
+            → slice_get self.now.kernels kernel ≡ Some k → is_own k.places call.now ≡ false }
+    {
+        match call {
+            Call::Exit | Call::MqClose { .. } | Call::SemClose { .. } => true,
+            Call::MqOpen { name, .. } => self.has_queue(kernel, name),
+            Call::SemOpen { name, .. } => self.has_semaphore(kernel, name),
+            _ => false,
+        }
+    }
+
+    /// The object place, 0 to 63, that a call of a process works on, over a kernel and with tables
+    /// that are kept, if it removes no object. For an open of a name that no object has it is the
+    /// least empty place, and for the end of a process place 0.
+    pub fn operand(&self, kernel: u32, tables: u32, call: &Call) -> Option<u8>
+        ensures operand { IfSome result (λ i. (k : KernelState) (t : OpenTables)
+            → slice_get self.now.kernels kernel ≡ Some k
+            → slice_get self.now.tables tables ≡ Some t
+            → operand_in k t call.now ≡ Some i) }
+    {
+        if let Some(handle) = call.handle() {
+            return self.place_of(tables, handle);
+        }
+        match call {
+            Call::MqOpen { name, .. } => self.queue_opened(kernel, name),
+            Call::SemOpen { name, .. } => self.semaphore_opened(kernel, name),
+            Call::MqClose { mqd } => {
+                let place = self.place_of(tables, Handle::Mqd(*mqd))?;
+                self.if_named(kernel, place)
+            }
+            Call::SemClose { slot } => {
+                let place = self.place_of(tables, Handle::Slot(*slot))?;
+                self.if_named(kernel, place)
+            }
+            Call::Exit if self.are_named(kernel) => Some(0),
+            _ => None,
+        }
+    }
+}
