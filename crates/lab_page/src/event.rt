@@ -1,7 +1,8 @@
 //! A step that has a line in the trace.
-ghost use Rattle.std.specs.Prelude.{◌≡◌, ◌<◌, IfOk, length};
+ghost use Rattle.std.specs.Prelude.{◌≡◌, ◌<◌, IfOk, length, string_bytes};
 ghost use Rattle.std.specs.Option.{option_map};
 ghost use Rattle.serde_json.specs.View.{view};
+ghost use Rattle.lab_trace.specs.Answers.{outcome_text};
 ghost use Rattle.lab_page.specs.Values.{natural, naturals, or_null};
 ghost use Rattle.lab_page.specs.Events.{outcome_data, words_of, called_data, act_data, is_arranging, tells_open, open_told, event_data};
 
@@ -69,6 +70,15 @@ fn sender(origin: Option<Origin>) -> Option<u32>
     }
 }
 
+/// The text of what became of a call.
+fn answer_text(alloc: Global, outcome: &Outcome) -> Result<String, AllocError>
+    ensures text { IfOk result (λ s. string_bytes s ≡ outcome_text outcome.now) }
+{
+    let mut answer = String::new(alloc);
+    push_outcome(&mut answer, outcome)?;
+    Ok(answer)
+}
+
 /// A call.
 #[tactic(auto, unfolding(crate::specs::Events::called_data))]
 fn called_value(alloc: Global, call: &Called) -> Result<Value, AllocError>
@@ -76,14 +86,17 @@ fn called_value(alloc: Global, call: &Called) -> Result<Value, AllocError>
 {
     let name = call.service.name();
     let object = call.object.as_str();
-    let mut answer = String::new(alloc);
-    push_outcome(&mut answer, &call.outcome)?;
-    let outcome = outcome_value(alloc, &call.outcome)?;
-    let words = message_words(alloc, call)?;
-    let place = place_value(call.place);
-    let sender = step_value(sender(call.origin));
-    let giver = step_value(call.giver);
-    json!(in alloc; ["call", name, place, object, answer, outcome, words, sender, giver])
+    json!(in alloc; [
+        "call",
+        name,
+        place_value(call.place),
+        object,
+        answer_text(alloc, &call.outcome)?,
+        outcome_value(alloc, &call.outcome)?,
+        message_words(alloc, call)?,
+        step_value(sender(call.origin)),
+        step_value(call.giver)
+    ])
 }
 
 /// What a process did.
@@ -150,12 +163,13 @@ pub fn event_value(
     ensures value { IfOk result (λ v. view v
         ≡ event_data form.now number pid event.now world.now tally.now past.now) }
 {
-    let pc = event.pc;
-    let head = columns_text(alloc, form, number, pid, event)?;
-    let what = event_text(alloc, event)?;
-    let act = act_value(alloc, &event.act)?;
-    let objects = past.objects.told(alloc, world, tally, pid, &event.act)?;
-    let open = open_told(alloc, world, pid, &event.act)?;
-    let over = over_value(alloc, world.kernel(), pid, &event.act, &past.holds)?;
-    json!(in alloc; [pc, head, what, act, objects, open, over])
+    json!(in alloc; [
+        event.pc,
+        columns_text(alloc, form, number, pid, event)?,
+        event_text(alloc, event)?,
+        act_value(alloc, &event.act)?,
+        past.objects.told(alloc, world, tally, pid, &event.act)?,
+        open_told(alloc, world, pid, &event.act)?,
+        over_value(alloc, world.kernel(), pid, &event.act, &past.holds)?
+    ])
 }

@@ -42,10 +42,13 @@ fn shown_moment(
     ensures moment { IfOk result (λ v. view v
         ≡ shown_moment form.now number pid event.now world.now tally.now past.now) }
 {
-    let state = state_in(alloc, world, pid)?;
-    let event = event_value(alloc, world, tally, past, form, number, pid, event)?;
-    let between = past.between.value(alloc)?;
-    json!(in alloc; [number, pid, state, event, between])
+    json!(in alloc; [
+        number,
+        pid,
+        state_in(alloc, world, pid)?,
+        event_value(alloc, world, tally, past, form, number, pid, event)?,
+        past.between.value(alloc)?
+    ])
 }
 
 /// The moment after step `number` of process `pid`, by what is told of it, where it has one; the world and the tally are those

@@ -126,10 +126,15 @@ fn semaphore_value(
     ensures value { IfOk result (λ v. view v
         ≡ semaphore_data world.now tally.now made place (option_copied name.entry, value)) }
 {
-    let name = name_value(alloc, name)?;
-    let waiters = waiters(alloc, world, place)?;
-    let takers = takers(alloc, world, tally, place)?;
-    json!(in alloc; ["sem", place, name, waiters, value, made, takers])
+    json!(in alloc; [
+        "sem",
+        place,
+        name_value(alloc, name)?,
+        waiters(alloc, world, place)?,
+        value,
+        made,
+        takers(alloc, world, tally, place)?
+    ])
 }
 
 /// Where the messages in the queue in a place come from.
@@ -219,12 +224,16 @@ fn queue_value(
     ensures value { IfOk result (λ v. view v
         ≡ queue_data world.now tally.now place (option_copied name.entry, queue.now)) }
 {
-    let name = name_value(alloc, name)?;
     let (most, size, _) = queue.attr();
-    let origins = origins_in(alloc, tally, place)?;
-    let waiters = waiters(alloc, world, place)?;
-    let messages = messages(alloc, queue, &origins)?;
-    json!(in alloc; ["mq", place, name, waiters, most, size, messages])
+    json!(in alloc; [
+        "mq",
+        place,
+        name_value(alloc, name)?,
+        waiters(alloc, world, place)?,
+        most,
+        size,
+        messages(alloc, queue, &origins_in(alloc, tally, place)?)?
+    ])
 }
 
 /// The object in a place, which was made with some level; else that it is gone.

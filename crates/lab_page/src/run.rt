@@ -89,16 +89,17 @@ fn outcome_value(
     ensures value { (number : ℕ) → IfOk result (λ v. view v
         ≡ outcome_at form.now (scene_at number world.now tally.now) past.now) }
 {
-    let verdict = verdict_word(world.verdict());
-    let stands = stands(alloc, world, tally, form)?;
-    let report = report_text(alloc, world)?;
-    let outputs = outputs(alloc, world)?;
-    let between = past.between.value(alloc)?;
-    let holds = holds_value(alloc, &past.holds)?;
-    let unreceived = steps_value(alloc, &past.unreceived)?;
-    let waits = waits_value(alloc, world, tally, &past.objects)?;
-    let circles = circles_value(alloc, world, &past.holds)?;
-    json!(in alloc; [verdict, stands, report, outputs, between, holds, unreceived, waits, circles])
+    json!(in alloc; [
+        verdict_word(world.verdict()),
+        stands(alloc, world, tally, form)?,
+        report_text(alloc, world)?,
+        outputs(alloc, world)?,
+        past.between.value(alloc)?,
+        holds_value(alloc, &past.holds)?,
+        steps_value(alloc, &past.unreceived)?,
+        waits_value(alloc, world, tally, &past.objects)?,
+        circles_value(alloc, world, &past.holds)?
+    ])
 }
 
 /// Adds what stands behind the moments of a run.
