@@ -8,12 +8,12 @@ use Rattle.lab_sched.specs.declared.schedule.block.Block.{Block}
 use Rattle.lab_page.specs.Ends.{end_data, endless_shown}
 use Rattle.lab_page.specs.Faults.{Explains}
 use Rattle.lab_page.specs.Runs.{schedule_data, page_data}
-use Rattle.lab_page.specs.Values.{or_null}
+use Rattle.lab_moments.specs.Values.{or_null}
 use Rattle.lab_page.specs.declared.ends.Endless.{Endless}
 use Rattle.lab_page.specs.Private.Json.{end_json, page_json}
 use Rattle.lab_page.specs.declared.fault.PageFault.{PageFault}
 use Rattle.lab_page.specs.declared.fault.PageFault.TheVariants.{NoProcess, TooLarge, NoMemory}
-use Rattle.lab_page.proofs.PlainLemmas.{IsPlain, both}
+use Rattle.lab_moments.proofs.PlainLemmas.{IsPlain, both}
 use Rattle.lab_page.proofs.RunLemmas.{schedule-plain}
 use Rattle.lab_page.proofs.JsonLemmas.{end-json, page-json}
 

@@ -3,7 +3,7 @@ use Rattle.std.proofs.Common.{◌≡◌, ℕ, Option, List, [], ◌++◌, codes,
 use Rattle.serde_json.specs.Data.{Data}
 use Rattle.serde_json.specs.Written.{compact_text}
 use Rattle.lab_page.specs.Ends.{EndList, extent_data, ends_json}
-use Rattle.lab_page.specs.Values.{or_null}
+use Rattle.lab_moments.specs.Values.{or_null}
 use Rattle.lab_page.specs.Worlds.{Worlds, worlds_json}
 use Rattle.lab_page.specs.declared.ends.Extent.{Extent}
 

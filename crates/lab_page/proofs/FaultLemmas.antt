@@ -7,7 +7,8 @@ use Rattle.lab_sched.specs.declared.schedule.block.Block.{Block}
 use Rattle.lab_sched.proofs.ScheduleRuns.{steps-split}
 use Rattle.lab_trace.specs.Scenes.{Scene, next, scene_after}
 use Rattle.lab_trace.specs.Forms.{Form}
-use Rattle.lab_page.specs.Pasts.{Past, next_past, past_then}
+use Rattle.lab_moments.specs.Pasts.{Past}
+use Rattle.lab_page.specs.Moments.{next_past, past_then}
 use Rattle.lab_page.specs.Moments.{moment, moments}
 use Rattle.lab_page.specs.Private.Json.{more_json}
 use Rattle.lab_page.specs.Faults.{IsFault}

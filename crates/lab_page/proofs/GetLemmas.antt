@@ -5,7 +5,7 @@ use Rattle.std.specs.Option.{option_map, option_and_then}
 use Rattle.serde_json.specs.Data.{null, string}
 use Rattle.serde_json.specs.View.{view}
 use Rattle.serde_json.specs.declared.value.Value.{Null, the_lemmas}
-use Rattle.lab_page.specs.Values.{or_null}
+use Rattle.lab_moments.specs.Values.{or_null}
 use Rattle.lab_page.specs.Sources.{Source, source_data, source_shown, sources_shown, name_at, source_at}
 use Rattle.lab_page.specs.declared.source.Source.{Source as HeldSource}
 

@@ -1,12 +1,4 @@
-pub mod ValueLemmas
-pub mod KnownLemmas
-pub mod PlainLemmas
-pub mod StateLemmas
-pub mod ObjectLemmas
-pub mod BetweenLemmas
 pub mod PastLemmas
-pub mod WaitLemmas
-pub mod EventLemmas
 pub mod JsonLemmas
 pub mod MomentLemmas
 pub mod FaultLemmas
@@ -14,7 +6,6 @@ pub mod RunLemmas
 pub mod SourceLemmas
 pub mod GetLemmas
 pub mod EndLemmas
-pub mod SafeLemmas
 pub mod WorldLemmas
 pub mod EndsMadeLemmas
 pub mod PageLemmas

@@ -12,8 +12,10 @@ use Rattle.lab_trace.specs.declared.told.Told.{Told}
 use Rattle.lab_trace.specs.declared.told.Told.TheVariants.{Nothing}
 use Rattle.lab_trace.proofs.SceneLemmas.{Stands, renumbered, next-still, told-still, told-some, events-append, events-more}
 use Rattle.lab_page.specs.Private.Json.{more_json}
-use Rattle.lab_page.specs.Pasts.{Past, first_past, next_past, past_then}
-use Rattle.lab_page.specs.Moments.{moment_by, moment, moments, moments_of}
+use Rattle.lab_moments.specs.Pasts.{Past, first_past}
+use Rattle.lab_page.specs.Moments.{next_past, past_then}
+use Rattle.lab_moments.specs.Moments.{moment_by}
+use Rattle.lab_page.specs.Moments.{moment, moments, moments_of}
 use Rattle.lab_page.proofs.JsonLemmas.{more-append}
 
 pub moments-none : (v : Form) (whole : Bool) (s : Scene) (b : Past) → moments v whole s b [] ≡ []

@@ -10,10 +10,11 @@ use Rattle.lab_trace.specs.Tallies.{TallyState}
 use Rattle.lab_trace.specs.declared.told.Told.{Told}
 use Rattle.lab_trace.specs.declared.told.Told.TheVariants.{Nothing, Counted, Shown}
 use Rattle.lab_trace.proofs.SceneLemmas.{renumbered, next-still, told-still, told-some}
-use Rattle.lab_page.specs.Between.{between_after, waits_at}
-use Rattle.lab_page.specs.Pasts.{Past, past_told, past_after, past_by, next_past, past_then}
-use Rattle.lab_page.specs.declared.between.StepCount.{StepCount}
-use Rattle.lab_page.proofs.BetweenLemmas.{length-after, after-more}
+use Rattle.lab_moments.specs.Between.{between_after, waits_at}
+use Rattle.lab_moments.specs.Pasts.{Past, past_told, past_after}
+use Rattle.lab_page.specs.Moments.{past_by, next_past, past_then}
+use Rattle.lab_moments.specs.declared.between.StepCount.{StepCount}
+use Rattle.lab_moments.proofs.BetweenLemmas.{length-after, after-more}
 
 pub past-none : (s : Scene) (h : Past) → past_then s [] h ≡ h
 unfolding past_then

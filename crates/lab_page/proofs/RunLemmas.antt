@@ -12,12 +12,13 @@ use Rattle.lab_trace.specs.Traces.{ending, trace_text}
 use Rattle.lab_trace.proofs.WrittenLemmas.{trace-whole}
 use Rattle.lab_trace.specs.Forms.{Form, form_for}
 use Rattle.lab_page.specs.Private.Json.{more_json}
-use Rattle.lab_page.specs.States.{states}
-use Rattle.lab_page.specs.Between.{between_data}
-use Rattle.lab_page.specs.Holds.{holds_data}
-use Rattle.lab_page.specs.Pasts.{Past, first_past, past_then}
-use Rattle.lab_page.specs.Waits.{waits_data, circles_data}
-use Rattle.lab_page.specs.Values.{naturals}
+use Rattle.lab_moments.specs.States.{states}
+use Rattle.lab_moments.specs.Between.{between_data}
+use Rattle.lab_moments.specs.Holds.{holds_data}
+use Rattle.lab_moments.specs.Pasts.{Past, first_past}
+use Rattle.lab_page.specs.Moments.{past_then}
+use Rattle.lab_moments.specs.Waits.{waits_data, circles_data}
+use Rattle.lab_moments.specs.Values.{naturals}
 use Rattle.lab_page.specs.Moments.{moments, moments_of}
 use Rattle.lab_page.specs.Runs.{block_data, schedule_data, output_of, outputs, outcome_at, outcome_of, is_whole, run_data}
 use Rattle.lab_page.specs.Faults.{Explains}
@@ -25,10 +26,10 @@ use Rattle.lab_page.specs.Faults.{IsFault}
 use Rattle.lab_page.specs.Private.Json.{run_end}
 use Rattle.lab_page.specs.declared.fault.PageFault.{PageFault}
 use Rattle.lab_page.specs.declared.fault.PageFault.TheVariants.{NoProcess, TooLarge, NoMemory}
-use Rattle.lab_page.proofs.PlainLemmas.{IsPlain, both, plain-one, plain-below, plain-map, plain-naturals}
-use Rattle.lab_page.proofs.BetweenLemmas.{between-plain}
-use Rattle.lab_page.proofs.EventLemmas.{holds-plain}
-use Rattle.lab_page.proofs.WaitLemmas.{waits-plain, circles-plain}
+use Rattle.lab_moments.proofs.PlainLemmas.{IsPlain, both, plain-one, plain-below, plain-map, plain-naturals}
+use Rattle.lab_moments.proofs.BetweenLemmas.{between-plain}
+use Rattle.lab_moments.proofs.EventLemmas.{holds-plain}
+use Rattle.lab_moments.proofs.WaitLemmas.{waits-plain, circles-plain}
 use Rattle.lab_page.proofs.JsonLemmas.{run-json}
 use Rattle.lab_page.proofs.MomentLemmas.{moments-whole}
 use Rattle.lab_page.proofs.FaultLemmas.{fault-longer}

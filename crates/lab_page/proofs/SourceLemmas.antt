@@ -5,11 +5,11 @@ use Rattle.serde_json.specs.Data.{string}
 use Rattle.serde_json.specs.View.{items_of}
 use Rattle.serde_json.specs.Written.{has_float, items_have_float}
 use Rattle.lc3_asm.specs.declared.assembled.Row.{Row}
-use Rattle.lab_page.specs.Values.{naturals, or_null}
-use Rattle.lab_page.specs.States.{call_names}
+use Rattle.lab_moments.specs.Values.{naturals, or_null}
+use Rattle.lab_moments.specs.States.{call_names}
 use Rattle.lab_page.specs.Sources.{Source, row_words, first_call, row_data, source_data, name_at, source_at, program_at, programs}
-use Rattle.lab_page.proofs.PlainLemmas.{IsPlain, both, plain-one, plain-below, plain-map, plain-naturals}
-use Rattle.lab_page.proofs.StateLemmas.{names-plain}
+use Rattle.lab_moments.proofs.PlainLemmas.{IsPlain, both, plain-one, plain-below, plain-map, plain-naturals}
+use Rattle.lab_moments.proofs.StateLemmas.{names-plain}
 
 row-plain : (s : Source) (r : Row) → IsPlain (row_data s r)
 unfolding row_data

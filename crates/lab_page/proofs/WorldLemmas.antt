@@ -8,10 +8,10 @@ use Rattle.lab_sched.specs.Worlds.{Process, WorldState}
 use Rattle.lab_sched.specs.declared.verdict.Verdict.{Verdict}
 use Rattle.ipc_kernel.specs.Kernel.{KernelState}
 use Rattle.lab_page.specs.Runs.{verdict_word}
-use Rattle.lab_page.specs.Values.{list, natural, or_null}
+use Rattle.lab_moments.specs.Values.{list, natural, or_null}
 use Rattle.lab_page.specs.Worlds.{standing_data, standing_in, standing_at, standings, has_edge, edge_before, node_data, edge_data}
 use Rattle.lab_page.specs.declared.worlds.WorldEdge.{WorldEdge}
-use Rattle.lab_page.proofs.PlainLemmas.{IsPlain, ArePlain, both, plain-below, plain-map}
+use Rattle.lab_moments.proofs.PlainLemmas.{IsPlain, ArePlain, both, plain-below, plain-map}
 
 number-plain : (o : Option ℕ) → IsPlain (or_null (option_map natural o))
 number-plain None = refl

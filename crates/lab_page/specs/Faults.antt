@@ -4,7 +4,7 @@ use Rattle.lab_sched.specs.Schedules.{steps_of}
 use Rattle.lab_sched.specs.Worlds.{WorldState}
 use Rattle.lab_sched.specs.declared.schedule.block.Block.{Block}
 use Rattle.lab_trace.specs.Traces.{missing_after}
-use Rattle.lab_page.specs.Limits.{most_bytes}
+use Rattle.lab_template.specs.Limits.{most_bytes}
 use Rattle.lab_page.specs.declared.fault.PageFault.{PageFault}
 use Rattle.lab_page.specs.declared.fault.PageFault.TheVariants.{NoProcess, TooLarge, NoMemory}
 

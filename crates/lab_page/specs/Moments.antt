@@ -1,34 +1,25 @@
 -- The moments of a run: after each step with an effect, what stands in its process and what it did.
-use Rattle.std.specs.Prelude.{ℕ, Bool, if◌then◌else◌, List, [], ◌∷◌, ◌++◌, length}
+use Rattle.std.specs.Prelude.{ℕ, Bool, List, [], ◌∷◌, ◌++◌, length}
 use Rattle.serde_json.specs.Data.{Data}
 use Rattle.lab_sched.specs.Worlds.{WorldState}
 use Rattle.lab_trace.specs.Forms.{Form, form_for}
 use Rattle.lab_trace.specs.Scenes.{Scene, first_scene, told, next}
-use Rattle.lab_trace.specs.Tallies.{TallyState}
-use Rattle.lab_trace.specs.declared.told.Event.{Event}
-use Rattle.lab_trace.specs.declared.told.Told.{Told}
-use Rattle.lab_trace.specs.declared.told.Told.TheVariants.{Nothing, Counted, Shown}
-use Rattle.lab_page.specs.Values.{list, natural}
-use Rattle.lab_page.specs.States.{state_in}
-use Rattle.lab_page.specs.Events.{event_data}
-use Rattle.lab_page.specs.Between.{between_data}
-use Rattle.lab_page.specs.Pasts.{Past, first_past, next_past}
+use Rattle.lab_moments.specs.Between.{waits_at}
+use Rattle.lab_moments.specs.Moments.{moment_by}
+use Rattle.lab_moments.specs.Pasts.{Past, first_past, past_after}
 
--- the moment after step n of process p, which is only counted, by the world after it
-unfoldable pub counted_moment : ℕ → ℕ → WorldState → Data
-counted_moment n p w = list (natural n ∷ natural p ∷ state_in w p ∷ [])
+-- after so many steps of process p from a scene on, of which the same is told
+abbrev pub past_by : ℕ → Scene → ℕ → Past → Past
+past_by count s p h = past_after count s.number p (waits_at s p) (told s p) (next s p).world (next s p).tally h
 
--- the moment after step n of process p, which has a line, by the world and the tally after it, and by what was kept of the steps
--- before it
-unfoldable pub shown_moment : Form → ℕ → ℕ → Event → WorldState → TallyState → Past → Data
-shown_moment v n p e w t h = list (natural n ∷ natural p ∷ state_in w p ∷ event_data v n p e w t h ∷ between_data h.between ∷ [])
+-- after the next step of a scene, of process p
+abbrev pub next_past : Scene → ℕ → Past → Past
+next_past s p h = past_by 1 s p h
 
--- the moment after step n of process p, by what is told of the step; a counted step has one in a whole page alone, and a step
--- without an effect has none
-abbrev pub moment_by : Form → Bool → ℕ → ℕ → Told → WorldState → TallyState → Past → List Data
-moment_by v whole n p Nothing w t h = []
-moment_by v whole n p Counted w t h = if whole then counted_moment n p w ∷ [] else []
-moment_by v whole n p (Shown e) w t h = shown_moment v n p e w t h ∷ []
+-- after these steps
+unfoldable pub past_then : Scene → List ℕ → Past → Past
+past_then s [] h = h
+past_then s (p ∷ ps) h = past_then (next s p) ps (next_past s p h)
 
 -- the moment after the next step, of process p, or nothing, by what was kept of the steps before it
 unfoldable pub moment : Form → Bool → Scene → Past → ℕ → List Data

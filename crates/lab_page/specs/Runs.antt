@@ -12,15 +12,16 @@ use Rattle.lab_texts.specs.Reports.{report_text}
 use Rattle.lab_trace.specs.Ends.{end_lines}
 use Rattle.lab_trace.specs.Forms.{Form, form_for}
 use Rattle.lab_trace.specs.Scenes.{Scene, first_scene, scene_after}
-use Rattle.lab_page.specs.Between.{between_data}
-use Rattle.lab_page.specs.Holds.{holds_data}
-use Rattle.lab_page.specs.Limits.{most_whole}
+use Rattle.lab_moments.specs.Between.{between_data}
+use Rattle.lab_moments.specs.Holds.{holds_data}
+use Rattle.lab_template.specs.Limits.{most_whole}
 use Rattle.lab_page.specs.Moments.{moments_of}
-use Rattle.lab_page.specs.Pasts.{Past, first_past, past_then}
+use Rattle.lab_moments.specs.Pasts.{Past, first_past}
+use Rattle.lab_page.specs.Moments.{past_then}
 use Rattle.lab_page.specs.Sources.{Source, programs}
-use Rattle.lab_page.specs.States.{states}
-use Rattle.lab_page.specs.Values.{list, natural, naturals, all_below}
-use Rattle.lab_page.specs.Waits.{waits_data, circles_data}
+use Rattle.lab_moments.specs.States.{states}
+use Rattle.lab_moments.specs.Values.{list, natural, naturals, all_below}
+use Rattle.lab_moments.specs.Waits.{waits_data, circles_data}
 
 -- so many steps of a process in a row
 abbrev pub block_data : Block → Data

@@ -13,7 +13,7 @@ use Rattle.lab_trace.specs.Calls.{arguments, call_text}
 use Rattle.lab_trace.specs.Services.{service_at}
 use Rattle.ipc_traps.specs.declared.service.Service.{Service}
 use Rattle.lab_page.specs.Runs.{verdict_word}
-use Rattle.lab_page.specs.Values.{list, natural, or_null, all_below}
+use Rattle.lab_moments.specs.Values.{list, natural, or_null, all_below}
 use Rattle.lab_page.specs.declared.worlds.WorldEdge.{WorldEdge}
 
 -- the call that process p stands before, else its instruction

@@ -5,18 +5,19 @@ ghost use Rattle.serde_json.specs.View.{view};
 ghost use Rattle.serde_json.specs.Written.{compact_text, has_float};
 ghost use Rattle.lab_page.specs.Ends.{end_data, endless_shown, extent_data, ends_json, with_end};
 ghost use Rattle.lab_page.specs.Faults.{Explains};
-ghost use Rattle.lab_page.specs.Limits.{most_ends};
+ghost use Rattle.lab_template.specs.Limits.{most_ends};
 ghost use Rattle.lab_page.specs.Private.Json.{end_json};
 ghost use Rattle.lab_page.specs.Runs.{run_data};
-ghost use Rattle.lab_page.specs.Values.{or_null};
+ghost use Rattle.lab_moments.specs.Values.{or_null};
 ghost use Rattle.lab_page.specs.declared.fault.PageFault.TheVariants.{TooLarge};
 
 use crate::fault::PageFault;
-use crate::run::{schedule_value, written_run};
-use crate::values::push_behind;
+use crate::json::push_behind;
+use crate::outcome::schedule_value;
+use crate::run::written_run;
 use crate::worlds::{Worlds, push_worlds};
-use crate::{MOST_END_BYTES, MOST_ENDS};
 use lab_sched::{Schedule, World};
+use lab_template::{MOST_END_BYTES, MOST_ENDS};
 use serde_json::{Value, json};
 use std::alloc::{AllocError, Global};
 use std::marker::Model;
@@ -61,7 +62,7 @@ pub struct EndList {
 
 impl Model for EndList {
     ghost use Rattle.std.specs.Prelude.{◌≤◌, length};
-    ghost use Rattle.lab_page.specs.Limits.{most_ends, most_end_bytes};
+    ghost use Rattle.lab_template.specs.Limits.{most_ends, most_end_bytes};
     ghost use Rattle.lab_page.specs.Ends.{EndList as Listed};
 
     ghost Value = { Listed };
@@ -158,9 +159,10 @@ fn endless_value(alloc: Global, endless: &Option<Endless<'_>>) -> Result<Value, 
     let Some(endless) = endless else {
         return Ok(Value::Null);
     };
-    let schedule = schedule_value(alloc, endless.schedule)?;
-    let round = schedule_value(alloc, endless.round)?;
-    json!(in alloc; [schedule, round])
+    json!(in alloc; [
+        schedule_value(alloc, endless.schedule)?,
+        schedule_value(alloc, endless.round)?
+    ])
 }
 
 /// How far an exploration went.
@@ -187,13 +189,11 @@ pub fn ends_json(
         ≡ ends_json (view processes.now) list.now (option_map endless_shown endless.now) extent
         worlds.now) }
 {
-    let endless = endless_value(alloc, endless)?;
-    let extent = extent_value(alloc, extent)?;
     let mut json = Vec::new(alloc);
-    push_behind(&mut json, "{\"endless\":", &endless)?;
+    push_behind(&mut json, "{\"endless\":", &endless_value(alloc, endless)?)?;
     json.extend_from_slice(b",\"ends\":[")?;
     json.extend_from_slice(&list.json)?;
-    push_behind(&mut json, "],\"extent\":", &extent)?;
+    push_behind(&mut json, "],\"extent\":", &extent_value(alloc, extent)?)?;
     push_behind(
         &mut json,
         ",\"format\":\"lc3lab-ends-2\",\"processes\":",

@@ -6,23 +6,25 @@ ghost use Rattle.serde_json.specs.Written.{compact_text, has_float};
 ghost use Rattle.lab_sched.specs.Schedules.{most_steps, steps_of, total_of};
 ghost use Rattle.lab_sched.specs.Worlds.{step};
 ghost use Rattle.lab_trace.specs.Scenes.{scene_at, scene_after, told, line, events, next_tally, IsKept};
-ghost use Rattle.lab_trace.specs.Traces.{AreThere};
+ghost use Rattle.lab_trace.specs.Lines.{step_line};
+ghost use Rattle.lab_trace.specs.Traces.{AreThere, ending};
 ghost use Rattle.lab_trace.specs.declared.told.Told.TheVariants.{Nothing};
 ghost use Rattle.lab_page.specs.Faults.{IsFault};
-ghost use Rattle.lab_page.specs.Limits.{most_bytes};
+ghost use Rattle.lab_template.specs.Limits.{most_bytes};
 ghost use Rattle.lab_page.specs.Moments.{moment, moments};
-ghost use Rattle.lab_page.specs.Pasts.{first_past, past_by, past_then};
-ghost use Rattle.lab_page.specs.States.{states};
-ghost use Rattle.lab_page.specs.Private.Json.{more_json};
+ghost use Rattle.lab_moments.specs.Pasts.{first_past};
+ghost use Rattle.lab_page.specs.Moments.{past_by, past_then};
+ghost use Rattle.lab_moments.specs.States.{states};
+ghost use Rattle.lab_page.specs.Private.Json.{more_json, run_end};
+ghost use Rattle.lab_page.specs.Runs.{outcome_at, schedule_data};
 
-use crate::MOST_BYTES;
 use crate::fault::PageFault;
-use crate::moment::moment_by;
-use crate::past::Past;
-use crate::state::states;
-use crate::values::{push_more, push_value};
-use lab_sched::{Block, World};
-use lab_trace::{Form, Tally, step_line, steps_told, trace_step};
+use crate::json::{push_more, push_value};
+use crate::outcome::push_run_end;
+use lab_moments::{Past, moment_by, states};
+use lab_sched::{Block, Schedule, World};
+use lab_template::MOST_BYTES;
+use lab_trace::{Form, Tally, Told, ending, step_line, steps_told, trace_step};
 use serde_json::Value;
 use std::alloc::{AllocError, Global};
 use std::marker::Model;
@@ -68,13 +70,6 @@ impl Moments {
         })
     }
 
-    /// What is kept of the steps.
-    pub fn past(&self) -> &Past
-        ensures past { result.now ≡ self.now.past }
-    {
-        &self.past
-    }
-
     /// The JSON and the lines.
     pub fn into_parts(self) -> (Vec<u8>, Vec<u8>)
         ensures json { result.0.items ≡ self.json }
@@ -101,6 +96,24 @@ impl Moments {
             return Err(PageFault::TooLarge);
         }
         Ok(())
+    }
+
+    /// Adds the line of step number `number`, of process `pid`, by what is told of it.
+    fn push_line(
+        &mut self,
+        alloc: Global,
+        labels: &Form<'_>,
+        number: u32,
+        pid: usize,
+        told: &Told,
+    ) -> Result<(), AllocError>
+        ensures json { self.new.json ≡ self.old.json }
+        ensures lines { OnOk result (self.new.lines ≡ self.old.lines
+            ++ step_line labels.now number pid told.now) }
+        ensures past { self.new.past ≡ self.old.past }
+    {
+        let line = step_line(alloc, labels, number, pid, told)?;
+        self.lines.extend_from_slice(line.as_bytes())
     }
 
     /// Takes step number `number`, of process `pid`, and adds the moment after it, where it has one, and its line, which `labels`
@@ -142,18 +155,12 @@ impl Moments {
         let waits = tally.account(pid).since.is_some();
         let told = trace_step(alloc, world, tally, number, pid)?;
         let past = &self.past;
-        let moment = moment_by(alloc, world, tally, past, form, whole, number, pid, &told);
-        let line = step_line(alloc, labels, number, pid, &told);
-        let done = steps_told(&told, most);
-        let kept = self
-            .past
-            .keep(world, tally, number, pid, waits, &told, done);
-        drop(told);
-        kept?;
-        let moment = moment?;
+        let moment = moment_by(alloc, world, tally, past, form, whole, number, pid, &told)?;
         self.push(moment)?;
-        let line = line?;
-        self.lines.extend_from_slice(line.as_bytes())?;
+        self.push_line(alloc, labels, number, pid, &told)?;
+        let done = steps_told(&told, most);
+        self.past
+            .keep(world, tally, number, pid, waits, &told, done)?;
         Ok(done)
     }
 
@@ -234,5 +241,35 @@ impl Moments {
             number += block.count;
         }
         Ok(())
+    }
+
+    /// Adds what stands behind the moments, and the end of the trace, once the schedule's steps are taken.
+    pub fn finish(
+        &mut self,
+        world: &World,
+        tally: &Tally,
+        form: &Form<'_>,
+        labels: &Form<'_>,
+        whole: bool,
+        schedule: &Schedule,
+    ) -> Result<(), AllocError>
+        ensures json { (number : ℕ) → OnOk result (self.new.json ≡ self.old.json
+            ++ run_end (outcome_at form.now (scene_at number world.now tally.now) self.old.past)
+            (schedule_data schedule.now) whole) }
+        ensures lines { OnOk result (self.new.lines ≡ self.old.lines
+            ++ ending labels.now world.now tally.now) }
+    {
+        let alloc = *self.json.allocator();
+        push_run_end(
+            &mut self.json,
+            world,
+            tally,
+            &self.past,
+            form,
+            schedule,
+            whole,
+        )?;
+        let ending = ending(alloc, world, tally, labels)?;
+        self.lines.extend_from_slice(ending.as_bytes())
     }
 }

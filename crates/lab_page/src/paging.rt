@@ -1,44 +1,29 @@
 //! A whole page.
-ghost use Rattle.std.specs.Prelude.{◌≡◌, ◌≤◌, ℕ, Some, Err, false, IfOk, IfErr, OnOk, length, map, string_bytes};
+ghost use Rattle.std.specs.Prelude.{◌≡◌, ◌≤◌, ℕ, Some, Err, IfOk, IfErr, OnOk, length, map, string_bytes};
 ghost use Rattle.std.specs.Option.{option_map};
-ghost use Rattle.serde_json.specs.View.{view};
-ghost use Rattle.serde_json.specs.Written.{has_float};
 ghost use Rattle.lab_sched.specs.Schedules.{steps_of};
 ghost use Rattle.lab_sched.specs.Worlds.{run};
 ghost use Rattle.lab_trace.specs.Traces.{missing_after, trace_text};
-ghost use Rattle.lab_page.specs.Pages.{page_text, safe, HasNoTag};
+ghost use Rattle.lab_template.specs.Pages.{page_text, safe, HasNoTag};
 ghost use Rattle.lab_page.specs.Ends.{endless_shown, ends_json};
 ghost use Rattle.lab_page.specs.Faults.{Explains};
-ghost use Rattle.lab_page.specs.Limits.{most_bytes};
+ghost use Rattle.lab_template.specs.Limits.{most_bytes};
 ghost use Rattle.lab_page.specs.Faults.{IsFault};
 ghost use Rattle.lab_page.specs.Private.Json.{page_json};
 ghost use Rattle.lab_page.specs.Runs.{run_json};
 ghost use Rattle.lab_page.specs.declared.fault.PageFault.TheVariants.{NoProcess};
 ghost use Rattle.lab_page.specs.Sources.{programs, sources_shown};
 
-use crate::MOST_BYTES;
 use crate::ends::{EndList, Endless, Extent, ends_json};
 use crate::fault::PageFault;
+use crate::json::push_value;
 use crate::run::{Taken, written_run};
 use crate::source::{Source, programs};
-use crate::template::{push_data, push_page_end, push_page_start};
-use crate::values::push_value;
 use crate::worlds::Worlds;
 use lab_sched::{Schedule, World};
 use lab_sources::Source as Given;
-use serde_json::Value;
+use lab_template::{MOST_BYTES, page_with};
 use std::alloc::{AllocError, Global};
-
-/// The page with these data, as JSON.
-fn page_with(alloc: Global, json: &[u8]) -> Result<Vec<u8>, AllocError>
-    ensures page { IfOk result (λ v. v.items ≡ page_text json.now) }
-{
-    let mut bytes = Vec::new(alloc);
-    push_page_start(&mut bytes)?;
-    push_data(&mut bytes, json)?;
-    push_page_end(&mut bytes)?;
-    Ok(bytes)
-}
 
 /// The page with these data as JSON, where they aren't too large.
 fn page_of(alloc: Global, json: &[u8]) -> Result<Vec<u8>, PageFault>
@@ -55,13 +40,20 @@ fn page_of(alloc: Global, json: &[u8]) -> Result<Vec<u8>, PageFault>
 
 /// What a page holds of a run as JSON.
 #[tactic(auto, unfolding(crate::specs::Private::Json::page_json))]
-fn page_json(alloc: Global, processes: &Value, run: &[u8]) -> Result<Vec<u8>, AllocError>
-    requires plain { has_float (view processes.now) ≡ false }
-    ensures json { IfOk result (λ v. v.items ≡ page_json (view processes.now) run.now) }
+fn page_json(
+    alloc: Global,
+    count: usize,
+    names: &[String],
+    sources: &[Option<Source>],
+    run: &[u8],
+) -> Result<Vec<u8>, AllocError>
+    ensures json { IfOk result (λ v. v.items ≡ page_json
+        (programs count (map string_bytes names.now) (sources_shown sources.now)) run.now) }
 {
     let mut json = Vec::new(alloc);
     json.extend_from_slice(b"{\"format\":\"lc3lab-page-2\",\"processes\":")?;
-    push_value(&mut json, processes)?;
+    let processes = programs(alloc, count, names, sources)?;
+    push_value(&mut json, &processes)?;
     json.extend_from_slice(b",\"run\":")?;
     json.extend_from_slice(run)?;
     json.extend_from_slice(b"}")?;
@@ -83,7 +75,7 @@ pub struct Shown {
 /// # Errors
 ///
 /// `NoProcess` tells after how many steps the schedule names a process that isn't there, and then no step was taken;
-/// `TooLarge` that the data have more than [`MOST_BYTES`](crate::MOST_BYTES) bytes. After it, and after `NoMemory`, nothing is
+/// `TooLarge` that the data have more than [`MOST_BYTES`] bytes. After it, and after `NoMemory`, nothing is
 /// said of the world.
 pub fn run_page(
     alloc: Global,
@@ -110,8 +102,7 @@ pub fn run_page(
 {
     let count = world.count();
     let Taken { json, trace } = written_run(alloc, world, schedule, given)?;
-    let processes = programs(alloc, count, names, sources)?;
-    let page = page_of(alloc, &page_json(alloc, &processes, &json)?)?;
+    let page = page_of(alloc, &page_json(alloc, count, names, sources, &json)?)?;
     Ok(Shown { page, trace })
 }
 

@@ -4,8 +4,8 @@ ghost use Rattle.std.specs.Option.{option_map, option_and_then};
 ghost use Rattle.serde_json.specs.View.{view};
 ghost use Rattle.lab_page.specs.Sources.{source_of, row_words, first_call, row_data, source_data, name_at, source_at, program_at, programs, source_shown, sources_shown};
 
-use crate::values::words_value;
 use ipc_traps::Service;
+use lab_moments::words_value;
 use lab_trace::service_of_word;
 use lc3_asm::{Assembled, Row};
 use serde_json::{Value, json};
@@ -64,13 +64,12 @@ fn row_value(alloc: Global, source: &Source, row: &Row) -> Result<Value, AllocEr
 {
     let (line, address) = (row.line, row.address);
     let held = row_words(source, row);
-    let words = words_value(alloc, held)?;
     match first_call(held) {
         Some(service) => {
             let name = service.name();
-            json!(in alloc; [line, address, words, name])
+            json!(in alloc; [line, address, words_value(alloc, held)?, name])
         }
-        None => json!(in alloc; [line, address, words]),
+        None => json!(in alloc; [line, address, words_value(alloc, held)?]),
     }
 }
 
@@ -87,7 +86,7 @@ fn source_value(alloc: Global, source: &Source) -> Result<Value, AllocError>
 }
 
 /// The name of a process, where one is given.
-#[tactic(auto, using(crate::proofs::ValueLemmas::slice_get_seen))]
+#[tactic(auto, using(lab_moments::proofs::ValueLemmas::slice_get_seen))]
 fn name_at(alloc: Global, names: &[String], process: usize) -> Result<Value, AllocError>
     ensures value { IfOk result (λ v. view v ≡ name_at (map string_bytes names.now) process) }
 {
@@ -98,7 +97,7 @@ fn name_at(alloc: Global, names: &[String], process: usize) -> Result<Value, All
 }
 
 /// The source of a process, where there is one.
-#[tactic(auto, using(crate::proofs::ValueLemmas::slice_get_seen))]
+#[tactic(auto, using(lab_moments::proofs::ValueLemmas::slice_get_seen))]
 fn source_at(alloc: Global, sources: &[Option<Source>], process: usize) -> Result<Value, AllocError>
     ensures value { IfOk result (λ v. view v ≡ source_at (sources_shown sources.now) process) }
 {
@@ -119,13 +118,11 @@ fn program_at(
     ensures value { IfOk result (λ v. view v
         ≡ program_at (map string_bytes names.now) (sources_shown sources.now) process) }
 {
-    let name = name_at(alloc, names, process)?;
-    let source = source_at(alloc, sources, process)?;
-    json!(in alloc; [name, source])
+    json!(in alloc; [name_at(alloc, names, process)?, source_at(alloc, sources, process)?])
 }
 
 /// So many processes with these names and sources.
-#[tactic(auto, using(crate::proofs::ValueLemmas::all_below_none), unfolding(crate::specs::Sources::programs))]
+#[tactic(auto, using(lab_moments::proofs::ValueLemmas::all_below_none), unfolding(crate::specs::Sources::programs))]
 pub fn programs(
     alloc: Global,
     count: usize,

@@ -7,11 +7,12 @@ ghost use Rattle.lab_sched.specs.Held.{process_view};
 ghost use Rattle.lab_sched.specs.Worlds.{machine_of};
 ghost use Rattle.lab_texts.specs.Texts.{place_text};
 ghost use Rattle.lab_page.specs.Runs.{verdict_word};
-ghost use Rattle.lab_page.specs.Values.{list, or_null};
+ghost use Rattle.lab_moments.specs.Values.{list, or_null};
 ghost use Rattle.lab_page.specs.Worlds.{edge_before, edge_data, has_edge, is_from, listed_json, is_to, node_data, stand_text, standing_at, standing_data, standings, state_text, with_node, worlds_json};
 
-use crate::run::verdict_word;
-use crate::values::{push_behind, push_some};
+use crate::json::push_behind;
+use crate::outcome::verdict_word;
+use lab_moments::push_some;
 use lab_sched::{Process, Verdict, World};
 use lab_texts::how_name;
 use lab_trace::{arguments_of, push_call, service_at};
@@ -114,8 +115,7 @@ fn standing_value(
 {
     let pc = process.machine().pc();
     let state = state_text(process, goes);
-    let text = stand_text(alloc, world, pid, process)?;
-    json!(in alloc; [pc, state, text])
+    json!(in alloc; [pc, state, stand_text(alloc, world, pid, process)?])
 }
 
 /// Whether an edge is of a process, and leads from the world with a number.
@@ -152,7 +152,7 @@ fn standing_at(
 }
 
 /// Where the processes of the world with a number stand.
-#[tactic(auto, using(crate::proofs::ValueLemmas::all_below_none))]
+#[tactic(auto, using(lab_moments::proofs::ValueLemmas::all_below_none))]
 fn standings(
     alloc: Global,
     world: &World,
@@ -218,10 +218,13 @@ fn node_value(
     ensures node { IfOk result (λ v. view v
         ≡ node_data world.now number edges.now calls verdict end) }
 {
-    let standings = standings(alloc, world, number, edges)?;
-    let before = edge_before(edges, number);
-    let verdict = verdict_value(alloc, verdict)?;
-    json!(in alloc; [calls, standings, before, verdict, end])
+    json!(in alloc; [
+        calls,
+        standings(alloc, world, number, edges)?,
+        edge_before(edges, number),
+        verdict_value(alloc, verdict)?,
+        end
+    ])
 }
 
 /// An edge.

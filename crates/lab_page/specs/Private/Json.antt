@@ -2,7 +2,7 @@
 use Rattle.std.specs.Prelude.{ℕ, Bool, List, ◌∷◌, ◌++◌, codes, decimal, flat_map}
 use Rattle.serde_json.specs.Data.{Data, boolean}
 use Rattle.serde_json.specs.Written.{compact_text}
-use Rattle.lab_page.specs.Pasts.{Past}
+use Rattle.lab_moments.specs.Pasts.{Past}
 
 -- the JSON of a run and the lines of its trace, as far as its steps are taken, and what is kept of these
 pub record Written : Type 0 where

@@ -7,16 +7,16 @@ use Rattle.lab_page.proofs.EndsMadeLemmas.{ends-written}
 use Rattle.lab_page.proofs.ends.ends_json.Goals as goal
 
 pub push_behind-requires : goal.push_behind-requires
-push_behind-requires c = record { plain = rw c.in_ok-endless.ensures.value (endless-plain c.args.endless.now) }
+push_behind-requires c = record { plain = rw c.in_ok-endless_value.ensures.value (endless-plain c.args.endless.now) }
 
 pub push_behind-requires-2 : goal.push_behind-requires-2
-push_behind-requires-2 c = record { plain = rw c.in_ok-extent.ensures.value refl }
+push_behind-requires-2 c = record { plain = rw c.in_ok-extent_value.ensures.value refl }
 
 pub returns : goal.returns
 returns c = record {
-  json = ends-written (view c.args.processes.now) (view c.in_ok-endless.endless) (view c.in_ok-extent.extent) c.args.list.now
+  json = ends-written (view c.args.processes.now) _ _ c.args.list.now
       (option_map endless_shown c.args.endless.now) c.args.extent c.args.worlds.now _ _ _ _ _ _ _ _ _
-      c.in_ok-endless.ensures.value c.in_ok-extent.ensures.value c.new-json.ensures.items c.in_ok-push_behind.ensures.added
+      c.in_ok-endless_value.ensures.value c.in_ok-extent_value.ensures.value c.new-json.ensures.items c.in_ok-push_behind.ensures.added
       c.in_ok-extend_from_slice.ensures.items
       (c.in_ok-extend_from_slice-2.ensures.items
       ∙ ap (λ (t : List ℕ). c.extend_from_slice.new.self.items ++ t) (c.deref.ensures.value ∙ ap (λ (l : EndList). l.json) c.list.view_is))

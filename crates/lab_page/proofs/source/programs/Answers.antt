@@ -3,7 +3,7 @@ use Rattle.std.specs.Prelude.{string_bytes}
 use Rattle.serde_json.specs.Data.{Data}
 use Rattle.serde_json.specs.View.{view}
 use Rattle.lab_page.specs.Sources.{program_at, sources_shown}
-use Rattle.lab_page.proofs.ValueLemmas.{values-more}
+use Rattle.lab_moments.proofs.ValueLemmas.{values-more}
 use Rattle.lab_page.proofs.source.programs.Goals as goal
 
 pub loop-process-preserved : goal.loop-process-preserved

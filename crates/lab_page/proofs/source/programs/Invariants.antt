@@ -1,7 +1,7 @@
 use Rattle.std.proofs.Common.{◌≡◌, [], ◌∷◌, map}
 use Rattle.std.specs.Prelude.{string_bytes}
 use Rattle.serde_json.specs.View.{view}
-use Rattle.lab_page.specs.Values.{all_below}
+use Rattle.lab_moments.specs.Values.{all_below}
 use Rattle.lab_page.specs.Sources.{program_at, sources_shown}
 use Rattle.lab_page.proofs.source.programs.Given as goal
 

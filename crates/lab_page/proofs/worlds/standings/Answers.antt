@@ -1,6 +1,6 @@
 use Rattle.std.proofs.Common.{[]}
 use Rattle.lab_page.specs.Worlds.{standing_at}
-use Rattle.lab_page.proofs.ValueLemmas.{values-added}
+use Rattle.lab_moments.proofs.ValueLemmas.{values-added}
 use Rattle.lab_page.proofs.worlds.standings.Goals as goal
 
 pub loop-pid-preserved : goal.loop-pid-preserved

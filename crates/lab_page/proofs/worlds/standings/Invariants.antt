@@ -1,6 +1,6 @@
 use Rattle.std.proofs.Common.{◌≡◌, map}
 use Rattle.serde_json.specs.View.{view}
-use Rattle.lab_page.specs.Values.{all_below}
+use Rattle.lab_moments.specs.Values.{all_below}
 use Rattle.lab_page.specs.Worlds.{standing_at}
 use Rattle.lab_page.proofs.worlds.standings.Given as goal
 

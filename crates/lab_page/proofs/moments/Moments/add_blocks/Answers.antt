@@ -9,7 +9,8 @@ use Rattle.lab_trace.proofs.SceneLemmas.{scene-none, events-none, kept-after, le
 use Rattle.lab_trace.proofs.WrittenLemmas.{scene-block}
 use Rattle.serde_json.specs.Data.{Data}
 use Rattle.lab_page.specs.Moments.{moments}
-use Rattle.lab_page.specs.Pasts.{Past, past_then}
+use Rattle.lab_moments.specs.Pasts.{Past}
+use Rattle.lab_page.specs.Moments.{past_then}
 use Rattle.lab_page.specs.Private.Json.{more_json}
 use Rattle.lab_page.proofs.MomentLemmas.{moments-none, json-block, lines-block}
 use Rattle.lab_page.proofs.PastLemmas.{past-none, past-block, length-past}

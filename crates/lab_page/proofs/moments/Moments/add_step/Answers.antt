@@ -1,6 +1,6 @@
 use Rattle.serde_json.specs.View.{view}
-use Rattle.lab_page.proofs.PlainLemmas.{plain-back}
-use Rattle.lab_page.proofs.EventLemmas.{moment-plain}
+use Rattle.lab_moments.proofs.PlainLemmas.{plain-back}
+use Rattle.lab_moments.proofs.EventLemmas.{moment-plain}
 use Rattle.lab_page.proofs.moments.Moments.add_step.Goals as goal
 
 pub push-requires : goal.push-requires

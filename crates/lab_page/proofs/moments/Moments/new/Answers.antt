@@ -1,4 +1,4 @@
-use Rattle.lab_page.proofs.StateLemmas.{states-plain}
+use Rattle.lab_moments.proofs.StateLemmas.{states-plain}
 use Rattle.lab_page.proofs.moments.Moments.new.Goals as goal
 
 pub push_value-requires : goal.push_value-requires

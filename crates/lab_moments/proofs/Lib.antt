@@ -1,0 +1,8 @@
+pub mod ValueLemmas
+pub mod KnownLemmas
+pub mod PlainLemmas
+pub mod StateLemmas
+pub mod ObjectLemmas
+pub mod BetweenLemmas
+pub mod WaitLemmas
+pub mod EventLemmas

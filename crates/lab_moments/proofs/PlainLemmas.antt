@@ -1,0 +1,64 @@
+-- Values without floats, whose JSON is told by a definition.
+use Rattle.std.proofs.Common.{◌≡◌, ℕ, zero, suc, ◌||◌, Bool, true, false, if◌then◌else◌, Option, Some, None, List, [], ◌∷◌, ◌++◌, map, refl, ap, ◌∙◌}
+use Rattle.std.specs.Prelude.{IfSome}
+use Rattle.std.specs.Option.{option_map, option_to_list}
+use Rattle.serde_json.specs.Data.{Data, null}
+use Rattle.serde_json.specs.View.{items_of}
+use Rattle.serde_json.specs.Written.{has_float, items_have_float}
+use Rattle.lab_moments.specs.Values.{natural, all_below}
+
+-- a value without a float, and a list of such
+abbrev pub IsPlain : Data → Type 0
+IsPlain d = has_float d ≡ false
+
+abbrev pub ArePlain : List Data → Type 0
+ArePlain ds = items_have_float (items_of ds) ≡ false
+
+pub both : (a b : Bool) → a ≡ false → b ≡ false → (a || b) ≡ false
+both a b x y = ap (λ c. c || b) x ∙ y
+
+apart : (a b : Bool) → (a || b) ≡ false → (a ≡ false) × (b ≡ false)
+apart true b h = absurd (conflict h)
+  where
+    conflict : true ≡ false → ⊥
+    conflict e = cc
+apart false b h = (refl, h)
+
+pub plain-one : (d : Data) → IsPlain d → ArePlain (d ∷ [])
+plain-one d h = both (has_float d) false h refl
+
+pub plain-append : (xs ys : List Data) → ArePlain xs → ArePlain ys → ArePlain (xs ++ ys)
+plain-append [] ys x y = y
+plain-append (d ∷ ds) ys x y =
+    let parts = apart (has_float d) (items_have_float (items_of ds)) x in
+    both (has_float d) (items_have_float (items_of (ds ++ ys))) parts.0 (plain-append ds ys parts.1 y)
+
+pub plain-below : (n : ℕ) (f : ℕ → List Data) → ((i : ℕ) → ArePlain (f i)) → ArePlain (all_below n f)
+unfolding all_below
+plain-below zero f h = refl
+plain-below (suc n) f h = plain-append (all_below n f) (f n) (plain-below n f h) (h n)
+
+pub plain-map : {X : Type 0} (f : X → Data) (xs : List X) → ((x : X) → IsPlain (f x)) → ArePlain (map f xs)
+plain-map f [] h = refl
+plain-map f (x ∷ xs) h = both (has_float (f x)) (items_have_float (items_of (map f xs))) (h x) (plain-map f xs h)
+
+pub plain-naturals : (ns : List ℕ) → ArePlain (map natural ns)
+plain-naturals ns = plain-map natural ns (λ n. refl)
+
+pub plain-some : {X : Type 0} (f : X → Data) (o : Option X) → ((x : X) → IsPlain (f x)) → ArePlain (option_to_list (option_map f o))
+plain-some f None h = refl
+plain-some f (Some x) h = plain-one (f x) (h x)
+
+pub plain-if : (b : Bool) (xs ys : List Data) → ArePlain xs → ArePlain ys → ArePlain (if b then xs else ys)
+plain-if true xs ys x y = x
+plain-if false xs ys x y = y
+
+-- a value that is told, else null
+pub value-if : (b : Bool) (d : Data) → IsPlain d → IsPlain (if b then d else null)
+value-if true d h = h
+value-if false d h = refl
+
+-- a value that is kept, where there is one
+pub plain-back : {X : Type 0} (f : X → Data) (o : Option X) (ds : List Data) → option_to_list (option_map f o) ≡ ds → ArePlain ds → IfSome o (λ x. IsPlain (f x))
+plain-back f None ds e h = tt
+plain-back f (Some x) ds e h = (apart (has_float (f x)) false (ap (λ (l : List Data). items_have_float (items_of l)) e ∙ h)).0

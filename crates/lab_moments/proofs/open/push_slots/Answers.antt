@@ -1,0 +1,13 @@
+use Rattle.std.proofs.Common.{ap, ◌∙◌, map}
+use Rattle.std.specs.Prelude.{option_map, option_to_list}
+use Rattle.serde_json.specs.View.{view}
+use Rattle.lab_moments.specs.Objects.{slot_data, slot_at}
+use Rattle.lab_moments.proofs.ValueLemmas.{values-added}
+use Rattle.lab_moments.proofs.open.push_slots.Goals as goal
+
+pub loop-number-preserved : goal.loop-number-preserved
+loop-number-preserved c =
+    let held = rw c.kernel-kernel.ensures.kernel at c.slot.ensures.held in
+    let found = c.in_ok-slot.ensures.value ∙ ap (option_map (slot_data c.loop-number.number)) held in
+    values-added (slot_at c.args.world.now c.args.pid) c.loop-number.number (map view c.args.values.now.items) _ _ _ c.in_ok-push_some.ensures.added
+    c.loop-number.invariant (ap option_to_list found)

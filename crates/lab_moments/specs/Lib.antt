@@ -1,0 +1,10 @@
+pub mod Values
+pub mod States
+pub mod Objects
+pub mod Changes
+pub mod Holds
+pub mod Between
+pub mod Pasts
+pub mod Events
+pub mod Moments
+pub mod Waits

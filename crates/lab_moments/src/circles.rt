@@ -1,0 +1,136 @@
+//! Circles of processes, of which each waits for what the next has taken.
+ghost use Rattle.std.specs.Prelude.{◌≡◌, ◌==◌, ◌<◌, ◌∷◌, IfOk, IfSome, map, length, slice_get, position, nat_lt};
+ghost use Rattle.std.specs.List.{find, list_any};
+ghost use Rattle.std.specs.Option.{option_map, option_to_list};
+ghost use Rattle.serde_json.specs.View.{view};
+ghost use Rattle.lab_moments.specs.Objects.{awaited_at};
+ghost use Rattle.lab_moments.specs.Values.{naturals};
+ghost use Rattle.lab_moments.specs.Waits.{blocker, blocker_in, blockers, circle_from, circles_data, followed, is_blocking};
+
+use crate::holds::Hold;
+use crate::objects::awaited_at;
+use crate::values::push_some;
+use lab_sched::{Process, World};
+use serde_json::Value;
+use std::alloc::{AllocError, Global};
+
+/// Whether a unit is of the semaphore in a place, and its process waits.
+fn is_blocking(world: &World, place: u8, hold: &Hold) -> bool
+    ensures value { result ≡ is_blocking world.now place hold.now }
+{
+    hold.place == place && matches!(world.process(hold.pid), Some(Process::Waiting(_, _)))
+}
+
+/// The last unit of the semaphore in a place whose process waits.
+fn last_blocking(world: &World, holds: &[Hold], place: u8) -> Option<Hold>
+    ensures hold { result ≡ find (is_blocking world.now place) holds.now }
+{
+    holds
+        .iter()
+        .copied()
+        .find(|hold| is_blocking(world, place, hold))
+}
+
+/// The process that waits, and was the last such to take a unit of the semaphore for which process `pid` waits.
+fn blocker_of(world: &World, holds: &[Hold], pid: usize) -> Option<usize>
+    requires process { pid < length world.now.processes }
+    ensures blocker { result ≡ blocker_in world.now holds.now (awaited_at world.now pid) }
+{
+    let (_, place) = awaited_at(world, pid)?;
+    match last_blocking(world, holds, place) {
+        Some(hold) => Some(hold.pid),
+        None => None,
+    }
+}
+
+/// Of each process the one that waits and has taken what it waits for.
+#[tactic(auto, using(crate::proofs::KnownLemmas::below_none), unfolding(crate::specs::Waits::blockers))]
+fn blockers(alloc: Global, world: &World, holds: &[Hold]) -> Result<Vec<Option<usize>>, AllocError>
+    ensures blockers { IfOk result (λ v. v.items ≡ blockers world.now holds.now) }
+{
+    let mut blockers = Vec::new(alloc);
+    for pid in 0..world.count() {
+        blockers.push(blocker_of(world, holds, pid))?;
+    }
+    Ok(blockers)
+}
+
+/// The process that has taken what process `pid` waits for.
+fn blocker(blockers: &[Option<usize>], pid: usize) -> Option<usize>
+    ensures blocker { result ≡ blocker blockers.now pid }
+{
+    *blockers.get(pid)?
+}
+
+/// The processes behind process `pid`, of which each waits for what the next has taken, as many as there are processes at most.
+fn followed(alloc: Global, blockers: &[Option<usize>], pid: usize) -> Result<Vec<usize>, AllocError>
+    ensures followed { IfOk result (λ v. v.items
+        ≡ followed blockers.now (length blockers.now) (blocker blockers.now pid)) }
+{
+    let mut followed = Vec::new(alloc);
+    let mut next = blocker(blockers, pid);
+    for _ in 0..blockers.len() {
+        if let Some(pid) = next {
+            followed.push(pid)?;
+            next = blocker(blockers, pid);
+        }
+    }
+    Ok(followed)
+}
+
+/// Processes as numbers.
+fn numbers(alloc: Global, first: usize, others: &[usize]) -> Result<Value, AllocError>
+    ensures value { IfOk result (λ v. view v ≡ naturals (first ∷ others.now)) }
+{
+    let mut values = Vec::new(alloc);
+    values.push(Value::from(first))?;
+    for other in others {
+        values.push(Value::from(*other))?;
+    }
+    Ok(Value::Array(values))
+}
+
+/// Where process `pid` stands among others.
+fn position_of(processes: &[usize], pid: usize) -> Option<usize>
+    ensures position { result ≡ position (λ q. q == pid) processes.now }
+    ensures within { IfSome result (λ i. i < length processes.now) }
+{
+    processes.iter().position(|process| *process == pid)
+}
+
+/// Whether one of these processes has a lesser number than process `pid`.
+fn any_below(processes: &[usize], pid: usize) -> bool
+    ensures value { result ≡ list_any (λ q. nat_lt q pid) processes.now }
+{
+    processes.iter().any(|process| *process < pid)
+}
+
+/// The circle of process `pid` and those behind it, where it comes again and none before that has a lesser number.
+fn circle_from(alloc: Global, pid: usize, behind: &[usize]) -> Result<Option<Value>, AllocError>
+    ensures circle { IfOk result (λ v. option_to_list (option_map view v)
+        ≡ circle_from pid behind.now) }
+{
+    let Some(end) = position_of(behind, pid) else {
+        return Ok(None);
+    };
+    let others = &behind[..end];
+    if any_below(others, pid) {
+        return Ok(None);
+    }
+    Ok(Some(numbers(alloc, pid, others)?))
+}
+
+/// The circles of processes in a world, each by its least one, by the units that are taken.
+#[tactic(auto, using(crate::proofs::ValueLemmas::all_below_none), unfolding(crate::specs::Waits::circles_data))]
+pub fn circles_value(alloc: Global, world: &World, holds: &[Hold]) -> Result<Value, AllocError>
+    ensures value { IfOk result (λ v. view v ≡ circles_data world.now holds.now) }
+{
+    let blockers = blockers(alloc, world, holds)?;
+    let mut circles = Vec::new(alloc);
+    for pid in 0..blockers.len() {
+        let behind = followed(alloc, &blockers, pid)?;
+        let circle = circle_from(alloc, pid, &behind)?;
+        push_some(&mut circles, circle)?;
+    }
+    Ok(Value::Array(circles))
+}

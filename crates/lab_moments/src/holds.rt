@@ -1,0 +1,181 @@
+//! The units of semaphores that processes have taken and not given back.
+ghost use Rattle.std.specs.Prelude.{◌≡◌, [], IfOk, OnOk, map};
+ghost use Rattle.std.specs.List.{find, filter};
+ghost use Rattle.std.specs.Option.{option_map, option_to_list};
+ghost use Rattle.serde_json.specs.View.{view};
+ghost use Rattle.lab_moments.specs.Holds.{answered, given_by, has_taken, hold_data, holds_after, holds_data, holds_over, is_hold_of, is_kept, is_other, is_over, taken_by};
+
+use crate::known::KnownObjects;
+use ipc_kernel::Kernel;
+use ipc_traps::Service;
+use lab_trace::{Act, Outcome, Tally};
+use serde_json::{Value, json};
+use std::alloc::{AllocError, Global};
+
+/// A unit of a semaphore that a process has taken.
+#[derive(Clone, Copy, Debug, PartialEq, Eq)]
+pub struct Hold {
+    /// The process.
+    pub pid: usize,
+    /// The place of the semaphore.
+    pub place: u8,
+    /// The step in which the process took it.
+    pub step: u32,
+}
+
+/// The call that a process made on an object, and the place of that, where it was answered and not refused.
+pub fn answered(act: &Act) -> Option<(Service, u8)>
+    ensures call { result ≡ answered act.now }
+{
+    let Act::Calls(call) = act else {
+        return None;
+    };
+    match (&call.outcome, call.place) {
+        (Outcome::Replied(_), Some(place)) => Some((call.service, place)),
+        _ => None,
+    }
+}
+
+/// Whether a unit is of the semaphore in a place, and process `pid` has taken it.
+fn is_hold_of(hold: &Hold, place: u8, pid: usize) -> bool
+    ensures value { result ≡ is_hold_of place pid hold.now }
+{
+    hold.place == place && hold.pid == pid
+}
+
+/// The last unit that process `pid` took of the semaphore in a place.
+fn last_hold(holds: &[Hold], place: u8, pid: usize) -> Option<Hold>
+    ensures hold { result ≡ find (is_hold_of place pid) holds.now }
+{
+    holds
+        .iter()
+        .copied()
+        .find(|hold| is_hold_of(hold, place, pid))
+}
+
+/// The unit that process `pid` gives back by what it does.
+fn given_by(holds: &[Hold], pid: usize, act: &Act) -> Option<Hold>
+    ensures hold { result ≡ given_by pid (answered act.now) holds.now }
+{
+    match answered(act) {
+        Some((Service::SemPost, place)) => last_hold(holds, place, pid),
+        _ => None,
+    }
+}
+
+/// Whether process `pid` has taken more units than it gave, of a semaphore that wasn't made with the value 0.
+fn has_taken(tally: &Tally, objects: &KnownObjects, pid: usize, place: u8) -> bool
+    ensures value { result ≡ has_taken pid place tally.now objects.now }
+{
+    objects.made_with(place) > 0 && tally.balance(place, pid) > 0
+}
+
+/// The unit that process `pid` took by what it did in step `step`, by the tally after it.
+fn taken_by(tally: &Tally, objects: &KnownObjects, step: u32, pid: usize, act: &Act) -> Option<Hold>
+    ensures hold { option_to_list result
+        ≡ taken_by step pid (answered act.now) tally.now objects.now }
+{
+    match answered(act) {
+        Some((Service::SemWait | Service::SemTrywait, place))
+            if has_taken(tally, objects, pid, place) => { Some(Hold { pid, place, step }) }
+        _ => None,
+    }
+}
+
+/// Whether a unit is another than this one.
+fn is_other(given: Option<Hold>, hold: Hold) -> bool
+    ensures value { result ≡ is_other given hold }
+{
+    match given {
+        Some(given) => given.step != hold.step,
+        None => true,
+    }
+}
+
+/// Whether a unit stays taken: it isn't given back, and its semaphore is there.
+fn is_kept(kernel: &Kernel, given: Option<Hold>, hold: Hold) -> bool
+    ensures value { result ≡ is_kept kernel.now given hold }
+{
+    is_other(given, hold) && kernel.semaphore_at(hold.place).is_some()
+}
+
+/// The units that don't stay taken.
+fn over(
+    alloc: Global,
+    kernel: &Kernel,
+    given: Option<Hold>,
+    holds: &[Hold],
+) -> Result<Vec<Hold>, AllocError>
+    ensures over { IfOk result (λ v. v.items ≡ filter (is_over kernel.now given) holds.now) }
+{
+    let mut over = Vec::new(alloc);
+    for hold in holds {
+        if !is_kept(kernel, given, *hold) {
+            over.push(*hold)?;
+        }
+    }
+    Ok(over)
+}
+
+/// Lets go of the units that don't stay taken.
+fn drop_over(holds: &mut Vec<Hold>, kernel: &Kernel, given: Option<Hold>)
+    ensures kept { holds.new.items ≡ filter (is_kept kernel.now given) holds.old.items }
+{
+    holds.retain(|hold| is_kept(kernel, given, *hold));
+}
+
+/// A unit.
+fn hold_value(alloc: Global, hold: &Hold) -> Result<Value, AllocError>
+    ensures value { IfOk result (λ v. view v ≡ hold_data hold.now) }
+{
+    let (pid, step) = (hold.pid, hold.step);
+    json!(in alloc; [pid, step])
+}
+
+/// Units, one by one.
+pub fn holds_value(alloc: Global, holds: &[Hold]) -> Result<Value, AllocError>
+    ensures value { IfOk result (λ v. view v ≡ holds_data holds.now) }
+{
+    let mut values = Vec::new(alloc);
+    for hold in holds {
+        values.push(hold_value(alloc, hold)?)?;
+    }
+    Ok(Value::Array(values))
+}
+
+/// Keeps what process `pid` did in step `step` among the units that are taken, the last one first, by the kernel and the tally after
+/// it.
+pub fn keep_holds(
+    holds: &mut Vec<Hold>,
+    kernel: &Kernel,
+    tally: &Tally,
+    objects: &KnownObjects,
+    step: u32,
+    pid: usize,
+    act: &Act,
+) -> Result<(), AllocError>
+    ensures kept { OnOk result (holds.new.items
+        ≡ holds_after kernel.now tally.now step pid act.now objects.now holds.old.items) }
+{
+    let given = given_by(holds, pid, act);
+    drop_over(holds, kernel, given);
+    if let Some(hold) = taken_by(tally, objects, step, pid, act) {
+        holds.insert(0, hold)?;
+    }
+    Ok(())
+}
+
+/// The units that don't stay taken after what process `pid` did, by the kernel after it.
+pub fn over_value(
+    alloc: Global,
+    kernel: &Kernel,
+    pid: usize,
+    act: &Act,
+    holds: &[Hold],
+) -> Result<Value, AllocError>
+    ensures value { IfOk result (λ v. view v
+        ≡ holds_data (holds_over kernel.now pid act.now holds.now)) }
+{
+    let given = given_by(holds, pid, act);
+    holds_value(alloc, &over(alloc, kernel, given, holds)?)
+}

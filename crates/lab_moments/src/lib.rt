@@ -1,0 +1,26 @@
+//! The moments of a run as values: what stands in a process after a step, what the step did, the objects that it changed or is
+//! about, and what is kept of the steps so far; and who lets whom wait at its end.
+#![tactic(auto)]
+
+mod between;
+mod circles;
+mod event;
+mod holds;
+mod known;
+mod moment;
+mod objects;
+mod open;
+mod past;
+mod state;
+mod values;
+mod waits;
+
+pub use between::{Between, StepCount};
+pub use circles::circles_value;
+pub use holds::{Hold, holds_value};
+pub use known::{Known, KnownObjects};
+pub use moment::moment_by;
+pub use past::Past;
+pub use state::states;
+pub use values::{bytes_value, push_some, steps_value, words_value};
+pub use waits::waits_value;

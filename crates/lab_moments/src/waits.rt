@@ -1,0 +1,109 @@
+//! Who lets a process wait at the end of a run.
+ghost use Rattle.std.specs.Prelude.{◌≡◌, ◌<◌, IfOk, map, length};
+ghost use Rattle.std.specs.Option.{option_map, option_to_list};
+ghost use Rattle.serde_json.specs.View.{view};
+ghost use Rattle.lab_moments.specs.Objects.{awaited_at};
+ghost use Rattle.lab_moments.specs.Waits.{other_at, others, taken_data, wait_in, waits_data};
+
+use crate::known::KnownObjects;
+use crate::objects::{awaited_at, takers};
+use crate::values::push_some;
+use ipc_kernel::Kernel;
+use ipc_traps::Service;
+use lab_sched::World;
+use lab_trace::{Tally, has_open};
+use serde_json::{Value, json};
+use std::alloc::{AllocError, Global};
+
+/// Process `other`, where it is another than process `pid` and could serve its call on the object in a place.
+#[tactic(auto, unfolding(crate::specs::Waits::other_at))]
+fn other_at(kernel: &Kernel, pid: usize, place: u8, service: Service, other: usize) -> Option<Value>
+    requires process { other < length kernel.now.processes }
+    ensures other { option_to_list (option_map view result)
+        ≡ other_at kernel.now pid place service other }
+{
+    if other != pid && has_open(kernel, place, service, other) {
+        Some(Value::from(other))
+    } else {
+        None
+    }
+}
+
+/// The other processes that could serve a call of process `pid`.
+#[tactic(auto, using(crate::proofs::ValueLemmas::all_below_none))]
+fn others(
+    alloc: Global,
+    world: &World,
+    pid: usize,
+    place: u8,
+    service: Service,
+) -> Result<Vec<Value>, AllocError>
+    ensures others { IfOk result (λ v. map view v.items ≡ others world.now pid place service) }
+{
+    let mut others = Vec::new(alloc);
+    for other in 0..world.count() {
+        let value = other_at(world.kernel(), pid, place, service, other);
+        push_some(&mut others, value)?;
+    }
+    Ok(others)
+}
+
+/// Who has taken units of the semaphore in a place, where that was made with a value above 0.
+fn taken_value(
+    alloc: Global,
+    world: &World,
+    tally: &Tally,
+    objects: &KnownObjects,
+    place: u8,
+) -> Result<Value, AllocError>
+    ensures value { IfOk result (λ v. view v
+        ≡ taken_data world.now tally.now objects.now place) }
+{
+    if objects.made_with(place) > 0 {
+        Ok(Value::Array(takers(alloc, world, tally, place)?))
+    } else {
+        Ok(Value::Null)
+    }
+}
+
+/// Process `pid`, where it waits, who has taken what it waits for, and the others that could serve its call.
+fn wait_at(
+    alloc: Global,
+    world: &World,
+    tally: &Tally,
+    objects: &KnownObjects,
+    pid: usize,
+) -> Result<Option<Value>, AllocError>
+    requires process { pid < length world.now.processes }
+    ensures wait { IfOk result (λ v. option_to_list (option_map view v)
+        ≡ wait_in world.now tally.now objects.now pid (awaited_at world.now pid)) }
+{
+    let Some((service, place)) = awaited_at(world, pid) else {
+        return Ok(None);
+    };
+    let wait = json!(in alloc; [
+        pid,
+        taken_value(alloc, world, tally, objects, place)?,
+        others(alloc, world, pid, place, service)?
+    ])?;
+    Ok(Some(wait))
+}
+
+/// The processes that wait, each with who could let it go on.
+#[tactic(auto, using(crate::proofs::ValueLemmas::all_below_none), unfolding(crate::specs::Waits::waits_data))]
+pub fn waits_value(
+    alloc: Global,
+    world: &World,
+    tally: &Tally,
+    objects: &KnownObjects,
+) -> Result<Value, AllocError>
+    ensures value { IfOk result (λ v. view v
+        ≡ waits_data world.now tally.now objects.now) }
+{
+    let mut waits = Vec::new(alloc);
+    for pid in 0..world.count() {
+        let wait = wait_at(alloc, world, tally, objects, pid)?;
+        push_some(&mut waits, wait)?;
+    }
+    Ok(Value::Array(waits))
+}

@@ -1,9 +1,0 @@
-use Rattle.std.proofs.Common.{◌≡◌, map}
-use Rattle.serde_json.specs.View.{view}
-use Rattle.lab_page.specs.Changes.{object_told}
-use Rattle.lab_page.specs.Values.{all_below}
-use Rattle.lab_page.proofs.known.KnownObjects.told.Given as goal
-
--- the objects so far are added
-abbrev pub invariant-loop-place : goal.invariant-loop-place
-invariant-loop-place l = map view l.objects.items ≡ all_below l.place (object_told l.world l.tally l.pid l.act l.self)

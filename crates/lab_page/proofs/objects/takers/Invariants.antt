@@ -1,9 +1,0 @@
-use Rattle.std.proofs.Common.{◌≡◌, map}
-use Rattle.serde_json.specs.View.{view}
-use Rattle.lab_page.specs.Objects.{taker_at}
-use Rattle.lab_page.specs.Values.{all_below}
-use Rattle.lab_page.proofs.objects.takers.Given as goal
-
--- the takers so far are added
-abbrev pub invariant-loop-pid : goal.invariant-loop-pid
-invariant-loop-pid l = map view l.takers.items ≡ all_below l.pid (taker_at l.world l.tally l.place)

@@ -1,0 +1,113 @@
+//! What stands behind the moments of a run: its end and its schedule.
+ghost use Rattle.std.specs.Prelude.{◌≡◌, ◌++◌, ℕ, OnOk, IfOk, slice_get};
+ghost use Rattle.serde_json.specs.View.{view};
+ghost use Rattle.lab_trace.specs.Scenes.{scene_at};
+ghost use Rattle.lab_page.specs.Private.Json.{run_end};
+ghost use Rattle.lab_page.specs.Runs.{block_data, schedule_data, verdict_word, output_of, outputs, outcome_at};
+
+use crate::json::push_behind;
+use lab_moments::{Past, bytes_value, circles_value, holds_value, steps_value, waits_value};
+use lab_sched::{Block, Schedule, Verdict, World};
+use lab_texts::report_text;
+use lab_trace::{Form, Tally, stands};
+use serde_json::{Value, json};
+use std::alloc::{AllocError, Global};
+
+/// So many steps of a process in a row.
+fn block_value(alloc: Global, block: Block) -> Result<Value, AllocError>
+    ensures value { IfOk result (λ v. view v ≡ block_data block) }
+{
+    json!(in alloc; [block.pid, block.count])
+}
+
+/// The blocks of a schedule.
+pub fn schedule_value(alloc: Global, schedule: &Schedule) -> Result<Value, AllocError>
+    ensures value { IfOk result (λ v. view v ≡ schedule_data schedule.now) }
+{
+    let mut blocks = Vec::new(alloc);
+    for block in schedule.blocks() {
+        blocks.push(block_value(alloc, *block)?)?;
+    }
+    Ok(Value::Array(blocks))
+}
+
+/// A verdict in a word.
+pub(crate) fn verdict_word(verdict: Verdict) -> &'static str
+    ensures word { result.now ≡ verdict_word verdict }
+{
+    match verdict {
+        Verdict::Ended => "ended",
+        Verdict::Stuck => "stuck",
+        Verdict::Open => "open",
+    }
+}
+
+/// The bytes that process `pid` has written, where it is there.
+fn output_value(alloc: Global, world: &World, pid: usize) -> Result<Value, AllocError>
+    ensures value { IfOk result (λ v. view v ≡ output_of (slice_get world.now.processes pid)) }
+{
+    match world.process(pid) {
+        Some(process) => bytes_value(alloc, process.machine().output()),
+        None => Ok(Value::Null),
+    }
+}
+
+/// What each process has written.
+#[tactic(auto, using(lab_moments::proofs::ValueLemmas::all_below_none))]
+fn outputs(alloc: Global, world: &World) -> Result<Value, AllocError>
+    ensures value { IfOk result (λ v. view v ≡ outputs world.now) }
+{
+    let mut outputs = Vec::new(alloc);
+    for pid in 0..world.count() {
+        outputs.push(output_value(alloc, world, pid)?)?;
+    }
+    Ok(Value::Array(outputs))
+}
+
+/// The end of a run, by what was kept of its steps.
+#[tactic(auto, unfolding(crate::specs::Runs::outcome_at))]
+fn outcome_value(
+    alloc: Global,
+    world: &World,
+    tally: &Tally,
+    past: &Past,
+    form: &Form<'_>,
+) -> Result<Value, AllocError>
+    ensures value { (number : ℕ) → IfOk result (λ v. view v
+        ≡ outcome_at form.now (scene_at number world.now tally.now) past.now) }
+{
+    json!(in alloc; [
+        verdict_word(world.verdict()),
+        stands(alloc, world, tally, form)?,
+        report_text(alloc, world)?,
+        outputs(alloc, world)?,
+        past.between.value(alloc)?,
+        holds_value(alloc, &past.holds)?,
+        steps_value(alloc, &past.unreceived)?,
+        waits_value(alloc, world, tally, &past.objects)?,
+        circles_value(alloc, world, &past.holds)?
+    ])
+}
+
+/// Adds what stands behind the moments of a run: its end, by what was kept of its steps, and its schedule.
+pub(crate) fn push_run_end(
+    json: &mut Vec<u8>,
+    world: &World,
+    tally: &Tally,
+    past: &Past,
+    form: &Form<'_>,
+    schedule: &Schedule,
+    whole: bool,
+) -> Result<(), AllocError>
+    ensures added { (number : ℕ) → OnOk result (json.new.items ≡ json.old.items
+        ++ run_end (outcome_at form.now (scene_at number world.now tally.now) past.now)
+        (schedule_data schedule.now) whole) }
+{
+    let alloc = *json.allocator();
+    let outcome = outcome_value(alloc, world, tally, past, form)?;
+    push_behind(json, "],\"outcome\":", &outcome)?;
+    let blocks = schedule_value(alloc, schedule)?;
+    push_behind(json, ",\"schedule\":", &blocks)?;
+    push_behind(json, ",\"whole\":", &Value::Bool(whole))?;
+    Ok(json.push(b'}')?)
+}
