@@ -4,7 +4,7 @@ ghost use Rattle.serde_json.specs.View.{view};
 ghost use Rattle.serde_json.specs.Written.{compact_text, has_float};
 ghost use Rattle.lab_sched.specs.Schedules.{steps_of};
 ghost use Rattle.lab_sched.specs.Worlds.{run};
-ghost use Rattle.lab_trace.specs.Scenes.{scene_at};
+ghost use Rattle.lab_told.specs.Scenes.{scene_at};
 ghost use Rattle.lab_trace.specs.Traces.{missing_after, trace_text, AreThere};
 ghost use Rattle.lab_page.specs.Faults.{Explains};
 ghost use Rattle.lab_page.specs.Private.Json.{run_end};
