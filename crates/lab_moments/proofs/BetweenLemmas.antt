@@ -1,8 +1,8 @@
 -- The steps between two lines.
 use Rattle.std.proofs.Common.{◌≡◌, ℕ, suc, ◌+◌, ◌<◌, ◌==◌, ◌&&◌, Bool, true, false, List, [], ◌∷◌, length, set, refl, ap, ◌∙◌, arith}
 use Rattle.std.proofs.lemmas.List.{length-set, set-set, get_or-set_same, length-replicate}
-use Rattle.lab_trace.specs.declared.told.Told.{Told}
-use Rattle.lab_trace.specs.declared.told.Told.TheVariants.{Nothing, Counted, Shown}
+use Rattle.lab_told.specs.declared.told.Told.{Told}
+use Rattle.lab_told.specs.declared.told.Told.TheVariants.{Nothing, Counted, Shown}
 use Rattle.lab_moments.specs.Between.{no_steps, count_of, with_steps, idle_of, between_after, count_data, between_data}
 use Rattle.lab_moments.specs.Values.{list, natural}
 use Rattle.lab_moments.specs.declared.between.StepCount.{StepCount}

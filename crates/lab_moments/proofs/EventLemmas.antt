@@ -8,15 +8,15 @@ use Rattle.ipc_kernel.specs.Limits.{object_places}
 use Rattle.ipc_kernel.specs.Places.{place_at}
 use Rattle.lab_sched.specs.Worlds.{WorldState}
 use Rattle.lab_trace.specs.Forms.{Form}
-use Rattle.lab_trace.specs.Tallies.{TallyState}
-use Rattle.lab_trace.specs.declared.answers.Outcome.{Outcome}
-use Rattle.lab_trace.specs.declared.answers.Outcome.TheVariants.{Waits, Refused, Replied}
-use Rattle.lab_trace.specs.declared.told.Act.{Act}
-use Rattle.lab_trace.specs.declared.told.Act.TheVariants.{Calls, Writes, Ends}
-use Rattle.lab_trace.specs.declared.told.Called.{Called}
-use Rattle.lab_trace.specs.declared.told.Event.{Event}
-use Rattle.lab_trace.specs.declared.told.Told.{Told}
-use Rattle.lab_trace.specs.declared.told.Told.TheVariants.{Nothing, Counted, Shown}
+use Rattle.lab_told.specs.Tallies.{TallyState}
+use Rattle.lab_told.specs.declared.answers.Outcome.{Outcome}
+use Rattle.lab_told.specs.declared.answers.Outcome.TheVariants.{Waits, Refused, Replied}
+use Rattle.lab_told.specs.declared.told.Act.{Act}
+use Rattle.lab_told.specs.declared.told.Act.TheVariants.{Calls, Writes, Ends}
+use Rattle.lab_told.specs.declared.told.Called.{Called}
+use Rattle.lab_told.specs.declared.told.Event.{Event}
+use Rattle.lab_told.specs.declared.told.Told.{Told}
+use Rattle.lab_told.specs.declared.told.Told.TheVariants.{Nothing, Counted, Shown}
 use Rattle.lab_moments.specs.Values.{list, natural, naturals, or_null}
 use Rattle.lab_moments.specs.States.{state_in}
 use Rattle.lab_moments.specs.Changes.{known_at, known_now, made_with, is_same, is_about, told_where, object_told, objects_told}

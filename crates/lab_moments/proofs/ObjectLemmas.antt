@@ -13,9 +13,9 @@ use Rattle.ipc_objects.specs.declared.queue.Message.{Message}
 use Rattle.ipc_traps.specs.declared.service.Service.{Service}
 use Rattle.lab_sched.specs.Verdicts.{is_ended}
 use Rattle.lab_sched.specs.Worlds.{Process, WorldState}
-use Rattle.lab_trace.specs.Tallies.{TallyState}
-use Rattle.lab_trace.specs.Units.{units_of, balance}
-use Rattle.lab_trace.specs.declared.origins.Origin.{Origin}
+use Rattle.lab_told.specs.Tallies.{TallyState}
+use Rattle.lab_told.specs.Units.{units_of, balance}
+use Rattle.lab_told.specs.declared.origins.Origin.{Origin}
 use Rattle.lab_moments.specs.Values.{list, natural, naturals, or_null, all_below}
 use Rattle.lab_moments.specs.Objects.{name_data, awaited_at, waiter, waiters, taker, taker_at, takers, semaphore_data, origin_data, message_data, origins_in, message_at, messages, queue_data, object_data, descriptor_data, slot_data, descriptor_at, slot_at, open_data}
 use Rattle.lab_moments.proofs.PlainLemmas.{IsPlain, ArePlain, both, plain-append, plain-below, plain-naturals, plain-some, plain-if}

@@ -5,7 +5,7 @@ use Rattle.serde_json.specs.View.{items_of}
 use Rattle.serde_json.specs.Written.{items_have_float}
 use Rattle.lc3_machine.specs.Process.{Process as Machine, reg}
 use Rattle.lab_sched.specs.Worlds.{Process, WorldState, machine_of}
-use Rattle.lab_trace.specs.Services.{service_of_word}
+use Rattle.lab_told.specs.Services.{service_of_word}
 use Rattle.ipc_traps.specs.declared.service.Service.{Service}
 use Rattle.lab_moments.specs.Values.{natural}
 use Rattle.lab_moments.specs.States.{call_names, word_data, shown_count, words_from, registers, state_data, state_of, state_in, states}

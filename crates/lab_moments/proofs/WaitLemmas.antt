@@ -6,8 +6,8 @@ use Rattle.serde_json.specs.Written.{has_float}
 use Rattle.ipc_kernel.specs.Kernel.{KernelState}
 use Rattle.ipc_traps.specs.declared.service.Service.{Service}
 use Rattle.lab_sched.specs.Worlds.{WorldState}
-use Rattle.lab_trace.specs.Ends.{has_open}
-use Rattle.lab_trace.specs.Tallies.{TallyState}
+use Rattle.lab_told.specs.Openers.{has_open}
+use Rattle.lab_told.specs.Tallies.{TallyState}
 use Rattle.lab_moments.specs.Changes.{known_at, made_with}
 use Rattle.lab_moments.specs.Objects.{awaited_at, takers}
 use Rattle.lab_moments.specs.Values.{natural, naturals, list}

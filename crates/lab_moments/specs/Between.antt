@@ -1,10 +1,10 @@
 -- The steps between two lines of the trace: of each process those since the last line, of whichever process.
 use Rattle.std.specs.Prelude.{ℕ, ◌+◌, ◌==◌, ◌&&◌, Bool, if◌then◌else◌, List, [], ◌∷◌, length, replicate, is_some, slice_index_or, slice_set}
 use Rattle.serde_json.specs.Data.{Data}
-use Rattle.lab_trace.specs.Scenes.{Scene}
-use Rattle.lab_trace.specs.Tallies.{account_of}
-use Rattle.lab_trace.specs.declared.told.Told.{Told}
-use Rattle.lab_trace.specs.declared.told.Told.TheVariants.{Nothing, Counted, Shown}
+use Rattle.lab_told.specs.Scenes.{Scene}
+use Rattle.lab_told.specs.Tallies.{account_of}
+use Rattle.lab_told.specs.declared.told.Told.{Told}
+use Rattle.lab_told.specs.declared.told.Told.TheVariants.{Nothing, Counted, Shown}
 use Rattle.lab_moments.specs.Values.{list, natural, all_below}
 use Rattle.lab_moments.specs.declared.between.StepCount.{StepCount}
 

@@ -9,10 +9,10 @@ use Rattle.ipc_kernel.specs.declared.place.Place.{Place}
 use Rattle.ipc_kernel.specs.declared.place.Place.TheVariants.{Empty, Mq, Sem}
 use Rattle.ipc_traps.specs.Services.{is_on_level}
 use Rattle.lab_sched.specs.Worlds.{WorldState}
-use Rattle.lab_trace.specs.Tallies.{TallyState}
-use Rattle.lab_trace.specs.Units.{units_of, balance}
-use Rattle.lab_trace.specs.declared.told.Act.{Act}
-use Rattle.lab_trace.specs.declared.told.Act.TheVariants.{Calls, Writes, Ends}
+use Rattle.lab_told.specs.Tallies.{TallyState}
+use Rattle.lab_told.specs.Units.{units_of, balance}
+use Rattle.lab_told.specs.declared.told.Act.{Act}
+use Rattle.lab_told.specs.declared.told.Act.TheVariants.{Calls, Writes, Ends}
 use Rattle.lab_moments.specs.Objects.{object_data}
 use Rattle.lab_moments.specs.Values.{list, all_below}
 use Rattle.lab_moments.specs.declared.known.Known.{Known}

@@ -5,19 +5,20 @@ use Rattle.serde_json.specs.Data.{Data, null, string}
 use Rattle.ipc_kernel.specs.declared.call.Reply.TheVariants.{Message}
 use Rattle.lab_sched.specs.Worlds.{WorldState}
 use Rattle.lab_texts.specs.Texts.{how_text}
-use Rattle.lab_trace.specs.Answers.{error_name, result_in, outcome_text}
+use Rattle.lab_trace.specs.Outcomes.{error_name, outcome_text}
+use Rattle.lab_told.specs.Answers.{result_in}
 use Rattle.lab_trace.specs.Forms.{Form}
 use Rattle.lab_trace.specs.Lines.{columns, act_text}
 use Rattle.ipc_traps.specs.Services.{service_name, is_on_level}
-use Rattle.lab_trace.specs.Tallies.{TallyState}
-use Rattle.lab_trace.specs.declared.answers.Outcome.{Outcome}
-use Rattle.lab_trace.specs.declared.answers.Outcome.TheVariants.{Waits, Refused, Replied}
+use Rattle.lab_told.specs.Tallies.{TallyState}
+use Rattle.lab_told.specs.declared.answers.Outcome.{Outcome}
+use Rattle.lab_told.specs.declared.answers.Outcome.TheVariants.{Waits, Refused, Replied}
 use Rattle.ipc_traps.specs.declared.service.Service.{Service}
 use Rattle.ipc_traps.specs.declared.service.Service.TheVariants.{MqGetattr, SemGetvalue}
-use Rattle.lab_trace.specs.declared.told.Act.{Act}
-use Rattle.lab_trace.specs.declared.told.Act.TheVariants.{Calls, Writes, Ends}
-use Rattle.lab_trace.specs.declared.told.Called.{Called}
-use Rattle.lab_trace.specs.declared.told.Event.{Event}
+use Rattle.lab_told.specs.declared.told.Act.{Act}
+use Rattle.lab_told.specs.declared.told.Act.TheVariants.{Calls, Writes, Ends}
+use Rattle.lab_told.specs.declared.told.Called.{Called}
+use Rattle.lab_told.specs.declared.told.Event.{Event}
 use Rattle.lab_moments.specs.Values.{list, natural, naturals, or_null}
 use Rattle.lab_moments.specs.Changes.{objects_told}
 use Rattle.lab_moments.specs.Holds.{holds_over, holds_data}

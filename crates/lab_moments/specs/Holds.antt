@@ -7,12 +7,12 @@ use Rattle.ipc_kernel.specs.Kernel.{KernelState}
 use Rattle.ipc_kernel.specs.Places.{place_at, semaphore_value}
 use Rattle.ipc_traps.specs.declared.service.Service.{Service}
 use Rattle.ipc_traps.specs.declared.service.Service.TheVariants.{SemWait, SemTrywait, SemPost}
-use Rattle.lab_trace.specs.Tallies.{TallyState}
-use Rattle.lab_trace.specs.Units.{units_of, balance}
-use Rattle.lab_trace.specs.declared.answers.Outcome.{Outcome}
-use Rattle.lab_trace.specs.declared.answers.Outcome.TheVariants.{Replied}
-use Rattle.lab_trace.specs.declared.told.Act.{Act}
-use Rattle.lab_trace.specs.declared.told.Act.TheVariants.{Calls}
+use Rattle.lab_told.specs.Tallies.{TallyState}
+use Rattle.lab_told.specs.Units.{units_of, balance}
+use Rattle.lab_told.specs.declared.answers.Outcome.{Outcome}
+use Rattle.lab_told.specs.declared.answers.Outcome.TheVariants.{Replied}
+use Rattle.lab_told.specs.declared.told.Act.{Act}
+use Rattle.lab_told.specs.declared.told.Act.TheVariants.{Calls}
 use Rattle.lab_moments.specs.Changes.{known_at, made_with}
 use Rattle.lab_moments.specs.Values.{list, natural}
 use Rattle.lab_moments.specs.declared.known.Known.{Known}

@@ -3,10 +3,10 @@ use Rattle.std.specs.Prelude.{ℕ, Bool, if◌then◌else◌, List, [], ◌∷�
 use Rattle.serde_json.specs.Data.{Data}
 use Rattle.lab_sched.specs.Worlds.{WorldState}
 use Rattle.lab_trace.specs.Forms.{Form}
-use Rattle.lab_trace.specs.Tallies.{TallyState}
-use Rattle.lab_trace.specs.declared.told.Event.{Event}
-use Rattle.lab_trace.specs.declared.told.Told.{Told}
-use Rattle.lab_trace.specs.declared.told.Told.TheVariants.{Nothing, Counted, Shown}
+use Rattle.lab_told.specs.Tallies.{TallyState}
+use Rattle.lab_told.specs.declared.told.Event.{Event}
+use Rattle.lab_told.specs.declared.told.Told.{Told}
+use Rattle.lab_told.specs.declared.told.Told.TheVariants.{Nothing, Counted, Shown}
 use Rattle.lab_moments.specs.Values.{list, natural}
 use Rattle.lab_moments.specs.States.{state_in}
 use Rattle.lab_moments.specs.Events.{event_data}

@@ -16,12 +16,12 @@ use Rattle.lc3_machine.specs.Process.{Process as Machine, reg}
 use Rattle.lab_sched.specs.Verdicts.{is_ended}
 use Rattle.lab_sched.specs.Worlds.{Process, Running, Waiting, Ended, WorldState}
 use Rattle.lab_texts.specs.Objects.{access_text}
-use Rattle.lab_trace.specs.Objects.{held_place}
-use Rattle.lab_trace.specs.Origins.{is_in}
-use Rattle.lab_trace.specs.Services.{service_at}
-use Rattle.lab_trace.specs.Tallies.{TallyState}
-use Rattle.lab_trace.specs.Units.{units_of, balance}
-use Rattle.lab_trace.specs.declared.origins.Origin.{Origin}
+use Rattle.lab_told.specs.Objects.{held_place}
+use Rattle.lab_told.specs.Origins.{is_in}
+use Rattle.lab_told.specs.Services.{service_at}
+use Rattle.lab_told.specs.Tallies.{TallyState}
+use Rattle.lab_told.specs.Units.{units_of, balance}
+use Rattle.lab_told.specs.declared.origins.Origin.{Origin}
 use Rattle.lab_moments.specs.Values.{list, natural, naturals, or_null, all_below}
 
 -- the name of an object, none once it is unlinked

@@ -8,7 +8,7 @@ use Rattle.lc3_machine.specs.Process.{Process as Machine, reg}
 use Rattle.lab_sched.specs.Worlds.{Process, WorldState, machine_of}
 use Rattle.lab_texts.specs.Texts.{code_text}
 use Rattle.ipc_traps.specs.Services.{service_name}
-use Rattle.lab_trace.specs.Services.{service_of_word}
+use Rattle.lab_told.specs.Services.{service_of_word}
 use Rattle.ipc_traps.specs.declared.service.Service.{Service}
 use Rattle.lab_moments.specs.Values.{list, natural, all_below}
 

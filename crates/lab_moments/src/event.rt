@@ -2,7 +2,7 @@
 ghost use Rattle.std.specs.Prelude.{◌≡◌, ◌<◌, IfOk, length, string_bytes};
 ghost use Rattle.std.specs.Option.{option_map};
 ghost use Rattle.serde_json.specs.View.{view};
-ghost use Rattle.lab_trace.specs.Answers.{outcome_text};
+ghost use Rattle.lab_trace.specs.Outcomes.{outcome_text};
 ghost use Rattle.lab_moments.specs.Values.{natural, naturals, or_null};
 ghost use Rattle.lab_moments.specs.Events.{outcome_data, words_of, called_data, act_data, is_arranging, tells_open, open_told, event_data};
 

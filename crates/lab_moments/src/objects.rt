@@ -4,7 +4,7 @@ ghost use Rattle.std.specs.Option.{option_map, option_copied, option_to_list};
 ghost use Rattle.serde_json.specs.View.{view};
 ghost use Rattle.ipc_kernel.specs.Places.{place_at};
 ghost use Rattle.lab_sched.specs.Held.{process_view};
-ghost use Rattle.lab_trace.specs.Origins.{is_in};
+ghost use Rattle.lab_told.specs.Origins.{is_in};
 ghost use Rattle.lab_moments.specs.Values.{or_null};
 ghost use Rattle.lab_moments.specs.Objects.{name_data, awaited, awaited_at, waiter, waiters, taker_at, takers, semaphore_data, origin_data, message_data, message_at, messages, queue_data, object_data};
 

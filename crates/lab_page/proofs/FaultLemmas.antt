@@ -5,7 +5,7 @@ use Rattle.serde_json.specs.Data.{Data}
 use Rattle.lab_sched.specs.Schedules.{steps_of}
 use Rattle.lab_sched.specs.declared.schedule.block.Block.{Block}
 use Rattle.lab_sched.proofs.ScheduleRuns.{steps-split}
-use Rattle.lab_trace.specs.Scenes.{Scene, next, scene_after}
+use Rattle.lab_told.specs.Scenes.{Scene, next, scene_after}
 use Rattle.lab_trace.specs.Forms.{Form}
 use Rattle.lab_moments.specs.Pasts.{Past}
 use Rattle.lab_page.specs.Moments.{next_past, past_then}

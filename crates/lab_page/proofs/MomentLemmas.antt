@@ -6,11 +6,13 @@ use Rattle.lab_sched.specs.Schedules.{steps_of}
 use Rattle.lab_sched.specs.Worlds.{WorldState, StepEffect, nothing, local_step, kernel_step, step_effect_in}
 use Rattle.lab_sched.specs.declared.schedule.block.Block.{Block}
 use Rattle.lab_sched.proofs.ScheduleRuns.{steps-more}
-use Rattle.lab_trace.specs.Scenes.{Scene, first_scene, told, line, next, events, scene_after}
+use Rattle.lab_told.specs.Scenes.{Scene, first_scene, told, next, scene_after}
+use Rattle.lab_trace.specs.Lines.{line, events}
 use Rattle.lab_trace.specs.Forms.{Form, form_for}
-use Rattle.lab_trace.specs.declared.told.Told.{Told}
-use Rattle.lab_trace.specs.declared.told.Told.TheVariants.{Nothing}
-use Rattle.lab_trace.proofs.SceneLemmas.{Stands, renumbered, next-still, told-still, told-some, events-append, events-more}
+use Rattle.lab_told.specs.declared.told.Told.{Told}
+use Rattle.lab_told.specs.declared.told.Told.TheVariants.{Nothing}
+use Rattle.lab_trace.proofs.LineLemmas.{Stands, events-append, events-more}
+use Rattle.lab_told.proofs.SceneLemmas.{renumbered, next-still, told-still, told-some}
 use Rattle.lab_page.specs.Private.Json.{more_json}
 use Rattle.lab_moments.specs.Pasts.{Past, first_past}
 use Rattle.lab_page.specs.Moments.{next_past, past_then}

@@ -5,11 +5,11 @@ use Rattle.lab_sched.specs.Worlds.{WorldState, StepEffect, nothing, local_step, 
 use Rattle.lab_sched.specs.Schedules.{steps_of}
 use Rattle.lab_sched.specs.declared.schedule.block.Block.{Block}
 use Rattle.lab_sched.proofs.ScheduleRuns.{steps-more}
-use Rattle.lab_trace.specs.Scenes.{Scene, told, next, scene_after}
-use Rattle.lab_trace.specs.Tallies.{TallyState}
-use Rattle.lab_trace.specs.declared.told.Told.{Told}
-use Rattle.lab_trace.specs.declared.told.Told.TheVariants.{Nothing, Counted, Shown}
-use Rattle.lab_trace.proofs.SceneLemmas.{renumbered, next-still, told-still, told-some}
+use Rattle.lab_told.specs.Scenes.{Scene, told, next, scene_after}
+use Rattle.lab_told.specs.Tallies.{TallyState}
+use Rattle.lab_told.specs.declared.told.Told.{Told}
+use Rattle.lab_told.specs.declared.told.Told.TheVariants.{Nothing, Counted, Shown}
+use Rattle.lab_told.proofs.SceneLemmas.{renumbered, next-still, told-still, told-some}
 use Rattle.lab_moments.specs.Between.{between_after, waits_at}
 use Rattle.lab_moments.specs.Pasts.{Past, past_told, past_after}
 use Rattle.lab_page.specs.Moments.{past_by, next_past, past_then}

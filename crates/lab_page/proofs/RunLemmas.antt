@@ -6,8 +6,9 @@ use Rattle.lab_sched.specs.Schedules.{steps_of}
 use Rattle.lab_sched.specs.Worlds.{Process, WorldState, machine_of}
 use Rattle.lab_sched.specs.declared.schedule.block.Block.{Block}
 use Rattle.lab_sources.specs.declared.source.Source.{Source}
-use Rattle.lab_trace.specs.Scenes.{Scene, scene_at, first_scene, events, scene_after}
-use Rattle.lab_trace.specs.Tallies.{TallyState, new_tally}
+use Rattle.lab_told.specs.Scenes.{Scene, scene_at, first_scene, scene_after}
+use Rattle.lab_trace.specs.Lines.{events}
+use Rattle.lab_told.specs.Tallies.{TallyState, new_tally}
 use Rattle.lab_trace.specs.Traces.{ending, trace_text}
 use Rattle.lab_trace.proofs.WrittenLemmas.{trace-whole}
 use Rattle.lab_trace.specs.Forms.{Form, form_for}

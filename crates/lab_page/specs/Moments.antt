@@ -3,7 +3,7 @@ use Rattle.std.specs.Prelude.{ℕ, Bool, List, [], ◌∷◌, ◌++◌, length}
 use Rattle.serde_json.specs.Data.{Data}
 use Rattle.lab_sched.specs.Worlds.{WorldState}
 use Rattle.lab_trace.specs.Forms.{Form, form_for}
-use Rattle.lab_trace.specs.Scenes.{Scene, first_scene, told, next}
+use Rattle.lab_told.specs.Scenes.{Scene, first_scene, told, next}
 use Rattle.lab_moments.specs.Between.{waits_at}
 use Rattle.lab_moments.specs.Moments.{moment_by}
 use Rattle.lab_moments.specs.Pasts.{Past, first_past, past_after}

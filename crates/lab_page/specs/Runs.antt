@@ -11,7 +11,7 @@ use Rattle.lab_sched.specs.declared.verdict.Verdict.TheVariants.{Ended, Stuck, O
 use Rattle.lab_texts.specs.Reports.{report_text}
 use Rattle.lab_trace.specs.Ends.{end_lines}
 use Rattle.lab_trace.specs.Forms.{Form, form_for}
-use Rattle.lab_trace.specs.Scenes.{Scene, first_scene, scene_after}
+use Rattle.lab_told.specs.Scenes.{Scene, first_scene, scene_after}
 use Rattle.lab_moments.specs.Between.{between_data}
 use Rattle.lab_moments.specs.Holds.{holds_data}
 use Rattle.lab_template.specs.Limits.{most_whole}

@@ -4,7 +4,7 @@ use Rattle.std.specs.Option.{option_map, option_and_then}
 use Rattle.serde_json.specs.Data.{Data, string}
 use Rattle.lc3_asm.specs.Texts.{Program}
 use Rattle.lc3_asm.specs.declared.assembled.Row.{Row}
-use Rattle.lab_trace.specs.Services.{service_of_word}
+use Rattle.lab_told.specs.Services.{service_of_word}
 use Rattle.ipc_traps.specs.declared.service.Service.{Service}
 use Rattle.lab_moments.specs.States.{call_names}
 use Rattle.lab_moments.specs.Values.{list, natural, naturals, or_null, all_below}

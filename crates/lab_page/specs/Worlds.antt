@@ -9,8 +9,9 @@ use Rattle.lc3_machine.specs.Process.{Process as Machine}
 use Rattle.lab_sched.specs.Worlds.{Process, Running, Waiting, Ended, WorldState, machine_of}
 use Rattle.lab_sched.specs.declared.verdict.Verdict.{Verdict}
 use Rattle.lab_texts.specs.Texts.{how_text, place_text}
-use Rattle.lab_trace.specs.Calls.{arguments, call_text}
-use Rattle.lab_trace.specs.Services.{service_at}
+use Rattle.lab_told.specs.Calls.{arguments}
+use Rattle.lab_trace.specs.Outcomes.{call_text}
+use Rattle.lab_told.specs.Services.{service_at}
 use Rattle.ipc_traps.specs.declared.service.Service.{Service}
 use Rattle.lab_page.specs.Runs.{verdict_word}
 use Rattle.lab_moments.specs.Values.{list, natural, or_null, all_below}

@@ -1,7 +1,7 @@
 //! What stands behind the moments of a run: its end and its schedule.
 ghost use Rattle.std.specs.Prelude.{◌≡◌, ◌++◌, ℕ, OnOk, IfOk, slice_get};
 ghost use Rattle.serde_json.specs.View.{view};
-ghost use Rattle.lab_trace.specs.Scenes.{scene_at};
+ghost use Rattle.lab_told.specs.Scenes.{scene_at};
 ghost use Rattle.lab_page.specs.Private.Json.{run_end};
 ghost use Rattle.lab_page.specs.Runs.{block_data, schedule_data, verdict_word, output_of, outputs, outcome_at};
 

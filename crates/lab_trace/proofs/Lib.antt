@@ -1,8 +1,3 @@
-pub mod OriginLemmas
-pub mod UnitLemmas
-pub mod NameLemmas
-pub mod BelowLemmas
-pub mod SceneLemmas
+pub mod LineLemmas
 pub mod WrittenLemmas
 pub mod MissingLemmas
-pub mod AnswerLemmas

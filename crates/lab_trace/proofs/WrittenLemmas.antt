@@ -10,11 +10,13 @@ use Rattle.lab_sched.specs.Schedules.{steps_of}
 use Rattle.lab_sched.specs.declared.schedule.block.Block.{Block}
 use Rattle.lab_sched.proofs.ScheduleRuns.{steps-more, steps-split}
 use Rattle.lab_sources.specs.declared.source.Source.{Source}
-use Rattle.lab_trace.specs.Scenes.{Scene, scene_at, first_scene, line, next_tally, next, events, scene_after}
-use Rattle.lab_trace.specs.Tallies.{TallyState, new_tally}
+use Rattle.lab_told.specs.Scenes.{Scene, scene_at, first_scene, next_tally, next, scene_after}
+use Rattle.lab_trace.specs.Lines.{line, events}
+use Rattle.lab_told.specs.Tallies.{TallyState, new_tally}
 use Rattle.lab_trace.specs.Traces.{ending, trace_with, trace_text}
 use Rattle.lab_trace.specs.Forms.{Form, form_for}
-use Rattle.lab_trace.proofs.SceneLemmas.{Stands, events-append, scene-append, events-at, events-more, scene-more}
+use Rattle.lab_trace.proofs.LineLemmas.{Stands, events-append, events-at, events-more, scene-more}
+use Rattle.lab_told.proofs.SceneLemmas.{scene-append}
 
 -- what holds, holds on an error
 pub on_err : {T E : Type 0} (r : Result T E) (P : Type 0) → P → OnErr r P

@@ -7,7 +7,7 @@ use Rattle.lab_sources.specs.Labels.{nearest, label_text}
 use Rattle.lab_sources.specs.Rows.{held_row}
 use Rattle.lab_sources.specs.declared.source.Source.{Source}
 use Rattle.lc3_asm.specs.declared.assembled.Row.{Row}
-use Rattle.lab_trace.specs.Words.{at_left, at_right}
+use Rattle.lab_trace.specs.Columns.{at_left, at_right}
 
 -- the widths of the columns whose width a trace chooses, the number of a step and the process, and of each process its
 -- source, where it was given as one

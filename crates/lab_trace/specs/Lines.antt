@@ -1,22 +1,21 @@
 -- The line of a step.
-use Rattle.std.specs.Prelude.{ℕ, Bool, false, ◌||◌, Option, Some, None, is_some, List, [], ◌++◌, codes}
+use Rattle.std.specs.Prelude.{ℕ, Bool, false, ◌||◌, Option, Some, None, is_some, List, [], ◌++◌, codes, ◌+◌, ◌∷◌}
 use Rattle.std.specs.Fmt.{decimal}
 use Rattle.lc3_table.specs.Text.{word_text}
 use Rattle.lc3_machine.specs.declared.want.How.{How}
 use Rattle.lab_texts.specs.Texts.{how_text}
-use Rattle.lab_trace.specs.Words.{bytes_text}
-use Rattle.lab_trace.specs.Answers.{outcome_text}
-use Rattle.lab_trace.specs.Calls.{call_text}
-use Rattle.lab_trace.specs.Objects.{level_text}
-use Rattle.lab_trace.specs.declared.origins.Origin.{Origin}
+use Rattle.lab_trace.specs.Bytes.{bytes_text}
+use Rattle.lab_trace.specs.Outcomes.{outcome_text, call_text, level_text}
+use Rattle.lab_told.specs.declared.origins.Origin.{Origin}
 use Rattle.lab_trace.specs.Forms.{Form, separator, head, line_end}
-use Rattle.lab_trace.specs.declared.handles.Level.{Level}
-use Rattle.lab_trace.specs.declared.told.Called.{Called}
-use Rattle.lab_trace.specs.declared.told.Act.{Act}
-use Rattle.lab_trace.specs.declared.told.Act.TheVariants.{Calls, Writes, Ends}
-use Rattle.lab_trace.specs.declared.told.Event.{Event}
-use Rattle.lab_trace.specs.declared.told.Told.{Told}
-use Rattle.lab_trace.specs.declared.told.Told.TheVariants.{Nothing, Counted, Shown}
+use Rattle.lab_told.specs.declared.handles.Level.{Level}
+use Rattle.lab_told.specs.declared.told.Called.{Called}
+use Rattle.lab_told.specs.declared.told.Act.{Act}
+use Rattle.lab_told.specs.declared.told.Act.TheVariants.{Calls, Writes, Ends}
+use Rattle.lab_told.specs.declared.told.Event.{Event}
+use Rattle.lab_told.specs.declared.told.Told.{Told}
+use Rattle.lab_told.specs.declared.told.Told.TheVariants.{Nothing, Counted, Shown}
+use Rattle.lab_told.specs.Scenes.{Scene, told, next}
 
 -- the level after the step
 abbrev pub level_note : Option Level → List ℕ
@@ -81,3 +80,12 @@ abbrev pub step_line : Form → ℕ → ℕ → Told → List ℕ
 step_line v n p Nothing = []
 step_line v n p Counted = []
 step_line v n p (Shown e) = columns v n p e ++ act_text e.word e.act ++ line_end v (is_noted e.act) p e.pc e.word
+
+-- the line of the next step, of process p, or nothing
+abbrev pub line : Form → Scene → ℕ → List ℕ
+line v s p = step_line v s.number p (told s p)
+
+-- the lines of steps
+unfoldable pub events : Form → Scene → List ℕ → List ℕ
+events v s [] = []
+events v s (p ∷ ps) = line v s p ++ events v (next s p) ps

@@ -1,3 +1,2 @@
 -- Definitions that only contracts inside the crate cite.
 pub mod Faults
-pub mod Room

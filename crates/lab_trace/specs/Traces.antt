@@ -6,9 +6,10 @@ use Rattle.lab_sched.specs.declared.schedule.block.Block.{Block}
 use Rattle.lab_sources.specs.declared.source.Source.{Source}
 use Rattle.lab_texts.specs.Reports.{report_text}
 use Rattle.lab_trace.specs.Forms.{Form, form_for}
-use Rattle.lab_trace.specs.Scenes.{Scene, first_scene, events, scene_after}
+use Rattle.lab_told.specs.Scenes.{Scene, first_scene, scene_after}
+use Rattle.lab_trace.specs.Lines.{events}
 use Rattle.lab_trace.specs.Ends.{end_lines}
-use Rattle.lab_trace.specs.Tallies.{TallyState}
+use Rattle.lab_told.specs.Tallies.{TallyState}
 use Rattle.lab_trace.specs.declared.fault.TraceFault.{TraceFault}
 use Rattle.lab_trace.specs.declared.fault.TraceFault.TheVariants.{NoProcess, Write, NoMemory}
 

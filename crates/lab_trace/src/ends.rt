@@ -2,19 +2,17 @@
 ghost use Rattle.std.specs.Prelude.{◌≡◌, ◌<◌, ◌++◌, OnOk, IfOk, length, string_bytes, slice_get};
 ghost use Rattle.lab_sched.specs.Held.{process_view};
 ghost use Rattle.lab_sched.specs.Worlds.{machine_of};
-ghost use Rattle.lab_trace.specs.Services.{service_at};
+ghost use Rattle.lab_told.specs.Services.{service_at};
 ghost use Rattle.lab_trace.specs.Ends.{object_part, since_part, wait_text, stand, stand_line, end_lines};
 
-use crate::arguments::{arguments_of, push_call};
 use crate::form::Form;
-use crate::handles::{held_place, level_at, push_level};
 use crate::others::{others_title, push_others};
-use crate::service::service_at;
+use crate::outcomes::{push_call, push_level};
 use crate::takers::push_takers;
-use crate::tally::Tally;
-use crate::words::register;
 use ipc_traps::Service;
 use lab_sched::{Process, World};
+use lab_told::{Tally, arguments_of, held_place, level_at, service_at};
+use lc3_word::Reg;
 use std::alloc::{AllocError, Global};
 
 /// Adds the object in a place, who took its units, and who could serve a call of process `pid` on it.
@@ -75,7 +73,8 @@ fn push_wait(
     let arguments = arguments_of(alloc, kernel, pid, process, service)?;
     push_call(text, service, &arguments)?;
     text.push_str(": ")?;
-    let place = held_place(kernel, pid, service, register(process, 0));
+    let number = process.machine().reg(Reg::of_low_bits(0));
+    let place = held_place(kernel, pid, service, number);
     push_object(alloc, text, world, tally, pid, service, place)
 }
 

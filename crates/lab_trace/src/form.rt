@@ -4,9 +4,10 @@ ghost use Rattle.std.specs.Prelude.{◌≡◌, ◌≤◌, ◌<◌, ◌^◌, ◌|
 ghost use Rattle.std.specs.Fmt.{decimal};
 ghost use Rattle.lab_trace.specs.Forms.{form_for, process_column, local_column, head, separator, source_of, label_of, at_text, label_note, row_of, row_text, row_note, line_end};
 
-use crate::words::{push_address, push_at_left, push_at_right};
+use crate::columns::{push_at_left, push_at_right};
 use lab_sources::{Near, Source};
 use lc3_asm::Row;
+use lc3_word::Hex;
 use std::alloc::{AllocError, Global};
 use std::marker::Model;
 
@@ -99,8 +100,8 @@ impl<'a> Form<'a> {
         push_at_right(text, self.step, step)?;
         text.push_str(" ")?;
         push_process(alloc, text, self.process, pid)?;
-        push_address(text, address)?;
-        text.push_str(" ")?;
+        let address = Hex(address);
+        write!(text, "{address} ")?;
         push_local(alloc, text, local)
     }
 

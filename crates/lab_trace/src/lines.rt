@@ -2,14 +2,11 @@
 ghost use Rattle.std.specs.Prelude.{◌≡◌, ◌++◌, OnOk, IfOk, string_bytes};
 ghost use Rattle.lab_trace.specs.Lines.{level_note, waited_text, wait_note, origin_text, origin_note, notes, has_notes, called_text, output_text, end_text, act_text, is_noted, columns, step_line};
 
-use crate::answers::push_outcome;
-use crate::arguments::push_call;
+use crate::bytes::push_bytes;
 use crate::form::{Form, separator};
-use crate::handles::{Level, push_level};
-use crate::origins::Origin;
-use crate::told::{Act, Called, Event, Told};
-use crate::words::push_bytes;
+use crate::outcomes::{push_call, push_level, push_outcome};
 use lab_texts::how_name;
+use lab_told::{Act, Called, Event, Level, Origin, Told};
 use lc3_machine::How;
 use lc3_table::WordText;
 use std::alloc::{AllocError, Global};

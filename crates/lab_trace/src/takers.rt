@@ -6,9 +6,9 @@ ghost use Rattle.lab_texts.specs.Rows.{texts_below};
 ghost use Rattle.lab_trace.specs.Ends.{times_text, ended_text, taker_of, taker_text, takers_text, takers_part};
 
 use crate::others::push_or_nobody;
-use crate::tally::Tally;
 use ipc_traps::Service;
 use lab_sched::{Process, World};
+use lab_told::Tally;
 use std::alloc::{AllocError, Global};
 
 /// Adds how many units, where it is more than one.

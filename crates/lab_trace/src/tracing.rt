@@ -1,27 +1,26 @@
 //! A whole trace.
-ghost use Rattle.std.specs.Prelude.{◌≡◌, ◌<◌, ◌≤◌, ◌+◌, ℕ, Some, Err, IfNone, IsTrue, IfOk, IfErr, OnOk, OnErr, length, replicate, string_bytes, ◌++◌};
+ghost use Rattle.std.specs.Prelude.{◌≡◌, ◌<◌, ◌≤◌, ◌+◌, ℕ, Some, Err, IfNone, IsTrue, IfOk, IfErr, OnOk, OnErr, length, replicate, string_bytes};
 ghost use Rattle.std.specs.Io.KnownBytes.{Appends, Keeps};
 ghost use Rattle.lab_io.specs.Device.{AppendsPrefix};
 ghost use Rattle.lab_sched.specs.Worlds.{step, run};
 ghost use Rattle.lab_sched.specs.Schedules.{steps_of, total_of, most_steps};
-ghost use Rattle.lab_trace.specs.Scenes.{scene_at, told, line, next_tally, events, scene_after, IsKept};
+ghost use Rattle.lab_told.specs.Scenes.{scene_at, told, next_tally, scene_after, IsKept};
+ghost use Rattle.lab_trace.specs.Lines.{line, events};
 ghost use Rattle.lab_trace.specs.Ends.{end_lines};
 ghost use Rattle.lab_trace.specs.Traces.{ending, trace_text, missing_after, AreThere, Explains};
 ghost use Rattle.lab_trace.specs.Private.Faults.{IsFault};
-ghost use Rattle.lab_trace.specs.declared.told.Told.TheVariants.{Nothing};
+ghost use Rattle.lab_told.specs.declared.told.Told.TheVariants.{Nothing};
 ghost use Rattle.lab_trace.specs.declared.fault.TraceFault.TheVariants.{NoProcess, Write};
 
 use crate::ends::push_ends;
 use crate::fault::TraceFault;
 use crate::form::Form;
 use crate::lines::step_line;
-use crate::step::trace_step;
-use crate::tally::Tally;
-use crate::told::Told;
 use lab_io::Output;
 use lab_sched::{Block, Schedule, World};
 use lab_sources::Source;
 use lab_texts::report_text;
+use lab_told::{Tally, steps_told, trace_step};
 use std::alloc::{AllocError, Global};
 use std::io::Write;
 
@@ -52,19 +51,6 @@ fn write_text<W: Write>(text: &str, output: &mut Output<W>) -> Result<(), TraceF
     match output.write_all(text.as_bytes()) {
         Ok(()) => Ok(()),
         Err(_) => Err(TraceFault::Write),
-    }
-}
-
-/// How many of a block's steps a step stands for: one without effect for the rest of them.
-pub fn steps_told(told: &Told, most: u32) -> u32
-    requires some { 1 ≤ most }
-    ensures other { (told.now ≡ Nothing → ⊥) → result ≡ 1 }
-    ensures some { 1 ≤ result }
-    ensures within { result ≤ most }
-{
-    match told {
-        Told::Nothing => most,
-        Told::Counted | Told::Shown(_) => 1,
     }
 }
 

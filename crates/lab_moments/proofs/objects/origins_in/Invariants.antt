@@ -1,5 +1,5 @@
 use Rattle.std.proofs.Common.{◌≡◌, take, filter}
-use Rattle.lab_trace.specs.Origins.{is_in}
+use Rattle.lab_told.specs.Origins.{is_in}
 use Rattle.lab_moments.proofs.objects.origins_in.Given as goal
 
 -- the origins so far are looked at

@@ -3,7 +3,7 @@ use Rattle.serde_json.specs.Data.{Data, boolean}
 use Rattle.serde_json.specs.View.{view}
 use Rattle.serde_json.specs.Written.{compact_text}
 use Rattle.serde_json.specs.declared.value.Value.{Bool, the_lemmas}
-use Rattle.lab_trace.specs.Scenes.{scene_at}
+use Rattle.lab_told.specs.Scenes.{scene_at}
 use Rattle.lab_page.specs.Private.Json.{run_end}
 use Rattle.lab_page.specs.Runs.{outcome_at}
 use Rattle.lab_page.proofs.JsonLemmas.{run-end-made}

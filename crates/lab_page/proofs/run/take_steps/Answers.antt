@@ -2,9 +2,9 @@ use Rattle.std.proofs.Common.{[], length, refl, sym, ap, subst, ◌∙◌, nat_l
 use Rattle.std.proofs.lemmas.List.{length-replicate}
 use Rattle.std.proofs.lemmas.Result.{err_from_is_err_and}
 use Rattle.lab_sched.specs.Schedules.{steps_of}
-use Rattle.lab_trace.specs.Scenes.{Scene, scene_at, IsKept}
-use Rattle.lab_trace.specs.Tallies.{new_tally}
-use Rattle.lab_trace.proofs.SceneLemmas.{scene-world, kept-first}
+use Rattle.lab_told.specs.Scenes.{Scene, scene_at, IsKept}
+use Rattle.lab_told.specs.Tallies.{new_tally}
+use Rattle.lab_told.proofs.SceneLemmas.{scene-world, kept-first}
 use Rattle.lab_trace.proofs.WrittenLemmas.{form-is}
 use Rattle.lab_moments.specs.Between.{no_steps}
 use Rattle.lab_template.specs.Limits.{most_whole}

@@ -3,9 +3,10 @@ use Rattle.std.specs.Io.KnownBytes.{Appends}
 use Rattle.std.proofs.KnownBytes.{Appends-trans}
 use Rattle.lab_io.proofs.Prefixes.{AppendsPrefix-after}
 use Rattle.lab_sched.specs.Schedules.{steps_of}
-use Rattle.lab_trace.specs.Scenes.{Scene, scene_at, events, IsKept}
-use Rattle.lab_trace.specs.Tallies.{new_tally}
-use Rattle.lab_trace.proofs.SceneLemmas.{scene-world, kept-first}
+use Rattle.lab_told.specs.Scenes.{Scene, scene_at, IsKept}
+use Rattle.lab_trace.specs.Lines.{events}
+use Rattle.lab_told.specs.Tallies.{new_tally}
+use Rattle.lab_told.proofs.SceneLemmas.{scene-world, kept-first}
 use Rattle.lab_trace.proofs.WrittenLemmas.{on_err, on_ok, on_err-map, on_ok-map, trace-whole, lines-prefix, prefix-lines, form-is}
 use Rattle.lab_trace.proofs.tracing.trace.Goals as goal
 

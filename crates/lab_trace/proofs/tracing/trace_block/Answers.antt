@@ -1,8 +1,9 @@
 use Rattle.std.proofs.Common.{◌≡◌, ◌+◌, length, replicate, sym, ap, subst, ◌∙◌, arith}
 use Rattle.std.proofs.KnownBytes.{Appends-nil}
 use Rattle.lab_sched.specs.Worlds.{WorldState}
-use Rattle.lab_trace.specs.Scenes.{scene_at, IsKept}
-use Rattle.lab_trace.proofs.SceneLemmas.{scene-none, events-none, stands, kept-after, length-step}
+use Rattle.lab_told.specs.Scenes.{scene_at, IsKept}
+use Rattle.lab_told.proofs.SceneLemmas.{scene-none, kept-after, length-step}
+use Rattle.lab_trace.proofs.LineLemmas.{events-none, stands}
 use Rattle.lab_trace.proofs.WrittenLemmas.{on_err, prefix-at, written-more, scene-told}
 use Rattle.lab_trace.proofs.tracing.trace_block.Goals as goal
 

@@ -1,6 +1,7 @@
 use Rattle.std.proofs.Common.{◌≡◌, ◌+◌, ◌-◌, ◌<◌, ◌≤◌, length, replicate}
 use Rattle.std.specs.Io.KnownBytes.{Appends}
-use Rattle.lab_trace.specs.Scenes.{events, scene_after, IsKept}
+use Rattle.lab_trace.specs.Lines.{events}
+use Rattle.lab_told.specs.Scenes.{scene_after, IsKept}
 use Rattle.lab_trace.proofs.tracing.trace_block.Given as goal
 
 -- the steps so far are taken, and their lines written

@@ -4,8 +4,9 @@ use Rattle.std.proofs.KnownBytes.{Appends-nil}
 use Rattle.lab_sched.specs.Schedules.{block, steps_of}
 use Rattle.lab_sched.proofs.ScheduleJoins.{length-steps}
 use Rattle.lab_sched.proofs.ScheduleRuns.{steps_of-none, steps-more, steps-among}
-use Rattle.lab_trace.specs.Scenes.{Scene, scene_at, scene_after, IsKept}
-use Rattle.lab_trace.proofs.SceneLemmas.{scene-none, events-none, kept-after, length-scene}
+use Rattle.lab_told.specs.Scenes.{Scene, scene_at, scene_after, IsKept}
+use Rattle.lab_told.proofs.SceneLemmas.{scene-none, kept-after, length-scene}
+use Rattle.lab_trace.proofs.LineLemmas.{events-none}
 use Rattle.lab_trace.proofs.WrittenLemmas.{on_err, scene-block, written-block, prefix-block}
 use Rattle.lab_trace.proofs.tracing.trace_blocks.Goals as goal
 

@@ -1,7 +1,8 @@
 use Rattle.std.proofs.Common.{◌≡◌, ◌+◌, length, take}
 use Rattle.std.specs.Io.KnownBytes.{Appends}
 use Rattle.lab_sched.specs.Schedules.{steps_of}
-use Rattle.lab_trace.specs.Scenes.{events, scene_after, IsKept}
+use Rattle.lab_trace.specs.Lines.{events}
+use Rattle.lab_told.specs.Scenes.{scene_after, IsKept}
 use Rattle.lab_trace.proofs.tracing.trace_blocks.Given as goal
 
 -- the steps of the blocks so far are taken, and their lines written

@@ -1,8 +1,9 @@
 use Rattle.std.proofs.Common.{◌≡◌, ℕ, ◌+◌, ◌++◌, List, length, replicate, sym, ap, subst, ◌∙◌, arith, append-nil}
 use Rattle.std.proofs.lemmas.Result.{err_from_is_err_and}
 use Rattle.lab_sched.specs.Worlds.{WorldState}
-use Rattle.lab_trace.specs.Scenes.{scene_at, IsKept}
-use Rattle.lab_trace.proofs.SceneLemmas.{scene-none, events-none, stands, kept-after, length-step}
+use Rattle.lab_told.specs.Scenes.{scene_at, IsKept}
+use Rattle.lab_told.proofs.SceneLemmas.{scene-none, kept-after, length-step}
+use Rattle.lab_trace.proofs.LineLemmas.{events-none, stands}
 use Rattle.lab_trace.proofs.WrittenLemmas.{scene-told}
 use Rattle.serde_json.specs.Data.{Data}
 use Rattle.lab_page.specs.Private.Json.{more_json}

@@ -4,8 +4,10 @@ use Rattle.std.proofs.lemmas.Result.{err_from_is_err_and}
 use Rattle.lab_sched.specs.Schedules.{block, steps_of}
 use Rattle.lab_sched.proofs.ScheduleJoins.{length-steps}
 use Rattle.lab_sched.proofs.ScheduleRuns.{steps_of-none, steps-more, steps-among}
-use Rattle.lab_trace.specs.Scenes.{Scene, scene_at, events, scene_after, IsKept}
-use Rattle.lab_trace.proofs.SceneLemmas.{scene-none, events-none, kept-after, length-scene}
+use Rattle.lab_told.specs.Scenes.{Scene, scene_at, scene_after, IsKept}
+use Rattle.lab_trace.specs.Lines.{events}
+use Rattle.lab_told.proofs.SceneLemmas.{scene-none, kept-after, length-scene}
+use Rattle.lab_trace.proofs.LineLemmas.{events-none}
 use Rattle.lab_trace.proofs.WrittenLemmas.{scene-block}
 use Rattle.serde_json.specs.Data.{Data}
 use Rattle.lab_page.specs.Moments.{moments}

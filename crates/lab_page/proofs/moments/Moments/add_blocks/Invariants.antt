@@ -1,6 +1,7 @@
 use Rattle.std.proofs.Common.{◌≡◌, ◌+◌, ◌++◌, length, take}
 use Rattle.lab_sched.specs.Schedules.{steps_of}
-use Rattle.lab_trace.specs.Scenes.{events, scene_after, IsKept}
+use Rattle.lab_trace.specs.Lines.{events}
+use Rattle.lab_told.specs.Scenes.{scene_after, IsKept}
 use Rattle.lab_page.specs.Moments.{moments}
 use Rattle.lab_page.specs.Moments.{past_then}
 use Rattle.lab_page.specs.Private.Json.{more_json}

@@ -1,0 +1,6 @@
+pub mod OriginLemmas
+pub mod UnitLemmas
+pub mod NameLemmas
+pub mod BelowLemmas
+pub mod SceneLemmas
+pub mod AnswerLemmas

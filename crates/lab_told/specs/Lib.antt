@@ -1,0 +1,17 @@
+pub mod Services
+pub mod Words
+pub mod Flags
+pub mod Attributes
+pub mod Objects
+pub mod Openers
+pub mod Calls
+pub mod Answers
+pub mod Questions
+pub mod Origins
+pub mod Units
+pub mod Givers
+pub mod Tallies
+pub mod Events
+pub mod Scenes
+pub mod Shown
+pub mod Private

@@ -1,0 +1,247 @@
+//! A call with its arguments.
+ghost use Rattle.std.specs.Prelude.{◌≡◌, ◌<◌, ◌++◌, OnOk, IfOk, length, string_bytes};
+ghost use Rattle.lab_sched.specs.Held.{process_view};
+ghost use Rattle.lab_sched.specs.Worlds.{machine_of};
+ghost use Rattle.ipc_traps.specs.declared.service.Service.TheVariants.{MqSend, MqReceive};
+ghost use Rattle.lab_told.specs.Answers.{wants_attributes};
+ghost use Rattle.lab_told.specs.Calls.{attributes_asked, mq_open_arguments, sem_open_arguments, flags_asked, further_arguments, arguments, object_called, place_of, sent_words};
+
+use crate::attributes::{push_flags, push_sizes};
+use crate::flags::{has_flag, push_mq_flags, push_sem_flags};
+use crate::handles::{held_place, push_handle, push_object_or_number};
+use crate::message::push_buffer;
+use crate::text::Text;
+use crate::words::{push_address, push_bare_name, push_name, push_pointer, register};
+use ipc_kernel::Kernel;
+use ipc_names::O_CREAT;
+use ipc_objects::Words;
+use ipc_traps::{Service, is_in_memory, read_words};
+use lab_sched::Process;
+use std::alloc::{AllocError, Global};
+
+/// Adds the attributes for mq_open at an address.
+#[tactic(auto, unfolding(crate::specs::Calls::attributes_asked))]
+fn push_sizes_at(text: &mut String, process: &Process, at: u16) -> Result<(), AllocError>
+    ensures text { OnOk result (string_bytes text.new ≡ string_bytes text.old
+        ++ attributes_asked (machine_of (process_view process.now)) at) }
+{
+    if at == 0 || !is_in_memory(at, 4) {
+        return push_pointer(text, at);
+    }
+    push_sizes(
+        text,
+        process.machine().word(at + 1),
+        process.machine().word(at + 2),
+    )
+}
+
+/// Adds the arguments of mq_open.
+#[tactic(auto, unfolding(crate::specs::Calls::mq_open_arguments))]
+fn push_mq_open(alloc: Global, text: &mut String, process: &Process) -> Result<(), AllocError>
+    ensures text { OnOk result (string_bytes text.new ≡ string_bytes text.old
+        ++ mq_open_arguments (machine_of (process_view process.now))) }
+{
+    let flags = register(process, 1);
+    push_name(alloc, text, process, register(process, 0))?;
+    text.push_str(", ")?;
+    push_mq_flags(text, flags)?;
+    if !has_flag(O_CREAT, flags) {
+        return Ok(());
+    }
+    text.push_str(", ")?;
+    push_sizes_at(text, process, register(process, 2))
+}
+
+/// Adds the arguments of sem_open.
+#[tactic(auto, unfolding(crate::specs::Calls::sem_open_arguments))]
+fn push_sem_open(alloc: Global, text: &mut String, process: &Process) -> Result<(), AllocError>
+    ensures text { OnOk result (string_bytes text.new ≡ string_bytes text.old
+        ++ sem_open_arguments (machine_of (process_view process.now))) }
+{
+    let flags = register(process, 1);
+    push_name(alloc, text, process, register(process, 0))?;
+    text.push_str(", ")?;
+    push_sem_flags(text, flags)?;
+    if !has_flag(O_CREAT, flags) {
+        return Ok(());
+    }
+    let value = register(process, 2);
+    write!(text, ", {value}")?;
+    Ok(())
+}
+
+/// Adds the new mq_flags at an address.
+#[tactic(auto, unfolding(crate::specs::Calls::flags_asked))]
+fn push_flags_asked(text: &mut String, process: &Process, at: u16) -> Result<(), AllocError>
+    ensures text { OnOk result (string_bytes text.new ≡ string_bytes text.old
+        ++ flags_asked (machine_of (process_view process.now)) at) }
+{
+    if !is_in_memory(at, 4) {
+        return push_address(text, at);
+    }
+    push_flags(text, process.machine().word(at))
+}
+
+/// Adds what stands behind the descriptor of mq_send.
+#[tactic(auto, unfolding(crate::specs::Calls::further_arguments))]
+fn push_sent(alloc: Global, text: &mut String, process: &Process) -> Result<(), AllocError>
+    ensures text { OnOk result (string_bytes text.new ≡ string_bytes text.old
+        ++ further_arguments (machine_of (process_view process.now)) MqSend) }
+{
+    let len = register(process, 2);
+    let priority = register(process, 3);
+    text.push_str(", ")?;
+    push_buffer(alloc, text, process, register(process, 1), len)?;
+    write!(text, ", {len}, {priority}")?;
+    Ok(())
+}
+
+/// Adds what stands behind the descriptor of mq_receive.
+#[tactic(auto, unfolding(crate::specs::Calls::further_arguments))]
+fn push_received(text: &mut String, process: &Process) -> Result<(), AllocError>
+    ensures text { OnOk result (string_bytes text.new ≡ string_bytes text.old
+        ++ further_arguments (machine_of (process_view process.now)) MqReceive) }
+{
+    let len = register(process, 2);
+    text.push_str(", ")?;
+    push_address(text, register(process, 1))?;
+    write!(text, ", {len}, ")?;
+    push_pointer(text, register(process, 3))
+}
+
+/// Adds what stands behind the descriptor or the slot.
+#[tactic(auto, unfolding(crate::specs::Calls::further_arguments))]
+fn push_further(
+    alloc: Global,
+    text: &mut String,
+    process: &Process,
+    service: Service,
+) -> Result<(), AllocError>
+    ensures text { OnOk result (string_bytes text.new ≡ string_bytes text.old
+        ++ further_arguments (machine_of (process_view process.now)) service) }
+{
+    match service {
+        Service::MqSend => push_sent(alloc, text, process),
+        Service::MqReceive => push_received(text, process),
+        Service::MqGetattr | Service::SemGetvalue => {
+            text.push_str(", ")?;
+            push_address(text, register(process, 1))
+        }
+        Service::MqSetattr => {
+            text.push_str(", ")?;
+            push_flags_asked(text, process, register(process, 1))?;
+            text.push_str(", ")?;
+            push_pointer(text, register(process, 2))
+        }
+        _ => Ok(()),
+    }
+}
+
+/// Adds the arguments of a call of process `pid`.
+fn push_arguments(
+    alloc: Global,
+    text: &mut String,
+    kernel: &Kernel,
+    pid: usize,
+    process: &Process,
+    service: Service,
+) -> Result<(), AllocError>
+    requires process { pid < length kernel.now.processes }
+    ensures text { OnOk result (string_bytes text.new ≡ string_bytes text.old
+        ++ arguments kernel.now pid (machine_of (process_view process.now)) service) }
+{
+    match service {
+        Service::MqOpen => push_mq_open(alloc, text, process),
+        Service::SemOpen => push_sem_open(alloc, text, process),
+        Service::MqUnlink | Service::SemUnlink => push_name(
+            alloc,
+            text,
+            process,
+            register(process, 0),
+        ),
+        _ => {
+            push_handle(text, kernel, pid, service, register(process, 0))?;
+            push_further(alloc, text, process, service)
+        }
+    }
+}
+
+/// The arguments of a call of process `pid`.
+pub fn arguments_of(
+    alloc: Global,
+    kernel: &Kernel,
+    pid: usize,
+    process: &Process,
+    service: Service,
+) -> Result<Text, AllocError>
+    requires process { pid < length kernel.now.processes }
+    ensures text { IfOk result (λ t. t
+        ≡ arguments kernel.now pid (machine_of (process_view process.now)) service) }
+{
+    let mut text = String::new(alloc);
+    push_arguments(alloc, &mut text, kernel, pid, process, service)?;
+    Ok(Text::new(text))
+}
+
+/// What a call of process `pid` is on, by a name where there is one.
+pub fn object_called(
+    alloc: Global,
+    kernel: &Kernel,
+    pid: usize,
+    process: &Process,
+    service: Service,
+) -> Result<Text, AllocError>
+    requires process { pid < length kernel.now.processes }
+    ensures text { IfOk result (λ t. t
+        ≡ object_called kernel.now pid (machine_of (process_view process.now)) service) }
+{
+    let mut text = String::new(alloc);
+    let first = register(process, 0);
+    if service.is_by_name() {
+        push_bare_name(alloc, &mut text, process, first)?;
+    } else {
+        let place = held_place(kernel, pid, service, first);
+        push_object_or_number(&mut text, kernel, first, place)?;
+    }
+    Ok(Text::new(text))
+}
+
+/// The place of the object that a call of process `pid` is on, where a descriptor or a slot stands for one.
+pub fn place_of(kernel: &Kernel, pid: usize, process: &Process, service: Service) -> Option<u8>
+    requires process { pid < length kernel.now.processes }
+    ensures place { result
+        ≡ place_of kernel.now pid (machine_of (process_view process.now)) service }
+{
+    if service.is_by_name() {
+        None
+    } else {
+        held_place(kernel, pid, service, register(process, 0))
+    }
+}
+
+/// The words that a call sends.
+pub fn sent_words(
+    alloc: Global,
+    process: &Process,
+    service: Service,
+) -> Result<Option<Words>, AllocError>
+    ensures words { IfOk result (λ w. w
+        ≡ sent_words (machine_of (process_view process.now)) service) }
+{
+    let at = register(process, 1);
+    let len = register(process, 2);
+    match service {
+        Service::MqSend if is_in_memory(at, len) => {
+            let words = read_words(alloc, process.machine(), at, len)?;
+            Ok(Some(Words::from_vec(words)?))
+        }
+        _ => Ok(None),
+    }
+}
+
+/// Whether a call wants the attributes of a queue that it is answered: mq_setattr doesn't where R2 is 0.
+pub fn wants_attributes(process: &Process, service: Service) -> bool
+    ensures wants { result ≡ wants_attributes (machine_of (process_view process.now)) service }
+{
+    service != Service::MqSetattr || register(process, 2) != 0
+}

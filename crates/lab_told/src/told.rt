@@ -1,0 +1,270 @@
+//! What a step did.
+ghost use Rattle.std.specs.Prelude.{◌≡◌, ◌<◌, IfOk, length, slice_get, drop};
+ghost use Rattle.lab_sched.specs.Held.{process_view};
+ghost use Rattle.lab_sched.specs.Worlds.{machine_of};
+ghost use Rattle.lab_told.specs.Givers.{giver_by};
+ghost use Rattle.lab_told.specs.Origins.{origin_by};
+ghost use Rattle.lab_told.specs.Events.{opened_place, place_by, level_by, call_by, wrote, act_by, told_by};
+
+use crate::answers::{Outcome, outcome_of, result_of, wanted_of};
+use crate::asking::{Asking, Observed};
+use crate::handles::{Level, held_place, level_at};
+use crate::origins::Origin;
+use crate::tally::Tally;
+use crate::text::{Bytes, Text};
+use ipc_kernel::{Kernel, Reply};
+use ipc_objects::Words;
+use ipc_traps::Service;
+use lab_sched::{Process, Stepped, World};
+use lc3_machine::How;
+use std::alloc::{AllocError, Global};
+
+/// A call of the kernel, and what became of it.
+#[derive(Drop)]
+pub struct Called {
+    pub service: Service,
+    /// Its arguments, as a trace writes them.
+    pub arguments: Text,
+    /// What it is on: the name of its object; `#` and its place, once it is unlinked; of an object that isn't there what the call
+    /// names: the name, the address of one, or the number.
+    pub object: Text,
+    /// The place of its object, where a descriptor or a slot stands for one; of an open the one that it opened.
+    pub place: Option<u8>,
+    /// The words of the message that it sends, where they lie in memory.
+    pub sent: Option<Words>,
+    /// R3, of mq_send the priority.
+    pub priority: u16,
+    pub outcome: Outcome,
+    /// The level of its object after it, where the call opened it or could change its level.
+    pub level: Option<Level>,
+    /// Where the message comes from that it received.
+    pub origin: Option<Origin>,
+    /// The step since which the process waited.
+    pub since: Option<u32>,
+    /// Where it waited, the last step that posted to its semaphore or received from its queue; none of mq_receive, which has
+    /// an origin.
+    pub giver: Option<u32>,
+}
+
+/// What a process did in a step.
+#[derive(Drop)]
+pub enum Act {
+    /// It called the kernel.
+    Calls(Called),
+    /// It wrote bytes.
+    Writes(Bytes),
+    /// It ended.
+    Ends(How),
+}
+
+/// A step that a trace shows.
+#[derive(Drop)]
+pub struct Event {
+    /// The program counter before the step.
+    pub pc: u16,
+    /// The word there.
+    pub word: u16,
+    /// The counted steps of the process since its last event.
+    pub local: u32,
+    pub act: Act,
+}
+
+/// What is told of a step.
+#[derive(Drop)]
+pub enum Told {
+    /// It had no effect.
+    Nothing,
+    /// It did nothing that is shown, and is counted.
+    Counted,
+    /// It is shown.
+    Shown(Event),
+}
+
+/// The place of the object that an open opened, by the kernel after it.
+fn opened_place(kernel: &Kernel, pid: usize, service: Service, outcome: &Outcome) -> Option<u8>
+    requires process { pid < length kernel.now.processes }
+    ensures place { result ≡ opened_place kernel.now pid service outcome.now }
+{
+    match outcome {
+        Outcome::Replied(Reply::Plain(number)) => held_place(kernel, pid, service, *number),
+        _ => None,
+    }
+}
+
+/// The place of the object of a call, by that before it and the kernel after it.
+fn place_by(
+    kernel: &Kernel,
+    pid: usize,
+    service: Service,
+    place: Option<u8>,
+    outcome: &Outcome,
+) -> Option<u8>
+    requires process { pid < length kernel.now.processes }
+    ensures place { result ≡ place_by kernel.now pid service place outcome.now }
+{
+    if service.is_open() {
+        opened_place(kernel, pid, service, outcome)
+    } else {
+        place
+    }
+}
+
+/// The level of the object in this place after a call, where it is told.
+fn level_by(kernel: &Kernel, service: Service, place: Option<u8>) -> Option<Level>
+    ensures level { result ≡ level_by kernel.now service place }
+{
+    if service.is_open() || service.is_on_level() {
+        level_at(kernel, place?)
+    } else {
+        None
+    }
+}
+
+/// Where the message comes from that a call with this result received, by the tally before it.
+fn origin_by(
+    tally: &Tally,
+    service: Service,
+    place: Option<u8>,
+    result_word: Option<usize>,
+) -> Option<Origin>
+    ensures value { result ≡ origin_by service place result_word tally.now.origins }
+{
+    match (result_word, service) {
+        (Some(_), Service::MqReceive) => tally.first_origin(place?),
+        _ => None,
+    }
+}
+
+/// The giver of a call that waited since that step, if it did, by the tally before it.
+fn giver_by(tally: &Tally, service: Service, since: Option<u32>, place: Option<u8>) -> Option<u32>
+    ensures value { result ≡ giver_by service since place tally.now.givers }
+{
+    match (service, since) {
+        (Service::MqReceive, _) | (_, None) => None,
+        (_, Some(_)) => tally.giver(place?),
+    }
+}
+
+/// A call of process `pid`, and what became of it, by the kernel after it and the tally before it.
+#[tactic(auto, unfolding(crate::specs::Events::call_by))]
+fn call_by(kernel: &Kernel, tally: &Tally, pid: usize, asking: Asking, outcome: Outcome) -> Called
+    requires process { pid < length kernel.now.processes }
+    ensures called { result ≡ call_by kernel.now tally.now pid asking outcome }
+{
+    let Asking {
+        service,
+        arguments,
+        object,
+        place: before,
+        sent,
+        priority,
+        wants_attributes,
+    } = asking;
+    let outcome = wanted_of(wants_attributes, outcome);
+    let place = place_by(kernel, pid, service, before, &outcome);
+    let origin = origin_by(tally, service, before, result_of(&outcome));
+    let since = tally.account(pid).since;
+    Called {
+        service,
+        arguments,
+        object,
+        place,
+        sent,
+        priority,
+        outcome,
+        level: level_by(kernel, service, place),
+        origin,
+        since,
+        giver: giver_by(tally, service, since, before),
+    }
+}
+
+/// The bytes that a process wrote in its step, before which it had written so many.
+fn new_output(written: usize, after: &Process) -> &[u8]
+    ensures bytes { result.now ≡ drop written (machine_of (process_view after.now)).output }
+{
+    let output = after.machine().output();
+    &output[written.min(output.len())..]
+}
+
+/// Bytes of output, where there are any.
+fn wrote(alloc: Global, bytes: &[u8]) -> Result<Option<Act>, AllocError>
+    ensures act { IfOk result (λ a. a ≡ wrote bytes.now) }
+{
+    if bytes.is_empty() {
+        Ok(None)
+    } else {
+        Ok(Some(Act::Writes(Bytes::of(alloc, bytes)?)))
+    }
+}
+
+/// What process `pid` did in a step with an effect, if it is shown, by what the step told and by the process and the kernel
+/// after it.
+fn act_by(
+    alloc: Global,
+    kernel: &Kernel,
+    tally: &Tally,
+    pid: usize,
+    asking: Option<Asking>,
+    written: usize,
+    stepped: Stepped,
+    after: &Process,
+) -> Result<Option<Act>, AllocError>
+    requires process { pid < length kernel.now.processes }
+    ensures act { IfOk result (λ a. a
+        ≡ act_by kernel.now tally.now pid asking written stepped (process_view after.now)) }
+{
+    match (asking, outcome_of(stepped), after) {
+        (_, _, Process::Ended(ended)) => Ok(Some(Act::Ends(ended.how()))),
+        (Some(asking), Some(outcome), _) => Ok(Some(Act::Calls(call_by(
+            kernel, tally, pid, asking, outcome,
+        )))),
+        (_, _, _) => wrote(alloc, new_output(written, after)),
+    }
+}
+
+/// What a trace tells of a step of process `pid` with an effect, by what the step told, the world after it and the tally
+/// before it.
+pub fn told_by(
+    alloc: Global,
+    world: &World,
+    tally: &Tally,
+    pid: usize,
+    before: Observed,
+    stepped: Stepped,
+) -> Result<Told, AllocError>
+    requires process { pid < length world.now.processes }
+    ensures told { IfOk result (λ t. t
+        ≡ told_by world.now.kernel tally.now pid before stepped
+        (slice_get world.now.processes pid)) }
+{
+    let Some(after) = world.process(pid) else {
+        return Ok(Told::Counted);
+    };
+    let Observed {
+        pc,
+        word,
+        written,
+        asking,
+    } = before;
+    let local = tally.account(pid).local;
+    let Some(act) = act_by(
+        alloc,
+        world.kernel(),
+        tally,
+        pid,
+        asking,
+        written,
+        stepped,
+        after,
+    )?
+    else {
+        return Ok(Told::Counted);
+    };
+    Ok(Told::Shown(Event {
+        pc,
+        word,
+        local,
+        act,
+    }))
+}

@@ -1,5 +1,0 @@
-use Rattle.lab_trace.proofs.AnswerLemmas.{shows_answer, shows_refusal}
-use Rattle.lab_trace.proofs.laws.shown_law.Goals as goal
-
-pub returns : goal.returns
-returns c = record { answer = shows_answer; refusal = shows_refusal }

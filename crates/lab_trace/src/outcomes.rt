@@ -1,0 +1,100 @@
+//! A call in words, what became of it, and the level of its object.
+ghost use Rattle.std.specs.Prelude.{◌≡◌, ◌++◌, OnOk, string_bytes};
+ghost use Rattle.lab_trace.specs.Outcomes.{call_text, error_name, received_text, given_text, outcome_text, level_text};
+
+use ipc_kernel::Reply;
+use ipc_names::Errno;
+use ipc_traps::Service;
+use lab_told::{Level, Outcome, Text, push_attributes, push_message, result_in};
+use std::alloc::AllocError;
+
+/// Adds a call with its arguments.
+#[tactic(auto, unfolding(crate::specs::Outcomes::call_text))]
+pub fn push_call(text: &mut String, service: Service, arguments: &Text) -> Result<(), AllocError>
+    ensures text { OnOk result (string_bytes text.new ≡ string_bytes text.old
+        ++ call_text service arguments.now) }
+{
+    text.push_str(service.name())?;
+    text.push_str("(")?;
+    text.push_str(arguments.as_str())?;
+    text.push_str(")")
+}
+
+/// The name of an error.
+pub fn error_name(error: Errno) -> &'static str
+    ensures text { result.now ≡ error_name error }
+{
+    match error {
+        Errno::NoEntry => "ENOENT",
+        Errno::BadDescriptor => "EBADF",
+        Errno::Again => "EAGAIN",
+        Errno::Fault => "EFAULT",
+        Errno::Exists => "EEXIST",
+        Errno::Invalid => "EINVAL",
+        Errno::TooManyOpen => "EMFILE",
+        Errno::NoSpace => "ENOSPC",
+        Errno::NameTooLong => "ENAMETOOLONG",
+        Errno::Overflow => "EOVERFLOW",
+        Errno::MessageSize => "EMSGSIZE",
+    }
+}
+
+/// Adds words and priority of a message that was received.
+fn push_received(text: &mut String, words: &[u16], priority: u16) -> Result<(), AllocError>
+    ensures text { OnOk result (string_bytes text.new ≡ string_bytes text.old
+        ++ received_text words.now priority) }
+{
+    text.push_str(" ")?;
+    push_message(text, words)?;
+    write!(text, " prio {priority}")?;
+    Ok(())
+}
+
+/// Adds what a reply gives beside its result.
+#[tactic(auto, unfolding(crate::specs::Outcomes::given_text))]
+fn push_given(text: &mut String, reply: &Reply) -> Result<(), AllocError>
+    ensures text { OnOk result (string_bytes text.new ≡ string_bytes text.old
+        ++ given_text reply.now) }
+{
+    match reply {
+        Reply::Plain(_) => Ok(()),
+        Reply::Message { words, prio } => push_received(text, words.as_slice(), *prio),
+        Reply::Attr(words) => push_attributes(text, words[0], words[1], words[2], words[3]),
+        Reply::Value(value) => {
+            write!(text, " value {value}")?;
+            Ok(())
+        }
+    }
+}
+
+/// Adds what became of a call.
+#[tactic(auto, unfolding(crate::specs::Outcomes::outcome_text))]
+pub fn push_outcome(text: &mut String, outcome: &Outcome) -> Result<(), AllocError>
+    ensures text { OnOk result (string_bytes text.new ≡ string_bytes text.old
+        ++ outcome_text outcome.now) }
+{
+    match outcome {
+        Outcome::Waits => text.push_str("waits"),
+        Outcome::Refused(error) => {
+            text.push_str("= ")?;
+            text.push_str(error_name(*error))
+        }
+        Outcome::Replied(reply) => {
+            let result = result_in(reply);
+            write!(text, "= {result}")?;
+            push_given(text, reply)
+        }
+    }
+}
+
+/// Adds a level.
+pub fn push_level(text: &mut String, level: Level) -> Result<(), AllocError>
+    ensures text { OnOk result (string_bytes text.new ≡ string_bytes text.old
+        ++ level_text level) }
+{
+    match level {
+        Level::Messages { count, most } => write!(text, "{count} of {most}")?,
+        Level::Value(value) => write!(text, "value {value}")?,
+    }
+    Ok(())
+}
