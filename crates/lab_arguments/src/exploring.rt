@@ -52,7 +52,7 @@ fn shown_of<'a>(alloc: Global, words: &ArgMatches<'a>) -> Result<Show, Refusal>
 }
 
 /// Which schedule is printed alone, as the words say.
-fn choice_of<'a>(words: &ArgMatches<'a>) -> Result<Option<Choice>, Misuse<'a>>
+fn choice_of<'a>(alloc: Global, words: &ArgMatches<'a>) -> Result<Option<Choice>, Refusal>
     ensures end { IfOk result (λ choice. (text : List ℕ) (n : ℕ)
         → one_text (found_of words.now) (codes "schedule") ≡ Some text
         → IsNumber text n → choice ≡ Some (End n)) }
@@ -61,7 +61,7 @@ fn choice_of<'a>(words: &ArgMatches<'a>) -> Result<Option<Choice>, Misuse<'a>>
         (Some(number @ 1..=MOST_WORLDS), _) => Ok(Some(Choice::End(number))),
         (None, None) => Ok(None),
         (None, Some("bad")) => Ok(Some(Choice::Bad)),
-        (_, text) => Err(Misuse::NoSchedule(text.unwrap_or_default())),
+        (_, text) => Err(Misuse::NoSchedule(text.unwrap_or_default()).refusal(alloc)),
     }
 }
 
@@ -98,7 +98,7 @@ fn question_of<'a>(alloc: Global, words: &ArgMatches<'a>) -> Result<Question<'a>
     let required = required_of(alloc, words)?;
     let show = shown_of(alloc, words)?;
     let random = walks_of(words);
-    let schedule = choice_of(words).map_err(|misuse| misuse.refusal(alloc))?;
+    let schedule = choice_of(alloc, words)?;
     Ok(Question {
         worlds: worlds_of(words, random),
         memory: limit_of(words, "memory", MOST_MEMORY),

@@ -89,6 +89,14 @@ fn request_of<'a>(alloc: Global, matches: &ArgMatches<'a>) -> Result<Request<'a>
         Some(("run", words)) => run_request(alloc, words),
         Some(("explore", words)) => explore_request(alloc, words),
         Some(("debug", words)) => debug_request(alloc, words),
-        _ => Err(Refusal::Usage(String::from_str(alloc, "error: no such command\n")?)),
+        _ => Err(no_command(alloc)),
+    }
+}
+
+/// What is said where the words name no command.
+fn no_command(alloc: Global) -> Refusal {
+    match String::from_str(alloc, "error: no such command\n") {
+        Ok(text) => Refusal::Usage(text),
+        Err(_) => Refusal::NoMemory,
     }
 }
