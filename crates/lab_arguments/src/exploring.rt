@@ -7,81 +7,15 @@ ghost use Rattle.lab_arguments.specs.Private.Showing.{report, AreShown};
 ghost use Rattle.lab_arguments.specs.declared.question.Choice.TheVariants.{End};
 
 use crate::misuse::Misuse;
-use crate::options::{
-    flag, limit, limit_of, number, number_of, on_programs, setup_of, value, values, values_of,
-};
+use crate::options::{limit_of, number_of, setup_of, values_of};
 use crate::question::{Choice, Question};
 use crate::request::{Refusal, Request};
 use crate::requirements::{Requirements, requirements_of};
 use crate::showing::{Show, show_of};
-use crate::walks::{walks_of, with_walks, worlds_of};
-use crate::{MOST_LOCAL_STEPS, MOST_MEMORY, MOST_THREADS, MOST_WORLDS, examples};
-use clap::{ArgMatches, Command};
+use crate::walks::{walks_of, worlds_of};
+use crate::{MOST_LOCAL_STEPS, MOST_MEMORY, MOST_WORLDS};
+use clap::ArgMatches;
 use std::alloc::{AllocError, Global};
-
-pub(crate) fn explore<'a>(alloc: Global) -> Result<Command<'a>, AllocError> {
-    let about = "Visits every interleaving of programs and prints the ends that they can have";
-    let command = on_programs(alloc, "explore", about, examples::EXPLORE)?;
-    let command = with_limits(alloc, command)?;
-    with_questions(alloc, command)
-}
-
-/// The command with the options that say how much a search may take.
-fn with_limits<'a>(alloc: Global, command: Command<'a>) -> Result<Command<'a>, AllocError> {
-    let steps = "The most steps of a process without a call";
-    let memory = "The most memory to take, in megabytes";
-    let threads = "How many threads judge conditions [default: as many as processors]";
-    command
-        .arg(limit(alloc, "limit", "N", MOST_LOCAL_STEPS, steps))?
-        .arg(number(alloc, "memory", "MB", MOST_MEMORY, memory).default_value("2048"))?
-        .arg(number(alloc, "threads", "N", MOST_THREADS, threads))
-}
-
-/// The command with the options that say what is asked, and how the answers are printed.
-fn with_questions<'a>(alloc: Global, command: Command<'a>) -> Result<Command<'a>, AllocError> {
-    let command = with_walks(alloc, command)?;
-    let command = with_demands(alloc, command)?;
-    let command = with_tellings(alloc, command)?;
-    with_prints(alloc, command)
-}
-
-/// The command with the options that say what must be so.
-fn with_demands<'a>(alloc: Global, command: Command<'a>) -> Result<Command<'a>, AllocError> {
-    let require = "Fails unless the search is complete and each end is so: \
-        ended, stuck, halted, empty, same, with commas between them";
-    let may_wait = "With ended or halted: process P may wait for ever; \
-        'P at A' or 'P at A-B' where its program counter is there";
-    let never = "Fails unless the search is complete and this condition never holds, \
-        or, with lost, no message is lost with its queue";
-    command
-        .arg(value(alloc, "require", "WORDS", require))?
-        .arg(values(alloc, "may-wait", "P", may_wait))?
-        .arg(values(alloc, "never", "CONDITION", never))
-}
-
-/// The command with the options that say what is told of what is found.
-fn with_tellings<'a>(alloc: Global, command: Command<'a>) -> Result<Command<'a>, AllocError> {
-    let fair = "Tells only rounds in which each process that can go on takes a step";
-    let show =
-        "What is told of each end: out, what the processes have written, in place of the report; \
-        left, the messages that are left, too; or both, with a comma between them";
-    let first = "Ends the search where something is found that is not as it has to be";
-    command
-        .arg(flag(alloc, "fair", fair))?
-        .arg(value(alloc, "show", "WORDS", show))?
-        .arg(flag(alloc, "first", first))
-}
-
-/// The command with the options that say how the answers are printed.
-fn with_prints<'a>(alloc: Global, command: Command<'a>) -> Result<Command<'a>, AllocError> {
-    let schedule =
-        "Prints the schedule of end K alone, or of the first thing that is not as it has to be";
-    let page = "Also writes FILE, a page that shows the ends and the run of each in a browser";
-    command
-        .arg(value(alloc, "schedule", "K|bad", schedule))?
-        .arg(flag(alloc, "json", "Prints the answers as JSON"))?
-        .arg(value(alloc, "page", "FILE", page))
-}
 
 /// What each end must be like, as the words say.
 fn required_of<'a>(alloc: Global, words: &ArgMatches<'a>) -> Result<Requirements, Refusal>
@@ -118,7 +52,7 @@ fn shown_of<'a>(alloc: Global, words: &ArgMatches<'a>) -> Result<Show, Refusal>
 }
 
 /// Which schedule is printed alone, as the words say.
-fn choice_of<'a>(words: &ArgMatches<'a>) -> Result<Option<Choice>, Misuse<'a>>
+fn choice_of<'a>(alloc: Global, words: &ArgMatches<'a>) -> Result<Option<Choice>, Refusal>
     ensures end { IfOk result (λ choice. (text : List ℕ) (n : ℕ)
         → one_text (found_of words.now) (codes "schedule") ≡ Some text
         → IsNumber text n → choice ≡ Some (End n)) }
@@ -127,7 +61,7 @@ fn choice_of<'a>(words: &ArgMatches<'a>) -> Result<Option<Choice>, Misuse<'a>>
         (Some(number @ 1..=MOST_WORLDS), _) => Ok(Some(Choice::End(number))),
         (None, None) => Ok(None),
         (None, Some("bad")) => Ok(Some(Choice::Bad)),
-        (_, text) => Err(Misuse::NoSchedule(text.unwrap_or_default())),
+        (_, text) => Err(Misuse::NoSchedule(text.unwrap_or_default()).refusal(alloc)),
     }
 }
 
@@ -164,7 +98,7 @@ fn question_of<'a>(alloc: Global, words: &ArgMatches<'a>) -> Result<Question<'a>
     let required = required_of(alloc, words)?;
     let show = shown_of(alloc, words)?;
     let random = walks_of(words);
-    let schedule = choice_of(words).map_err(|misuse| misuse.refusal(alloc))?;
+    let schedule = choice_of(alloc, words)?;
     Ok(Question {
         worlds: worlds_of(words, random),
         memory: limit_of(words, "memory", MOST_MEMORY),

@@ -10,8 +10,10 @@ mod parser;
 mod question;
 mod request;
 mod requirements;
+mod rows;
 mod showing;
 mod shown;
+mod table;
 mod walks;
 
 pub use parser::read_words;

@@ -41,31 +41,31 @@ impl Misuse<'_> {
     }
 }
 
+/// Says that an option can't have a value.
+fn write_invalid<W: fmt::Write>(
+    f: &mut fmt::Formatter<W>,
+    value: &str,
+    option: &str,
+) -> fmt::Result {
+    let value = Shown(value);
+    write!(f, "invalid value '{value}' for '{option}'")
+}
+
 impl fmt::Display for Misuse<'_> {
     fn fmt<W: fmt::Write>(&self, f: &mut fmt::Formatter<W>) -> fmt::Result {
-        match *self {
-            Misuse::NoRequirement(text) => {
-                let text = Shown(text);
-                write!(f, "invalid value '{text}' for '--require <WORDS>'")
-            }
-            Misuse::NoShow(text) => {
-                let text = Shown(text);
-                write!(f, "invalid value '{text}' for '--show <WORDS>'")
-            }
-            Misuse::NoSchedule(text) => {
-                let text = Shown(text);
-                write!(f, "invalid value '{text}' for '--schedule <K|bad>'")
-            }
-            Misuse::NobodyWaits => {
-                write!(f, "--may-wait needs --require ended or --require halted")
-            }
-            Misuse::NothingJudged => write!(f, "--schedule bad needs --require or --never"),
-            Misuse::NothingEnds => write!(f, "--first needs --require or --never"),
-            Misuse::NothingSeeded => write!(f, "--seed needs --random"),
-            Misuse::NeverAndRandom => write!(f, "--never and --random exclude each other"),
-            Misuse::FairAndRandom => write!(f, "--fair and --random exclude each other"),
-            Misuse::PageAndRandom => write!(f, "--page and --random exclude each other"),
-            Misuse::JsonAndSchedule => write!(f, "--json and --schedule exclude each other"),
-        }
+        let text = match *self {
+            Misuse::NoRequirement(text) => return write_invalid(f, text, "--require <WORDS>"),
+            Misuse::NoShow(text) => return write_invalid(f, text, "--show <WORDS>"),
+            Misuse::NoSchedule(text) => return write_invalid(f, text, "--schedule <K|bad>"),
+            Misuse::NobodyWaits => "--may-wait needs --require ended or --require halted",
+            Misuse::NothingJudged => "--schedule bad needs --require or --never",
+            Misuse::NothingEnds => "--first needs --require or --never",
+            Misuse::NothingSeeded => "--seed needs --random",
+            Misuse::NeverAndRandom => "--never and --random exclude each other",
+            Misuse::FairAndRandom => "--fair and --random exclude each other",
+            Misuse::PageAndRandom => "--page and --random exclude each other",
+            Misuse::JsonAndSchedule => "--json and --schedule exclude each other",
+        };
+        f.write_str(text)
     }
 }

@@ -1,12 +1,14 @@
 //! The words of the command line, read by a parser of commands.
 use crate::commands::{
-    asm, assemble_request, check, check_request, debug, debug_request, dis, disassemble_request,
-    run, run_request, step, step_request, trace, trace_request,
+    assemble_request, check_request, debug_request, disassemble_request, run_request, step_request,
+    trace_request,
 };
 use crate::examples;
-use crate::exploring::{explore, explore_request};
+use crate::exploring::explore_request;
 use crate::request::{Refusal, Request};
+use crate::rows::COMMANDS;
 use crate::shown::Shown;
+use crate::table::command_of;
 use clap::error::ErrorKind;
 use clap::{ArgMatches, Command, Error};
 use std::alloc::{AllocError, Global};
@@ -67,40 +69,13 @@ fn without_commands<'a>(alloc: Global) -> Result<Command<'a>, AllocError> {
     )
 }
 
-/// The program with a command.
-fn with_command<'a>(
-    program: Command<'a>,
-    command: Result<Command<'a>, AllocError>,
-) -> Result<Command<'a>, AllocError> {
-    program.subcommand(command?)
-}
-
-/// The program with the commands on sources and object files.
-fn with_files<'a>(alloc: Global, program: Command<'a>) -> Result<Command<'a>, AllocError> {
-    let program = with_command(program, asm(alloc))?;
-    let program = with_command(program, check(alloc))?;
-    with_command(program, dis(alloc))
-}
-
-/// The program with the commands that run programs by given steps.
-fn with_schedules<'a>(alloc: Global, program: Command<'a>) -> Result<Command<'a>, AllocError> {
-    let program = with_command(program, step(alloc))?;
-    with_command(program, trace(alloc))
-}
-
-/// The program with the commands that find steps themselves or are told them one by one.
-fn with_searches<'a>(alloc: Global, program: Command<'a>) -> Result<Command<'a>, AllocError> {
-    let program = with_command(program, run(alloc))?;
-    let program = with_command(program, explore(alloc))?;
-    with_command(program, debug(alloc))
-}
-
 /// The program with all its commands.
 fn program<'a>(alloc: Global) -> Result<Command<'a>, AllocError> {
-    let program = without_commands(alloc)?;
-    let program = with_files(alloc, program)?;
-    let program = with_schedules(alloc, program)?;
-    with_searches(alloc, program)
+    let mut program = without_commands(alloc)?;
+    for row in COMMANDS {
+        program = program.subcommand(command_of(alloc, row)?)?;
+    }
+    Ok(program)
 }
 
 /// What the parser's matches ask for. It has made sure that there is a command, and each required word.
@@ -114,6 +89,14 @@ fn request_of<'a>(alloc: Global, matches: &ArgMatches<'a>) -> Result<Request<'a>
         Some(("run", words)) => run_request(alloc, words),
         Some(("explore", words)) => explore_request(alloc, words),
         Some(("debug", words)) => debug_request(alloc, words),
-        _ => Err(Refusal::Usage(String::from_str(alloc, "error: no such command\n")?)),
+        _ => Err(no_command(alloc)),
+    }
+}
+
+/// What is said where the words name no command.
+fn no_command(alloc: Global) -> Refusal {
+    match String::from_str(alloc, "error: no such command\n") {
+        Ok(text) => Refusal::Usage(text),
+        Err(_) => Refusal::NoMemory,
     }
 }

@@ -3,11 +3,9 @@ ghost use Rattle.std.specs.Prelude.{◌≡◌, ℕ, List, None, Some, IfSome, co
 ghost use Rattle.clap.specs.Words.{found_of, one_text};
 ghost use Rattle.lab_arguments.specs.Private.Options.{IsNumber, IsCount, usual_worlds};
 
-use crate::options::{number, number_of, value};
+use crate::options::number_of;
 use crate::question::Walks;
-use crate::{MOST_WALKS, MOST_WORLDS};
-use clap::{ArgMatches, Command};
-use std::alloc::{AllocError, Global};
+use clap::ArgMatches;
 
 /// The seed of walks where the words give none.
 const USUAL_SEED: u32 = 1;
@@ -17,22 +15,6 @@ const USUAL_WORLDS: u32 = 100_000;
 
 /// The most worlds of a walk where the words don't say.
 const USUAL_WORLDS_OF_A_WALK: u32 = 10_000;
-
-/// The command with the options of walks, and of how many worlds are visited.
-pub(crate) fn with_walks<'a>(
-    alloc: Global,
-    command: Command<'a>,
-) -> Result<Command<'a>, AllocError> {
-    let worlds =
-        "The most worlds to visit, or those of a walk [default: 100000, and 10000 of a walk]";
-    let random =
-        "Takes N walks by random numbers instead, which never show that there is no other end";
-    let seed = "With --random: the seed of the random numbers [default: 1]";
-    command
-        .arg(number(alloc, "worlds", "M", MOST_WORLDS, worlds))?
-        .arg(number(alloc, "random", "N", MOST_WALKS, random))?
-        .arg(value(alloc, "seed", "S", seed).value_parser(clap::value_parser!(u32)))
-}
 
 /// The walks that the words ask for, if they ask for some.
 pub(crate) fn walks_of(words: &ArgMatches<'_>) -> Option<Walks>

@@ -2,6 +2,7 @@
 use crate::check::messages;
 use crate::complaint::{At, Complaint, Reason};
 use crate::files::{is_same_file, read_file, write_object, write_text};
+use crate::job::Job;
 use crate::progress::Progress;
 use lab_io::Output;
 use lc3_asm::{Assembled, assemble, listing};
@@ -23,21 +24,20 @@ pub struct Sheet {
 }
 
 /// The messages about a source, where they are wanted and memory allows them.
-fn wanted_messages<P: Progress>(
-    alloc: Global,
+fn wanted_messages<T, P: Progress>(
+    job: &Job<'_, T, P>,
     source: &str,
     bytes: &[u8],
     sheet: Sheet,
-    progress: &P,
 ) -> Option<Report> {
-    if !sheet.explain && !progress.is_shown() {
+    if !sheet.explain && !job.progress.is_shown() {
         return None;
     }
     let wish = Wish {
         profile: sheet.profile,
         allowed: &[],
     };
-    messages(alloc, source, bytes, wish).ok()
+    messages(job.alloc, source, bytes, wish).ok()
 }
 
 /// What a source is assembled to, or why it isn't.
@@ -57,34 +57,43 @@ pub fn refusal<'a>(source: &'a str, reason: Reason, report: Option<Report>) -> C
     }
 }
 
+/// What a source is assembled to. The messages about it are written where they are wanted, before anything else is.
+fn accepted<'a, T: Files, E: Write, P: Progress>(
+    job: &Job<'_, T, P>,
+    source: &'a str,
+    sheet: Sheet,
+    errors: &mut Output<E>,
+) -> Result<Assembled, Complaint<'a>> {
+    let bytes = read_file(job.rt, job.alloc, source).at(source)?;
+    let report = wanted_messages(job, source, &bytes, sheet);
+    match assemble_bytes(job.alloc, &bytes) {
+        Ok(assembled) => {
+            if let Some(report) = report {
+                let _ = errors.write_all(report.text.as_bytes());
+            }
+            Ok(assembled)
+        }
+        Err(reason) => Err(refusal(source, reason, report)),
+    }
+}
+
 /// Assembles a source, writes its object file, and then the listing where it is asked for. The messages about the source come
 /// first, where they are wanted. The object file is made only once the source was accepted; it can't be the source itself.
 pub fn assemble_file<'a, T: Files, W: Write, E: Write, P: Progress>(
-    rt: &T,
-    alloc: Global,
+    job: &Job<'_, T, P>,
     source: &'a str,
     object: &'a str,
     sheet: Sheet,
     output: &mut Output<W>,
     errors: &mut Output<E>,
-    progress: &P,
 ) -> Result<(), Complaint<'a>> {
-    if is_same_file(rt, source, object) {
+    if is_same_file(job.rt, source, object) {
         return Err(Reason::SameFile.at(object));
     }
-    let bytes = read_file(rt, alloc, source).at(source)?;
-    let report = wanted_messages(alloc, source, &bytes, sheet, progress);
-    let assembled = match assemble_bytes(alloc, &bytes) {
-        Ok(assembled) => assembled,
-        Err(reason) => return Err(refusal(source, reason, report)),
-    };
-    if let Some(report) = report {
-        let _ = errors.write_all(report.text.as_bytes());
-    }
-    write_object(rt, object, assembled.image()).at(object)?;
+    let assembled = accepted(job, source, sheet, errors)?;
+    write_object(job.rt, object, assembled.image()).at(object)?;
     if sheet.list {
-        let lines = listing(alloc, &assembled).at("run")?;
-        write_text(&lines, output)?;
+        write_text(&listing(job.alloc, &assembled).at("run")?, output)?;
     }
     Ok(())
 }

@@ -196,45 +196,58 @@ fn name_of(verdict: Verdict) -> &'static str {
     }
 }
 
+/// A reason's text, but for what stands in it of its place.
+fn text_of(reason: Reason) -> &'static str {
+    match reason {
+        Reason::SameFile => "OBJECT is the file of SOURCE",
+        Reason::OwnFile => "FILE is a file of the run",
+        Reason::UnknownProcess => "--source names no process of the run",
+        Reason::TwoSources => "--source names a process twice",
+        Reason::NoWaiter => "--may-wait is no process",
+        Reason::NoSuchWaiter => "--may-wait names no process of the run",
+        Reason::NoCondition => "--never is no condition",
+        Reason::NoSuchProcess => "--never names no process of the run",
+        Reason::NotItsSource { .. } => "not the source of process",
+        Reason::Empty => "Empty",
+        Reason::BadWord { .. } => "BadWord",
+        Reason::OddLength => "OddLength",
+        Reason::TooLong | Reason::TooManySteps { .. } => "TooLong",
+        Reason::Line { .. } => "line",
+        Reason::BadBlock { .. } => "BadBlock",
+        Reason::Count => "Count",
+        Reason::NoProcess { .. } => "NoProcess",
+        Reason::Unvouched => "Unvouched",
+        Reason::Incomplete => "incomplete",
+        Reason::Endless => "endless",
+        Reason::Stands { verdict } => name_of(verdict),
+        Reason::Not { word } => word.text(),
+        Reason::Reached => "reached",
+        Reason::NoEnd => "NoEnd",
+        Reason::Spawn => "Spawn",
+        Reason::TooManyLines => "TooManyLines",
+        Reason::LineTooLong => "LineTooLong",
+        Reason::NotUtf8 => "not UTF-8",
+        Reason::TooLarge => "too large",
+        Reason::CannotRead => "cannot read",
+        Reason::CannotWrite => "cannot write",
+        Reason::NoMemory => "out of memory",
+    }
+}
+
 impl fmt::Display for Reason {
     fn fmt<W: fmt::Write>(&self, f: &mut fmt::Formatter<W>) -> fmt::Result {
+        let text = text_of(*self);
         match *self {
-            Reason::SameFile => write!(f, "OBJECT is the file of SOURCE"),
-            Reason::OwnFile => write!(f, "FILE is a file of the run"),
-            Reason::UnknownProcess => write!(f, "--source names no process of the run"),
-            Reason::TwoSources => write!(f, "--source names a process twice"),
-            Reason::NoWaiter => write!(f, "--may-wait is no process"),
-            Reason::NoSuchWaiter => write!(f, "--may-wait names no process of the run"),
-            Reason::NoCondition => write!(f, "--never is no condition"),
-            Reason::NoSuchProcess => write!(f, "--never names no process of the run"),
-            Reason::NotItsSource { process } => write!(f, "not the source of process {process}"),
-            Reason::Empty => write!(f, "Empty"),
-            Reason::BadWord { at } => write!(f, "word {at}: BadWord"),
-            Reason::OddLength => write!(f, "OddLength"),
-            Reason::TooLong => write!(f, "TooLong"),
-            Reason::Line { number, fault } => write!(f, "line {number}: {fault:?}"),
-            Reason::BadBlock { at } => write!(f, "block {at}: BadBlock"),
-            Reason::TooManySteps { at } => write!(f, "block {at}: TooLong"),
-            Reason::Count => write!(f, "Count"),
-            Reason::NoProcess { done } => write!(f, "after {done} steps: NoProcess"),
-            Reason::Unvouched => write!(f, "Unvouched"),
-            Reason::Incomplete => write!(f, "incomplete"),
-            Reason::Endless => write!(f, "endless"),
-            Reason::Stands { verdict } => write!(f, "{}", name_of(verdict)),
-            Reason::Not { word } => {
-                let word = word.text();
-                write!(f, "not {word}")
-            }
-            Reason::Reached => write!(f, "reached"),
-            Reason::NoEnd => write!(f, "NoEnd"),
-            Reason::Spawn => write!(f, "Spawn"),
-            Reason::TooManyLines => write!(f, "TooManyLines"),
-            Reason::LineTooLong => write!(f, "LineTooLong"),
-            Reason::NotUtf8 => write!(f, "not UTF-8"),
-            Reason::TooLarge => write!(f, "too large"),
-            Reason::CannotRead => write!(f, "cannot read"),
-            Reason::CannotWrite => write!(f, "cannot write"),
-            Reason::NoMemory => write!(f, "out of memory"),
+            Reason::NotItsSource { process } => write!(f, "{text} {process}"),
+            Reason::BadWord { at } => write!(f, "word {at}: {text}"),
+            Reason::BadBlock { at } | Reason::TooManySteps { at } => write!(
+                f,
+                "block {at}: {text}"
+            ),
+            Reason::Line { number, fault } => write!(f, "{text} {number}: {fault:?}"),
+            Reason::NoProcess { done } => write!(f, "after {done} steps: {text}"),
+            Reason::Not { .. } => write!(f, "not {text}"),
+            _ => f.write_str(text),
         }
     }
 }

@@ -2,12 +2,14 @@
 ghost use Rattle.std.specs.Prelude.{◌≡◌, false};
 
 use crate::complaint::{At, Complaint};
+use crate::job::Job;
 use crate::programs::{Programs, fault_of, read_programs};
 use crate::progress::Progress;
 use lab_arguments::Setup;
 use lab_debug::{Session, session};
 use lab_io::{Input, Output};
 use lab_sources::{Listing, Source};
+use lc3_table::Profile;
 use std::alloc::{AllocError, Global};
 use std::io::{Read, Write};
 use std::rt::Files;
@@ -27,29 +29,28 @@ fn listings_of(
     Ok(listings)
 }
 
+/// The session on programs, before its first command.
+fn session_on(
+    alloc: Global,
+    given: Programs,
+    profile: Profile,
+) -> Result<Session, Complaint<'static>> {
+    let listings = listings_of(alloc, given.sources).at("session")?;
+    Session::new(alloc, given.programs, listings, profile).map_err(fault_of)
+}
+
 /// Reads the files of the programs, makes their laboratory, and carries out the commands that come from the input.
 pub fn debug_programs<'a, T: Files, R: Read, W: Write, P: Progress>(
-    rt: &T,
-    alloc: Global,
+    job: &Job<'_, T, P>,
     setup: &Setup<'a>,
     input: &mut Input<R>,
     output: &mut Output<W>,
-    progress: &P,
 ) -> Result<(), Complaint<'a>>
     requires input_healthy { input.old.failed ≡ false }
     requires output_healthy { output.old.failed ≡ false }
 {
-    let Programs { programs, sources } = read_programs(
-        rt,
-        alloc,
-        setup.programs.as_slice(),
-        progress,
-    )?;
-    let listings = listings_of(alloc, sources).at("session")?;
-    let start = match Session::new(alloc, programs, listings, setup.profile) {
-        Ok(start) => start,
-        Err(fault) => return Err(fault_of(fault)),
-    };
-    session(alloc, start, input, output).at("session")?;
+    let given = read_programs(job, setup.programs.as_slice())?;
+    let start = session_on(job.alloc, given, setup.profile)?;
+    session(job.alloc, start, input, output).at("session")?;
     Ok(())
 }

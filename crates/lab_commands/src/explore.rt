@@ -3,8 +3,9 @@ ghost use Rattle.std.specs.Prelude.{◌≡◌, false, IfSome};
 
 use crate::complaint::{At, Complaint, Reason};
 use crate::files::write_text;
-use crate::inquiry::{Asked, Inquiry, asked_of, inquiry_of};
-use crate::programs::{Programs, laboratory, read_programs};
+use crate::inquiry::{Asked, Inquiry, asked_of, inquiry_of, refuse_question};
+use crate::job::Job;
+use crate::programs::{laboratory, read_programs};
 use crate::progress::{Progress, WalkCount, WorldCount};
 use crate::stages::{has_more, stages_of};
 use crate::telling::tell_answers;
@@ -15,7 +16,6 @@ use lab_io::Output;
 use lab_questions::{Answers, Waiter, Word, ask, ask_walks};
 use lab_sched::{Fresh, Program};
 use lc3_table::Profile;
-use std::alloc::Global;
 use std::io::Write;
 use std::rt::Files;
 use std::thread::{Threads, available_parallelism};
@@ -47,94 +47,108 @@ impl Found {
     }
 }
 
+/// How far an exploration was to go, and what it found.
+#[derive(Drop)]
+pub struct Search {
+    pub inquiry: Inquiry,
+    pub found: Found,
+}
+
 /// Reads the files of the programs, visits every interleaving of them as far as the limits allow, and writes the ends
 /// that they can have, with what else is asked, or one schedule alone. Where memory was refused on the way, what was
 /// found till then is written.
 pub fn explore_programs<'a, T: Files + Threads + Sync, W: Write, P: Progress>(
-    rt: &T,
-    alloc: Global,
+    job: &Job<'_, T, P>,
     setup: &Setup<'a>,
     question: &Question<'a>,
     output: &mut Output<W>,
-    progress: &P,
 ) -> Result<(), Complaint<'a>>
     requires output_healthy { output.old.failed ≡ false }
 {
     let words = setup.programs.as_slice();
-    asked_of(alloc, question, words.len())?;
-    let Programs { programs, .. } = read_programs(rt, alloc, words, progress)?;
-    let (found, inquiry) = find_ends(
-        rt,
-        alloc,
-        programs.as_slice(),
-        setup.profile,
-        question,
-        progress,
-    )?;
-    tell_ends(alloc, &found, &inquiry, output, progress)
+    refuse_question(job.alloc, question, words.len())?;
+    let given = read_programs(job, words)?;
+    let search = find_ends(job, given.programs.as_slice(), setup.profile, question)?;
+    tell_ends(job, &search, output)
 }
 
 /// Visits every interleaving of programs, as far as the limits allow, or takes walks, if these are asked for, and judges what
 /// is asked. Where the search is to end with what is found, it begins with fewer worlds, or walks, and goes further as long as
-/// nothing is found. Told with it is how far it was to go.
+/// nothing is found.
 pub fn find_ends<'a, T: Threads + Sync, P: Progress>(
-    rt: &T,
-    alloc: Global,
+    job: &Job<'_, T, P>,
     programs: &[Program],
     profile: Profile,
     question: &Question<'a>,
-    progress: &P,
-) -> Result<(Found, Inquiry), Complaint<'a>> {
+) -> Result<Search, Complaint<'a>> {
     let inquiry = inquiry_of(question);
-    if !question.first {
-        let found = search(rt, alloc, programs, profile, question, &inquiry, progress)?;
-        return Ok((found, inquiry));
-    }
-    for stage in &stages_of(alloc, &inquiry).at("run")? {
-        let found = search(rt, alloc, programs, profile, question, stage, progress)?;
-        if !has_more(&found, stage) {
-            return Ok((found, *stage));
+    if question.first {
+        if let Some(search) = find_early(job, programs, profile, question, &inquiry)? {
+            return Ok(search);
         }
     }
-    let found = search(rt, alloc, programs, profile, question, &inquiry, progress)?;
-    Ok((found, inquiry))
+    searched(job, programs, profile, question, inquiry)
 }
 
-/// Visits every interleaving of programs, as far as an inquiry goes, or takes its walks, and judges what a question asks.
-fn search<'a, T: Threads + Sync, P: Progress>(
-    rt: &T,
-    alloc: Global,
+/// The first search of those that come before an inquiry that has something to show.
+fn find_early<'a, T: Threads + Sync, P: Progress>(
+    job: &Job<'_, T, P>,
     programs: &[Program],
     profile: Profile,
     question: &Question<'a>,
     inquiry: &Inquiry,
-    progress: &P,
-) -> Result<Found, Complaint<'a>> {
-    let asked = asked_of(alloc, question, programs.len())?;
-    let fresh = laboratory(alloc, programs, profile)?;
-    let outcome = match inquiry.walks {
-        Some(walks) => take_walks(alloc, fresh, inquiry, &asked, walks, progress),
-        None => visit_all(rt, alloc, fresh, inquiry, asked, progress),
-    };
-    outcome.at("run")
+) -> Result<Option<Search>, Complaint<'a>> {
+    for stage in &stages_of(job.alloc, inquiry).at("run")? {
+        let search = searched(job, programs, profile, question, *stage)?;
+        if !has_more(&search) {
+            return Ok(Some(search));
+        }
+    }
+    Ok(None)
+}
+
+/// Visits every interleaving of programs, as far as an inquiry goes, or takes its walks, and judges what a question asks.
+fn searched<'a, T: Threads + Sync, P: Progress>(
+    job: &Job<'_, T, P>,
+    programs: &[Program],
+    profile: Profile,
+    question: &Question<'a>,
+    inquiry: Inquiry,
+) -> Result<Search, Complaint<'a>> {
+    let asked = asked_of(job.alloc, question, programs.len())?;
+    let fresh = laboratory(job.alloc, programs, profile)?;
+    let found = explore(job, fresh, &inquiry, asked).at("run")?;
+    Ok(Search { inquiry, found })
+}
+
+/// Visits every interleaving of the programs of a laboratory, or takes the walks of an inquiry.
+fn explore<T: Threads + Sync, P: Progress>(
+    job: &Job<'_, T, P>,
+    fresh: Fresh,
+    inquiry: &Inquiry,
+    asked: Asked,
+) -> Result<Found, ExploreFault> {
+    match inquiry.walks {
+        Some(walks) => take_walks(job, fresh, inquiry, &asked, walks),
+        None => visit_all(job, fresh, inquiry, asked),
+    }
 }
 
 /// Takes walks through the interleavings of the programs of a laboratory, and judges what is asked.
-fn take_walks<P: Progress>(
-    alloc: Global,
+fn take_walks<T, P: Progress>(
+    job: &Job<'_, T, P>,
     fresh: Fresh,
     inquiry: &Inquiry,
     asked: &Asked,
     walks: Walks,
-    progress: &P,
 ) -> Result<Found, ExploreFault> {
-    let mut count = WalkCount::new(alloc, progress);
+    let mut count = WalkCount::new(job.alloc, job.progress);
     let (words, waiters): (&[Word], &[Waiter]) = match asked {
         Asked::Verdict(_) => (&[], &[]),
         Asked::More { words, waiters, .. } => (words, waiters),
     };
     let outcome = ask_walks(
-        alloc,
+        job.alloc,
         fresh,
         inquiry.limits,
         walks,
@@ -162,19 +176,17 @@ fn thread_count<T: Threads>(rt: &T, asked: Option<u32>) -> usize
 
 /// Visits every interleaving of the programs of a laboratory, as far as the limits allow, and judges what is asked.
 fn visit_all<T: Threads + Sync, P: Progress>(
-    rt: &T,
-    alloc: Global,
+    job: &Job<'_, T, P>,
     fresh: Fresh,
     inquiry: &Inquiry,
     asked: Asked,
-    progress: &P,
 ) -> Result<Found, ExploreFault> {
-    let mut count = WorldCount::new(alloc, progress);
-    let workers = Workers::new(rt, thread_count(rt, inquiry.threads));
+    let mut count = WorldCount::new(job.alloc, job.progress);
+    let workers = Workers::new(job.rt, thread_count(job.rt, inquiry.threads));
     let limits = inquiry.limits;
     let outcome = match asked {
         Asked::Verdict(required) => {
-            find(alloc, fresh, limits, required, &mut count, &workers).map(Found::Ends)
+            find(job.alloc, fresh, limits, required, &mut count, &workers).map(Found::Ends)
         }
         Asked::More {
             words,
@@ -182,7 +194,7 @@ fn visit_all<T: Threads + Sync, P: Progress>(
             never,
             fair,
         } => ask(
-            alloc,
+            job.alloc,
             fresh,
             limits,
             &words,
@@ -201,18 +213,16 @@ fn visit_all<T: Threads + Sync, P: Progress>(
 
 /// Writes what was found, says which objects that conditions name nobody opens, and complains where memory was refused on the
 /// way, or not all is as it has to be.
-pub fn tell_ends<W: Write, P: Progress>(
-    alloc: Global,
-    found: &Found,
-    inquiry: &Inquiry,
+pub fn tell_ends<T, W: Write, P: Progress>(
+    job: &Job<'_, T, P>,
+    search: &Search,
     output: &mut Output<W>,
-    progress: &P,
 ) -> Result<(), Complaint<'static>>
     requires output_healthy { output.old.failed ≡ false }
 {
-    match found {
-        Found::Ends(findings) => tell_findings(findings, inquiry, output),
-        Found::Answers(answers) => tell_answers(alloc, answers, inquiry, output, progress),
+    match &search.found {
+        Found::Ends(findings) => tell_findings(findings, &search.inquiry, output),
+        Found::Answers(answers) => tell_answers(job, answers, &search.inquiry, output),
     }
 }
 

@@ -89,6 +89,16 @@ pub fn asked_of<'a>(
     })
 }
 
+/// Refuses a question that can't be asked of so many processes.
+pub fn refuse_question<'a>(
+    alloc: Global,
+    question: &Question<'a>,
+    count: usize,
+) -> Result<(), Complaint<'a>> {
+    asked_of(alloc, question, count)?;
+    Ok(())
+}
+
 /// The verdict that is required of programs.
 fn verdict_of(rest: Option<Rest>) -> Option<Verdict> {
     match rest? {

@@ -4,7 +4,8 @@ ghost use Rattle.lab_threads.specs.Limits.{most_steps_each};
 
 use crate::complaint::{At, Complaint};
 use crate::files::write_text;
-use crate::programs::{Programs, laboratory, read_programs};
+use crate::job::Job;
+use crate::programs::{laboratory, read_programs};
 use crate::progress::{CallCount, Progress};
 use lab_arguments::{MOST_STEPS_EACH, Setup};
 use lab_io::Output;
@@ -30,40 +31,28 @@ pub struct Manner {
 /// Reads the files of the programs, runs them on threads, and writes the report and the schedule of an interleaving that
 /// leads to it.
 pub fn run_programs<'a, T: Files + Threads + Wait + Clock + Sync, W: Write, P: Progress>(
-    rt: &T,
-    alloc: Global,
+    job: &Job<'_, T, P>,
     setup: &Setup<'a>,
     manner: Manner,
     output: &mut Output<W>,
-    progress: &P,
 ) -> Result<(), Complaint<'a>>
     requires output_healthy { output.old.failed ≡ false }
 {
-    let Programs { programs, .. } = read_programs(rt, alloc, setup.programs.as_slice(), progress)?;
-    let fresh = laboratory(alloc, programs.as_slice(), setup.profile)?;
-    let report = run_fresh(rt, alloc, fresh, manner, progress)?;
-    tell_run(alloc, &report, output)
+    let given = read_programs(job, setup.programs.as_slice())?;
+    let fresh = laboratory(job.alloc, given.programs.as_slice(), setup.profile)?;
+    tell_run(job.alloc, &run_fresh(job, fresh, manner)?, output)
 }
 
 /// Runs the programs of a laboratory on threads. With a seed, workers pause before calls.
 pub fn run_fresh<T: Threads + Wait + Clock + Sync, P: Progress>(
-    rt: &T,
-    alloc: Global,
+    job: &Job<'_, T, P>,
     fresh: Fresh,
     manner: Manner,
-    progress: &P,
 ) -> Result<Report, Complaint<'static>> {
     let limit = manner.limit.clamp(1, MOST_STEPS_EACH);
     let outcome = match manner.mix {
-        None => report_of(rt, alloc, fresh, limit, &NoGate, progress),
-        Some(seed) => report_of(
-            rt,
-            alloc,
-            fresh,
-            limit,
-            &PausingGate::new(rt, seed),
-            progress,
-        ),
+        None => report_of(job, fresh, limit, &NoGate),
+        Some(seed) => report_of(job, fresh, limit, &PausingGate::new(job.rt, seed)),
     };
     outcome.at("run")
 }
@@ -76,24 +65,21 @@ pub fn tell_run<W: Write>(
 ) -> Result<(), Complaint<'static>>
     requires output_healthy { output.old.failed ≡ false }
 {
-    let text = text_of(alloc, report).at("run")?;
-    write_text(&text, output)
+    write_text(&text_of(alloc, report).at("run")?, output)
 }
 
 /// The report on a run through this gate, which shows meanwhile how many calls were made.
 fn report_of<T: Threads + Wait + Sync, G: Gate, P: Progress>(
-    rt: &T,
-    alloc: Global,
+    job: &Job<'_, T, P>,
     fresh: Fresh,
     limit: u32,
     gate: &G,
-    progress: &P,
 ) -> Result<Report, RunFault>
     requires at_least { 1 ≤ limit }
     requires at_most { limit ≤ most_steps_each }
 {
-    let count = CallCount::new(alloc, progress, gate);
-    let outcome = run_threads(rt, alloc, fresh, limit, &count);
+    let count = CallCount::new(job.alloc, job.progress, gate);
+    let outcome = run_threads(job.rt, job.alloc, fresh, limit, &count);
     count.clear();
     outcome
 }

@@ -1,5 +1,5 @@
 //! Searches that end where something is found: one after the other, each of which goes further than the one before.
-use crate::explore::Found;
+use crate::explore::{Found, Search};
 use crate::inquiry::Inquiry;
 use lab_explore::{Exploration, Limits, Walks};
 use lab_questions::{Answers, Failure};
@@ -76,12 +76,12 @@ fn is_cut_short(found: &Exploration, stage: &Inquiry) -> bool {
     !found.complete && found.worlds >= most
 }
 
-/// Whether a search that goes further than this stage has something to find.
-pub(crate) fn has_more(found: &Found, stage: &Inquiry) -> bool {
-    match found {
+/// Whether a search that goes further than this one has something to find.
+pub(crate) fn has_more(search: &Search) -> bool {
+    match &search.found {
         Found::Ends(_) => false,
         Found::Answers(answers) => {
-            !is_fault(answers) && is_cut_short(&answers.exploration, stage)
+            !is_fault(answers) && is_cut_short(&answers.exploration, &search.inquiry)
         }
     }
 }

@@ -3,12 +3,13 @@ ghost use Rattle.std.specs.Prelude.{◌≡◌, false};
 
 use crate::complaint::{At, Complaint, Reason};
 use crate::files::write_text;
-use crate::programs::{Programs, laboratory, read_programs};
+use crate::job::Job;
+use crate::programs::{laboratory, read_programs};
 use crate::progress::{Progress, StepCount};
 use lab_arguments::Setup;
 use lab_hex::read_whole;
 use lab_io::{Input, Output};
-use lab_sched::{Schedule, World};
+use lab_sched::{Fresh, RunStop, Schedule, World};
 use lab_texts::report_text;
 use std::alloc::Global;
 use std::io::{Read, Write};
@@ -17,26 +18,41 @@ use std::rt::Files;
 /// Reads the files of the programs, then a schedule from the input, runs the laboratory of these programs by that
 /// schedule, and writes the report.
 pub fn step_programs<'a, T: Files, R: Read, W: Write, P: Progress>(
-    rt: &T,
-    alloc: Global,
+    job: &Job<'_, T, P>,
     setup: &Setup<'a>,
     input: &mut Input<R>,
     output: &mut Output<W>,
-    progress: &P,
 ) -> Result<(), Complaint<'a>>
     requires input_healthy { input.old.failed ≡ false }
     requires output_healthy { output.old.failed ≡ false }
 {
-    let Programs { programs, .. } = read_programs(rt, alloc, setup.programs.as_slice(), progress)?;
-    let schedule = read_schedule(alloc, input).at("schedule")?;
-    let fresh = laboratory(alloc, programs.as_slice(), setup.profile)?;
+    let given = read_programs(job, setup.programs.as_slice())?;
+    let schedule = read_schedule(job.alloc, input).at("schedule")?;
+    let fresh = laboratory(job.alloc, given.programs.as_slice(), setup.profile)?;
+    write_text(&report_on(job, fresh, &schedule)?, output)
+}
+
+/// The report on a laboratory after the steps of a schedule.
+fn report_on<T, P: Progress>(
+    job: &Job<'_, T, P>,
+    fresh: Fresh,
+    schedule: &Schedule,
+) -> Result<String, Complaint<'static>> {
     let mut world = World::from(fresh);
-    let mut count = StepCount::new(alloc, progress, schedule.total());
-    let outcome = world.run_watched(&schedule, &mut count);
+    run(job, &mut world, schedule).at("run")?;
+    report_text(job.alloc, &world).at("run")
+}
+
+/// Takes the steps of a schedule, and shows meanwhile how many are done.
+fn run<T, P: Progress>(
+    job: &Job<'_, T, P>,
+    world: &mut World,
+    schedule: &Schedule,
+) -> Result<(), RunStop> {
+    let mut count = StepCount::new(job.alloc, job.progress, schedule.total());
+    let outcome = world.run_watched(schedule, &mut count);
     count.clear();
-    outcome.at("run")?;
-    let report = report_text(alloc, &world).at("run")?;
-    write_text(&report, output)
+    outcome
 }
 
 /// The schedule that a whole input writes.

@@ -3,6 +3,7 @@ use crate::complaint::{At, Complaint, Reason};
 use crate::explore::write_schedule;
 use crate::files::write_text;
 use crate::inquiry::Inquiry;
+use crate::job::Job;
 use crate::progress::Progress;
 use lab_answers::{Extent, Manner, answers_json};
 use lab_arguments::Choice;
@@ -13,34 +14,32 @@ use std::alloc::{AllocError, Global};
 use std::io::Write;
 
 /// Writes answers, says which objects that conditions name nobody opens, and complains where not all is as it has to be.
-pub(crate) fn tell_answers<W: Write, P: Progress>(
-    alloc: Global,
+pub(crate) fn tell_answers<T, W: Write, P: Progress>(
+    job: &Job<'_, T, P>,
     found: &Answers,
     inquiry: &Inquiry,
     output: &mut Output<W>,
-    progress: &P,
 ) -> Result<(), Complaint<'static>> {
     match inquiry.choice {
         Some(Choice::End(number)) => {
             let refused = found.exploration.refused;
             write_schedule(found.schedules.as_slice(), number, refused, output)?;
         }
-        Some(Choice::Bad) => write_bad(alloc, found, output)?,
-        None => write_answers(alloc, found, inquiry, output)?,
+        Some(Choice::Bad) => write_bad(job.alloc, found, output)?,
+        None => write_answers(job.alloc, found, inquiry, output)?,
     }
-    tell_unopened(alloc, &found.unopened, progress).at("run")?;
-    complain(alloc, found, inquiry.judges)
+    tell_unopened(job, &found.unopened).at("run")?;
+    complain(job.alloc, found, inquiry.judges)
 }
 
 /// Says which objects that conditions name nobody opens.
-fn tell_unopened<P: Progress>(
-    alloc: Global,
+fn tell_unopened<T, P: Progress>(
+    job: &Job<'_, T, P>,
     objects: &[Object],
-    progress: &P,
 ) -> Result<(), AllocError> {
     for object in objects {
-        let line = format!(in alloc; "lc3lab: explore: nobody opens {object}\n")?;
-        progress.tell(&line);
+        let line = format!(in job.alloc; "lc3lab: explore: nobody opens {object}\n")?;
+        job.progress.tell(&line);
     }
     Ok(())
 }

@@ -1,0 +1,93 @@
+//! What the parser is told of the commands and their options.
+use crate::rows::{CommandRow, Row, Takes};
+use clap::builder::ValueParser;
+use clap::{Arg, ArgAction, Command};
+use std::alloc::{AllocError, Global};
+
+/// The profiles of the machine.
+const PROFILES: &[&str] = &["a", "b"];
+
+/// The warnings of a source.
+const WARNINGS: &[&str] = &[
+    "wraps",
+    "unknown-trap",
+    "misspelt",
+    "unused-label",
+    "starts-in-data",
+    "runs-into-data",
+    "runs-past-end",
+    "r7",
+    "after-end",
+];
+
+/// A word at a place of its own.
+fn place<'a>(alloc: Global, row: &Row) -> Arg<'a> {
+    Arg::new(alloc, row.name).required(true).help(row.help)
+}
+
+/// An option that is there or not.
+fn flag<'a>(alloc: Global, row: &Row) -> Arg<'a> {
+    Arg::new(alloc, row.name)
+        .long(row.name)
+        .action(ArgAction::SetTrue)
+        .help(row.help)
+}
+
+/// An option with a value.
+fn option<'a>(alloc: Global, row: &Row, value: &'a str) -> Arg<'a> {
+    Arg::new(alloc, row.name)
+        .long(row.name)
+        .value_name(value)
+        .help(row.help)
+}
+
+/// An option with a value that may be there more than once.
+fn options<'a>(alloc: Global, row: &Row, value: &'a str) -> Arg<'a> {
+    option(alloc, row, value).action(ArgAction::Append)
+}
+
+/// An option with a number from 1 to the most that there can be.
+fn up_to<'a>(alloc: Global, row: &Row, value: &'a str, most: u32) -> Arg<'a> {
+    option(alloc, row, value).value_parser(clap::value_parser!(u32).range(1..=i64::from(most)))
+}
+
+/// The option with one of these names as its value.
+fn named<'a>(option: Arg<'a>, names: &'static [&'static str]) -> Arg<'a> {
+    option.value_parser(ValueParser::Names(names))
+}
+
+/// What a row says of its option, but for the other options that it needs.
+fn alone<'a>(alloc: Global, row: &Row) -> Arg<'a> {
+    match row.takes {
+        Takes::Place => place(alloc, row),
+        Takes::Places => place(alloc, row).num_args(1..),
+        Takes::Nothing => flag(alloc, row),
+        Takes::Text(value) => option(alloc, row, value),
+        Takes::Texts(value) => options(alloc, row, value),
+        Takes::Sources => options(alloc, row, "P=FILE"),
+        Takes::UpTo(value, most) => up_to(alloc, row, value, most),
+        Takes::Usually(value, most, usual) => up_to(alloc, row, value, most).default_value(usual),
+        Takes::Number(value) => option(alloc, row, value).value_parser(clap::value_parser!(u32)),
+        Takes::Profile => named(option(alloc, row, "PROFILE"), PROFILES).default_value("a"),
+        Takes::Warnings => named(options(alloc, row, "WARNING"), WARNINGS),
+    }
+}
+
+/// A row's option.
+fn arg_of<'a>(alloc: Global, row: &Row) -> Result<Arg<'a>, AllocError> {
+    match row.takes {
+        Takes::Sources => alone(alloc, row).requires_arg("page"),
+        _ => Ok(alone(alloc, row)),
+    }
+}
+
+/// The command of a row, with its options.
+pub(crate) fn command_of<'a>(alloc: Global, row: &CommandRow) -> Result<Command<'a>, AllocError> {
+    let mut command = Command::new(alloc, row.name)
+        .about(row.about)
+        .after_help(row.example);
+    for option in row.options {
+        command = command.arg(arg_of(alloc, option)?)?;
+    }
+    Ok(command)
+}
