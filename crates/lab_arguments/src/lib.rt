@@ -2,7 +2,6 @@
 #![tactic(auto)]
 
 mod commands;
-mod examples;
 mod exploring;
 mod misuse;
 mod options;
@@ -20,6 +19,7 @@ pub use parser::read_words;
 pub use question::{Choice, Question, Walks};
 pub use request::{Page, Refusal, Request, Setup};
 pub use requirements::{Requirements, Rest};
+pub use rows::{CommandRow, ProgramRow, Row, Takes};
 pub use showing::Show;
 pub use shown::Shown;
 

@@ -3,28 +3,36 @@ use crate::commands::{
     assemble_request, check_request, debug_request, disassemble_request, run_request, step_request,
     trace_request,
 };
-use crate::examples;
 use crate::exploring::explore_request;
 use crate::request::{Refusal, Request};
-use crate::rows::COMMANDS;
+use crate::rows::ProgramRow;
 use crate::shown::Shown;
 use crate::table::command_of;
 use clap::error::ErrorKind;
 use clap::{ArgMatches, Command, Error};
 use std::alloc::{AllocError, Global};
 
-/// What the words ask for, or the text of help or of what is wrong with them.
-pub fn read_words<'a>(alloc: Global, words: &'a [String]) -> Result<Request<'a>, Refusal> {
-    match program(alloc)?.try_get_matches_from(words) {
+/// What the words ask for of a program with these texts, or the text of help or of what is wrong with them.
+pub fn read_words<'a>(
+    alloc: Global,
+    row: &ProgramRow,
+    words: &'a [String],
+) -> Result<Request<'a>, Refusal> {
+    match program(alloc, row)?.try_get_matches_from(words) {
         Ok(matches) => request_of(alloc, &matches),
-        Err(error) => Err(refusal_of(alloc, &shown_error(alloc, words, error)?)),
+        Err(error) => Err(refusal_of(alloc, &shown_error(alloc, row, words, error)?)),
     }
 }
 
 /// The parser's error about words, with the words as messages show them: it repeats them in its text.
-fn shown_error(alloc: Global, words: &[String], error: Error) -> Result<Error, AllocError> {
+fn shown_error(
+    alloc: Global,
+    row: &ProgramRow,
+    words: &[String],
+    error: Error,
+) -> Result<Error, AllocError> {
     let shown = shown_words(alloc, words)?;
-    let again = program(alloc)?.try_get_matches_from(shown.as_slice());
+    let again = program(alloc, row)?.try_get_matches_from(shown.as_slice());
     Ok(again.err().unwrap_or(error))
 }
 
@@ -51,15 +59,12 @@ fn refusal_of(alloc: Global, error: &Error) -> Refusal {
     }
 }
 
-/// The version of the program; CHANGELOG.md says what each brings.
-const VERSION: &str = "1.0.0";
-
 /// The program without its commands.
-fn without_commands<'a>(alloc: Global) -> Result<Command<'a>, AllocError> {
+fn without_commands<'a>(alloc: Global, row: &ProgramRow) -> Result<Command<'a>, AllocError> {
     let program = Command::new(alloc, "lc3lab")
-        .about("A laboratory of LC-3 processes")
-        .version(VERSION)
-        .after_help(examples::PROGRAM)
+        .about(row.about)
+        .version(row.version)
+        .after_help(row.example)
         .bin_name("lc3lab")?;
     Ok(
         program
@@ -70,10 +75,10 @@ fn without_commands<'a>(alloc: Global) -> Result<Command<'a>, AllocError> {
 }
 
 /// The program with all its commands.
-fn program<'a>(alloc: Global) -> Result<Command<'a>, AllocError> {
-    let mut program = without_commands(alloc)?;
-    for row in COMMANDS {
-        program = program.subcommand(command_of(alloc, row)?)?;
+fn program<'a>(alloc: Global, row: &ProgramRow) -> Result<Command<'a>, AllocError> {
+    let mut program = without_commands(alloc, row)?;
+    for command in row.commands {
+        program = program.subcommand(command_of(alloc, command)?)?;
     }
     Ok(program)
 }
