@@ -14,6 +14,7 @@ mod worlds;
 
 pub use ends::{EndList, Endless, Extent};
 pub use fault::PageFault;
+pub use lab_template::Template;
 pub use paging::{Shown, ends_page, run_page};
 pub use source::{Source, source_of};
 pub use worlds::{WorldEdge, Worlds};

@@ -4,7 +4,7 @@ ghost use Rattle.std.specs.Option.{option_map};
 ghost use Rattle.lab_sched.specs.Schedules.{steps_of};
 ghost use Rattle.lab_sched.specs.Worlds.{run};
 ghost use Rattle.lab_trace.specs.Traces.{missing_after, trace_text};
-ghost use Rattle.lab_template.specs.Pages.{page_text, safe, HasNoTag};
+ghost use Rattle.lab_template.specs.Pages.{around, page_text, safe, HasNoTag};
 ghost use Rattle.lab_page.specs.Ends.{endless_shown, ends_json};
 ghost use Rattle.lab_page.specs.Faults.{Explains};
 ghost use Rattle.lab_template.specs.Limits.{most_bytes};
@@ -22,12 +22,12 @@ use crate::source::{Source, programs};
 use crate::worlds::Worlds;
 use lab_sched::{Schedule, World};
 use lab_sources::Source as Given;
-use lab_template::{MOST_BYTES, page_with};
+use lab_template::{MOST_BYTES, Template, page_with};
 use std::alloc::{AllocError, Global};
 
 /// The page with these data as JSON, where they aren't too large.
-fn page_of(alloc: Global, json: &[u8]) -> Result<Vec<u8>, PageFault>
-    ensures page { IfOk result (λ v. v.items ≡ page_text json.now) }
+fn page_of(alloc: Global, template: &Template<'_>, json: &[u8]) -> Result<Vec<u8>, PageFault>
+    ensures page { IfOk result (λ v. v.items ≡ page_text (around template.now) json.now) }
     ensures closed { OnOk result (HasNoTag (safe json.now)) }
     ensures fits { OnOk result (length json.now ≤ most_bytes) }
     ensures fault { IfErr result (λ e. IsFault e json.now) }
@@ -35,7 +35,7 @@ fn page_of(alloc: Global, json: &[u8]) -> Result<Vec<u8>, PageFault>
     if json.len() > MOST_BYTES {
         return Err(PageFault::TooLarge);
     }
-    Ok(page_with(alloc, json)?)
+    Ok(page_with(alloc, template, json)?)
 }
 
 /// What a page holds of a run as JSON.
@@ -79,6 +79,7 @@ pub struct Shown {
 /// said of the world.
 pub fn run_page(
     alloc: Global,
+    template: &Template<'_>,
     world: &mut World,
     schedule: &Schedule,
     names: &[String],
@@ -87,8 +88,9 @@ pub fn run_page(
 ) -> Result<Shown, PageFault>
     ensures trace { IfOk result (λ s. s.trace.items
         ≡ trace_text world.old given.now (steps_of schedule.now)) }
-    ensures page { IfOk result (λ s. s.page.items ≡ page_text (run_json world.old schedule.now
-        (map string_bytes names.now) (sources_shown sources.now))) }
+    ensures page { IfOk result (λ s. s.page.items ≡ page_text (around template.now)
+        (run_json world.old schedule.now (map string_bytes names.now)
+        (sources_shown sources.now))) }
     ensures closed { OnOk result (HasNoTag (safe (run_json world.old schedule.now
         (map string_bytes names.now) (sources_shown sources.now)))) }
     ensures fits { OnOk result (length (run_json world.old schedule.now
@@ -102,7 +104,11 @@ pub fn run_page(
 {
     let count = world.count();
     let Taken { json, trace } = written_run(alloc, world, schedule, given)?;
-    let page = page_of(alloc, &page_json(alloc, count, names, sources, &json)?)?;
+    let page = page_of(
+        alloc,
+        template,
+        &page_json(alloc, count, names, sources, &json)?,
+    )?;
     Ok(Shown { page, trace })
 }
 
@@ -113,6 +119,7 @@ pub fn run_page(
 /// `TooLarge` tells that the data have more than [`MOST_BYTES`] bytes.
 pub fn ends_page(
     alloc: Global,
+    template: &Template<'_>,
     count: usize,
     names: &[String],
     sources: &[Option<Source>],
@@ -121,7 +128,7 @@ pub fn ends_page(
     extent: Extent,
     worlds: &Option<Worlds>,
 ) -> Result<Vec<u8>, PageFault>
-    ensures page { IfOk result (λ v. v.items ≡ page_text (ends_json
+    ensures page { IfOk result (λ v. v.items ≡ page_text (around template.now) (ends_json
         (programs count (map string_bytes names.now) (sources_shown sources.now)) list.now
         (option_map endless_shown endless.now) extent worlds.now)) }
     ensures closed { OnOk result (HasNoTag (safe (ends_json
@@ -134,6 +141,7 @@ pub fn ends_page(
     let processes = programs(alloc, count, names, sources)?;
     page_of(
         alloc,
+        template,
         &ends_json(alloc, &processes, list, endless, extent, worlds)?,
     )
 }

@@ -1,23 +1,12 @@
-//! The page around its data: the same text for every run.
+//! The page around its data, by a template that is the same for every run.
 #![tactic(auto)]
 
-mod body;
-mod boxes;
-mod layout;
-mod list;
-mod moving;
 mod page;
-mod panel;
-mod picture;
-mod records;
 mod safe;
-mod setup;
-mod study;
-mod style;
-mod texts;
-mod worlds;
+mod template;
 
 pub use page::page_with;
+pub use template::Template;
 
 /// The most steps of a schedule of which a page has the counted ones too.
 pub const MOST_WHOLE: u32 = 20_000;

@@ -1,6 +1,6 @@
 //! Where the lanes, the columns of the objects and the arrows stand.
 
-pub const LAYOUT: &str = r##"
+pub(crate) const LAYOUT: &str = r##"
 // ---- where things stand
 
 let lay = null;

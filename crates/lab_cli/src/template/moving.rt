@@ -1,6 +1,6 @@
 //! Going from moment to moment: buttons, slider and keys.
 
-pub const MOVING: &str = r##"
+pub(crate) const MOVING: &str = r##"
 // ---- the present moment in the picture
 
 function markNow() {                              // its line, and its box

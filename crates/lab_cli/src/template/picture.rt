@@ -1,6 +1,6 @@
 //! The picture: lanes, boxes, arrows, bars and marks. Only what lies near the window is drawn: so a long run stays quick.
 
-pub const PICTURE: &str = r##"
+pub(crate) const PICTURE: &str = r##"
 // ---- the picture
 
 const marker = kind => `<marker id="${kind}" viewBox="0 0 8 8" refX="3" refY="4" markerWidth="8" markerHeight="8" ` +

@@ -1,6 +1,6 @@
 //! What stands on the page before the script fills it.
 
-pub const BODY: &str = r##"
+pub(crate) const BODY: &str = r##"
 <noscript>This page needs JavaScript. <code>lc3lab trace</code> and
   <code>lc3lab explore</code> print the same as text.</noscript>
 <section id="ends" hidden aria-labelledby="endstitle">

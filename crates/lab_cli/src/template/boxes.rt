@@ -1,6 +1,6 @@
 //! The parts of the picture: boxes and their texts, notes, arrows, and why a process waits for ever.
 
-pub const BOXES: &str = r##"
+pub(crate) const BOXES: &str = r##"
 // ---- the texts of a box, from long to short
 
 function kindOf(e) {

@@ -1,6 +1,6 @@
 //! The picture of all worlds, below the list of ends: its styles, and the script that draws it.
 
-pub const WORLDS_STYLE: &str = r##"
+pub(crate) const WORLDS_STYLE: &str = r##"
 /* the picture of all worlds */
 #worlds { margin: 18px 0 0; }
 #map { overflow: auto; max-height: 75vh; border: 1px solid var(--line); background: var(--card); border-radius: 8px; }
@@ -32,7 +32,7 @@ pub const WORLDS_STYLE: &str = r##"
 }
 "##;
 
-pub const WORLDS: &str = r##"
+pub(crate) const WORLDS: &str = r##"
 // ---- the picture of all worlds
 
 const WORLD_X = 36, WORLD_Y = 52, WORLD_R = 10;   // between worlds, and the half of one

@@ -1,6 +1,6 @@
 //! The styles: colours of light and dark, the layout, narrow windows, and print.
 
-pub const STYLE: &str = r##"
+pub(crate) const STYLE: &str = r##"
 :root {
   color-scheme: light dark;
   --bg: #fbfaf6; --card: #ffffff; --ink: #1d1d1b; --soft: #62605a; --line: #d9d5ca; --lane: #857e6c; --local: #7d786b;

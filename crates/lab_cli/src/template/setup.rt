@@ -1,6 +1,6 @@
 //! What is filled in once: title, cards, legend, the texts.
 
-pub const SETUP: &str = r##"
+pub(crate) const SETUP: &str = r##"
 // ---- title and controls
 
 const programs = () => N === 1 ? NAMES[0] : N + ' processes';

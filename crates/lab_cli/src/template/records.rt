@@ -1,6 +1,6 @@
 //! The data, and of each process and each object what it was after each moment.
 
-pub const RECORDS: &str = r##"
+pub(crate) const RECORDS: &str = r##"
 const DATA = JSON.parse($('data').textContent);    // of a run, or of ends, of which the address may name one
 const numberIn = address => Number((/^#end=(\d+)/.exec(address) || [])[1] || 0);
 const NUMBER = DATA.ends && DATA.ends[numberIn(location.hash) - 1] ? numberIn(location.hash) : 0;

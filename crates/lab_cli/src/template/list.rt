@@ -1,6 +1,6 @@
 //! The list of the ends of an exploration, where the data are of one.
 
-pub const LIST: &str = r##"
+pub(crate) const LIST: &str = r##"
 // ---- the list of ends
 
 const several = (n, one, more) => `${n.toLocaleString('en')} ${n === 1 ? one : more}`;

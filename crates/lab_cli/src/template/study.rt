@@ -1,6 +1,6 @@
 //! What is laid out once: the lines of the sources, the rows, waits, arrows, what is held, what the objects did.
 
-pub const STUDY: &str = r##"
+pub(crate) const STUDY: &str = r##"
 // ---- the lines of a source, where the data have one
 
 function readSource([text, rows]) {               // the lines, and those of them that have words

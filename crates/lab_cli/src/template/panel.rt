@@ -1,6 +1,6 @@
 //! The panel: objects and processes at a moment.
 
-pub const PANEL: &str = r##"
+pub(crate) const PANEL: &str = r##"
 // ---- a process
 
 let cur = 0, timer = null;

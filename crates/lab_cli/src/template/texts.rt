@@ -1,6 +1,6 @@
 //! The texts of what the data hold: names, outputs, words, and messages.
 
-pub const TEXTS: &str = r##"
+pub(crate) const TEXTS: &str = r##"
 'use strict';
 const $ = id => document.getElementById(id);
 
