@@ -12,15 +12,16 @@ use Rattle.lab_debug.specs.declared.command.Refusal.{Refusal}
 use Rattle.lab_debug.specs.declared.command.Refusal.TheVariants.{NoProcess, NoBreak, NoWatch}
 use Rattle.lab_debug.specs.declared.fault.SessionFault.TheVariants.{TooManyLines, LineTooLong}
 use Rattle.lab_debug.specs.Commands.{words_of, command_of}
-use Rattle.lab_debug.specs.Labels.{LabelSeen, listing_of, label_address, addressed, command_at, with_zero}
+use Rattle.lab_session.specs.Listings.{listing_of}
+use Rattle.lab_debug.specs.Labels.{LabelSeen, label_address, addressed, command_at, with_zero}
 use Rattle.lab_debug.specs.Lines.{lines, line_limit}
-use Rattle.lab_debug.specs.Marks.{has_place}
-use Rattle.lab_debug.specs.Stops.{steps_to_stop, steps_played}
+use Rattle.lab_session.specs.Marks.{has_place}
+use Rattle.lab_session.specs.Stops.{steps_to_stop, steps_played}
 use Rattle.lab_debug.specs.Script.{Effect, Script, before, script_of, script, line_count_limit}
-use Rattle.lab_debug.specs.Sessions.{SessionState, with_steps, after_steps, effective, without_last, steps_before, steps_until}
+use Rattle.lab_session.specs.Sessions.{SessionState, with_steps, after_steps, effective, without_last, steps_before, steps_until}
 use Rattle.lab_debug.specs.Effects.{refusal_effect, accepted_effect, is_there, are_there, reading_effect, placed_effect, located_effect, labelled_effect, label_effect, operands_effect, label_among, words_effect, line_effect}
 use Rattle.lab_debug.specs.Laws.{StepsLead, StepsLeadFirst, StepsLeadOn, BackUndoes, BackToTheStart}
-use Rattle.lab_debug.proofs.StepLemmas.{stays, run-same, run-start, effective-append}
+use Rattle.lab_session.proofs.StepLemmas.{stays, run-same, run-start, effective-append}
 
 -- steps without an effect lead nowhere
 run-effective : (w : WorldState) (xs : List ℕ) → run w (effective w xs) ≡ run w xs

@@ -2,11 +2,4 @@ pub mod LineLemmas
 pub mod PendingLemmas
 pub mod ScriptLemmas
 pub mod NumberLemmas
-pub mod StepLemmas
-pub mod BlockLemmas
-pub mod MarkLemmas
-pub mod WatchLemmas
-pub mod StopLemmas
-pub mod TakenLemmas
-pub mod PlayLemmas
 pub mod LawLemmas

@@ -8,17 +8,19 @@ use Rattle.lab_debug.specs.declared.command.Command.TheVariants.{Step, Run, Play
 use Rattle.lab_debug.specs.declared.command.Refusal.{Refusal}
 use Rattle.lab_debug.specs.declared.command.Refusal.TheVariants.{UnknownCommand, BadOperands, NoProcess, NoLabel, NoBreak, NoWatch}
 use Rattle.lab_debug.specs.Commands.{words_of, command_of}
-use Rattle.lab_debug.specs.Labels.{LabelSeen, listing_of, label_address, addressed, command_at, second_label, with_zero, has_labels}
-use Rattle.lab_debug.specs.Places.{where_text, code_text, labels_text}
-use Rattle.lab_debug.specs.declared.marks.Place.{Place}
-use Rattle.lab_debug.specs.Marks.{has_place, with_place, without_place, with_breaks, with_watches}
-use Rattle.lab_debug.specs.Breaks.{break_text, clear_text, breaks_text}
-use Rattle.lab_debug.specs.Watches.{watched_at, watched_words, watch_text, unwatch_text, watches_text, changes_text}
-use Rattle.lab_debug.specs.Stops.{steps_to_stop, steps_played, stopped_process}
-use Rattle.lab_debug.specs.Taken.{taken_text}
+use Rattle.lab_session.specs.Listings.{listing_of, has_labels}
+use Rattle.lab_debug.specs.Labels.{LabelSeen, label_address, addressed, command_at, second_label, with_zero}
+use Rattle.lab_session.specs.Places.{where_text, code_text, labels_text}
+use Rattle.lab_session.specs.declared.marks.Place.{Place}
+use Rattle.lab_session.specs.Marks.{has_place, with_place, without_place, with_breaks, with_watches}
+use Rattle.lab_session.specs.Breaks.{break_text, clear_text, breaks_text}
+use Rattle.lab_session.specs.Watches.{watched_at, watched_words, watch_text, unwatch_text, watches_text, changes_text}
+use Rattle.lab_session.specs.Stops.{steps_to_stop, steps_played, stopped_process}
+use Rattle.lab_session.specs.Played.{play_text}
+use Rattle.lab_session.specs.Taken.{taken_text}
 use Rattle.lab_debug.specs.Help.{help_text}
 use Rattle.std.specs.Fmt.{decimal}
-use Rattle.lab_debug.specs.Sessions.{SessionState, with_marks, after_steps, steps_until, effective, back}
+use Rattle.lab_session.specs.Sessions.{SessionState, with_marks, after_steps, steps_until, effective, back}
 use Rattle.lab_debug.specs.Script.{Effect, Script, script}
 use Rattle.lab_texts.specs.Texts.{status_text, procs_text, profile_text, regs_text, mem_text, dis_text, out_text}
 use Rattle.lab_texts.specs.Objects.{mqs_text, sems_text, fds_text}
@@ -88,15 +90,6 @@ stepped_effect text s ps =
 -- at most n steps of a process, up to a stop
 abbrev pub go_effect : SessionState → ℕ → ℕ → Effect SessionState
 go_effect s pid n = stepped_effect (status_text pid) s (steps_to_stop s.marks pid s.world n)
-
--- after how many of all its steps a schedule stopped
-unfoldable pub stop_text : ℕ → ℕ → List ℕ
-stop_text n all = codes "stopped after " ++ decimal n ++ codes " of " ++ decimal all ++ codes "\n"
-
--- where a schedule stopped, and the status line of the process that stopped it; else the verdict line
-abbrev pub play_text : ℕ → ℕ → Option ℕ → WorldState → List ℕ
-play_text n all None w = verdict_text w
-play_text n all (Some pid) w = stop_text n all ++ status_text pid w
 
 -- the steps of a schedule up to a stop
 abbrev pub play_effect : SessionState → List ℕ → Effect SessionState

@@ -1,7 +1,6 @@
 -- Labels as addresses.
-use Rattle.std.specs.Prelude.{ℕ, ◌+◌, ◌-◌, ◌==◌, ◌||◌, nat_le, if◌then◌else◌, Bool, true, false, Option, Some, None, Result, Ok, Err, List, ◌∷◌, codes, length, take, drop, position, slice_get, slice_index}
-use Rattle.std.specs.Option.{option_map, option_and_then, is_some}
-use Rattle.std.specs.List.{list_any}
+use Rattle.std.specs.Prelude.{ℕ, ◌+◌, ◌-◌, ◌==◌, ◌||◌, nat_le, if◌then◌else◌, Bool, true, false, Option, Some, None, Result, Ok, Err, List, ◌∷◌, codes, length, take, drop, position, slice_index}
+use Rattle.std.specs.Option.{option_map, option_and_then}
 use Rattle.lc3_word.specs.Numbers.{unsigned_number}
 use Rattle.lc3_table.specs.Words.{is_label}
 use Rattle.lab_sched.specs.ScheduleTexts.{in_range}
@@ -12,10 +11,6 @@ use Rattle.lab_debug.specs.declared.command.Command.TheVariants.{Until, Mem, Dis
 use Rattle.lab_debug.specs.declared.command.Range.{Range}
 use Rattle.lab_debug.specs.declared.command.Refusal.{Refusal}
 use Rattle.lab_debug.specs.declared.command.Refusal.TheVariants.{BadOperands, NoLabel}
-
--- the source of process pid, where it was given as one
-abbrev pub listing_of : List (Option Listing) → ℕ → Option Listing
-listing_of ls pid = option_and_then (λ l. l) (slice_get ls pid)
 
 -- a label, and how many words before it or behind it
 pub record LabelSeen : Type 0 where
@@ -103,7 +98,3 @@ second_label ws = None
 abbrev pub with_zero : List (List ℕ) → List (List ℕ)
 with_zero (p ∷ a ∷ more) = p ∷ codes "0" ∷ more
 with_zero ws = ws
-
--- whether labels are read: where a process was given as a source
-abbrev pub has_labels : List (Option Listing) → Bool
-has_labels ls = list_any is_some ls

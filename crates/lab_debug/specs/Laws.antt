@@ -2,7 +2,7 @@
 use Rattle.std.specs.Prelude.{◌≡◌, ◌≤◌, ℕ, List, [], Option, IfOk, length}
 use Rattle.lab_sources.specs.declared.listing.Listing.{Listing}
 use Rattle.lab_sched.specs.Worlds.{WorldState, run}
-use Rattle.lab_debug.specs.Sessions.{SessionState, session_from, with_steps, after_steps, effective, back}
+use Rattle.lab_session.specs.Sessions.{SessionState, session_from, with_steps, after_steps, effective, back}
 use Rattle.lab_debug.specs.Effects.{session}
 
 -- the steps that a session keeps lead from its start to its world

@@ -2,14 +2,7 @@ pub mod Lines
 pub mod Script
 pub mod Commands
 pub mod Labels
-pub mod Places
-pub mod Marks
-pub mod Breaks
-pub mod Watches
-pub mod Stops
-pub mod Taken
 pub mod Help
-pub mod Sessions
 pub mod Effects
 pub mod Laws
 pub mod Private

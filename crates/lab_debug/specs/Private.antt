@@ -3,6 +3,4 @@ pub mod Replies
 pub mod Ranges
 pub mod Reading
 pub mod LabelViews
-pub mod Runs
-pub mod Stops
 pub mod Changes

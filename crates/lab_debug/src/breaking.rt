@@ -5,9 +5,9 @@ ghost use Rattle.lab_debug.specs.Commands.{place_of, of_place, go_of, bare_of, b
 ghost use Rattle.lab_debug.specs.declared.command.Command.TheVariants.{Break, Clear};
 
 use crate::command::{Command, Refusal, is_name, read_bare};
-use crate::marks::Place;
 use crate::operands::{STEP_COUNT_MAX, address_in, count_in, process_in, two};
 use crate::watching::read_watching;
+use lab_session::Place;
 
 /// `P ADDR`, a place
 pub fn read_place(operands: &[&[u8]]) -> Option<Place>

@@ -4,10 +4,10 @@ ghost use Rattle.lab_sched.specs.ScheduleTexts.{reading_of_words};
 ghost use Rattle.lab_debug.specs.Private.Ranges.{IsCommand};
 ghost use Rattle.lab_debug.specs.Commands.{step_of, until_of, back_of, bare_of, of_process, range_of, of_range, of_blocks, read_schedule, is_named, showing_command, plain_command, command_of};
 
-use crate::marks::Place;
 use crate::operands::{address_in, count_in, number_in, one, process_in, three, two};
 use crate::placing::read_placing;
 use lab_sched::{MOST_STEPS, SchedFault, Schedule};
+use lab_session::Place;
 use std::alloc::{AllocError, Global};
 
 /// A range of memory of a process: so many words from an address on.

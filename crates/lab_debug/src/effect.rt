@@ -3,7 +3,7 @@ ghost use Rattle.std.specs.Prelude.{◌≡◌, ◌≤◌, ◌<◌, true, IfOk, O
 ghost use Rattle.ipc_kernel.specs.Limits.{process_max};
 ghost use Rattle.std.specs.List.{list_all};
 ghost use Rattle.lab_sched.specs.Schedules.{steps_of};
-ghost use Rattle.lab_debug.specs.Sessions.{state_of, after_steps};
+ghost use Rattle.lab_session.specs.Sessions.{state_of, after_steps};
 ghost use Rattle.lab_debug.specs.Commands.{step_count_max};
 ghost use Rattle.lab_texts.specs.Texts.{status_text};
 ghost use Rattle.lab_texts.specs.Verdicts.{verdict_text};
@@ -14,15 +14,14 @@ ghost use Rattle.lab_debug.specs.Private.LabelViews.{label_seen};
 ghost use Rattle.lab_debug.specs.Private.Changes.{changes};
 ghost use Rattle.lab_debug.specs.Private.Ranges.{IsCommand};
 
-use crate::breaks::break_text;
 use crate::command::{Command, Refusal, read_command};
-use crate::label::{Label, second_label, with_zero};
+use crate::label::{Label, address_of, second_label, with_zero};
 use crate::marking::{clear, go, play, unwatch, watch};
 use crate::operands::split_words;
 use crate::reply::{Reply, refuse};
 use crate::showing::{shown, steps_text};
-use crate::state::Session;
 use lab_sched::{Block, Schedule, World};
+use lab_session::{Session, break_text};
 use lab_texts::{status_text, verdict_text};
 use std::alloc::{AllocError, Global};
 
@@ -202,7 +201,7 @@ fn obey_labelled(
         return refuse(alloc, Refusal::BadOperands);
     };
     if is_there(session.world(), pid) {
-        let address = session.address_of(pid, label);
+        let address = address_of(session, pid, label);
         obey_at(alloc, session, command, address)
     } else {
         refuse(alloc, Refusal::NoProcess)

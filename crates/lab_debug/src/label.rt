@@ -1,8 +1,12 @@
 //! Labels as addresses.
 ghost use Rattle.std.specs.Prelude.{◌≡◌, ◌<◌, ◌≤◌, length, map, option_map, position, IfOk, IfSome};
-ghost use Rattle.lab_debug.specs.Labels.{LabelSeen, is_sign, distance_of, named, label_in, moved, second_label, with_zero};
+ghost use Rattle.lab_debug.specs.Labels.{LabelSeen, is_sign, distance_of, named, label_in, moved, label_address, second_label, with_zero};
 ghost use Rattle.lab_debug.specs.Private.LabelViews.{label_seen};
+ghost use Rattle.lab_session.specs.Listings.{listing_of};
+ghost use Rattle.lab_session.specs.Sessions.{state_of};
 
+use crate::command::Refusal;
+use lab_session::Session;
 use lc3_asm::is_label;
 use lc3_word::unsigned;
 use std::alloc::{AllocError, Global};
@@ -108,4 +112,19 @@ pub fn moved(is_before: bool, count: u32, address: u16) -> Option<u16>
     } else {
         None
     }
+}
+
+/// The address that a label of process `pid` stands for. It is refused where the source has no such
+/// label, and where the address would be outside memory.
+pub fn address_of(session: &Session, pid: usize, label: Label<'_>) -> Result<u16, Refusal>
+    ensures address { result ≡ label_address (listing_of (state_of session.now).listings pid)
+        (label_seen label.entry) }
+{
+    let Some(listing) = session.listing(pid) else {
+        return Err(Refusal::NoLabel);
+    };
+    let Some(address) = listing.source.address_of(label.name) else {
+        return Err(Refusal::NoLabel);
+    };
+    moved(label.is_before, label.count, address).ok_or(Refusal::BadOperands)
 }

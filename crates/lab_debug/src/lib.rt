@@ -2,7 +2,6 @@
 #![tactic(auto)]
 
 mod breaking;
-mod breaks;
 mod command;
 mod effect;
 mod fault;
@@ -11,23 +10,16 @@ mod label;
 pub mod laws;
 mod lines;
 mod marking;
-mod marks;
 mod operands;
-mod places;
 mod placing;
-mod playing;
 mod reply;
 mod script;
 mod showing;
-mod state;
-mod stepping;
-mod taken;
-mod watches;
 mod watching;
 
 pub use fault::SessionFault;
+pub use lab_session::Session;
 pub use script::session;
-pub use state::Session;
 
 /// The most bytes of a line, without its line feed.
 pub const LINE_LIMIT: usize = 65_536;

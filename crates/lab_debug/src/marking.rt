@@ -1,18 +1,17 @@
 //! What the commands do that set marks, and those that step up to one.
 ghost use Rattle.std.specs.Prelude.{◌≡◌, IfOk};
 ghost use Rattle.lab_sched.specs.Schedules.{steps_of};
-ghost use Rattle.lab_debug.specs.Sessions.{state_of};
+ghost use Rattle.lab_session.specs.Sessions.{state_of};
 ghost use Rattle.lab_debug.specs.Private.Replies.{effect_of};
 ghost use Rattle.lab_debug.specs.Effects.{clear_effect, watch_effect, unwatch_effect, go_effect, play_effect};
 
-use crate::breaks::clear_text;
 use crate::command::Refusal;
-use crate::marks::{Place, has_place};
-use crate::playing::play_text;
 use crate::reply::{Reply, refuse};
-use crate::state::Session;
-use crate::watches::{push_changes, unwatch_text, watch_text, watched_at};
 use lab_sched::Schedule;
+use lab_session::{
+    Place, Session, clear_text, has_place, play_text, push_changes, unwatch_text, watch_text,
+    watched_at,
+};
 use lab_texts::status_text;
 use std::alloc::{AllocError, Global};
 

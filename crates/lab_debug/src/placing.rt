@@ -7,8 +7,8 @@ ghost use Rattle.lab_debug.specs.declared.command.Command.TheVariants.{Where, Co
 
 use crate::breaking::read_breaking;
 use crate::command::{Command, Range, Refusal, is_name, read_range};
-use crate::marks::Place;
 use crate::operands::{one, process_in};
+use lab_session::Place;
 
 /// `P`, of where it stands
 fn read_where(operands: &[&[u8]]) -> Option<Command>

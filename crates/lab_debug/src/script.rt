@@ -4,15 +4,15 @@ ghost use Rattle.std.specs.Option.{option_map};
 ghost use Rattle.std.specs.Io.KnownBytes.{Appends};
 ghost use Rattle.lab_io.specs.Device.{AppendsPrefix};
 ghost use Rattle.lab_debug.specs.Effects.{session};
-ghost use Rattle.lab_debug.specs.Sessions.{state_of};
+ghost use Rattle.lab_session.specs.Sessions.{state_of};
 ghost use Rattle.lab_debug.specs.Script.{Explains};
 
 use crate::LINE_COUNT_LIMIT;
 use crate::effect::perform;
 use crate::fault::SessionFault;
 use crate::lines::Pending;
-use crate::state::Session;
 use lab_io::{Input, Output};
+use lab_session::Session;
 use std::alloc::Global;
 use std::io::{Read, Write};
 

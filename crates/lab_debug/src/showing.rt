@@ -1,18 +1,16 @@
 //! The commands that show something and change nothing.
 ghost use Rattle.std.specs.Prelude.{◌≡◌, None, true, IfOk, IfSome, string_bytes};
-ghost use Rattle.lab_debug.specs.Sessions.{state_of};
+ghost use Rattle.lab_session.specs.Sessions.{state_of};
 ghost use Rattle.lab_debug.specs.Help.{help_text};
 ghost use Rattle.lab_debug.specs.Effects.{steps_text, shown_effect, accepted_effect};
 ghost use Rattle.lab_debug.specs.Private.Changes.{changes};
 ghost use Rattle.lab_debug.specs.Private.Ranges.{IsCommand};
 
-use crate::breaks::breaks_text;
 use crate::command::Command;
 use crate::help::HELP;
-use crate::places::{code_text, labels_text, where_text};
-use crate::state::Session;
-use crate::taken::taken_text;
-use crate::watches::watches_text;
+use lab_session::{
+    Session, breaks_text, code_text, labels_text, taken_text, watches_text, where_text,
+};
 use lab_texts::{
     dis_text, fds_text, mem_text, mqs_text, out_text, procs_text, profile_text, regs_text,
     sems_text,

@@ -1,6 +1,6 @@
 -- What a line did, as its reply and the world after it tell.
 use Rattle.std.specs.Prelude.{string_bytes}
-use Rattle.lab_debug.specs.Sessions.{SessionState}
+use Rattle.lab_session.specs.Sessions.{SessionState}
 use Rattle.lab_debug.specs.declared.reply.Reply.{Reply}
 use Rattle.lab_debug.specs.Script.{Effect}
 

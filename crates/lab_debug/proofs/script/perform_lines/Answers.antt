@@ -1,7 +1,7 @@
 use Rattle.std.proofs.Common.{rules, arith, ◌≡◌, ◌++◌, ◌+◌, ◌-◌, [], string_bytes}
 use Rattle.std.proofs.KnownBytes.{Appends-nil, Appends-trans}
 use Rattle.lab_debug.specs.Effects.{line_effect}
-use Rattle.lab_debug.specs.Sessions.{state_of}
+use Rattle.lab_session.specs.Sessions.{state_of}
 use Rattle.lab_debug.proofs.ScriptLemmas.{IsReached-start, IsReached-more, IsReached-many, IsReached-part, IsReached-ends, IsOver-fault}
 use Rattle.lab_debug.specs.Script.{line_count_limit}
 use Rattle.lab_debug.proofs.script.perform_lines.Goals as goal

@@ -1,0 +1,46 @@
+-- Watched words that no step has changed.
+use Rattle.std.proofs.Common.{◌≡◌, ℕ, ◌==◌, ◌||◌, List, [], ◌∷◌, Bool, true, false, not, map, refl, sym, ap, ◌∙◌}
+use Rattle.std.proofs.lemmas.Bool.{eqb-true}
+use Rattle.std.specs.List.{list_any}
+use Rattle.lab_sched.specs.Worlds.{WorldState, step}
+use Rattle.lab_session.specs.Breaks.{is_at_break}
+use Rattle.lab_session.specs.Marks.{MarksSeen}
+use Rattle.lab_session.specs.Stops.{is_stop}
+use Rattle.lab_session.specs.Watches.{word_at, watched_at, watched_words, has_changed, changes_watched}
+use Rattle.lab_session.specs.declared.marks.Place.{Place}
+use Rattle.lab_session.specs.declared.watches.Watched.{Watched}
+
+same-word : (n m : ℕ) → not (n == m) ≡ false → n ≡ m
+same-word n m e = by (n == m) refl e
+  where
+    by : (b : Bool) → (n == m) ≡ b → not b ≡ false → n ≡ m
+    by true h f = eqb-true n m h
+    by false h f = cc
+
+or-left : (a b : Bool) → (a || b) ≡ false → a ≡ false
+or-left true b e = e
+or-left false b e = refl
+
+or-right : (a b : Bool) → (a || b) ≡ false → b ≡ false
+or-right true b e = cc
+or-right false b e = e
+
+-- where no watched word has changed, the words are the same
+pub words-same : (ws : List Place) (w v : WorldState) → list_any (has_changed v) (watched_words ws w) ≡ false → watched_words ws v ≡ watched_words ws w
+words-same [] w v e = refl
+words-same (b ∷ ws) w v e =
+    let here = same-word (word_at v b) (word_at w b) (or-left (has_changed v (watched_at w b)) (list_any (has_changed v) (watched_words ws w)) e) in
+    let rest = words-same ws w v (or-right (has_changed v (watched_at w b)) (list_any (has_changed v) (watched_words ws w)) e) in
+    rw (here, rest) refl
+
+-- whether the process stopped, as the code tells it
+pub stop-told : (ms : MarksSeen) (p : ℕ) (w v : WorldState) (xs : List Watched) (told : Bool) → v ≡ step w p → watched_words ms.watches w ≡ xs
+    → told ≡ (is_at_break ms.breaks p v || list_any (has_changed v) xs) → is_stop ms p w ≡ told
+stop-told ms p w v xs told v-is seen is =
+    sym (is ∙ ap (λ u. is_at_break ms.breaks p u || list_any (has_changed u) xs) v-is ∙ ap (λ ys. is_at_break ms.breaks p (step w p) || list_any (has_changed (step w p)) ys) (sym seen))
+
+-- the watched words behind a step that is no stop
+pub words-on : (ms : MarksSeen) (p : ℕ) (w v : WorldState) (xs : List Watched) → v ≡ step w p → watched_words ms.watches w ≡ xs → is_stop ms p w ≡ false
+    → watched_words ms.watches v ≡ xs
+words-on ms p w v xs v-is seen none =
+    ap (watched_words ms.watches) v-is ∙ words-same ms.watches w (step w p) (or-right (is_at_break ms.breaks p (step w p)) (changes_watched ms.watches p w) none) ∙ seen

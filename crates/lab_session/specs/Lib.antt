@@ -1,0 +1,10 @@
+pub mod Listings
+pub mod Places
+pub mod Marks
+pub mod Breaks
+pub mod Watches
+pub mod Stops
+pub mod Played
+pub mod Taken
+pub mod Sessions
+pub mod Private

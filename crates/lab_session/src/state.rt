@@ -1,0 +1,258 @@
+//! The state of a session: its programs, the steps that were taken, and the world after them.
+ghost use Rattle.std.specs.Prelude.{◌≡◌, ◌↔◌, Err, IfOk, OnOk, OnErr, length, option_map};
+ghost use Rattle.lab_sched.specs.Schedules.{steps_of};
+ghost use Rattle.lab_sched.specs.Starts.{IsCount, fresh};
+ghost use Rattle.lab_sched.specs.declared.fresh.FreshFault.TheVariants.{Count};
+ghost use Rattle.lab_session.specs.Marks.{with_place, without_place, with_breaks, with_watches};
+ghost use Rattle.lab_session.specs.Watches.{watched_words};
+ghost use Rattle.lab_session.specs.Stops.{steps_to_stop, steps_played, stopped_process};
+ghost use Rattle.lab_session.specs.Listings.{listing_of, has_labels};
+ghost use Rattle.lab_session.specs.Sessions.{session_from, with_marks, effective, after_steps, steps_until, back, state_of};
+
+use crate::marks::{Marks, Place};
+use crate::playing::{Played, play_blocks};
+use crate::stepping::{effective_blocks, push_steps, run_first, step_to_stop, step_until};
+use crate::watches::{Watched, watched_words};
+use lab_sched::{Block, Fresh, FreshFault, Program, Schedule, World};
+use lab_sources::Listing;
+use lc3_table::Profile;
+use std::alloc::{AllocError, Global};
+
+/// A session of the debugger. It keeps its programs and the steps that were taken, so that it can
+/// go back, and the sources of the programs that were given as such.
+pub struct Session {
+    programs: Vec<Program>,
+    listings: Vec<Option<Listing>>,
+    profile: Profile,
+    marks: Marks,
+    taken: Vec<Block>,
+    world: World,
+}
+
+impl Drop for Session {
+    fn drop(self) {
+        let Session {
+            programs: _,
+            listings: _,
+            profile: _,
+            marks: _,
+            taken: _,
+            world: _,
+        } = self;
+    }
+}
+
+/// The world of programs before their first step.
+fn start_of(alloc: Global, programs: &[Program], profile: Profile) -> Result<World, AllocError>
+    ensures world { IfOk result (λ w. w ≡ fresh profile programs.now) }
+{
+    match Fresh::new(alloc, programs, profile) {
+        Ok(fresh) => Ok(World::from(fresh)),
+        Err(_) => Err(AllocError),
+    }
+}
+
+/// The listing of the source of process `pid`, where it was given as one.
+pub fn listing_in(listings: &[Option<Listing>], pid: usize) -> Option<&Listing>
+    ensures listing { option_map (λ l. l.now) result ≡ listing_of listings.now pid }
+{
+    match listings.get(pid) {
+        Some(Some(listing)) => Some(listing),
+        _ => None,
+    }
+}
+
+impl Session {
+    /// The session of 1 to 64 programs, process 0 with the first of them, on machines of this
+    /// profile, before the first step. The listings are those of the programs' sources in the same
+    /// order; a program without one is an object file.
+    #[tactic(auto, unfolding(lab_sched::specs::Schedules::steps_of))]
+    pub fn new(
+        alloc: Global,
+        programs: Vec<Program>,
+        listings: Vec<Option<Listing>>,
+        profile: Profile,
+    ) -> Result<Session, FreshFault>
+        ensures count { (result ≡ Err Count) ↔ (¬ IsCount (length programs.items)) }
+        ensures start { IfOk result
+            (λ s. state_of s ≡ session_from listings.items (fresh profile programs.items)) }
+    {
+        let fresh = Fresh::new(alloc, programs.as_slice(), profile)?;
+        Ok(Session {
+            programs,
+            listings,
+            profile,
+            marks: Marks::new(alloc),
+            taken: Vec::new(alloc),
+            world: World::from(fresh),
+        })
+    }
+
+    /// The world that the steps lead to.
+    pub fn world(&self) -> &World
+        ensures world { result.now ≡ (state_of self.now).world }
+    {
+        &self.world
+    }
+
+    /// Whether a program was given as a source, so that labels are read.
+    pub fn has_labels(&self) -> bool
+        ensures value { result ≡ has_labels (state_of self.now).listings }
+    {
+        self.listings.iter().any(|listing| listing.is_some())
+    }
+
+    /// The listing of the source of process `pid`, where it was given as one.
+    pub fn listing(&self, pid: usize) -> Option<&Listing>
+        ensures listing { option_map (λ l. l.now) result
+            ≡ listing_of (state_of self.now).listings pid }
+    {
+        listing_in(&self.listings, pid)
+    }
+
+    /// The listings of the processes' sources.
+    pub fn listings(&self) -> &[Option<Listing>]
+        ensures listings { result.now ≡ (state_of self.now).listings }
+    {
+        self.listings.as_slice()
+    }
+
+    /// The breaks, in the order of process and address.
+    pub fn breaks(&self) -> &[Place]
+        ensures breaks { result.now ≡ (state_of self.now).marks.breaks }
+    {
+        self.marks.breaks.as_slice()
+    }
+
+    /// The watches, in the order of process and address.
+    pub fn watches(&self) -> &[Place]
+        ensures watches { result.now ≡ (state_of self.now).marks.watches }
+    {
+        self.marks.watches.as_slice()
+    }
+
+    /// The watches with the words that are there.
+    pub fn watched_words(&self, alloc: Global) -> Result<Vec<Watched>, AllocError>
+        ensures words { IfOk result (λ found. found.items
+            ≡ watched_words (state_of self.now).marks.watches (state_of self.now).world) }
+    {
+        watched_words(alloc, &self.world, &self.marks.watches)
+    }
+
+    /// Sets a break, which may be there already.
+    pub fn set_break(&mut self, alloc: Global, place: Place) -> Result<(), AllocError>
+        ensures state { OnOk result (state_of self.new ≡ with_marks (state_of self.old)
+            (with_breaks (state_of self.old).marks (with_place (state_of self.old).marks.breaks place))) }
+    {
+        self.marks.set_break(alloc, place)
+    }
+
+    /// Takes a break off.
+    pub fn clear_break(&mut self, alloc: Global, place: Place) -> Result<(), AllocError>
+        ensures state { OnOk result (state_of self.new ≡ with_marks (state_of self.old)
+            (with_breaks (state_of self.old).marks (without_place (state_of self.old).marks.breaks place))) }
+    {
+        self.marks.clear_break(alloc, place)
+    }
+
+    /// Sets a watch, which may be there already.
+    pub fn set_watch(&mut self, alloc: Global, place: Place) -> Result<(), AllocError>
+        ensures state { OnOk result (state_of self.new ≡ with_marks (state_of self.old)
+            (with_watches (state_of self.old).marks (with_place (state_of self.old).marks.watches place))) }
+    {
+        self.marks.set_watch(alloc, place)
+    }
+
+    /// Takes a watch off.
+    pub fn clear_watch(&mut self, alloc: Global, place: Place) -> Result<(), AllocError>
+        ensures state { OnOk result (state_of self.new ≡ with_marks (state_of self.old)
+            (with_watches (state_of self.old).marks (without_place (state_of self.old).marks.watches place))) }
+    {
+        self.marks.clear_watch(alloc, place)
+    }
+
+    /// Takes at most so many steps of a process: up to one that leads to a break or changes a
+    /// watched word, and only steps that have an effect.
+    pub fn go(&mut self, alloc: Global, pid: usize, count: u32) -> Result<(), AllocError>
+        ensures state { OnOk result (state_of self.new ≡ after_steps (state_of self.old)
+            (steps_to_stop (state_of self.old).marks pid (state_of self.old).world count)) }
+    {
+        let (taken, _) = step_to_stop(alloc, &mut self.world, &self.marks, pid, count)?;
+        push_steps(&mut self.taken, pid, taken)
+    }
+
+    /// Takes the steps of a schedule, up to one with an effect that leads its process to a break or
+    /// changes a watched word; with how many steps were taken, and the process that stopped, if one
+    /// did.
+    #[tactic(auto, using(crate::proofs::BlockLemmas::steps_both))]
+    pub fn play(
+        &mut self,
+        alloc: Global,
+        schedule: &Schedule,
+    ) -> Result<(u64, Option<usize>), AllocError>
+        ensures state { OnOk result (state_of self.new ≡ after_steps (state_of self.old)
+            (steps_played (state_of self.old).marks (state_of self.old).world (steps_of schedule.now))) }
+        ensures total { IfOk result (λ played. played.0 ≡ length
+            (steps_played (state_of self.old).marks (state_of self.old).world (steps_of schedule.now))) }
+        ensures stopped { IfOk result (λ played. played.1 ≡ stopped_process
+            (state_of self.old).marks (state_of self.old).world (steps_of schedule.now)) }
+    {
+        let Played {
+            steps,
+            total,
+            stopped,
+        } = play_blocks(alloc, &mut self.world, &self.marks, schedule.blocks())?;
+        self.taken.extend_from_slice(steps.as_slice())?;
+        Ok((total, stopped))
+    }
+
+    /// The steps that had an effect, and how many they are. The programs are run again from their
+    /// start.
+    pub fn effective(&self, alloc: Global) -> Result<(Vec<Block>, u64), AllocError>
+        ensures steps { IfOk result (λ kept. steps_of kept.0.items
+            ≡ effective (state_of self.now).start (state_of self.now).steps) }
+        ensures total { IfOk result (λ kept. kept.1 ≡ length (steps_of kept.0.items)) }
+    {
+        let mut world = start_of(alloc, self.programs.as_slice(), self.profile)?;
+        effective_blocks(alloc, &mut world, self.taken.as_slice())
+    }
+
+    /// Takes the steps of a schedule.
+    #[tactic(auto, using(crate::proofs::BlockLemmas::steps_both))]
+    pub fn run(&mut self, schedule: &Schedule) -> Result<(), AllocError>
+        ensures state { OnOk result
+            (state_of self.new ≡ after_steps (state_of self.old) (steps_of schedule.now)) }
+    {
+        let Ok(()) = self.world.run(schedule) else {
+            return Err(AllocError);
+        };
+        self.taken.extend_from_slice(schedule.blocks())
+    }
+
+    /// Takes at most so many steps of a process: up to an address, and only steps that have an
+    /// effect.
+    pub fn step_until(&mut self, pid: usize, address: u16, count: u32) -> Result<(), AllocError>
+        ensures state { OnOk result (state_of self.new ≡ after_steps (state_of self.old)
+            (steps_until pid address (state_of self.old).world count)) }
+    {
+        let taken = step_until(&mut self.world, pid, address, count)?;
+        push_steps(&mut self.taken, pid, taken)
+    }
+
+    /// Goes back before the last `count` steps that had an effect, or to the start where there are
+    /// fewer; with how many are left. The programs are run again from their start. Where memory is
+    /// refused nothing has changed.
+    pub fn back(&mut self, alloc: Global, count: u32) -> Result<u64, AllocError>
+        ensures state { OnOk result (state_of self.new ≡ back count (state_of self.old)) }
+        ensures left { IfOk result (λ left. left ≡ length (state_of self.new).steps) }
+        ensures err { OnErr result (self.new ≡ self.old) }
+    {
+        let (kept, total) = self.effective(alloc)?;
+        let left = total.saturating_sub(u64::from(count));
+        let mut world = start_of(alloc, self.programs.as_slice(), self.profile)?;
+        let taken = run_first(alloc, &mut world, kept.as_slice(), left)?;
+        self.taken = taken;
+        self.world = world;
+        Ok(left)
+    }
+}
