@@ -33,10 +33,11 @@ fn listings_of(
 fn session_on(
     alloc: Global,
     given: Programs,
+    help: &'static str,
     profile: Profile,
 ) -> Result<Session, Complaint<'static>> {
     let listings = listings_of(alloc, given.sources).at("session")?;
-    Session::new(alloc, given.programs, listings, profile).map_err(fault_of)
+    Session::new(alloc, given.programs, listings, help, profile).map_err(fault_of)
 }
 
 /// Reads the files of the programs, makes their laboratory, and carries out the commands that come from the input.
@@ -50,7 +51,7 @@ pub fn debug_programs<'a, T: Files, R: Read, W: Write, P: Progress>(
     requires output_healthy { output.old.failed ≡ false }
 {
     let given = read_programs(job, setup.programs.as_slice())?;
-    let start = session_on(job.alloc, given, setup.profile)?;
+    let start = session_on(job.alloc, given, job.texts.help, setup.profile)?;
     session(job.alloc, start, input, output).at("session")?;
     Ok(())
 }

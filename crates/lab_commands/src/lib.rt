@@ -25,7 +25,7 @@ pub use dis::disassemble_file;
 pub use explore::{Found, Search, explore_programs, find_ends, tell_ends};
 pub use files::{is_same_file, read_source, write_text, write_whole};
 pub use inquiry::{Inquiry, refuse_question};
-pub use job::Job;
+pub use job::{Job, Texts};
 pub use programs::{Programs, files_of, laboratory, read_programs};
 pub use progress::Progress;
 pub use run::{Manner, run_fresh, run_programs, tell_run};

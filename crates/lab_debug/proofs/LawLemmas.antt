@@ -57,7 +57,7 @@ back_to_the_start s n few =
     ∙ ap (with_steps s []) (sym (run-start s.start))
 
 pub steps_lead_first : StepsLeadFirst
-steps_lead_first listings w = run-start w
+steps_lead_first listings help w = run-start w
 
 lead-after : (s : SessionState) (ps : List ℕ) → StepsLead s → StepsLead (after_steps s ps)
 lead-after s ps leads = ap (λ w. run w ps) leads ∙ sym (run-same s.start s.steps ps)

@@ -18,7 +18,6 @@ use Rattle.lab_session.specs.Watches.{watched_at, watched_words, watch_text, unw
 use Rattle.lab_session.specs.Stops.{steps_to_stop, steps_played, stopped_process}
 use Rattle.lab_session.specs.Played.{play_text}
 use Rattle.lab_session.specs.Taken.{taken_text}
-use Rattle.lab_debug.specs.Help.{help_text}
 use Rattle.std.specs.Fmt.{decimal}
 use Rattle.lab_session.specs.Sessions.{SessionState, with_marks, after_steps, steps_until, effective, back}
 use Rattle.lab_debug.specs.Script.{Effect, Script, script}
@@ -125,7 +124,7 @@ accepted_effect s (Where pid) = text_effect (where_text pid (listing_of s.listin
 accepted_effect s (Code range) = text_effect (code_text range.pid range.address range.count (listing_of s.listings range.pid)) s
 accepted_effect s (Labels pid) = text_effect (λ v. labels_text (listing_of s.listings pid)) s
 accepted_effect s Profile = text_effect profile_text s
-accepted_effect s Help = text_effect (λ v. help_text) s
+accepted_effect s Help = shown_effect s.help s
 accepted_effect s Quit = record { text = []; world = s; ends = true }
 
 -- whether process pid is there

@@ -11,7 +11,7 @@ StepsLead s = s.world ≡ run s.start s.steps
 
 -- so they do before the first line of a script
 abbrev pub StepsLeadFirst : Type 0
-StepsLeadFirst = (listings : List (Option Listing)) (w : WorldState) → StepsLead (session_from listings w)
+StepsLeadFirst = (listings : List (Option Listing)) (help : List ℕ) (w : WorldState) → StepsLead (session_from listings help w)
 
 -- and after the last one of any script, if they did before it
 abbrev pub StepsLeadOn : Type 0

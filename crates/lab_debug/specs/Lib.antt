@@ -2,7 +2,6 @@ pub mod Lines
 pub mod Script
 pub mod Commands
 pub mod Labels
-pub mod Help
 pub mod Effects
 pub mod Laws
 pub mod Private

@@ -5,7 +5,6 @@ mod breaking;
 mod command;
 mod effect;
 mod fault;
-mod help;
 mod label;
 pub mod laws;
 mod lines;

@@ -1,13 +1,11 @@
 //! The commands that show something and change nothing.
 ghost use Rattle.std.specs.Prelude.{◌≡◌, None, true, IfOk, IfSome, string_bytes};
 ghost use Rattle.lab_session.specs.Sessions.{state_of};
-ghost use Rattle.lab_debug.specs.Help.{help_text};
 ghost use Rattle.lab_debug.specs.Effects.{steps_text, shown_effect, accepted_effect};
 ghost use Rattle.lab_debug.specs.Private.Changes.{changes};
 ghost use Rattle.lab_debug.specs.Private.Ranges.{IsCommand};
 
 use crate::command::Command;
-use crate::help::HELP;
 use lab_session::{
     Session, breaks_text, code_text, labels_text, taken_text, watches_text, where_text,
 };
@@ -17,14 +15,6 @@ use lab_texts::{
 };
 use std::alloc::{AllocError, Global};
 use std::fmt::Write;
-
-/// The text of `help`.
-#[tactic(auto, unfolding(crate::specs::Help::help_text))]
-fn help_text(alloc: Global) -> Result<String, AllocError>
-    ensures text { IfOk result (λ s. string_bytes s ≡ help_text) }
-{
-    String::from_str(alloc, HELP)
-}
 
 /// The text of how many steps are left.
 pub fn steps_text(alloc: Global, count: u64) -> Result<String, AllocError>
@@ -81,7 +71,7 @@ pub fn shown(
         )?,
         Command::Labels { pid } => labels_text(alloc, session.listing(*pid))?,
         Command::Profile => profile_text(alloc, world)?,
-        Command::Help => help_text(alloc)?,
+        Command::Help => String::from_str(alloc, session.help())?,
         _ => return Ok(None),
     };
     Ok(Some(text))

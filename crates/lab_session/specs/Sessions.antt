@@ -8,25 +8,26 @@ use Rattle.lab_sources.specs.declared.listing.Listing.{Listing}
 use Rattle.lab_session.specs.Marks.{MarksSeen, no_marks, marks_seen}
 use Rattle.lab_session.specs.declared.state.Session.{Session}
 
--- the sources of the processes, where they were given as such, the marks, the world at the start of a session, the process of each step since then, and the world now
+-- the sources of the processes, where they were given as such, what `help` writes, the marks, the world at the start of a session, the process of each step since then, and the world now
 pub record SessionState : Type 0 where
   pub listings : List (Option Listing)
+  pub help : List ℕ
   pub marks : MarksSeen
   pub start : WorldState
   pub steps : List ℕ
   pub world : WorldState
 
 -- a session before its first step
-abbrev pub session_from : List (Option Listing) → WorldState → SessionState
-session_from ls w = record { listings = ls; marks = no_marks; start = w; steps = []; world = w }
+abbrev pub session_from : List (Option Listing) → List ℕ → WorldState → SessionState
+session_from ls help w = record { listings = ls; help = help; marks = no_marks; start = w; steps = []; world = w }
 
 -- a session that has taken these steps, and is in this world
 abbrev pub with_steps : SessionState → List ℕ → WorldState → SessionState
-with_steps s ps w = record { listings = s.listings; marks = s.marks; start = s.start; steps = ps; world = w }
+with_steps s ps w = record { listings = s.listings; help = s.help; marks = s.marks; start = s.start; steps = ps; world = w }
 
 -- a session with these marks
 abbrev pub with_marks : SessionState → MarksSeen → SessionState
-with_marks s m = record { listings = s.listings; marks = m; start = s.start; steps = s.steps; world = s.world }
+with_marks s m = record { listings = s.listings; help = s.help; marks = m; start = s.start; steps = s.steps; world = s.world }
 
 -- a session after further steps
 abbrev pub after_steps : SessionState → List ℕ → SessionState
@@ -67,4 +68,4 @@ steps_until pid address w (suc n) =
 
 -- the state of a session, as the code keeps it
 abbrev pub state_of : Session → SessionState
-state_of s = record { listings = s.listings.items; marks = marks_seen s.marks; start = fresh s.profile s.programs.items; steps = steps_of s.taken.items; world = s.world }
+state_of s = record { listings = s.listings.items; help = s.help.now; marks = marks_seen s.marks; start = fresh s.profile s.programs.items; steps = steps_of s.taken.items; world = s.world }

@@ -23,6 +23,7 @@ use std::alloc::{AllocError, Global};
 pub struct Session {
     programs: Vec<Program>,
     listings: Vec<Option<Listing>>,
+    help: &'static str,
     profile: Profile,
     marks: Marks,
     taken: Vec<Block>,
@@ -34,6 +35,7 @@ impl Drop for Session {
         let Session {
             programs: _,
             listings: _,
+            help: _,
             profile: _,
             marks: _,
             taken: _,
@@ -65,22 +67,25 @@ pub fn listing_in(listings: &[Option<Listing>], pid: usize) -> Option<&Listing>
 impl Session {
     /// The session of 1 to 64 programs, process 0 with the first of them, on machines of this
     /// profile, before the first step. The listings are those of the programs' sources in the same
-    /// order; a program without one is an object file.
+    /// order; a program without one is an object file. `help` is what the command of that name writes.
     #[tactic(auto, unfolding(lab_sched::specs::Schedules::steps_of))]
     pub fn new(
         alloc: Global,
         programs: Vec<Program>,
         listings: Vec<Option<Listing>>,
+        help: &'static str,
         profile: Profile,
     ) -> Result<Session, FreshFault>
         ensures count { (result ≡ Err Count) ↔ (¬ IsCount (length programs.items)) }
         ensures start { IfOk result
-            (λ s. state_of s ≡ session_from listings.items (fresh profile programs.items)) }
+            (λ s. state_of s
+            ≡ session_from listings.items help.now (fresh profile programs.items)) }
     {
         let fresh = Fresh::new(alloc, programs.as_slice(), profile)?;
         Ok(Session {
             programs,
             listings,
+            help,
             profile,
             marks: Marks::new(alloc),
             taken: Vec::new(alloc),
@@ -93,6 +98,13 @@ impl Session {
         ensures world { result.now ≡ (state_of self.now).world }
     {
         &self.world
+    }
+
+    /// What `help` writes.
+    pub fn help(&self) -> &'static str
+        ensures help { result.now ≡ (state_of self.now).help }
+    {
+        self.help
     }
 
     /// Whether a program was given as a source, so that labels are read.

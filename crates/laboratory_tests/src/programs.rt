@@ -62,7 +62,13 @@ fn fresh_once(alloc: Global, programs: &[&[u16]]) -> Result<Fresh, FreshFault> {
 }
 
 fn session_once(alloc: Global, programs: &[&[u16]]) -> Result<Session, FreshFault> {
-    Session::new(alloc, listed(alloc, programs)?, Vec::new(alloc), Profile::A)
+    Session::new(
+        alloc,
+        listed(alloc, programs)?,
+        Vec::new(alloc),
+        "the commands\n",
+        Profile::A,
+    )
 }
 
 /// A session of these programs in profile A. What is refused for memory is tried once more.

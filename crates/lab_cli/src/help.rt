@@ -1,7 +1,7 @@
-//! What `help` writes.
+//! What the debugger's `help` writes.
 
 /// A line for each command, and what its operands are.
-pub const HELP: &str = "\
+pub(crate) const HELP: &str = "\
 step P N        N steps of process P\n\
 until P ADDR N  at most N steps of P, until its PC is ADDR\n\
 go P N          at most N steps of P, until its PC is at a break or it changes a watched word; without N 1,000,000\n\
