@@ -8,6 +8,7 @@ use Rattle.lab_texts.specs.Rows.{texts_below}
 use Rattle.lab_told.specs.Calls.{arguments}
 use Rattle.lab_trace.specs.Outcomes.{call_text, level_part}
 use Rattle.lab_told.specs.Objects.{held_place, level_at}
+use Rattle.lab_told.specs.Openers.{has_open}
 use Rattle.lab_told.specs.Services.{service_at}
 use Rattle.lab_told.specs.Tallies.{TallyState, account_of}
 use Rattle.lab_trace.specs.Forms.{Form, process_text, head, line_end}

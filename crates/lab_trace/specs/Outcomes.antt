@@ -1,6 +1,7 @@
 -- A call in words, what became of it, and the level of its object.
 use Rattle.std.specs.Prelude.{ℕ, Option, Some, None, List, [], ◌++◌, codes, slice_index}
 use Rattle.std.specs.Fmt.{decimal}
+use Rattle.lab_told.specs.Answers.{result_in}
 use Rattle.lab_told.specs.Attributes.{attributes_text}
 use Rattle.lab_told.specs.Words.{message_text}
 use Rattle.ipc_traps.specs.Services.{service_name}

@@ -1,5 +1,5 @@
 //! Who took units of a semaphore and didn't give them back.
-ghost use Rattle.std.specs.Prelude.{◌≡◌, ◌++◌, OnOk, IfOk, length, string_bytes, slice_get};
+ghost use Rattle.std.specs.Prelude.{◌≡◌, ◌++◌, OnOk, IfOk, length, string_bytes};
 ghost use Rattle.std.specs.Option.{option_map, option_copied};
 ghost use Rattle.lab_sched.specs.Held.{process_view};
 ghost use Rattle.lab_texts.specs.Rows.{texts_below};
