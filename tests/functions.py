@@ -1,10 +1,10 @@
 """The functions of a crate's sources, as the layout of `rt fmt` shows them: a body is closed by a `}` below its `fn`."""
 import re
 
-HEAD = re.compile(r"( *)(?:pub(?:\(\w+\))? )?fn (\w+)")
+HEAD = re.compile(r"( *)(?:pub(?:\([^)]*\))? )?fn (\w+)")
 IMPL = re.compile(r"impl(?:<.*?>)? (?:(?:\w+::)*(\w+)(?:<(?:\w+::)*(\w+).*>)? for )?(?:\w+::)*(\w+)")
-TYPE = re.compile(r"^(?:pub(?:\(\w+\))? )?(?:struct|enum|union) (\w+)", re.M)
-CONST = re.compile(r"(?:pub(?:\(\w+\))? )?(?:const|static) (\w+)")
+TYPE = re.compile(r"^(?:pub(?:\([^)]*\))? )?(?:struct|enum|union) (\w+)", re.M)
+CONST = re.compile(r"(?:pub(?:\([^)]*\))? )?(?:const|static) (\w+)")
 
 
 class Function:
@@ -39,16 +39,22 @@ def first_line(lines, at):
 
 
 def homes(texts):
-    """The module of each type that the crate declares."""
-    return {name: module_of(file) for file, text in texts.items() for name in TYPE.findall(text)}
+    """The modules that declare a type of a name, by the names."""
+    found = {}
+    for file, text in texts.items():
+        for name in TYPE.findall(text):
+            found.setdefault(name, []).append(module_of(file))
+    return found
 
 
 def block_of(found, file, types):
     """The path of an `impl` block: methods of a type, and its `drop`, are told by the module of the type."""
     trait, argument, name = found.groups()
+    here = module_of(file)
     if trait in (None, "Drop"):
-        return [*types.get(name, module_of(file)), name]
-    return [*module_of(file), name + trait + (argument or "")]
+        modules = types.get(name, [here])
+        return [*(here if here in modules else modules[0]), name]
+    return [*here, name + trait + (argument or "")]
 
 
 def functions(file, text, types):

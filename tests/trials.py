@@ -176,6 +176,13 @@ def write_crate(folder, crate, texts, kept):
     return made
 
 
+def closures_of(path):
+    """What the paths of a function's closures begin with: `a::fn::Type::name` for `a::Type::name`."""
+    names = path.split("::")
+    own = 2 if len(names) > 1 and names[-2][:1].isupper() else 1
+    return "::".join([*names[:-own], "fn", *names[-own:]])
+
+
 def run(words, folder):
     """Runs a command in a folder: its lines, the seconds of processors, and the most memory, in bytes."""
     with tempfile.TemporaryFile("w+", encoding="utf-8", errors="replace") as out:
@@ -204,32 +211,34 @@ class Said:
         return any(line.startswith("only=") for line in self.lines[-2:]) and (self.whole or not strays)
 
     def told_at(self, path):
-        """The lines that are told of places of a function: of its text, and of the files of its proof."""
-        home = f"proofs/{path.replace('::', '/')}/"
+        """The lines that are told of places of a function: of its text, and of the files of its proof and its closures'."""
+        homes = tuple(f"proofs/{it.replace('::', '/')}/" for it in (path, closures_of(path)))
         own = [(file, it) for file, it in all_functions(self.texts) if it.path == path]
         for line in self.lines:
             at = PLACE.match(line)
-            if at and (at[1].startswith(home) or any(at[1] == file and it.begin < int(at[2]) <= it.end + 1 for file, it in own)):
+            if at and (at[1].startswith(homes) or any(at[1] == file and it.begin < int(at[2]) <= it.end + 1 for file, it in own)):
                 yield line
 
-    def line_of(self, path):
-        """The line that says whether a function is proved, or nothing."""
-        return next((line for line in self.lines if line.startswith(f"fn {self.crate}::{path}: ")), "")
+    def lines_of(self, path):
+        """The lines that say whether a function and its closures are proved."""
+        starts = f"fn {self.crate}::{path}: ", f"fn {self.crate}::{closures_of(path)}::"
+        return [line for line in self.lines if line.startswith(starts)]
 
     def refusal(self, path):
         """What refuses a function, or None: a goal of its contract or of its code, and not a name that is no more."""
-        if not re.search(r": (not proved|no proof: expected answers)", self.line_of(path)):
+        if not any(re.search(r": (not proved|no proof: expected answers)", line) for line in self.lines_of(path)):
             return None
         told = [line for line in self.told_at(path) if ": error: " in line or line.startswith("note: src/")]
         return next((line for line in told if not NAMES.search(line)), None)
 
     def accepts(self, path):
         """Whether a function is accepted by the contracts of those that it calls."""
-        return self.counts() and re.search(r": (proved|no holes|depends on a hole)", self.line_of(path)) is not None
+        told = [re.search(r": (proved|no holes|depends on a hole)", line) for line in self.lines_of(path)]
+        return self.counts() and bool(told) and all(told)
 
     def verdict(self, paths):
         """What the check says of functions, or else its first error, or its last lines."""
-        told = [line for line in map(self.line_of, paths) if line]
+        told = [line for path in paths for line in self.lines_of(path)]
         return " ".join(told or [line for line in self.lines if "error" in line][:1] or self.lines[-3:])
 
 
