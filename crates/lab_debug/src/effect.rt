@@ -3,12 +3,12 @@ ghost use Rattle.std.specs.Prelude.{◌≡◌, ◌≤◌, ◌<◌, true, IfOk, O
 ghost use Rattle.ipc_kernel.specs.Limits.{process_max};
 ghost use Rattle.std.specs.List.{list_all};
 ghost use Rattle.lab_sched.specs.Schedules.{steps_of};
-ghost use Rattle.lab_session.specs.Sessions.{state_of, after_steps};
+ghost use Rattle.lab_session.specs.Sessions.{state_of, after_steps, steps_until, back};
 ghost use Rattle.lab_debug.specs.Commands.{step_count_max};
 ghost use Rattle.lab_texts.specs.Texts.{status_text};
 ghost use Rattle.lab_texts.specs.Verdicts.{verdict_text};
 ghost use Rattle.lab_debug.specs.Private.Replies.{effect_of};
-ghost use Rattle.lab_debug.specs.Effects.{is_there, are_there, accepted_effect, command_effect, located_effect, labelled_effect, label_among, words_effect, line_effect};
+ghost use Rattle.lab_debug.specs.Effects.{is_there, are_there, text_effect, back_effect, accepted_effect, command_effect, located_effect, labelled_effect, label_among, words_effect, line_effect};
 ghost use Rattle.lab_debug.specs.Labels.{addressed};
 ghost use Rattle.lab_debug.specs.Private.LabelViews.{label_seen};
 ghost use Rattle.lab_debug.specs.Private.Changes.{changes};
@@ -16,12 +16,12 @@ ghost use Rattle.lab_debug.specs.Private.Ranges.{IsCommand};
 
 use crate::command::{Command, Refusal, read_command};
 use crate::label::{Label, address_of, second_label, with_zero};
-use crate::marking::{clear, go, play, unwatch, watch};
+use crate::marking::{clear, go, play, set_break, unwatch, watch};
 use crate::operands::split_words;
 use crate::reply::{Reply, refuse};
 use crate::showing::{shown, steps_text};
 use lab_sched::{Block, Schedule, World};
-use lab_session::{Session, break_text};
+use lab_session::Session;
 use lab_texts::{status_text, verdict_text};
 use std::alloc::{AllocError, Global};
 
@@ -42,6 +42,56 @@ fn step_times(
     let mut schedule = Schedule::new(alloc);
     schedule.push(pid, count)?;
     session.run(&schedule)
+}
+
+/// Takes so many steps of a process, and shows where it stands.
+fn step(alloc: Global, session: &mut Session, pid: usize, count: u32) -> Result<Reply, AllocError>
+    requires process { pid < process_max }
+    requires some { 1 ≤ count }
+    requires few { count ≤ step_count_max }
+    ensures effect { IfOk result (λ r. effect_of r (state_of session.new) ≡ text_effect
+        (status_text pid) (after_steps (state_of session.old) (replicate count pid))) }
+{
+    step_times(alloc, session, pid, count)?;
+    let text = status_text(alloc, session.world(), pid)?;
+    Ok(Reply { text, ends: false })
+}
+
+/// Takes the steps of a schedule, and shows the verdict.
+fn run(alloc: Global, session: &mut Session, schedule: &Schedule) -> Result<Reply, AllocError>
+    ensures effect { IfOk result (λ r. effect_of r (state_of session.new) ≡ text_effect
+        verdict_text (after_steps (state_of session.old) (steps_of schedule.now))) }
+{
+    session.run(schedule)?;
+    let text = verdict_text(alloc, session.world())?;
+    Ok(Reply { text, ends: false })
+}
+
+/// Takes at most so many steps of a process, up to an address, and shows where it stands.
+fn step_until(
+    alloc: Global,
+    session: &mut Session,
+    pid: usize,
+    address: u16,
+    count: u32,
+) -> Result<Reply, AllocError>
+    ensures effect { IfOk result (λ r. effect_of r (state_of session.new) ≡ text_effect
+        (status_text pid) (after_steps (state_of session.old)
+        (steps_until pid address (state_of session.old).world count))) }
+{
+    session.step_until(pid, address, count)?;
+    let text = status_text(alloc, session.world(), pid)?;
+    Ok(Reply { text, ends: false })
+}
+
+/// Goes back before the last so many steps that had an effect, and shows how many are left.
+fn go_back(alloc: Global, session: &mut Session, count: u32) -> Result<Reply, AllocError>
+    ensures effect { IfOk result (λ r. effect_of r (state_of session.new)
+        ≡ back_effect (back count (state_of session.old))) }
+{
+    let left = session.back(alloc, count)?;
+    let text = steps_text(alloc, left)?;
+    Ok(Reply { text, ends: false })
 }
 
 /// Whether process `pid` is there.
@@ -102,43 +152,27 @@ fn change(alloc: Global, session: &mut Session, command: Command) -> Result<Repl
     ensures effect { IfOk result (λ r. effect_of r (state_of session.new)
         ≡ accepted_effect (state_of session.old) command) }
 {
-    let text = match command {
-        Command::Step { pid, count } => {
-            step_times(alloc, session, pid, count)?;
-            status_text(alloc, session.world(), pid)?
-        }
-        Command::Run(schedule) => {
-            session.run(&schedule)?;
-            verdict_text(alloc, session.world())?
-        }
-        Command::Play(schedule) => return play(alloc, session, &schedule),
+    match command {
+        Command::Step { pid, count } => step(alloc, session, pid, count),
+        Command::Run(schedule) => run(alloc, session, &schedule),
+        Command::Play(schedule) => play(alloc, session, &schedule),
         Command::Until {
             pid,
             address,
             count,
-        } => {
-            session.step_until(pid, address, count)?;
-            status_text(alloc, session.world(), pid)?
-        }
-        Command::Back { count } => {
-            let left = session.back(alloc, count)?;
-            steps_text(alloc, left)?
-        }
-        Command::Go { pid, count } => return go(alloc, session, pid, count),
-        Command::Break(place) => {
-            session.set_break(alloc, place)?;
-            break_text(alloc, session.listings(), place)?
-        }
-        Command::Clear(place) => return clear(alloc, session, place),
-        Command::Watch(place) => return watch(alloc, session, place),
-        Command::Unwatch(place) => return unwatch(alloc, session, place),
+        } => step_until(alloc, session, pid, address, count),
+        Command::Back { count } => go_back(alloc, session, count),
+        Command::Go { pid, count } => go(alloc, session, pid, count),
+        Command::Break(place) => set_break(alloc, session, place),
+        Command::Clear(place) => clear(alloc, session, place),
+        Command::Watch(place) => watch(alloc, session, place),
+        Command::Unwatch(place) => unwatch(alloc, session, place),
         Command::Quit => {
             let text = String::new(alloc);
-            return Ok(Reply { text, ends: true });
+            Ok(Reply { text, ends: true })
         }
         _ => unreachable!(),
-    };
-    Ok(Reply { text, ends: false })
+    }
 }
 
 /// Carries out a command whose processes are there.

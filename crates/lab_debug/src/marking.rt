@@ -3,17 +3,27 @@ ghost use Rattle.std.specs.Prelude.{◌≡◌, IfOk};
 ghost use Rattle.lab_sched.specs.Schedules.{steps_of};
 ghost use Rattle.lab_session.specs.Sessions.{state_of};
 ghost use Rattle.lab_debug.specs.Private.Replies.{effect_of};
-ghost use Rattle.lab_debug.specs.Effects.{clear_effect, watch_effect, unwatch_effect, go_effect, play_effect};
+ghost use Rattle.lab_debug.specs.Effects.{break_effect, clear_effect, watch_effect, unwatch_effect, go_effect, play_effect};
 
 use crate::command::Refusal;
 use crate::reply::{Reply, refuse};
 use lab_sched::Schedule;
 use lab_session::{
-    Place, Session, clear_text, has_place, play_text, push_changes, unwatch_text, watch_text,
-    watched_at,
+    Place, Session, break_text, clear_text, has_place, play_text, push_changes, unwatch_text,
+    watch_text, watched_at,
 };
 use lab_texts::status_text;
 use std::alloc::{AllocError, Global};
+
+/// Sets a break, which may be there already.
+pub fn set_break(alloc: Global, session: &mut Session, place: Place) -> Result<Reply, AllocError>
+    ensures effect { IfOk result (λ r. effect_of r (state_of session.new)
+        ≡ break_effect (state_of session.old) place) }
+{
+    session.set_break(alloc, place)?;
+    let text = break_text(alloc, session.listings(), place)?;
+    Ok(Reply { text, ends: false })
+}
 
 /// Takes a break off, or refuses it where there is none.
 pub fn clear(alloc: Global, session: &mut Session, place: Place) -> Result<Reply, AllocError>

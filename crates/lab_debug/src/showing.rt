@@ -1,6 +1,8 @@
 //! The commands that show something and change nothing.
-ghost use Rattle.std.specs.Prelude.{◌≡◌, None, true, IfOk, IfSome, string_bytes};
-ghost use Rattle.lab_session.specs.Sessions.{state_of};
+ghost use Rattle.std.specs.Prelude.{◌≡◌, None, true, length, IfOk, IfSome, string_bytes};
+ghost use Rattle.lab_session.specs.Sessions.{state_of, effective};
+ghost use Rattle.lab_session.specs.Taken.{taken_text};
+ghost use Rattle.lab_session.specs.Watches.{watched_words, watches_text};
 ghost use Rattle.lab_debug.specs.Effects.{steps_text, shown_effect, accepted_effect};
 ghost use Rattle.lab_debug.specs.Private.Changes.{changes};
 ghost use Rattle.lab_debug.specs.Private.Ranges.{IsCommand};
@@ -25,6 +27,33 @@ pub fn steps_text(alloc: Global, count: u64) -> Result<String, AllocError>
     Ok(text)
 }
 
+/// The watches of a session, each with the word there now.
+fn watches_shown(alloc: Global, session: &Session) -> Result<String, AllocError>
+    ensures text { IfOk result (λ s. string_bytes s ≡ watches_text (state_of session.now).listings
+        (watched_words (state_of session.now).marks.watches (state_of session.now).world)) }
+{
+    let watched = session.watched_words(alloc)?;
+    watches_text(alloc, session.listings(), &watched)
+}
+
+/// How many steps of a session had an effect.
+fn count_shown(alloc: Global, session: &Session) -> Result<String, AllocError>
+    ensures text { IfOk result (λ s. string_bytes s ≡ steps_text
+        (length (effective (state_of session.now).start (state_of session.now).steps))) }
+{
+    let (_, total) = session.effective(alloc)?;
+    steps_text(alloc, total)
+}
+
+/// The schedule of these steps.
+fn steps_shown(alloc: Global, session: &Session) -> Result<String, AllocError>
+    ensures text { IfOk result (λ s. string_bytes s
+        ≡ taken_text (effective (state_of session.now).start (state_of session.now).steps)) }
+{
+    let (blocks, _) = session.effective(alloc)?;
+    taken_text(alloc, blocks.as_slice())
+}
+
 /// The text of a command that changes nothing, whose processes are there.
 pub fn shown(
     alloc: Global,
@@ -39,28 +68,19 @@ pub fn shown(
 {
     let world = session.world();
     let text = match command {
-        Command::Breaks => breaks_text(alloc, session.listings(), session.breaks())?,
-        Command::Watches => {
-            let watched = session.watched_words(alloc)?;
-            watches_text(alloc, session.listings(), &watched)?
-        }
-        Command::Steps => {
-            let (_, total) = session.effective(alloc)?;
-            steps_text(alloc, total)?
-        }
-        Command::Taken => {
-            let (blocks, _) = session.effective(alloc)?;
-            taken_text(alloc, blocks.as_slice())?
-        }
-        Command::Regs { pid } => regs_text(alloc, world, *pid)?,
-        Command::Mem(range) => mem_text(alloc, world, range.pid, range.address, range.count)?,
-        Command::Dis(range) => dis_text(alloc, world, range.pid, range.address, range.count)?,
-        Command::Procs => procs_text(alloc, world)?,
-        Command::Mqs => mqs_text(alloc, world)?,
-        Command::Sems => sems_text(alloc, world)?,
-        Command::Fds { pid } => fds_text(alloc, world, *pid)?,
-        Command::Out { pid } => out_text(alloc, world, *pid)?,
-        Command::Where { pid } => where_text(alloc, world, *pid, session.listing(*pid))?,
+        Command::Breaks => breaks_text(alloc, session.listings(), session.breaks()),
+        Command::Watches => watches_shown(alloc, session),
+        Command::Steps => count_shown(alloc, session),
+        Command::Taken => steps_shown(alloc, session),
+        Command::Regs { pid } => regs_text(alloc, world, *pid),
+        Command::Mem(range) => mem_text(alloc, world, range.pid, range.address, range.count),
+        Command::Dis(range) => dis_text(alloc, world, range.pid, range.address, range.count),
+        Command::Procs => procs_text(alloc, world),
+        Command::Mqs => mqs_text(alloc, world),
+        Command::Sems => sems_text(alloc, world),
+        Command::Fds { pid } => fds_text(alloc, world, *pid),
+        Command::Out { pid } => out_text(alloc, world, *pid),
+        Command::Where { pid } => where_text(alloc, world, *pid, session.listing(*pid)),
         Command::Code(range) => code_text(
             alloc,
             world,
@@ -68,11 +88,11 @@ pub fn shown(
             session.listing(range.pid),
             range.address,
             range.count,
-        )?,
-        Command::Labels { pid } => labels_text(alloc, session.listing(*pid))?,
-        Command::Profile => profile_text(alloc, world)?,
-        Command::Help => String::from_str(alloc, session.help())?,
+        ),
+        Command::Labels { pid } => labels_text(alloc, session.listing(*pid)),
+        Command::Profile => profile_text(alloc, world),
+        Command::Help => String::from_str(alloc, session.help()),
         _ => return Ok(None),
     };
-    Ok(Some(text))
+    Ok(Some(text?))
 }
