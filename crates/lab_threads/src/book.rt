@@ -76,6 +76,43 @@ pub(crate) fn clone_of(call: &Call) -> Result<Call, AllocError>
     call.clone()
 }
 
+/// What a kernel answers to a call, the entry of the call, and the call that waits after it.
+#[derive(Drop)]
+struct Answered {
+    answer: Answer,
+    entry: Entry,
+    pending: Option<Call>,
+}
+
+/// Answers a call of a process. The entry shares the words of the call and of the answer. Where
+/// memory is refused nothing has changed.
+fn answer_with_entry(kernel: &mut Kernel, pid: usize, call: &Call) -> Result<Answered, AllocError>
+    requires process { pid < length kernel.old.processes }
+    ensures answered { IfOk result
+        (λ r. (r.answer, kernel.new) ≡ answer kernel.old pid call.now) }
+    ensures form { IfOk result (λ r. IsAnswerTo call.now r.answer) }
+    ensures entry { IfOk result
+        (λ r. r.entry ≡ record { pid = pid; call = call.now; answer = r.answer }) }
+    ensures pending { IfOk result (λ r. r.pending ≡ still call.now r.answer) }
+    ensures err { OnErr result (kernel.new ≡ kernel.old) }
+    ensures count { length kernel.new.processes ≡ length kernel.old.processes }
+{
+    let waiting = clone_of(call)?;
+    let written = clone_of(call)?;
+    let (answer, copy) = kernel.call_with_copy(pid, call)?;
+    let pending = pending_call(waiting, &answer);
+    let entry = Entry {
+        pid,
+        call: written,
+        answer: copy,
+    };
+    Ok(Answered {
+        answer,
+        entry,
+        pending,
+    })
+}
+
 impl Book {
     /// The book of `count` processes that have made no call, over an empty kernel.
     pub fn new(alloc: Global, count: usize) -> Result<Book, AllocError>
@@ -182,19 +219,16 @@ impl Book {
         ensures err { OnErr result (self.new ≡ self.old) }
     {
         let waited = self.is_waiting(pid);
-        let pending = clone_of(call)?;
-        let written = clone_of(call)?;
         self.history.reserve(1)?;
-        let (answer, copy) = self.kernel.call_with_copy(pid, call)?;
+        let Answered {
+            answer,
+            entry,
+            pending,
+        } = answer_with_entry(&mut self.kernel, pid, call)?;
         if !has_entry(waited, &answer) {
             return Ok(answer);
         }
-        self.waiting[pid] = pending_call(pending, &answer);
-        let entry = Entry {
-            pid,
-            call: written,
-            answer: copy,
-        };
+        self.waiting[pid] = pending;
         self.history.push_reserved(entry);
         Ok(answer)
     }
