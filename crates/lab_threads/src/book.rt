@@ -76,6 +76,13 @@ pub(crate) fn clone_of(call: &Call) -> Result<Call, AllocError>
     call.clone()
 }
 
+/// Lets a process wait for a call, or for none.
+fn set_pending(waiting: &mut Option<Call>, pending: Option<Call>)
+    ensures pending { waiting.new ≡ pending }
+{
+    *waiting = pending;
+}
+
 /// What a kernel answers to a call, the entry of the call, and the call that waits after it.
 #[derive(Drop)]
 struct Answered {
@@ -228,7 +235,7 @@ impl Book {
         if !has_entry(waited, &answer) {
             return Ok(answer);
         }
-        self.waiting[pid] = pending;
+        set_pending(&mut self.waiting[pid], pending);
         self.history.push_reserved(entry);
         Ok(answer)
     }
