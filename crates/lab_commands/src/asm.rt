@@ -93,7 +93,17 @@ pub fn assemble_file<'a, T: Files, W: Write, E: Write, P: Progress>(
     let assembled = accepted(job, source, sheet, errors)?;
     write_object(job.rt, object, assembled.image()).at(object)?;
     if sheet.list {
-        write_text(&listing(job.alloc, &assembled).at("run")?, output)?;
+        write_listing(job.alloc, &assembled, output)
+    } else {
+        Ok(())
     }
-    Ok(())
+}
+
+/// Writes the listing of what a source is assembled to.
+fn write_listing<W: Write>(
+    alloc: Global,
+    assembled: &Assembled,
+    output: &mut Output<W>,
+) -> Result<(), Complaint<'static>> {
+    write_text(&listing(alloc, assembled).at("run")?, output)
 }
