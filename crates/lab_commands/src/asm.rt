@@ -91,19 +91,20 @@ pub fn assemble_file<'a, T: Files, W: Write, E: Write, P: Progress>(
         return Err(Reason::SameFile.at(object));
     }
     let assembled = accepted(job, source, sheet, errors)?;
-    write_object(job.rt, object, assembled.image()).at(object)?;
-    if sheet.list {
-        write_listing(job.alloc, &assembled, output)
-    } else {
-        Ok(())
-    }
+    write_assembled(job, object, &assembled, sheet.list, output)
 }
 
-/// Writes the listing of what a source is assembled to.
-fn write_listing<W: Write>(
-    alloc: Global,
+/// Writes an object file, and then the listing where it is asked for.
+fn write_assembled<'a, T: Files, W: Write, P>(
+    job: &Job<'_, T, P>,
+    object: &'a str,
     assembled: &Assembled,
+    list: bool,
     output: &mut Output<W>,
-) -> Result<(), Complaint<'static>> {
-    write_text(&listing(alloc, assembled).at("run")?, output)
+) -> Result<(), Complaint<'a>> {
+    write_object(job.rt, object, assembled.image()).at(object)?;
+    if !list {
+        return Ok(());
+    }
+    write_text(&listing(job.alloc, assembled).at("run")?, output)
 }
