@@ -65,7 +65,6 @@ pub fn explore_programs<'a, T: Files + Threads + Sync, W: Write, P: Progress>(
 ) -> Result<(), Complaint<'a>>
     requires output_healthy { output.old.failed ≡ false }
 {
-    refuse_question(job.alloc, question, setup.programs.len())?;
     let search = search_in(job, setup, question)?;
     tell_ends(job, &search, output)
 }
@@ -76,6 +75,7 @@ fn search_in<'a, T: Files + Threads + Sync, P: Progress>(
     setup: &Setup<'a>,
     question: &Question<'a>,
 ) -> Result<Search, Complaint<'a>> {
+    refuse_question(job.alloc, question, setup.programs.len())?;
     let given = read_programs(job, setup.programs.as_slice())?;
     find_ends(job, given.programs.as_slice(), setup.profile, question)
 }
