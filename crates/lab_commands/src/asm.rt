@@ -91,9 +91,20 @@ pub fn assemble_file<'a, T: Files, W: Write, E: Write, P: Progress>(
         return Err(Reason::SameFile.at(object));
     }
     let assembled = accepted(job, source, sheet, errors)?;
+    write_assembled(job, object, &assembled, sheet.list, output)
+}
+
+/// Writes an object file, and then the listing where it is asked for.
+fn write_assembled<'a, T: Files, W: Write, P>(
+    job: &Job<'_, T, P>,
+    object: &'a str,
+    assembled: &Assembled,
+    list: bool,
+    output: &mut Output<W>,
+) -> Result<(), Complaint<'a>> {
     write_object(job.rt, object, assembled.image()).at(object)?;
-    if sheet.list {
-        write_text(&listing(job.alloc, &assembled).at("run")?, output)?;
+    if !list {
+        return Ok(());
     }
-    Ok(())
+    write_text(&listing(job.alloc, assembled).at("run")?, output)
 }

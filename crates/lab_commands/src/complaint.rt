@@ -234,18 +234,28 @@ fn text_of(reason: Reason) -> &'static str {
     }
 }
 
+/// Writes a number with texts around it.
+fn write_numbered<W: fmt::Write>(
+    f: &mut fmt::Formatter<W>,
+    front: &str,
+    number: u64,
+    middle: &str,
+    back: &str,
+) -> fmt::Result {
+    write!(f, "{front} {number}{middle}{back}")
+}
+
 impl fmt::Display for Reason {
     fn fmt<W: fmt::Write>(&self, f: &mut fmt::Formatter<W>) -> fmt::Result {
         let text = text_of(*self);
         match *self {
-            Reason::NotItsSource { process } => write!(f, "{text} {process}"),
-            Reason::BadWord { at } => write!(f, "word {at}: {text}"),
-            Reason::BadBlock { at } | Reason::TooManySteps { at } => write!(
-                f,
-                "block {at}: {text}"
-            ),
+            Reason::NotItsSource { process } => write_numbered(f, text, process as u64, "", ""),
+            Reason::BadWord { at } => write_numbered(f, "word", at as u64, ": ", text),
+            Reason::BadBlock { at } | Reason::TooManySteps { at } => {
+                write_numbered(f, "block", at as u64, ": ", text)
+            }
+            Reason::NoProcess { done } => write_numbered(f, "after", done, " steps: ", text),
             Reason::Line { number, fault } => write!(f, "{text} {number}: {fault:?}"),
-            Reason::NoProcess { done } => write!(f, "after {done} steps: {text}"),
             Reason::Not { .. } => write!(f, "not {text}"),
             _ => f.write_str(text),
         }

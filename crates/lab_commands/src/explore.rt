@@ -65,11 +65,19 @@ pub fn explore_programs<'a, T: Files + Threads + Sync, W: Write, P: Progress>(
 ) -> Result<(), Complaint<'a>>
     requires output_healthy { output.old.failed ≡ false }
 {
-    let words = setup.programs.as_slice();
-    refuse_question(job.alloc, question, words.len())?;
-    let given = read_programs(job, words)?;
-    let search = find_ends(job, given.programs.as_slice(), setup.profile, question)?;
+    let search = search_in(job, setup, question)?;
     tell_ends(job, &search, output)
+}
+
+/// Reads the files of the programs, and visits every interleaving of them as far as the limits allow.
+fn search_in<'a, T: Files + Threads + Sync, P: Progress>(
+    job: &Job<'_, T, P>,
+    setup: &Setup<'a>,
+    question: &Question<'a>,
+) -> Result<Search, Complaint<'a>> {
+    refuse_question(job.alloc, question, setup.programs.len())?;
+    let given = read_programs(job, setup.programs.as_slice())?;
+    find_ends(job, given.programs.as_slice(), setup.profile, question)
 }
 
 /// Visits every interleaving of programs, as far as the limits allow, or takes walks, if these are asked for, and judges what
@@ -99,12 +107,27 @@ fn find_early<'a, T: Threads + Sync, P: Progress>(
     inquiry: &Inquiry,
 ) -> Result<Option<Search>, Complaint<'a>> {
     for stage in &stages_of(job.alloc, inquiry).at("run")? {
-        let search = searched(job, programs, profile, question, *stage)?;
-        if !has_more(&search) {
+        if let Some(search) = last_search(job, programs, profile, question, *stage)? {
             return Ok(Some(search));
         }
     }
     Ok(None)
+}
+
+/// The search of a stage, unless one that goes further has something to find.
+fn last_search<'a, T: Threads + Sync, P: Progress>(
+    job: &Job<'_, T, P>,
+    programs: &[Program],
+    profile: Profile,
+    question: &Question<'a>,
+    stage: Inquiry,
+) -> Result<Option<Search>, Complaint<'a>> {
+    let search = searched(job, programs, profile, question, stage)?;
+    if has_more(&search) {
+        Ok(None)
+    } else {
+        Ok(Some(search))
+    }
 }
 
 /// Visits every interleaving of programs, as far as an inquiry goes, or takes its walks, and judges what a question asks.

@@ -5,7 +5,7 @@ use crate::complaint::{At, Complaint, Reason};
 use crate::files::read_file;
 use crate::job::Job;
 use crate::progress::Progress;
-use lab_arguments::Shown;
+use lab_arguments::{Setup, Shown};
 use lab_sched::{Fresh, FreshFault, Program};
 use lab_sources::Source;
 use lc3_messages::{Report, Wish};
@@ -186,6 +186,15 @@ pub fn laboratory(
     profile: Profile,
 ) -> Result<Fresh, Complaint<'static>> {
     Fresh::new(alloc, programs, profile).map_err(fault_of)
+}
+
+/// The laboratory of the programs in files, before its first step.
+pub fn read_laboratory<'a, T: Files, P: Progress>(
+    job: &Job<'_, T, P>,
+    setup: &Setup<'a>,
+) -> Result<Fresh, Complaint<'a>> {
+    let given = read_programs(job, setup.programs.as_slice())?;
+    laboratory(job.alloc, given.programs.as_slice(), setup.profile)
 }
 
 /// What is said where there is no laboratory of some programs.

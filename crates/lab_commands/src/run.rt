@@ -5,7 +5,7 @@ ghost use Rattle.lab_threads.specs.Limits.{most_steps_each};
 use crate::complaint::{At, Complaint};
 use crate::files::write_text;
 use crate::job::Job;
-use crate::programs::{laboratory, read_programs};
+use crate::programs::read_laboratory;
 use crate::progress::{CallCount, Progress};
 use lab_arguments::{MOST_STEPS_EACH, Setup};
 use lab_io::Output;
@@ -38,8 +38,7 @@ pub fn run_programs<'a, T: Files + Threads + Wait + Clock + Sync, W: Write, P: P
 ) -> Result<(), Complaint<'a>>
     requires output_healthy { output.old.failed ≡ false }
 {
-    let given = read_programs(job, setup.programs.as_slice())?;
-    let fresh = laboratory(job.alloc, given.programs.as_slice(), setup.profile)?;
+    let fresh = read_laboratory(job, setup)?;
     tell_run(job.alloc, &run_fresh(job, fresh, manner)?, output)
 }
 

@@ -9,8 +9,9 @@ use crate::progress::{Progress, StepCount};
 use lab_arguments::Setup;
 use lab_hex::read_whole;
 use lab_io::{Input, Output};
-use lab_sched::{Fresh, RunStop, Schedule, World};
+use lab_sched::{Program, RunStop, Schedule, World};
 use lab_texts::report_text;
+use lc3_table::Profile;
 use std::alloc::Global;
 use std::io::{Read, Write};
 use std::rt::Files;
@@ -26,19 +27,30 @@ pub fn step_programs<'a, T: Files, R: Read, W: Write, P: Progress>(
     requires input_healthy { input.old.failed ≡ false }
     requires output_healthy { output.old.failed ≡ false }
 {
-    let given = read_programs(job, setup.programs.as_slice())?;
-    let schedule = read_schedule(job.alloc, input).at("schedule")?;
-    let fresh = laboratory(job.alloc, given.programs.as_slice(), setup.profile)?;
-    write_text(&report_on(job, fresh, &schedule)?, output)
+    write_text(&report_in(job, setup, input)?, output)
 }
 
-/// The report on a laboratory after the steps of a schedule.
+/// Reads the files of the programs, then a schedule from the input, and gives the report on the programs after its steps.
+fn report_in<'a, T: Files, R: Read, P: Progress>(
+    job: &Job<'_, T, P>,
+    setup: &Setup<'a>,
+    input: &mut Input<R>,
+) -> Result<String, Complaint<'a>>
+    requires input_healthy { input.old.failed ≡ false }
+{
+    let given = read_programs(job, setup.programs.as_slice())?;
+    let schedule = read_schedule(job.alloc, input).at("schedule")?;
+    report_on(job, given.programs.as_slice(), setup.profile, &schedule)
+}
+
+/// The report on programs after the steps of a schedule.
 fn report_on<T, P: Progress>(
     job: &Job<'_, T, P>,
-    fresh: Fresh,
+    programs: &[Program],
+    profile: Profile,
     schedule: &Schedule,
 ) -> Result<String, Complaint<'static>> {
-    let mut world = World::from(fresh);
+    let mut world = World::from(laboratory(job.alloc, programs, profile)?);
     run(job, &mut world, schedule).at("run")?;
     report_text(job.alloc, &world).at("run")
 }
