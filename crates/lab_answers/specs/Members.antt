@@ -1,6 +1,6 @@
 -- The last members of the answers.
 use Rattle.std.specs.Prelude.{ℕ, Bool, true, false, List, ◌++◌, Option, Some, None, codes, map}
-use Rattle.lab_explore.specs.declared.rounds.Round.{Round}
+use Rattle.lab_worlds.specs.declared.rounds.Round.{Round}
 use Rattle.lab_questions.specs.declared.asking.Answers.{Answers}
 use Rattle.lab_questions.specs.declared.failure.Failure.{Failure}
 use Rattle.lab_questions.specs.declared.failure.Failure.TheVariants.{Incomplete}

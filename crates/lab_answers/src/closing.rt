@@ -6,8 +6,8 @@ ghost use Rattle.lab_answers.specs.Values.{text_json};
 ghost use Rattle.lab_questions.specs.Objects.{object_text};
 
 use crate::values::{push_comma, push_schedule, push_text, truth_name};
-use lab_explore::Round;
 use lab_questions::{Answers, Failure, Object};
+use lab_worlds::Round;
 use std::alloc::{AllocError, Global};
 
 /// Adds an object, behind a comma unless it is the first.

@@ -2,10 +2,10 @@
 
 use crate::left::push_left;
 use crate::values::{push_comma, push_schedule, push_text};
-use lab_explore::End;
 use lab_findings::{Show, shown_text};
 use lab_sched::{Process, Verdict, World};
 use lab_texts::how_name;
+use lab_worlds::End;
 use lc3_table::WordText;
 use lc3_word::{FIRST_DEVICE, Hex};
 use std::alloc::{AllocError, Global};

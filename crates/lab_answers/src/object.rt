@@ -7,9 +7,9 @@ use crate::ends::push_ends;
 use crate::reasons::{Extent, Manner, push_limits};
 use crate::values::{push_comma, push_schedule, push_text};
 use lab_conditions::Never;
-use lab_explore::{End, Exploration};
 use lab_questions::{Answer, Answers, Word};
 use lab_sched::Schedule;
+use lab_worlds::{End, Exploration};
 use std::alloc::{AllocError, Global};
 use std::fmt::Write;
 

@@ -1,7 +1,7 @@
 //! Why an exploration isn't complete.
 use crate::values::push_comma;
-use lab_explore::{Exploration, Limits};
 use lab_findings::Show;
+use lab_worlds::{Exploration, Limits};
 use std::alloc::{AllocError, Global};
 
 /// How far an exploration was to go.

@@ -1,11 +1,11 @@
 //! What the program says of a fault.
 use lab_arguments::Shown;
 use lab_debug::SessionFault;
-use lab_explore::ExploreFault;
 use lab_hex::CliFault;
 use lab_questions::Word;
 use lab_sched::{RunStop, SchedFault, StepFault, Verdict};
 use lab_threads::RunFault;
+use lab_worlds::ExploreFault;
 use lc3_asm::AsmFault;
 use lc3_obj::ObjFault;
 use lc3_table::Fault;

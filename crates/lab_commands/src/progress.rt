@@ -1,7 +1,7 @@
 //! How far a long command is.
-use lab_explore::Observer;
 use lab_sched::Watch;
 use lab_threads::Gate;
+use lab_worlds::Observer;
 use std::alloc::Global;
 use std::sync::atomic::{AtomicU64, Ordering};
 

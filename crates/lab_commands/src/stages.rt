@@ -1,8 +1,8 @@
 //! Searches that end where something is found: one after the other, each of which goes further than the one before.
 use crate::explore::{Found, Search};
 use crate::inquiry::Inquiry;
-use lab_explore::{Exploration, Limits, Walks};
 use lab_questions::{Answers, Failure};
+use lab_worlds::{Exploration, Limits, Walks};
 use std::alloc::{AllocError, Global};
 
 /// How many worlds a search visits at first, and then, one number after the other, as long as nothing is found.

@@ -6,16 +6,16 @@ use Rattle.lab_sched.specs.Worlds.{WorldState, run}
 use Rattle.lab_sched.specs.Execution.{AreEffective}
 use Rattle.lab_sched.specs.Schedules.{steps_of}
 use Rattle.lab_sched.proofs.Executions.{effective-append}
-use Rattle.lab_explore.specs.declared.walking.Walk.{Walk}
-use Rattle.lab_explore.specs.declared.rounds.Round.{Round}
-use Rattle.lab_explore.specs.declared.store.Store.{Store}
-use Rattle.lab_explore.specs.Private.Stored.{IsLike}
+use Rattle.lab_worlds.specs.declared.walking.Walk.{Walk}
+use Rattle.lab_worlds.specs.declared.rounds.Round.{Round}
+use Rattle.lab_search.specs.declared.store.Store.{Store}
+use Rattle.lab_search.specs.Stored.{IsLike}
 use Rattle.ipc_kernel.specs.Alike.{IsConsistent}
-use Rattle.lab_explore.specs.Calls.{AreAlike}
-use Rattle.lab_explore.proofs.AlikeWorlds.{world_itself, world_then, world_back, run_alike, effective_alike, consistent_run}
-use Rattle.lab_explore.specs.Private.Walked.{IsWalk}
-use Rattle.lab_explore.specs.Rounds.{IsRound, CanBeRepeated, AreEndless}
-use Rattle.lab_explore.proofs.FirstWorlds.{at_unique}
+use Rattle.lab_worlds.specs.Calls.{AreAlike}
+use Rattle.lab_worlds.proofs.AlikeWorlds.{world_itself, world_then, world_back, run_alike, effective_alike, consistent_run}
+use Rattle.lab_worlds.specs.Walked.{IsWalk}
+use Rattle.lab_worlds.specs.Rounds.{IsRound, CanBeRepeated, AreEndless}
+use Rattle.lab_search.proofs.FirstWorlds.{at_unique}
 
 -- a walk to the world of a row, and one from there to the world of that row
 pub walk_round : (start : WorldState) (first second : Walk) (t : Store) (i : ℕ) → IsWalk start first → IsLike t i first.world → IsWalk first.world second → IsLike t i second.world

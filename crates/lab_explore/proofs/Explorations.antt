@@ -1,62 +1,40 @@
 -- Explorations: what the parts of one say together.
-use Rattle.std.proofs.Common.{ℕ, Bool, true, false, All, IsTrue, arith, count_by, ◌≡◌, ◌≤◌, ◌+◌, ◌++◌, [], ◌∷◌, slice_get, List, Option, Some, None, refl, sym, ap, subst, ◌∙◌, length, map, inl, inr}
-use Rattle.ipc_kernel.specs.Kernel.{KernelState, empty_kernel}
-use Rattle.lab_sched.specs.declared.process.Process.{Process as Kept}
-use Rattle.lab_sched.specs.declared.process.Process.TheVariants as kept
-use Rattle.std.proofs.lemmas.List.Elements.{All-weaker}
+use Rattle.std.proofs.Common.{ℕ, Bool, true, false, All, arith, count_by, ◌≡◌, ◌≤◌, ◌+◌, ◌++◌, [], ◌∷◌, slice_get, List, Some, refl, sym, ap, subst, ◌∙◌, length}
 use Rattle.ipc_kernel.specs.Alike.{IsConsistent}
-use Rattle.ipc_store.proofs.Consistents.{consistent_empty}
 use Rattle.ipc_kernel.specs.Operands.{are_named}
-use Rattle.ipc_store.proofs.CommutingCalls.{own_calls_commute, start_named, stay_named, own_alike}
-use Rattle.lab_explore.specs.Calls.{AreAlike}
-use Rattle.lab_explore.proofs.AlikeWorlds.{world_then, world_back, one_verdict, consistent_run}
-use Rattle.lab_sched.specs.Worlds.{Process, Running, Waiting, Ended, WorldState, step_effect, step_effect_in, run, entries}
-use Rattle.lab_sched.specs.Finished.{IsAtRest}
+use Rattle.ipc_store.proofs.CommutingCalls.{own_calls_commute, stay_named, own_alike}
+use Rattle.lab_worlds.specs.Calls.{AreAlike}
+use Rattle.lab_worlds.proofs.AlikeWorlds.{world_then, world_back, one_verdict, consistent_run}
+use Rattle.lab_sched.specs.Worlds.{Process, Running, Waiting, Ended, WorldState, run, entries}
 use Rattle.lab_sched.specs.Schedules.{steps_of}
-use Rattle.lab_sched.specs.Verdicts.{IsVerdict, IsRunning, IsWaiting, HasEnded, AreStuck, is_waiting}
+use Rattle.lab_sched.specs.Verdicts.{IsVerdict, IsWaiting, HasEnded, AreStuck, is_waiting}
 use Rattle.lab_sched.specs.declared.verdict.Verdict.{Verdict}
 use Rattle.lab_sched.specs.declared.verdict.Verdict.TheVariants as verdict
-use Rattle.lab_sched.proofs.WorldLemmas.{fresh_world}
-use Rattle.lab_sched.proofs.IneffectiveProcesses.{at_rest}
-use Rattle.lab_sched.specs.Held.{process_view, IsHeld, IsWorld}
-use Rattle.lab_sched.specs.Starts.{AreStarts, initial_world}
-use Rattle.lab_explore.specs.declared.store.Store.{Store}
-use Rattle.lab_explore.specs.declared.ends.End.{End}
-use Rattle.lab_explore.specs.declared.walking.Walk.{Walk}
-use Rattle.lab_explore.specs.Closed.{HasAdvance, AreAtRest}
-use Rattle.lab_explore.specs.Untried.{NoneGoesOn, untried, AskAgain}
-use Rattle.lab_explore.specs.Private.Stored.{IsAt, IsLike, IsSearched, Keeps}
-use Rattle.lab_explore.specs.Private.Independent.{AreTriedIn, StatesKeepNames, IsSearchedIn}
-use Rattle.lab_explore.specs.Private.Depths.{AreDepths, waiting}
-use Rattle.lab_explore.specs.Private.Rising.{AreRising}
-use Rattle.lab_explore.specs.Rounds.{AreBounded}
-use Rattle.lab_explore.specs.Private.Walked.{IsWalk, HasUntriedEnd, HaveRowEnds}
-use Rattle.lab_explore.specs.Ends.{IsEnd, AreEnds, HaveAllEnds, NoneStuck, NeverStuck}
-use Rattle.lab_explore.proofs.UntriedWorlds.{rests_alike, running_untried, running_ask, AreRunning}
-use Rattle.std.specs.Option.{option_map}
+use Rattle.lab_search.specs.declared.store.Store.{Store}
+use Rattle.lab_worlds.specs.declared.ends.End.{End}
+use Rattle.lab_worlds.specs.Closed.{AreAtRest}
+use Rattle.lab_worlds.specs.Untried.{NoneGoesOn, untried, AskAgain}
+use Rattle.lab_search.specs.Stored.{IsAt, IsLike, IsSearched}
+use Rattle.lab_worlds.specs.Private.Kept.{Keeps}
+use Rattle.lab_search.specs.Sparse.{IsSearchedIn}
+use Rattle.lab_states.specs.Depths.{AreDepths}
+use Rattle.lab_worlds.specs.Walked.{waiting}
+use Rattle.lab_states.specs.Rising.{AreRising}
+use Rattle.lab_worlds.specs.Rounds.{AreBounded}
+use Rattle.lab_explore.specs.Private.RowEnds.{HasUntriedEnd, HaveRowEnds}
+use Rattle.lab_worlds.specs.Ends.{IsEnd, AreEnds, HaveAllEnds, NoneStuck, NeverStuck}
+use Rattle.lab_worlds.proofs.UntriedWorlds.{rests_alike}
 use Rattle.std.specs.List.Sorted.{IsPermutation}
 use Rattle.std.proofs.lemmas.List.Sorted.{All-permutation, IsPermutation-sym}
-use Rattle.std.proofs.lemmas.Option.{slice_get-map, slice_get-get_or}
-use Rattle.lab_sched.specs.Starts.{Runs}
-use Rattle.lab_explore.proofs.Pushes.{get_pushed, all_at}
-use Rattle.lab_explore.proofs.FirstWorlds.{at_unique, AreAtDepth, all_levels}
-use Rattle.lab_explore.proofs.FewestCalls.{untried_waits}
-use Rattle.lab_explore.proofs.Bounds.{searched_bounded}
-use Rattle.lab_explore.proofs.IndependentCalls.{worlds_keep}
-use Rattle.lab_explore.proofs.SparseEnds.{reaches_end_sparsely}
-use Rattle.lab_explore.proofs.SparseBounds.{sparsely_bounded}
-use Rattle.lab_explore.proofs.HeldAdvances.{idle, asks_run, reaches_end}
-
--- the start of a laboratory, by copies of its processes over an empty kernel
-pub started : (w : WorldState) (ps qs : List Kept) (k : KernelState) (n : ℕ) → initial_world ps ≡ w → qs ≡ ps → n ≡ length qs → k ≡ empty_kernel n
-    → w ≡ record { processes = map process_view qs; kernel = k }
-started w ps qs k n world same count empty =
-    sym world ∙ ap initial_world (sym same) ∙ ap (λ j. record { processes = map process_view qs; kernel = j }) (ap empty_kernel (sym count) ∙ sym empty)
-
--- what a search holds whose rows were tried
-pub searched_in : (sparse : Bool) (start : WorldState) (t : Store) → HasAdvance (IsAt t 0) start → AreTriedIn sparse t → (IsTrue sparse → StatesKeepNames t) → IsSearchedIn sparse start t
-searched_in false start t first tried keep = record { begins = first; expanded = tried }
-searched_in true start t first tried keep = record { begins = first; tried = tried; keep_names = worlds_keep t (keep refl) }
+use Rattle.std.proofs.lemmas.Option.{slice_get-get_or}
+use Rattle.lab_worlds.proofs.Pushes.{get_pushed, all_at}
+use Rattle.lab_search.proofs.FirstWorlds.{at_unique, AreAtDepth, all_levels}
+use Rattle.lab_worlds.proofs.FewestCalls.{untried_waits}
+use Rattle.lab_search.proofs.Bounds.{searched_bounded}
+use Rattle.lab_search.proofs.SparseEnds.{reaches_end_sparsely}
+use Rattle.lab_search.proofs.SparseBounds.{sparsely_bounded}
+use Rattle.lab_worlds.proofs.HeldAdvances.{asks_run, reaches_end}
+use Rattle.lab_worlds.proofs.WalkedEnds.{verdict_rests}
 
 -- a search that isn't sparse holds each step
 pub whole_search : (sparse : Bool) (start : WorldState) (t : Store) → sparse ≡ false → IsSearchedIn sparse start t → IsSearched start t
@@ -84,10 +62,6 @@ pub bounded_in : (sparse : Bool) (start : WorldState) (t : Store) → IsConsiste
     → IsSearchedIn sparse start t → AreRising t.edges → AreBounded start
 bounded_in false start t consistent asks first named searched rising = searched_bounded t start consistent asks first searched rising
 bounded_in true start t consistent asks first named searched rising = sparsely_bounded t start own_calls_commute stay_named own_alike consistent asks first named searched rising
-
--- in the kernel of a laboratory before its first step each object has a name
-pub fresh_named : (w : WorldState) (n : ℕ) → w.kernel ≡ empty_kernel n → are_named w.kernel.places ≡ true
-fresh_named w n is = ap (λ (k : KernelState). are_named k.places) is ∙ start_named n
 
 -- one of the ends is in a world alike, with its verdict, after at most n calls
 abbrev pub IsReachedIn : List End → WorldState → ℕ → Type 0
@@ -117,31 +91,6 @@ all_ends sparse fresh start t ends same consistent asks first named each searche
 
 pub same_ends : (fresh start : WorldState) (ends : List End) → fresh ≡ start → AreEnds start ends → AreEnds fresh ends
 same_ends fresh start ends same each = subst (λ s. AreEnds s ends) (sym same) each
-
--- copies of processes over the empty kernel
-pub copies_world : (ps cs : List Kept) (k : KernelState) → cs ≡ ps → AreStarts ps → k ≡ empty_kernel (length ps) → IsWorld cs k
-copies_world ps cs k same starts empty = subst (λ xs. IsWorld xs k) (sym same) (fresh_world ps k (record { starts = starts; empty = empty }))
-
-ended_rests : (k : KernelState) (p : ℕ) (s : Process) → HasEnded s → IsAtRest k p s
-ended_rests k p (Running m) h = h
-ended_rests k p (Waiting m c) h = absurd h
-ended_rests k p (Ended e) h = h
-
--- a world that isn't open is at rest
-pub verdict_rests : (w : WorldState) (v : Verdict) → IsVerdict w v → (v ≡ verdict.Open → ⊥) → AreAtRest w
-verdict_rests w verdict.Ended h n p s at = ended_rests w.kernel p s (h p s at)
-verdict_rests w verdict.Stuck h n p s at =
-    elim (idle (step_effect_in w p)) [
-      | inl none ↦ at_rest w.kernel p s (ap (λ o. step_effect w.kernel p o) (sym at) ∙ none)
-      | inr effective ↦ absurd (h.none_moves p effective)
-    ]
-verdict_rests w verdict.Open h n p s at = absurd (n refl)
-
--- the end of a walk
-pub walk_end : (start : WorldState) (walk : Walk) (v : Verdict) (e : End) → IsWalk start walk → IsVerdict walk.world v → (v ≡ verdict.Open → ⊥)
-    → e ≡ record { world = walk.world; schedule = walk.schedule; verdict = v; calls = walk.calls } → IsEnd start e
-walk_end start walk v e h stands closed same =
-    subst (IsEnd start) (sym same) (record { effective = h.effective; leads = h.leads; calls = h.calls; rests = verdict_rests walk.world v stands closed; verdict = stands; closed = closed })
 
 -- ends that were found stay found
 pub end_kept : (xs ys : List End) (w : WorldState) (d : ℕ) → Keeps xs ys → HasUntriedEnd xs w d → HasUntriedEnd ys w d
@@ -176,34 +125,3 @@ pub never_stuck : (start : WorldState) (ends : List End) → HaveAllEnds start e
 never_stuck start ends all none ps stuck =
     let has = all ps (verdict_rests (run start ps) verdict.Stuck stuck (λ e. absurd (cc))) in
     all_at (λ e. e.verdict ≡ verdict.Stuck → ⊥) ends has.0 has.1 none has.2 (stuck_verdict (run start ps) has.1.verdict stuck has.4)
-
--- each process of a laboratory runs before its first step
-pub starts_run : (ps : List Kept) (k : KernelState) → AreStarts ps → AreRunning (record { processes = map process_view ps; kernel = k })
-starts_run ps k starts p s at = by (slice_get ps p) refl
-  where
-    by : (o : Option Kept) → slice_get ps p ≡ o → IsRunning s
-    by None e = let h : None ≡ Some s = ap (λ x. option_map process_view x) (sym e) ∙ sym (slice_get-map process_view ps p) ∙ at in absurd (cc)
-    by (Some x) e =
-        let h : Some (process_view x) ≡ Some s = ap (λ x. option_map process_view x) (sym e) ∙ sym (slice_get-map process_view ps p) ∙ at in
-        let same : process_view x ≡ s = cc in
-        subst IsRunning same (all_at Runs ps p x starts.running e)
-
--- so none has begun to wait
-pub starts_untried : (ps qs : List Kept) (k : KernelState) → qs ≡ ps → AreStarts ps → untried (record { processes = map process_view qs; kernel = k }) ≡ record { processes = map process_view qs; kernel = k }
-starts_untried ps qs k same starts = running_untried (record { processes = map process_view qs; kernel = k }) (starts_run qs k (subst AreStarts (sym same) starts))
-
-pub starts_ask : (ps qs : List Kept) (k : KernelState) → qs ≡ ps → AreStarts ps → AskAgain (record { processes = map process_view qs; kernel = k })
-starts_ask ps qs k same starts = running_ask (record { processes = map process_view qs; kernel = k }) (starts_run qs k (subst AreStarts (sym same) starts))
-
--- the kernel of a laboratory before its first step is consistent
-pub fresh_consistent : (w : WorldState) (n : ℕ) → w.kernel ≡ empty_kernel n → IsConsistent w.kernel
-fresh_consistent w n is = subst IsConsistent (sym is) (consistent_empty n)
-
-runs_held : (k : Kept) → Runs k → IsHeld k
-runs_held (kept.Running m) h = tt
-runs_held (kept.Waiting m c) h = absurd h
-runs_held (kept.Ended e) h = absurd h
-
--- and asks for nothing else than what it waits for
-pub starts_held : (ps qs : List Kept) → qs ≡ ps → AreStarts ps → All IsHeld qs
-starts_held ps qs same starts = subst (All IsHeld) (sym same) (All-weaker Runs IsHeld runs_held ps starts.running)

@@ -9,7 +9,7 @@ use Rattle.std.proofs.Math.Nat.{add-mul, one-mul, div-lt_iff_lt-mul}
 use Rattle.std.proofs.lemmas.Bool.{cases_lt}
 use Rattle.std.proofs.lemmas.Nat.{div-add-mod', mod_below}
 use Rattle.lab_conditions.specs.declared.condition.Condition.{Condition}
-use Rattle.lab_explore.specs.declared.store.Store.{Store}
+use Rattle.lab_search.specs.declared.store.Store.{Store}
 use Rattle.lab_explore.specs.Private.Judged.{RowHolds, StandsBefore, FailsBefore, IsFirst}
 
 -- what stands before a row that stands before another stands before that

@@ -18,24 +18,24 @@ use Rattle.lab_conditions.specs.declared.never.Never.TheVariants as never
 use Rattle.lab_conditions.specs.Losses.{Loses}
 use Rattle.lab_conditions.specs.Conditions.{Holds, HoldsOverAny, world_of}
 use Rattle.ipc_kernel.specs.Alike.{IsConsistent}
-use Rattle.lab_explore.specs.Private.Rows.{Row}
-use Rattle.lab_explore.specs.declared.store.Store.{Store}
-use Rattle.lab_explore.specs.Calls.{Both, Alongside}
-use Rattle.lab_explore.specs.Untried.{untried, AskAgain}
-use Rattle.lab_explore.specs.Reached.{LeadsTo, LeadsToLoss, Violates, IsKept, ViolatesIfSome, KeptIfNone, AreKept, AreReached}
-use Rattle.lab_explore.specs.Private.Shorts.{silent, IsButForOutput}
-use Rattle.lab_explore.specs.Private.Stored.{IsExactly, IsState, IsRow, IsAt, IsLike, IsSearched}
-use Rattle.lab_explore.specs.declared.walking.Walk.{Walk}
-use Rattle.lab_explore.specs.Private.Walked.{IsWalk}
-use Rattle.lab_explore.specs.Private.Independent.{IsSearchedIn}
+use Rattle.lab_states.specs.Rows.{Row}
+use Rattle.lab_search.specs.declared.store.Store.{Store}
+use Rattle.lab_worlds.specs.Calls.{Both, Alongside}
+use Rattle.lab_worlds.specs.Untried.{untried, AskAgain}
+use Rattle.lab_worlds.specs.Reached.{LeadsTo, LeadsToLoss, Violates, IsKept, ViolatesIfSome, KeptIfNone, AreKept, AreReached}
+use Rattle.lab_states.specs.Shorts.{silent, IsButForOutput}
+use Rattle.lab_search.specs.Stored.{IsExactly, IsState, IsRow, IsAt, IsLike, IsSearched}
+use Rattle.lab_worlds.specs.declared.walking.Walk.{Walk}
+use Rattle.lab_worlds.specs.Walked.{IsWalk}
+use Rattle.lab_search.specs.Sparse.{IsSearchedIn}
 use Rattle.lab_explore.specs.Private.Judged.{IsUnseen, UnseenIfNone, JudgesFor}
-use Rattle.lab_explore.proofs.AlikeWorlds.{consistent_run}
-use Rattle.lab_explore.proofs.AfterLocalSteps.{same_some}
-use Rattle.lab_explore.proofs.Pushes.{both_weaker, alongside_push}
+use Rattle.lab_worlds.proofs.AlikeWorlds.{consistent_run}
+use Rattle.lab_worlds.proofs.AfterLocalSteps.{same_some}
+use Rattle.lab_worlds.proofs.Pushes.{both_weaker, alongside_push}
 use Rattle.lab_explore.proofs.KeptConditions.{holds_alike, never_holds}
 use Rattle.lab_explore.proofs.KeptLosses.{never_loses}
 use Rattle.lab_explore.proofs.Explorations.{whole_search}
-use Rattle.lab_explore.proofs.SilentProcesses.{holds_silently}
+use Rattle.lab_states.proofs.SilentProcesses.{holds_silently}
 
 -- the process at a place of a row's world
 row_process : (t : Store) (state : ℕ) (k : Kept) (a : Option ℕ) (b : Option Process) → a ≡ Some state → slice_get t.states.processes state ≡ Some k → Both (IsState t) a b → b ≡ Some (process_view k)

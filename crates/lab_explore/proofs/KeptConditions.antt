@@ -13,18 +13,18 @@ use Rattle.lab_conditions.specs.declared.condition.State.TheVariants as state
 use Rattle.lab_conditions.specs.declared.condition.Condition.{Condition}
 use Rattle.lab_conditions.specs.Conditions.{must_wait, option_any, call_next, call_of, has_crashed, is_so, Holds}
 use Rattle.lab_conditions.proofs.CarriedConditions.{so_alike, Carries, carried}
-use Rattle.lab_explore.specs.declared.store.Store.{Store}
-use Rattle.lab_explore.specs.Calls.{AreAlike, IsAtCall, IsAhead, Both, IsAdvance}
-use Rattle.lab_explore.specs.Closed.{HasAdvance}
-use Rattle.lab_explore.specs.Untried.{GoesOn, untried, AsksAgain, AskAgain}
-use Rattle.lab_explore.specs.Reached.{NeverHolds}
-use Rattle.lab_explore.specs.Private.Stored.{IsAt, IsSearched}
+use Rattle.lab_search.specs.declared.store.Store.{Store}
+use Rattle.lab_worlds.specs.Calls.{AreAlike, IsAtCall, IsAhead, Both, IsAdvance}
+use Rattle.lab_worlds.specs.Closed.{HasAdvance}
+use Rattle.lab_worlds.specs.Untried.{GoesOn, untried, AsksAgain, AskAgain}
+use Rattle.lab_worlds.specs.Reached.{NeverHolds}
+use Rattle.lab_search.specs.Stored.{IsAt, IsSearched}
 use Rattle.lab_explore.specs.Private.Judged.{NoRowHolds}
-use Rattle.lab_explore.proofs.AlikeWorlds.{consistent_run}
-use Rattle.lab_explore.proofs.AfterLocalSteps.{stays}
-use Rattle.lab_explore.proofs.UntriedWorlds.{untried_at}
-use Rattle.lab_explore.proofs.HeldAdvances.{AreLevels, asks_run, reaches_world}
-use Rattle.lab_explore.proofs.FirstWorlds.{at_unique, reached_advance}
+use Rattle.lab_worlds.proofs.AlikeWorlds.{consistent_run}
+use Rattle.lab_worlds.proofs.AfterLocalSteps.{stays}
+use Rattle.lab_worlds.proofs.UntriedWorlds.{untried_at}
+use Rattle.lab_worlds.proofs.HeldAdvances.{AreLevels, asks_run, reaches_world}
+use Rattle.lab_search.proofs.FirstWorlds.{at_unique, reached_advance}
 
 call_back : (s : Process) → AsksAgain s → call_of (before_wait s) ≡ call_of s
 call_back (Running m) asks = refl

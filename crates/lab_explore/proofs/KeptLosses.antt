@@ -13,19 +13,19 @@ use Rattle.lab_sched.proofs.Executions.{effect_local}
 use Rattle.lab_conditions.specs.Conditions.{option_any, call_next}
 use Rattle.lab_conditions.specs.Losses.{messages, is_receiving, receives, Loses}
 use Rattle.lab_conditions.proofs.MessageCounts.{messages_alike}
-use Rattle.lab_explore.specs.declared.store.Edge.{Edge}
-use Rattle.lab_explore.specs.declared.store.Store.{Store}
-use Rattle.lab_explore.specs.Calls.{IsAtCall, IsAhead, Both, IsAdvance}
-use Rattle.lab_explore.specs.Untried.{GoesOn, untried, AskAgain}
-use Rattle.lab_explore.specs.Reached.{NeverLoses}
-use Rattle.lab_explore.specs.Private.Stored.{IsAt, HasEdge, IsSearched}
+use Rattle.lab_states.specs.declared.edges.Edge.{Edge}
+use Rattle.lab_search.specs.declared.store.Store.{Store}
+use Rattle.lab_worlds.specs.Calls.{IsAtCall, IsAhead, Both, IsAdvance}
+use Rattle.lab_worlds.specs.Untried.{GoesOn, untried, AskAgain}
+use Rattle.lab_worlds.specs.Reached.{NeverLoses}
+use Rattle.lab_search.specs.Stored.{IsAt, HasEdge, IsSearched}
 use Rattle.lab_explore.specs.Private.Judged.{IsLoss, NoEdgeLoses}
-use Rattle.lab_explore.proofs.AlikeWorlds.{effect_alike, kernel_alike, consistent_run}
-use Rattle.lab_explore.proofs.AfterLocalSteps.{stays}
-use Rattle.lab_explore.proofs.Pushes.{all_at}
-use Rattle.lab_explore.proofs.UntriedWorlds.{tells, same_step, still_untried}
-use Rattle.lab_explore.proofs.HeldAdvances.{asks_run, reaches_world}
-use Rattle.lab_explore.proofs.FirstWorlds.{at_unique}
+use Rattle.lab_worlds.proofs.AlikeWorlds.{effect_alike, kernel_alike, consistent_run}
+use Rattle.lab_worlds.proofs.AfterLocalSteps.{stays}
+use Rattle.lab_worlds.proofs.Pushes.{all_at}
+use Rattle.lab_worlds.proofs.UntriedWorlds.{tells, same_step, still_untried}
+use Rattle.lab_worlds.proofs.HeldAdvances.{asks_run, reaches_world}
+use Rattle.lab_search.proofs.FirstWorlds.{at_unique}
 use Rattle.lab_explore.proofs.KeptConditions.{IsSomeRow, row_levels}
 
 -- a step of this kind leaves fewer messages

@@ -7,11 +7,11 @@ use Rattle.lab_sched.specs.declared.process.Process.{Process as Kept}
 use Rattle.lab_sched.specs.Worlds.{Process, WorldState}
 use Rattle.lab_sched.specs.Held.{process_view}
 use Rattle.lab_conditions.specs.Losses.{messages, is_receiving}
-use Rattle.lab_explore.specs.Private.Rows.{Row}
-use Rattle.lab_explore.specs.declared.store.Store.{Store}
-use Rattle.lab_explore.specs.Calls.{Both}
-use Rattle.lab_explore.specs.Private.Stored.{IsState, IsRow, IsAt}
-use Rattle.lab_explore.proofs.AfterLocalSteps.{same_some}
+use Rattle.lab_states.specs.Rows.{Row}
+use Rattle.lab_search.specs.declared.store.Store.{Store}
+use Rattle.lab_worlds.specs.Calls.{Both}
+use Rattle.lab_search.specs.Stored.{IsState, IsRow, IsAt}
+use Rattle.lab_worlds.proofs.AfterLocalSteps.{same_some}
 
 -- a value of one element more
 pub mapped_more : {A B : Type 0} (f : A → B) (xs : List A) (n : ℕ) (x : A) (y : B) (ys zs : List B) → ys ≡ map f (take n xs) → n < length xs → x ≡ get_or xs n x → y ≡ f x → zs ≡ ys ++ y ∷ []

@@ -14,17 +14,18 @@ use Rattle.lab_sched.specs.Verdicts.{is_running}
 use Rattle.lab_sched.proofs.ListPlaces.{get-set_same, get-set_other, get_past}
 use Rattle.lab_sched.proofs.Runs.{run-one, length-run}
 use Rattle.lab_sched.proofs.OwnSteps.{first_local}
-use Rattle.lab_explore.specs.declared.store.Store.{Store}
-use Rattle.lab_explore.specs.Untried.{GoesOn, untried, AskAgain}
-use Rattle.lab_explore.specs.Fairness.{IsServed, IsPass, ArePasses, AreFairlyBounded}
-use Rattle.lab_explore.specs.Private.Stored.{IsSearched}
-use Rattle.lab_explore.specs.Private.Ranked.{rank_of, keeper_of, IsFalling, AreRanked, HaveRanks}
-use Rattle.lab_explore.proofs.Pushes.{all_at}
-use Rattle.lab_explore.proofs.StepCounts.{part_most, total_most, count_yes, count_no, count_first, contained_counts}
-use Rattle.lab_explore.proofs.AfterLocalSteps.{same_some}
-use Rattle.lab_explore.proofs.AlikeWorlds.{effect_alike}
-use Rattle.lab_explore.proofs.StandingWorlds.{Place, Stands, GoesNearer, GoesAlong, TakesAt, total, total_set, running, running_goes, running_waits, step_stands, start_stands}
-use Rattle.lab_explore.proofs.UntriedWorlds.{tells, same_step, none_goes, still_untried, goes_untried, asks_on}
+use Rattle.lab_search.specs.declared.store.Store.{Store}
+use Rattle.lab_worlds.specs.Untried.{GoesOn, untried, AskAgain}
+use Rattle.lab_worlds.specs.Fairness.{IsServed, IsPass, ArePasses, AreFairlyBounded}
+use Rattle.lab_search.specs.Stored.{IsSearched}
+use Rattle.lab_states.specs.Falling.{rank_of, keeper_of, IsFalling}
+use Rattle.lab_explore.specs.Private.Ranked.{AreRanked, HaveRanks}
+use Rattle.lab_worlds.proofs.Pushes.{all_at}
+use Rattle.lab_search.proofs.StepCounts.{part_most, total_most, count_yes, count_no, count_first, contained_counts}
+use Rattle.lab_worlds.proofs.AfterLocalSteps.{same_some}
+use Rattle.lab_worlds.proofs.AlikeWorlds.{effect_alike}
+use Rattle.lab_search.proofs.StandingWorlds.{Place, Stands, GoesNearer, GoesAlong, TakesAt, total, total_set, running, running_goes, running_waits, step_stands, start_stands}
+use Rattle.lab_worlds.proofs.UntriedWorlds.{tells, same_step, none_goes, still_untried, goes_untried, asks_on}
 
 -- one that goes on has an effective step
 goes_effective : (t : StepEffect) → GoesOn t → IsEffective t

@@ -1,11 +1,1 @@
-pub mod Calls
-pub mod Alikes
-pub mod Untried
-pub mod Closed
-pub mod Ends
-pub mod Rounds
-pub mod Fairness
-pub mod Reached
-pub mod Pictures
-pub mod Operands
 pub mod Private

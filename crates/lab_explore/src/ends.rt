@@ -3,90 +3,25 @@ ghost use Rattle.std.specs.Prelude.{◌≡◌, ◌≤◌, ◌+◌, IsTrue, false
 ghost use Rattle.std.specs.List.Sorted.{IsPermutation, IsNonDecreasingBy};
 ghost use Rattle.lab_sched.specs.Worlds.{WorldState};
 ghost use Rattle.lab_sched.specs.Starts.{AreStarts, initial_world};
-ghost use Rattle.lab_sched.specs.declared.verdict.Verdict.TheVariants.{Open};
-ghost use Rattle.lab_explore.specs.Untried.{untried, NoneGoesOn};
-ghost use Rattle.lab_explore.specs.Private.Stored.{IsAt, IsStore, IsLike, Keeps};
-ghost use Rattle.lab_explore.specs.Private.Depths.{waiting};
-ghost use Rattle.lab_explore.specs.Private.Walked.{IsWalk, HasRowEnd, HaveRowEnds};
-ghost use Rattle.lab_explore.specs.Ends.{IsEnd, AreEnds};
+ghost use Rattle.lab_worlds.specs.Untried.{untried, NoneGoesOn};
+ghost use Rattle.lab_worlds.specs.Private.Kept.{Keeps};
+ghost use Rattle.lab_worlds.specs.Walked.{waiting};
+ghost use Rattle.lab_worlds.specs.Ends.{IsEnd, AreEnds};
+ghost use Rattle.lab_search.specs.Stored.{IsAt, IsStore, IsLike};
+ghost use Rattle.lab_explore.specs.Private.RowEnds.{HasRowEnd, HaveRowEnds};
 
-use crate::ExploreFault;
-use crate::depths::depth_of;
-use crate::search::Search;
-use crate::store::Next;
-use crate::trying::discard;
-use crate::walking::Walk;
-use lab_sched::{Process, Schedule, Verdict, World};
+use crate::depths::depths_of;
+use crate::visited::Visited;
+use lab_sched::Process;
+use lab_states::depth_of;
+use lab_worlds::{End, ExploreFault, Walk, discard, end_of};
 use std::alloc::{AllocError, Global};
-use std::mem::size_of;
-
-/// About how many bytes a block of a schedule takes, with its text.
-const BLOCK: usize = 32;
-
-/// A world at rest, how it stands, and a schedule that leads to it, with the number of its calls.
-#[derive(Drop)]
-pub struct End {
-    pub world: World,
-    pub schedule: Schedule,
-    pub verdict: Verdict,
-    pub calls: u32,
-}
 
 /// Ends, and whether these are the ends of all rows.
 #[derive(Drop)]
 pub(crate) struct Collected {
     pub ends: Vec<End>,
     pub whole: bool,
-}
-
-impl End {
-    /// About how many bytes it takes, with its report and the texts of its schedule.
-    pub(crate) fn size(&self) -> usize {
-        let mut size = size_of::<End>()
-            .saturating_add(self.world.kernel().size())
-            .saturating_add(BLOCK.saturating_mul(self.schedule.blocks().len()));
-        for pid in 0..self.world.count() {
-            if let Some(process) = self.world.process(pid) {
-                let output = process.machine().output().len();
-                size = size
-                    .saturating_add(process.machine().size())
-                    .saturating_add(output.saturating_mul(3));
-            }
-        }
-        size
-    }
-}
-
-/// Whether a world that stands so isn't at rest.
-fn is_open(verdict: Verdict) -> bool
-    ensures closed { result ≡ false → verdict ≡ Open → ⊥ }
-{
-    matches!(verdict, Verdict::Open)
-}
-
-/// The end that a walk came to.
-pub(crate) fn end_of(walk: Walk) -> Result<End, ExploreFault>
-    ensures end { IfOk result (λ e. (start : WorldState) → IsWalk start walk → IsEnd start e) }
-    ensures world { IfOk result (λ e. e.world ≡ walk.world) }
-    ensures calls { IfOk result (λ e. e.calls ≡ walk.calls) }
-{
-    let Walk {
-        world,
-        schedule,
-        calls,
-    } = walk;
-    let verdict = world.verdict();
-    if is_open(verdict) {
-        discard(world);
-        discard(schedule);
-        return Err(ExploreFault::Unvouched);
-    }
-    Ok(End {
-        world,
-        schedule,
-        verdict,
-        calls,
-    })
 }
 
 /// Puts ends with fewer calls first.
@@ -98,9 +33,9 @@ fn sort_by_calls(ends: &mut Vec<End>) -> Result<(), AllocError>
     Ok(())
 }
 
-impl Search {
+impl Visited {
     /// Whether it may be that no process goes on from the world of a row: no edge leads from it.
-    pub(crate) fn may_rest(&self, at: usize) -> bool
+    pub fn may_rest(&self, at: usize) -> bool
         requires store { IsStore self.now.store }
         ensures no { result ≡ false → (w : WorldState)
             → IsAt self.now.store at w → NoneGoesOn w → ⊥ }
@@ -130,7 +65,7 @@ impl Search {
     }
 
     /// The end of a row of this depth, reached again.
-    pub(crate) fn row_end(
+    pub fn row_end(
         &self,
         alloc: Global,
         processes: &[Process],
@@ -217,7 +152,7 @@ impl Search {
         ensures all { IfOk result (λ c. IsTrue c.whole → IsTrue self.now.complete
             → HaveRowEnds self.now.store c.ends.items) }
     {
-        let depths = self.store.depths(alloc)?;
+        let depths = depths_of(&self.store, alloc)?;
         let mut ends = Vec::new(alloc);
         let mut size = 0_usize;
         for at in 0..self.store.rows.len() {

@@ -2,45 +2,28 @@
 ghost use Rattle.std.specs.Prelude.{◌≡◌, [], IsTrue, false, None, IfOk, IfSome};
 ghost use Rattle.std.specs.List.Sorted.{IsNonDecreasingBy};
 ghost use Rattle.lab_sched.specs.Starts.{AreStarts, initial_world};
-ghost use Rattle.lab_explore.specs.Private.Known.{AreKnown};
-ghost use Rattle.lab_explore.specs.Private.Stored.{IsStore};
-ghost use Rattle.lab_explore.specs.Private.Walked.{HaveRowEnds};
-ghost use Rattle.lab_explore.specs.Ends.{AreEnds, HaveAllEnds, HaveFewestCalls, NoneStuck, NeverStuck};
-ghost use Rattle.lab_explore.specs.Reached.{AreReached, AreKept};
+ghost use Rattle.lab_worlds.specs.Ends.{AreEnds, HaveAllEnds, HaveFewestCalls, NoneStuck, NeverStuck};
+ghost use Rattle.lab_worlds.specs.Reached.{AreReached, AreKept};
+ghost use Rattle.lab_worlds.specs.Calls.{Alongside};
+ghost use Rattle.lab_worlds.specs.Rounds.{IsRound, CanBeRepeated, AreEndless, AreBounded};
+ghost use Rattle.lab_worlds.specs.Fairness.{IsFairRound, AreFairlyEndless, AreFairlyBounded};
+ghost use Rattle.lab_states.specs.Rising.{AreRising};
+ghost use Rattle.lab_search.specs.Known.{AreKnown};
+ghost use Rattle.lab_search.specs.Stored.{IsStore};
+ghost use Rattle.lab_explore.specs.Private.RowEnds.{HaveRowEnds};
 ghost use Rattle.lab_explore.specs.Private.Judged.{UnseenIfNone};
-ghost use Rattle.lab_explore.specs.Calls.{Alongside};
-ghost use Rattle.lab_explore.specs.Rounds.{IsRound, CanBeRepeated, AreEndless, AreBounded};
-ghost use Rattle.lab_explore.specs.Private.Rising.{AreRising};
-ghost use Rattle.lab_explore.specs.Fairness.{IsFairRound, AreFairlyEndless, AreFairlyBounded};
 ghost use Rattle.lab_explore.specs.Private.Ranked.{HaveRanks};
 
 use crate::ends::Collected;
 use crate::fair::Rounds;
-use crate::moves::both;
-use crate::search::{Search, search_all};
-use crate::trying::discard;
-use crate::{End, ExploreFault, Limits, Observer, Round, Workers};
+use crate::visited::{Visited, visit};
 use ipc_kernel::Kernel;
 use lab_conditions::Never;
-use lab_sched::{Fresh, Process, Schedule};
+use lab_sched::{Fresh, Process};
+use lab_search::both;
+use lab_worlds::{Exploration, ExploreFault, Limits, Observer, Workers, discard};
 use std::alloc::Global;
 use std::thread::Threads;
-
-/// What the programs of a laboratory can come to: their ends, for each thing that must never be so
-/// steps to it, if there are any, a round, if they can go on for ever, how many worlds were visited,
-/// and whether these are all. Where they aren't, the search may have come to its end because memory
-/// was refused.
-#[derive(Drop)]
-pub struct Exploration {
-    pub ends: Vec<End>,
-    pub reached: Vec<Option<Schedule>>,
-    pub round: Option<Round>,
-    /// Whether only rounds that are fair are told.
-    pub fair: bool,
-    pub worlds: u32,
-    pub complete: bool,
-    pub refused: bool,
-}
 
 /// Whether a search may leave out worlds that no end needs: where nothing is asked of each world.
 fn may_be_sparse(nevers: &[Never], fair: bool) -> bool
@@ -108,21 +91,21 @@ pub fn explore<O: Observer, R: Threads + Sync>(
     let processes = fresh.processes();
     let kernel = Kernel::new(alloc, processes.len())?;
     let sparse = may_be_sparse(nevers, fair);
-    let search = search_all(alloc, &processes, &kernel, limits, observer, sparse)?;
-    let room = room_for_ends(limits, search.size());
-    match search.report(alloc, &processes, room, nevers, fair, workers) {
+    let visited = visit(alloc, &processes, &kernel, limits, observer, sparse)?;
+    let room = room_for_ends(limits, visited.size());
+    match visited.report(alloc, &processes, room, nevers, fair, workers) {
         Ok(found) => {
-            discard(search);
+            discard(visited);
             Ok(found)
         }
         Err(fault) => {
-            discard(search);
+            discard(visited);
             Err(fault)
         }
     }
 }
 
-impl Search {
+impl Visited {
     /// A round among the worlds that were visited, if there is one; one that is fair, if that is asked.
     fn rounds(
         &self,

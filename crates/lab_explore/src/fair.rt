@@ -3,23 +3,18 @@ ghost use Rattle.std.specs.Prelude.{◌≡◌, None, IsTrue, IfOk, IfSome, OnOk}
 ghost use Rattle.lab_sched.specs.Worlds.{WorldState, run};
 ghost use Rattle.lab_sched.specs.Schedules.{steps_of};
 ghost use Rattle.lab_sched.specs.Starts.{AreStarts, initial_world};
-ghost use Rattle.lab_explore.specs.Calls.{AreAlike};
-ghost use Rattle.lab_explore.specs.Fairness.{IsPass, IsFairRound};
-ghost use Rattle.lab_explore.specs.Private.Known.{AreKnown};
-ghost use Rattle.lab_explore.specs.Private.Passing.{IsPassing, KeepsPassing};
+ghost use Rattle.lab_worlds.specs.Calls.{AreAlike};
+ghost use Rattle.lab_worlds.specs.Fairness.{IsPass, IsFairRound};
+ghost use Rattle.lab_worlds.specs.Passing.{IsPassing, KeepsPassing};
+ghost use Rattle.lab_worlds.specs.Walked.{IsWalk, KeepsStart};
+ghost use Rattle.lab_search.specs.Known.{AreKnown};
 ghost use Rattle.lab_explore.specs.Private.Ranked.{HaveRanks};
-ghost use Rattle.lab_explore.specs.Private.Walked.{IsWalk, KeepsStart};
 
-use crate::comparing::are_alike;
-use crate::passing::Pass;
-use crate::search::Search;
-use crate::served::Sets;
-use crate::store::place_of;
-use crate::tours::{Leg, Tour};
-use crate::trying::discard;
-use crate::walking::Walk;
-use crate::{ExploreFault, Round};
+use crate::tours::tour;
+use crate::visited::Visited;
 use lab_sched::{Process, Schedule, World};
+use lab_states::{Sets, place_of};
+use lab_worlds::{ExploreFault, Pass, Round, Tour, Walk, are_alike, discard};
 use std::alloc::Global;
 
 /// A round, if there is one, and whether it is shown that there is none if it isn't told.
@@ -29,42 +24,7 @@ pub(crate) struct Rounds {
     pub shown: bool,
 }
 
-impl Walk {
-    /// Goes along a part of a tour to where a process waits that doesn't go on from there.
-    fn go_leg(&mut self, leg: Leg) -> Result<(), ExploreFault>
-        ensures walk { OnOk result (KeepsStart self.old self.new) }
-    {
-        match leg {
-            Leg::Step { pid, taken } => {
-                self.go(pid as usize)?;
-                self.go_on(pid as usize, taken)
-            }
-            Leg::Rest(pid) => self.wait(pid as usize),
-        }
-    }
-
-    /// Lets a process begin to wait, if it runs.
-    fn wait(&mut self, pid: usize) -> Result<(), ExploreFault>
-        ensures walk { OnOk result (KeepsStart self.old self.new) }
-    {
-        if matches!(self.world.process(pid), Some(Process::Running(_))) {
-            self.go(pid)?;
-        }
-        Ok(())
-    }
-
-    /// Goes along parts of a tour.
-    fn go_legs(&mut self, legs: &[Leg]) -> Result<(), ExploreFault>
-        ensures walk { OnOk result (KeepsStart self.old self.new) }
-    {
-        for leg in legs {
-            self.go_leg(*leg)?;
-        }
-        Ok(())
-    }
-}
-
-impl Search {
+impl Visited {
     /// Goes to the row of a tour, and along its first part.
     fn go_to_tour(&self, alloc: Global, tour: &Tour, walk: &mut Walk) -> Result<(), ExploreFault>
         ensures walk { OnOk result (KeepsStart walk.old walk.new) }
@@ -159,7 +119,7 @@ fn round_of(alloc: Global, walk: Walk, tour: &Tour, world: &World) -> Result<Rou
     }
 }
 
-impl Search {
+impl Visited {
     /// The round along a tour, where a walk along its first part led to this world.
     fn round_beside(
         &self,
@@ -217,7 +177,7 @@ impl Search {
             IfSome round (λ r. IsFairRound (initial_world processes.now) r)) }
     {
         let count = place_of(processes.len())?;
-        let Some(tour) = sets.tour(alloc, self, at, count)? else {
+        let Some(tour) = tour(sets, alloc, self, at, count)? else {
             return Ok(None);
         };
         match self.round_along(alloc, processes, &tour) {

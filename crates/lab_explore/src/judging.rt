@@ -1,18 +1,18 @@
 //! Conditions that are judged of the worlds that a search keeps.
-ghost use Rattle.std.specs.Prelude.{◌≡◌, ◌↔◌, ◌<◌, ◌≤◌, ◌⊎◌, false, ℕ, List, Some, Ok, All, Contains, IsTrue, is_ok, length, map, IfOk, IfSome, OnOk};
+ghost use Rattle.std.specs.Prelude.{◌≡◌, ◌↔◌, ◌<◌, ◌≤◌, ◌⊎◌, false, ℕ, List, Some, Ok, All, Contains, IsTrue, is_ok, map, IfOk, IfSome, OnOk};
 ghost use Rattle.lab_sched.specs.Worlds.{Process as Seen, WorldState};
 ghost use Rattle.lab_sched.specs.Held.{process_view};
 ghost use Rattle.lab_conditions.specs.Conditions.{Holds};
-ghost use Rattle.lab_explore.specs.Calls.{Alongside};
-ghost use Rattle.lab_explore.specs.Private.Stored.{IsExactly, IsState, IsAt};
+ghost use Rattle.lab_worlds.specs.Calls.{Alongside};
+ghost use Rattle.lab_states.specs.Shorts.{silent};
+ghost use Rattle.lab_search.specs.Stored.{IsExactly, IsState, IsAt};
 ghost use Rattle.lab_explore.specs.Private.Judged.{RowHolds, JudgesFor, StandsBefore, FailsBefore, IsFirst};
-ghost use Rattle.lab_explore.specs.Private.Shorts.{silent};
 
-use crate::store::Store;
-use crate::{ExploreFault, Workers};
 use ipc_kernel::Kernel;
 use lab_conditions::Condition;
 use lab_sched::Process;
+use lab_search::Store;
+use lab_worlds::{ExploreFault, Workers};
 use std::alloc::{AllocError, Global};
 use std::thread::{Threads, map_chunks};
 
@@ -70,233 +70,239 @@ fn first_found(parts: &[Result<Option<usize>, ExploreFault>]) -> Result<Option<u
     Ok(first)
 }
 
-impl Store {
-    /// The processes in states that are kept, in order, but for their outputs, of which no condition
-    /// speaks.
-    fn processes_in(&self, alloc: Global, states: &[u32]) -> Result<Vec<&Process>, ExploreFault>
-        ensures processes { IfOk result (λ processes. (ss : List Seen)
-            → Alongside (IsState self.now) states.now ss
-            → map (λ s. silent (process_view s.now)) processes.items ≡ map silent ss) }
-    {
-        let mut processes = Vec::new(alloc);
-        for state in states {
-            let Some(process) = self.states.short(*state as usize) else {
-                return Err(ExploreFault::Unvouched);
-            };
-            processes.push(process)?;
-        }
-        Ok(processes)
-    }
-
-    /// The kernel with a number, put together of its parts.
-    fn whole(&self, alloc: Global, number: u32) -> Result<Whole, ExploreFault>
-        ensures exactly { IfOk result (λ whole. IsExactly self.now whole.number whole.kernel) }
-        ensures number { IfOk result (λ whole. whole.number ≡ number) }
-    {
-        let found = self.kernels.get(alloc, number)?;
-        let kernel = found.ok_or(ExploreFault::Unvouched)?;
-        Ok(Whole { number, kernel })
-    }
-
-    /// Puts the kernel with a number together, if it isn't the one that was put together last.
-    fn put_together(&self, alloc: Global, last: &mut Whole, number: u32) -> Result<(), ExploreFault>
-        requires last { IsExactly self.now last.old.number last.old.kernel }
-        ensures number { OnOk result (last.new.number ≡ number) }
-        ensures exactly { OnOk result (IsExactly self.now number last.new.kernel) }
-    {
-        if last.number != number {
-            *last = self.whole(alloc, number)?;
-        }
-        Ok(())
-    }
-
-    /// Puts the kernel with a number together, if a condition can't be judged without it and it isn't the
-    /// one that was put together last.
-    fn put_for(
-        &self,
-        alloc: Global,
-        last: &mut Whole,
-        number: u32,
-        condition: &Condition,
-    ) -> Result<(), ExploreFault>
-        requires last { IsExactly self.now last.old.number last.old.kernel }
-        ensures last { OnOk result (IsExactly self.now last.new.number last.new.kernel) }
-        ensures judges { OnOk result (JudgesFor self.now condition.now number last.new.kernel) }
-    {
-        if !condition.needs_kernel() {
-            return Ok(());
-        }
-        self.put_together(alloc, last, number)?;
-        Ok(())
-    }
-
-    /// Whether a condition holds of the world of a row, by the kernel that was put together last where
-    /// that is the row's or the condition needs none.
-    fn row_holds(
-        &self,
-        alloc: Global,
-        last: &mut Whole,
-        at: usize,
-        condition: &Condition,
-    ) -> Result<bool, ExploreFault>
-        requires last { IsExactly self.now last.old.number last.old.kernel }
-        ensures last { OnOk result (IsExactly self.now last.new.number last.new.kernel) }
-        ensures holds { IfOk result (λ holds. (w : WorldState) → IsAt self.now at w
-            → IsTrue holds ↔ Holds condition.now w) }
-    {
-        let Some((number, states)) = self.rows.get(at) else {
+/// The processes in states that are kept, in order, but for their outputs, of which no condition
+/// speaks.
+fn processes_in<'a>(
+    store: &'a Store,
+    alloc: Global,
+    states: &[u32],
+) -> Result<Vec<&'a Process>, ExploreFault>
+    ensures processes { IfOk result (λ processes. (ss : List Seen)
+        → Alongside (IsState store.now) states.now ss
+        → map (λ s. silent (process_view s.now)) processes.items ≡ map silent ss) }
+{
+    let mut processes = Vec::new(alloc);
+    for state in states {
+        let Some(process) = store.states.short(*state as usize) else {
             return Err(ExploreFault::Unvouched);
         };
-        self.put_for(alloc, last, number, condition)?;
-        let processes = self.processes_in(alloc, states)?;
-        let holds = condition.holds_in(alloc, &last.kernel, processes.as_slice())?;
-        Ok(holds)
+        processes.push(process)?;
     }
+    Ok(processes)
+}
 
-    /// The first row of whose world a condition holds: this one, or one that was found before.
-    fn first_holding(
-        &self,
-        alloc: Global,
-        last: &mut Whole,
-        at: usize,
-        condition: &Condition,
-        first: Option<usize>,
-    ) -> Result<Option<usize>, ExploreFault>
-        requires last { IsExactly self.now last.old.number last.old.kernel }
-        requires some { IfSome first (RowHolds self.now condition.now) }
-        ensures last { OnOk result (IsExactly self.now last.new.number last.new.kernel) }
-        ensures some { IfOk result (λ found. IfSome found (RowHolds self.now condition.now)) }
-        ensures before { IfOk result (λ found. FailsBefore self.now condition.now found at) }
-        ensures others { IfOk result (λ found. (i : ℕ)
-            → StandsBefore found i → StandsBefore first i) }
-        ensures one { IfOk result (λ found. (found ≡ Some at) ⊎ (found ≡ first)) }
-    {
-        if !stands_before(at, first) {
-            return Ok(first);
-        }
-        let holds = self.row_holds(alloc, last, at, condition)?;
-        if holds {
-            return Ok(Some(at));
-        }
-        Ok(first)
-    }
+/// The kernel with a number, put together of its parts.
+fn whole_kernel(store: &Store, alloc: Global, number: u32) -> Result<Whole, ExploreFault>
+    ensures exactly { IfOk result (λ whole. IsExactly store.now whole.number whole.kernel) }
+    ensures number { IfOk result (λ whole. whole.number ≡ number) }
+{
+    let found = store.kernels.get(alloc, number)?;
+    let kernel = found.ok_or(ExploreFault::Unvouched)?;
+    Ok(Whole { number, kernel })
+}
 
-    /// The number of the kernel of a row, or 0.
-    fn kernel_of(&self, at: usize) -> u32 {
-        match self.rows.get(at) {
-            Some((kernel, _)) => kernel,
-            None => 0,
-        }
+/// Puts the kernel with a number together, if it isn't the one that was put together last.
+fn put_together(
+    store: &Store,
+    alloc: Global,
+    last: &mut Whole,
+    number: u32,
+) -> Result<(), ExploreFault>
+    requires last { IsExactly store.now last.old.number last.old.kernel }
+    ensures number { OnOk result (last.new.number ≡ number) }
+    ensures exactly { OnOk result (IsExactly store.now number last.new.kernel) }
+{
+    if last.number != number {
+        *last = whole_kernel(store, alloc, number)?;
     }
+    Ok(())
+}
 
-    /// The numbers of the rows from one up to another, of which those over the same kernel stand beside
-    /// one another where a condition needs kernels.
-    fn rows_to_judge(
-        &self,
-        alloc: Global,
-        condition: &Condition,
-        start: usize,
-        end: usize,
-    ) -> Result<Vec<usize>, AllocError>
-        ensures all { IfOk result (λ rows. (i : ℕ) → start ≤ i → i < end
-            → Contains rows.items i) }
-        ensures within { IfOk result (λ rows. All (λ i. (start ≤ i) × (i < end)) rows.items) }
-    {
-        let mut rows = Vec::new(alloc);
-        for at in start..end {
-            rows.push(at)?;
-        }
-        if !condition.needs_kernel() {
-            return Ok(rows);
-        }
-        rows.sort_by_key(|at| self.kernel_of(*at))?;
-        Ok(rows)
+/// Puts the kernel with a number together, if a condition can't be judged without it and it isn't the
+/// one that was put together last.
+fn put_for(
+    store: &Store,
+    alloc: Global,
+    last: &mut Whole,
+    number: u32,
+    condition: &Condition,
+) -> Result<(), ExploreFault>
+    requires last { IsExactly store.now last.old.number last.old.kernel }
+    ensures last { OnOk result (IsExactly store.now last.new.number last.new.kernel) }
+    ensures judges { OnOk result (JudgesFor store.now condition.now number last.new.kernel) }
+{
+    if !condition.needs_kernel() {
+        return Ok(());
     }
+    put_together(store, alloc, last, number)?;
+    Ok(())
+}
 
-    /// The first row of whose world a condition holds, of some rows. Each kernel is put together once where
-    /// the rows over it stand beside one another.
-    fn first_of(
-        &self,
-        alloc: Global,
-        condition: &Condition,
-        rows: &[usize],
-    ) -> Result<Option<usize>, ExploreFault>
-        ensures first { IfOk result (IsFirst self.now condition.now rows.now) }
-    {
-        let Some(one) = rows.first() else {
-            return Ok(None);
-        };
-        let mut last = self.whole(alloc, self.kernel_of(*one))?;
-        let mut first = None;
-        for at in rows {
-            first = self.first_holding(alloc, &mut last, *at, condition, first)?;
-        }
-        Ok(first)
-    }
+/// Whether a condition holds of the world of a row, by the kernel that was put together last where
+/// that is the row's or the condition needs none.
+fn row_holds(
+    store: &Store,
+    alloc: Global,
+    last: &mut Whole,
+    at: usize,
+    condition: &Condition,
+) -> Result<bool, ExploreFault>
+    requires last { IsExactly store.now last.old.number last.old.kernel }
+    ensures last { OnOk result (IsExactly store.now last.new.number last.new.kernel) }
+    ensures holds { IfOk result (λ holds. (w : WorldState) → IsAt store.now at w
+        → IsTrue holds ↔ Holds condition.now w) }
+{
+    let Some((number, states)) = store.rows.get(at) else {
+        return Err(ExploreFault::Unvouched);
+    };
+    put_for(store, alloc, last, number, condition)?;
+    let processes = processes_in(store, alloc, states)?;
+    let holds = condition.holds_in(alloc, &last.kernel, processes.as_slice())?;
+    Ok(holds)
+}
 
-    /// The same, where each thread judges a part of the rows, if they are many.
-    fn first_by_parts<R: Threads + Sync>(
-        &self,
-        alloc: Global,
-        condition: &Condition,
-        rows: &[usize],
-        workers: &Workers<'_, R>,
-    ) -> Result<Option<usize>, ExploreFault>
-        ensures first { IfOk result (IsFirst self.now condition.now rows.now) }
-    {
-        if workers.count < 2 || rows.len() < FEWEST {
-            return self.first_of(alloc, condition, rows);
-        }
-        let store = self;
-        let judge = |_: usize, part: &[usize]| -> Result<Option<usize>, ExploreFault>
-            ensures { IfOk result (IsFirst store.entry.now condition.entry.now part.now) }
-        { store.first_of(alloc, condition, part) };
-        let size = rows.len() / workers.count + 1;
-        let parts = map_chunks(workers.rt, alloc, rows, size, &judge)?;
-        let first = first_found(parts.as_slice())?;
-        Ok(first)
+/// The first row of whose world a condition holds: this one, or one that was found before.
+fn first_holding(
+    store: &Store,
+    alloc: Global,
+    last: &mut Whole,
+    at: usize,
+    condition: &Condition,
+    first: Option<usize>,
+) -> Result<Option<usize>, ExploreFault>
+    requires last { IsExactly store.now last.old.number last.old.kernel }
+    requires some { IfSome first (RowHolds store.now condition.now) }
+    ensures last { OnOk result (IsExactly store.now last.new.number last.new.kernel) }
+    ensures some { IfOk result (λ found. IfSome found (RowHolds store.now condition.now)) }
+    ensures before { IfOk result (λ found. FailsBefore store.now condition.now found at) }
+    ensures others { IfOk result (λ found. (i : ℕ)
+        → StandsBefore found i → StandsBefore first i) }
+    ensures one { IfOk result (λ found. (found ≡ Some at) ⊎ (found ≡ first)) }
+{
+    if !stands_before(at, first) {
+        return Ok(first);
     }
+    let holds = row_holds(store, alloc, last, at, condition)?;
+    if holds {
+        return Ok(Some(at));
+    }
+    Ok(first)
+}
 
-    /// The first row of whose world a condition holds, of those from one up to another.
-    fn first_among<R: Threads + Sync>(
-        &self,
-        alloc: Global,
-        condition: &Condition,
-        start: usize,
-        end: usize,
-        workers: &Workers<'_, R>,
-    ) -> Result<Option<usize>, ExploreFault>
-        ensures some { IfOk result (λ first. IfSome first (RowHolds self.now condition.now)) }
-        ensures before { IfOk result (λ first. (i : ℕ) → start ≤ i → i < end
-            → FailsBefore self.now condition.now first i) }
-        ensures within { IfOk result (λ first. IfSome first (λ at. (start ≤ at) × (at < end))) }
-    {
-        let rows = self.rows_to_judge(alloc, condition, start, end)?;
-        let first = self.first_by_parts(alloc, condition, rows.as_slice(), workers)?;
-        Ok(first)
+/// The number of the kernel of a row, or 0.
+fn kernel_of(store: &Store, at: usize) -> u32 {
+    match store.rows.get(at) {
+        Some((kernel, _)) => kernel,
+        None => 0,
     }
+}
 
-    /// The first row of whose world a condition holds.
-    pub(crate) fn first_where<R: Threads + Sync>(
-        &self,
-        alloc: Global,
-        condition: &Condition,
-        workers: &Workers<'_, R>,
-    ) -> Result<Option<usize>, ExploreFault>
-        ensures some { IfOk result (λ first. IfSome first (RowHolds self.now condition.now)) }
-        ensures first { IfOk result (λ first. (i : ℕ)
-            → FailsBefore self.now condition.now first i) }
-    {
-        let count = self.rows.len();
-        let mut start = 0;
-        while start < count {
-            let end = start.saturating_add(start.max(TOGETHER)).min(count);
-            let found = self.first_among(alloc, condition, start, end, workers)?;
-            if found.is_some() {
-                return Ok(found);
-            }
-            start = end;
-        }
-        Ok(None)
+/// The numbers of the rows from one up to another, of which those over the same kernel stand beside
+/// one another where a condition needs kernels.
+fn rows_to_judge(
+    store: &Store,
+    alloc: Global,
+    condition: &Condition,
+    start: usize,
+    end: usize,
+) -> Result<Vec<usize>, AllocError>
+    ensures all { IfOk result (λ rows. (i : ℕ) → start ≤ i → i < end
+        → Contains rows.items i) }
+    ensures within { IfOk result (λ rows. All (λ i. (start ≤ i) × (i < end)) rows.items) }
+{
+    let mut rows = Vec::new(alloc);
+    for at in start..end {
+        rows.push(at)?;
     }
+    if !condition.needs_kernel() {
+        return Ok(rows);
+    }
+    rows.sort_by_key(|at| kernel_of(store, *at))?;
+    Ok(rows)
+}
+
+/// The first row of whose world a condition holds, of some rows. Each kernel is put together once where
+/// the rows over it stand beside one another.
+fn first_of(
+    store: &Store,
+    alloc: Global,
+    condition: &Condition,
+    rows: &[usize],
+) -> Result<Option<usize>, ExploreFault>
+    ensures first { IfOk result (IsFirst store.now condition.now rows.now) }
+{
+    let Some(one) = rows.first() else {
+        return Ok(None);
+    };
+    let mut last = whole_kernel(store, alloc, kernel_of(store, *one))?;
+    let mut first = None;
+    for at in rows {
+        first = first_holding(store, alloc, &mut last, *at, condition, first)?;
+    }
+    Ok(first)
+}
+
+/// The same, where each thread judges a part of the rows, if they are many.
+fn first_by_parts<R: Threads + Sync>(
+    store: &Store,
+    alloc: Global,
+    condition: &Condition,
+    rows: &[usize],
+    workers: &Workers<'_, R>,
+) -> Result<Option<usize>, ExploreFault>
+    ensures first { IfOk result (IsFirst store.now condition.now rows.now) }
+{
+    if workers.count < 2 || rows.len() < FEWEST {
+        return first_of(store, alloc, condition, rows);
+    }
+    let judge = |_: usize, part: &[usize]| -> Result<Option<usize>, ExploreFault>
+        ensures { IfOk result (IsFirst store.entry.now condition.entry.now part.now) }
+    { first_of(store, alloc, condition, part) };
+    let size = rows.len() / workers.count + 1;
+    let parts = map_chunks(workers.rt, alloc, rows, size, &judge)?;
+    let first = first_found(parts.as_slice())?;
+    Ok(first)
+}
+
+/// The first row of whose world a condition holds, of those from one up to another.
+fn first_among<R: Threads + Sync>(
+    store: &Store,
+    alloc: Global,
+    condition: &Condition,
+    start: usize,
+    end: usize,
+    workers: &Workers<'_, R>,
+) -> Result<Option<usize>, ExploreFault>
+    ensures some { IfOk result (λ first. IfSome first (RowHolds store.now condition.now)) }
+    ensures before { IfOk result (λ first. (i : ℕ) → start ≤ i → i < end
+        → FailsBefore store.now condition.now first i) }
+    ensures within { IfOk result (λ first. IfSome first (λ at. (start ≤ at) × (at < end))) }
+{
+    let rows = rows_to_judge(store, alloc, condition, start, end)?;
+    let first = first_by_parts(store, alloc, condition, rows.as_slice(), workers)?;
+    Ok(first)
+}
+
+/// The first row of whose world a condition holds.
+pub(crate) fn first_where<R: Threads + Sync>(
+    store: &Store,
+    alloc: Global,
+    condition: &Condition,
+    workers: &Workers<'_, R>,
+) -> Result<Option<usize>, ExploreFault>
+    ensures some { IfOk result (λ first. IfSome first (RowHolds store.now condition.now)) }
+    ensures first { IfOk result (λ first. (i : ℕ)
+        → FailsBefore store.now condition.now first i) }
+{
+    let count = store.rows.len();
+    let mut start = 0;
+    while start < count {
+        let end = start.saturating_add(start.max(TOGETHER)).min(count);
+        let found = first_among(store, alloc, condition, start, end, workers)?;
+        if found.is_some() {
+            return Ok(found);
+        }
+        start = end;
+    }
+    Ok(None)
 }

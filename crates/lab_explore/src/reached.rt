@@ -1,22 +1,22 @@
 //! What must never be so and is found by a search, each with steps from the start.
-ghost use Rattle.std.specs.Prelude.{◌≡◌, ℕ, IsTrue, None, IfOk, IfSome, OnOk};
+ghost use Rattle.std.specs.Prelude.{◌≡◌, None, IfOk, IfSome, OnOk};
 ghost use Rattle.lab_sched.specs.Worlds.{WorldState, run};
 ghost use Rattle.lab_sched.specs.Execution.{AreEffective};
 ghost use Rattle.lab_sched.specs.Schedules.{steps_of};
 ghost use Rattle.lab_sched.specs.Starts.{AreStarts, initial_world};
-ghost use Rattle.lab_explore.specs.Private.Stored.{IsLike};
+ghost use Rattle.lab_worlds.specs.Walked.{IsWalk};
+ghost use Rattle.lab_worlds.specs.Calls.{Alongside};
+ghost use Rattle.lab_worlds.specs.Reached.{LeadsTo, LeadsToLoss, Violates, AreReached};
+ghost use Rattle.lab_search.specs.Stored.{IsLike};
 ghost use Rattle.lab_explore.specs.Private.Judged.{NoRowHolds, NoEdgeLoses, IsUnseen, UnseenIfNone};
-ghost use Rattle.lab_explore.specs.Private.Walked.{IsWalk};
-ghost use Rattle.lab_explore.specs.Calls.{Alongside};
-ghost use Rattle.lab_explore.specs.Reached.{LeadsTo, LeadsToLoss, Violates, AreReached};
 
-use crate::search::Search;
-use crate::store::Edge;
-use crate::trying::discard;
-use crate::walking::Walk;
-use crate::{ExploreFault, Workers};
+use crate::judging::first_where;
+use crate::losses::first_loss;
+use crate::visited::Visited;
 use lab_conditions::{Condition, Never};
 use lab_sched::{Process, Schedule};
+use lab_states::Edge;
+use lab_worlds::{ExploreFault, Walk, Workers, discard};
 use std::alloc::Global;
 use std::thread::Threads;
 
@@ -33,7 +33,7 @@ fn schedule_of(walk: Walk) -> Schedule
     schedule
 }
 
-impl Search {
+impl Visited {
     /// The steps that lead from the start to the world of a row.
     fn schedule_to(
         &self,
@@ -72,7 +72,7 @@ impl Search {
         ensures none { IfOk result (λ found. found ≡ None
             → NoRowHolds self.now.store condition.now) }
     {
-        let Some(at) = self.store.first_where(alloc, condition, workers)? else {
+        let Some(at) = first_where(&self.store, alloc, condition, workers)? else {
             return Ok(None);
         };
         let schedule = self.schedule_to(alloc, processes, at)?;
@@ -121,7 +121,7 @@ impl Search {
             LeadsToLoss (initial_world processes.now) s)) }
         ensures none { IfOk result (λ found. found ≡ None → NoEdgeLoses self.now.store) }
     {
-        let Some(edge) = self.store.first_loss(alloc)? else {
+        let Some(edge) = first_loss(&self.store, alloc)? else {
             return Ok(None);
         };
         let schedule = self.schedule_to_loss(alloc, processes, edge)?;

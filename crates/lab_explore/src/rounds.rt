@@ -3,28 +3,18 @@ ghost use Rattle.std.specs.Prelude.{◌≡◌, ◌≤◌, length, None, IfOk, If
 ghost use Rattle.lab_sched.specs.Worlds.{WorldState};
 ghost use Rattle.lab_sched.specs.Schedules.{steps_of};
 ghost use Rattle.lab_sched.specs.Starts.{AreStarts, initial_world};
-ghost use Rattle.lab_explore.specs.Private.Stored.{IsLike};
-ghost use Rattle.lab_explore.specs.Private.Walked.{IsWalk, KeepsStart};
-ghost use Rattle.lab_explore.specs.Rounds.{IsRound};
-ghost use Rattle.lab_explore.specs.Private.Rising.{AreRising};
+ghost use Rattle.lab_worlds.specs.Walked.{IsWalk, KeepsStart};
+ghost use Rattle.lab_worlds.specs.Rounds.{IsRound};
+ghost use Rattle.lab_states.specs.Rising.{AreRising};
+ghost use Rattle.lab_search.specs.Stored.{IsLike};
 
-use crate::ExploreFault;
-use crate::graph::{Cycle, cycle_of, is_order, is_order_by_number, order_of};
-use crate::search::Search;
-use crate::trying::discard;
-use crate::walking::Walk;
-use lab_sched::{Process, Schedule};
+use crate::visited::Visited;
+use lab_sched::Process;
+use lab_states::{Cycle, cycle_of, is_order, is_order_by_number, order_of};
+use lab_worlds::{ExploreFault, Round, Walk, discard};
 use std::alloc::Global;
 
-/// A schedule that leads to a world, and steps from that world to one alike, at least one. They can
-/// be repeated for ever.
-#[derive(Drop)]
-pub struct Round {
-    pub schedule: Schedule,
-    pub steps: Schedule,
-}
-
-impl Search {
+impl Visited {
     /// Takes the steps of the edges of a cycle, at least one. They must lead to the world of its row.
     fn go_round(&self, alloc: Global, cycle: &Cycle, walk: &mut Walk) -> Result<(), ExploreFault>
         ensures walk { OnOk result (KeepsStart walk.old walk.new) }

@@ -1,30 +1,9 @@
 //! Ways through strongly connected sets of rows that serve each process. Nothing that is proved rests
 //! on what stands here: the steps along them are taken again (`fair`).
-use crate::ExploreFault;
-use crate::edges::Edges;
-use crate::graph::{number_at, path_of, put};
-use crate::search::Search;
-use crate::served::{Sets, going_from, only};
-use crate::store::{Edge, place_of};
+use crate::visited::Visited;
+use lab_states::{Edge, Edges, Sets, going_from, number_at, only, path_of, place_of, put};
+use lab_worlds::{ExploreFault, Leg, Tour};
 use std::alloc::{AllocError, Global};
-
-/// A part of a tour.
-#[derive(Clone, Copy, Drop)]
-pub(crate) enum Leg {
-    /// A step of a process, and then so many local steps.
-    Step { pid: u8, taken: u32 },
-    /// The process doesn't go on from here: it waits, or has ended.
-    Rest(u32),
-}
-
-/// A tour through a set, from a row back to it. Along its first part processes begin to wait that take
-/// no step inside the set.
-#[derive(Drop)]
-pub(crate) struct Tour {
-    pub at: usize,
-    pub first: Vec<Leg>,
-    pub second: Vec<Leg>,
-}
 
 /// What is looked for on a way.
 #[derive(Clone, Copy)]
@@ -57,10 +36,10 @@ impl Way {
     }
 
     /// Goes along edges of a search, the last of which comes first.
-    fn go(&mut self, search: &Search, path: &[Edge]) -> Result<(), ExploreFault> {
+    fn go(&mut self, visited: &Visited, path: &[Edge]) -> Result<(), ExploreFault> {
         for edge in path.iter().rev() {
             let pid = edge.pid;
-            let taken = search.steps_after(edge.from, pid)?;
+            let taken = visited.steps_after(edge.from, pid)?;
             self.legs.push(Leg::Step { pid, taken })?;
             self.moved |= only(pid as u32);
             self.row = edge.to as usize;
@@ -74,157 +53,170 @@ impl Way {
     }
 }
 
-impl Sets {
-    /// Whether a row is what is looked for.
-    fn is_there(&self, edges: &Edges, row: usize, goal: Goal) -> bool {
-        match goal {
-            Goal::Rest(pid) => going_from(edges, row) & only(pid) == 0,
-            Goal::Step(_) => false,
-            Goal::Row(other) => row == other,
-        }
+/// Whether a row is what is looked for.
+fn is_there(sets: &Sets, edges: &Edges, row: usize, goal: Goal) -> bool {
+    match goal {
+        Goal::Rest(pid) => going_from(edges, row) & only(pid) == 0,
+        Goal::Step(_) => false,
+        Goal::Row(other) => row == other,
     }
+}
 
-    /// Whether an edge is what is looked for, or leads to it.
-    fn leads_there(&self, edges: &Edges, edge: &Edge, goal: Goal) -> bool {
-        match goal {
-            Goal::Step(pid) => edge.pid as u32 == pid,
-            _ => self.is_there(edges, edge.to as usize, goal),
-        }
+/// Whether an edge is what is looked for, or leads to it.
+fn leads_there(sets: &Sets, edges: &Edges, edge: &Edge, goal: Goal) -> bool {
+    match goal {
+        Goal::Step(pid) => edge.pid as u32 == pid,
+        _ => is_there(sets, edges, edge.to as usize, goal),
     }
+}
 
-    /// Follows the edges from a row inside its set: those to rows that weren't reached are written down,
-    /// with the place of the edge plus 1; with the place of one that is looked for, or leads to it.
-    fn follow(
-        &self,
-        edges: &Edges,
-        row: usize,
-        goal: Goal,
-        reached: &mut Vec<u32>,
-        rows: &mut Vec<u32>,
-    ) -> Result<Option<usize>, AllocError> {
-        for at in edges.places_from(row) {
-            if let Some(edge) = edges.get_after(at, row) {
-                let to = edge.to as usize;
-                if self.set_of(to) == self.set_of(row) {
-                    if self.leads_there(edges, &edge, goal) {
-                        return Ok(Some(at));
-                    }
-                    if number_at(reached, to) == 0 {
-                        put(reached, to, place_of(at)?.saturating_add(1));
-                        rows.push(edge.to)?;
-                    }
+/// Follows the edges from a row inside its set: those to rows that weren't reached are written down,
+/// with the place of the edge plus 1; with the place of one that is looked for, or leads to it.
+fn follow(
+    sets: &Sets,
+    edges: &Edges,
+    row: usize,
+    goal: Goal,
+    reached: &mut Vec<u32>,
+    rows: &mut Vec<u32>,
+) -> Result<Option<usize>, AllocError> {
+    for at in edges.places_from(row) {
+        if let Some(edge) = edges.get_after(at, row) {
+            let to = edge.to as usize;
+            if sets.set_of(to) == sets.set_of(row) {
+                if leads_there(sets, edges, &edge, goal) {
+                    return Ok(Some(at));
+                }
+                if number_at(reached, to) == 0 {
+                    put(reached, to, place_of(at)?.saturating_add(1));
+                    rows.push(edge.to)?;
                 }
             }
         }
-        Ok(None)
     }
+    Ok(None)
+}
 
-    /// The edges of a shortest way from a row to what is looked for, inside its set, the last of which
-    /// comes first.
-    fn path_to(
-        &self,
-        alloc: Global,
-        edges: &Edges,
-        from: usize,
-        goal: Goal,
-    ) -> Result<Option<Vec<Edge>>, AllocError> {
-        let count = self.of_rows.len();
-        let mut reached = vec![in alloc; 0; count]?;
-        let mut rows = vec![in alloc; place_of(from)?]?;
-        for place in 0..count {
-            let Some(row) = rows.get(place).copied() else {
-                return Ok(None);
-            };
-            if let Some(last) = self.follow(edges, row as usize, goal, &mut reached, &mut rows)? {
-                let path = path_of(alloc, edges, reached.as_slice(), from, last)?;
-                return Ok(Some(path));
-            }
-        }
-        Ok(None)
-    }
-
-    /// Goes on to what is looked for, inside the set; with whether it is there.
-    fn go_on(
-        &self,
-        alloc: Global,
-        search: &Search,
-        goal: Goal,
-        way: &mut Way,
-    ) -> Result<bool, ExploreFault> {
-        if self.is_there(&search.store.edges, way.row, goal) {
-            return Ok(true);
-        }
-        let Some(path) = self.path_to(alloc, &search.store.edges, way.row, goal)? else {
-            return Ok(false);
+/// Follows the edges from rows inside their set, one row after the other; with the place of one that is
+/// looked for, or leads to it.
+fn follow_all(
+    sets: &Sets,
+    edges: &Edges,
+    goal: Goal,
+    reached: &mut Vec<u32>,
+    rows: &mut Vec<u32>,
+) -> Result<Option<usize>, AllocError> {
+    for place in 0..sets.of_rows.len() {
+        let Some(row) = rows.get(place).copied() else {
+            return Ok(None);
         };
-        way.go(search, path.as_slice())?;
-        Ok(true)
+        let last = follow(sets, edges, row as usize, goal, reached, rows)?;
+        if last.is_some() {
+            return Ok(last);
+        }
     }
+    Ok(None)
+}
 
-    /// Goes, for each process that has no edge inside the set, to a row from which it doesn't go on; with
-    /// whether there is one for each.
-    fn go_to_rests(
-        &self,
-        alloc: Global,
-        search: &Search,
-        count: u32,
-        way: &mut Way,
-    ) -> Result<bool, ExploreFault> {
-        for pid in 0..count {
-            if !self.moves(way.row, pid) {
-                let came = self.go_on(alloc, search, Goal::Rest(pid), way)?;
-                if !came {
-                    return Ok(false);
-                }
-                way.legs.push(Leg::Rest(pid))?;
+/// The edges of a shortest way from a row to what is looked for, inside its set, the last of which
+/// comes first.
+fn path_to(
+    sets: &Sets,
+    alloc: Global,
+    edges: &Edges,
+    from: usize,
+    goal: Goal,
+) -> Result<Option<Vec<Edge>>, AllocError> {
+    let mut reached = vec![in alloc; 0; sets.of_rows.len()]?;
+    let mut rows = vec![in alloc; place_of(from)?]?;
+    let Some(last) = follow_all(sets, edges, goal, &mut reached, &mut rows)? else {
+        return Ok(None);
+    };
+    let path = path_of(alloc, edges, reached.as_slice(), from, last)?;
+    Ok(Some(path))
+}
+
+/// Goes on to what is looked for, inside the set; with whether it is there.
+fn go_on(
+    sets: &Sets,
+    alloc: Global,
+    visited: &Visited,
+    goal: Goal,
+    way: &mut Way,
+) -> Result<bool, ExploreFault> {
+    if is_there(sets, &visited.store.edges, way.row, goal) {
+        return Ok(true);
+    }
+    let Some(path) = path_to(sets, alloc, &visited.store.edges, way.row, goal)? else {
+        return Ok(false);
+    };
+    way.go(visited, path.as_slice())?;
+    Ok(true)
+}
+
+/// Goes, for each process that has no edge inside the set, to a row from which it doesn't go on; with
+/// whether there is one for each.
+fn go_to_rests(
+    sets: &Sets,
+    alloc: Global,
+    visited: &Visited,
+    count: u32,
+    way: &mut Way,
+) -> Result<bool, ExploreFault> {
+    for pid in 0..count {
+        if !sets.moves(way.row, pid) {
+            let came = go_on(sets, alloc, visited, Goal::Rest(pid), way)?;
+            if !came {
+                return Ok(false);
+            }
+            way.legs.push(Leg::Rest(pid))?;
+        }
+    }
+    Ok(true)
+}
+
+/// Goes, for each process that has an edge inside the set and took no step so far, along an edge of
+/// it; with whether there is one for each.
+fn go_to_steps(
+    sets: &Sets,
+    alloc: Global,
+    visited: &Visited,
+    count: u32,
+    way: &mut Way,
+) -> Result<bool, ExploreFault> {
+    for pid in 0..count {
+        if sets.moves(way.row, pid) && !way.has_moved(pid) {
+            let came = go_on(sets, alloc, visited, Goal::Step(pid), way)?;
+            if !came {
+                return Ok(false);
             }
         }
-        Ok(true)
     }
+    Ok(true)
+}
 
-    /// Goes, for each process that has an edge inside the set and took no step so far, along an edge of
-    /// it; with whether there is one for each.
-    fn go_to_steps(
-        &self,
-        alloc: Global,
-        search: &Search,
-        count: u32,
-        way: &mut Way,
-    ) -> Result<bool, ExploreFault> {
-        for pid in 0..count {
-            if self.moves(way.row, pid) && !way.has_moved(pid) {
-                let came = self.go_on(alloc, search, Goal::Step(pid), way)?;
-                if !came {
-                    return Ok(false);
-                }
-            }
-        }
-        Ok(true)
+/// A tour from a row through its set that serves each of so many processes, if the set does.
+pub(crate) fn tour(
+    sets: &Sets,
+    alloc: Global,
+    visited: &Visited,
+    at: usize,
+    count: u32,
+) -> Result<Option<Tour>, ExploreFault> {
+    let mut way = Way::at(alloc, at);
+    if !go_to_rests(sets, alloc, visited, count, &mut way)? {
+        return Ok(None);
     }
-
-    /// A tour from a row through its set that serves each of so many processes, if the set does.
-    pub(crate) fn tour(
-        &self,
-        alloc: Global,
-        search: &Search,
-        at: usize,
-        count: u32,
-    ) -> Result<Option<Tour>, ExploreFault> {
-        let mut way = Way::at(alloc, at);
-        if !self.go_to_rests(alloc, search, count, &mut way)? {
-            return Ok(None);
-        }
-        let mut more = Way::at(alloc, way.row);
-        more.moved = way.moved;
-        if !self.go_to_steps(alloc, search, count, &mut more)?
-            || !self.go_on(alloc, search, Goal::Row(at), &mut more)?
-        {
-            return Ok(None);
-        }
-        Ok(Some(Tour {
-            at,
-            first: way.legs,
-            second: more.legs,
-        }))
+    let mut more = Way::at(alloc, way.row);
+    more.moved = way.moved;
+    if !go_to_steps(sets, alloc, visited, count, &mut more)?
+        || !go_on(sets, alloc, visited, Goal::Row(at), &mut more)?
+    {
+        return Ok(None);
     }
+    Ok(Some(Tour {
+        at,
+        first: way.legs,
+        second: more.legs,
+    }))
 }

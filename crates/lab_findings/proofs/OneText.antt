@@ -7,7 +7,7 @@ use Rattle.lab_sched.proofs.VerdictLemmas.{verdict_from, verdict_worked_out}
 use Rattle.lab_texts.specs.Rows.{texts_below}
 use Rattle.lab_texts.specs.Texts.{text_of, out_line}
 use Rattle.lab_texts.specs.Verdicts.{verdict_line}
-use Rattle.lab_explore.specs.Alikes.{OneVerdict}
+use Rattle.lab_worlds.specs.Alikes.{OneVerdict}
 use Rattle.lab_findings.specs.declared.show.Show.{Show}
 use Rattle.lab_findings.specs.Shown.{outcome_text, head_text, with_left, shown_text}
 use Rattle.lab_findings.specs.Laws.{OneText}

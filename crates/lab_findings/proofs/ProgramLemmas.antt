@@ -10,12 +10,12 @@ use Rattle.lab_sched.specs.Verdicts.{IsVerdict, verdict_of}
 use Rattle.lab_sched.proofs.VerdictLemmas.{verdict_from}
 use Rattle.lab_texts.specs.Verdicts.{verdict_line}
 use Rattle.lab_texts.specs.Reports.{report_text, process_reports}
-use Rattle.lab_explore.specs.declared.ends.End.{End}
-use Rattle.lab_explore.specs.declared.rounds.Round.{Round}
-use Rattle.lab_explore.specs.declared.exploring.Exploration.{Exploration}
-use Rattle.lab_explore.specs.Closed.{AreAtRest}
-use Rattle.lab_explore.specs.Ends.{IsEnd, AreEnds, HaveAllEnds, NoneStuck, HaveFewestCalls}
-use Rattle.lab_explore.specs.Rounds.{AreBounded}
+use Rattle.lab_worlds.specs.declared.ends.End.{End}
+use Rattle.lab_worlds.specs.declared.rounds.Round.{Round}
+use Rattle.lab_worlds.specs.declared.exploration.Exploration.{Exploration}
+use Rattle.lab_worlds.specs.Closed.{AreAtRest}
+use Rattle.lab_worlds.specs.Ends.{IsEnd, AreEnds, HaveAllEnds, NoneStuck, HaveFewestCalls}
+use Rattle.lab_worlds.specs.Rounds.{AreBounded}
 use Rattle.lab_findings.specs.declared.shortfall.Shortfall.{Shortfall}
 use Rattle.lab_findings.specs.Lines.{AreLines, StandIn}
 use Rattle.lab_findings.specs.Texts.{text_of, told_ends, schedule_line, end_lines, ends_text, endless_line, round_text, extent_line, findings_text}

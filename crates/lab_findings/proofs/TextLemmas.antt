@@ -2,8 +2,8 @@
 use Rattle.std.proofs.Common.{ℕ, zero, suc, ◌≡◌, ◌+◌, Bool, true, false, List, [], ◌∷◌, ◌++◌, Option, Some, None, slice_get, get_or, length, refl, sym, ap, subst, ◌∙◌, append-nil, append_assoc, codes, decimal, arith}
 use Rattle.lab_sched.specs.declared.schedule.block.Block.{Block}
 use Rattle.lab_sched.specs.ScheduleTexts.{schedule_text}
-use Rattle.lab_explore.specs.declared.ends.End.{End}
-use Rattle.lab_explore.specs.declared.rounds.Round.{Round}
+use Rattle.lab_worlds.specs.declared.ends.End.{End}
+use Rattle.lab_worlds.specs.declared.rounds.Round.{Round}
 use Rattle.lab_findings.specs.declared.show.Show.{Show}
 use Rattle.lab_findings.specs.Lines.{AreLines, StandIn}
 use Rattle.lab_findings.specs.Texts.{text_of, schedule_line, end_lines, ends_text, endless_line, round_line, round_text, extent_text, extent_line}

@@ -9,8 +9,8 @@ use Rattle.lab_sched.specs.Worlds.{WorldState, run, entries}
 use Rattle.lab_sched.specs.Execution.{AreEffective}
 use Rattle.lab_texts.specs.Reports.{report_text}
 use Rattle.lab_texts.specs.Verdicts.{verdict_line}
-use Rattle.lab_explore.specs.Closed.{AreAtRest}
-use Rattle.lab_explore.specs.Rounds.{AreBounded}
+use Rattle.lab_worlds.specs.Closed.{AreAtRest}
+use Rattle.lab_worlds.specs.Rounds.{AreBounded}
 use Rattle.lab_findings.specs.Lines.{StandIn, AreLast}
 use Rattle.lab_findings.specs.Texts.{end_lines, endless_line, extent_line}
 

@@ -1,7 +1,7 @@
 -- Why an exploration doesn't show that programs always come to a verdict.
 use Rattle.std.specs.Prelude.{◌≡◌, ◌≢◌, IsTrue, false, Option, Some, None, All, Any}
 use Rattle.lab_sched.specs.declared.verdict.Verdict.{Verdict}
-use Rattle.lab_explore.specs.declared.exploring.Exploration.{Exploration}
+use Rattle.lab_worlds.specs.declared.exploration.Exploration.{Exploration}
 use Rattle.lab_findings.specs.declared.shortfall.Shortfall.{Shortfall}
 use Rattle.lab_findings.specs.declared.shortfall.Shortfall.TheVariants.{Incomplete, Endless, Stands}
 

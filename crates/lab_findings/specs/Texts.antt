@@ -3,9 +3,9 @@ use Rattle.std.specs.Prelude.{ℕ, ◌+◌, Bool, true, false, not, Option, Some
 use Rattle.std.specs.Fmt.{decimal}
 use Rattle.lab_sched.specs.declared.schedule.block.Block.{Block}
 use Rattle.lab_sched.specs.ScheduleTexts.{schedule_text}
-use Rattle.lab_explore.specs.declared.ends.End.{End}
-use Rattle.lab_explore.specs.declared.rounds.Round.{Round}
-use Rattle.lab_explore.specs.declared.exploring.Exploration.{Exploration}
+use Rattle.lab_worlds.specs.declared.ends.End.{End}
+use Rattle.lab_worlds.specs.declared.rounds.Round.{Round}
+use Rattle.lab_worlds.specs.declared.exploration.Exploration.{Exploration}
 use Rattle.lab_findings.specs.declared.show.Show.{Show}
 use Rattle.lab_findings.specs.Shown.{shown_text, whole_report}
 

@@ -1,8 +1,8 @@
 //! Findings: an exploration, and the text that tells it.
 ghost use Rattle.std.specs.Prelude.{◌≡◌, ◌↔◌, None, map, string_bytes, IfOk, IfSome};
 ghost use Rattle.lab_sched.specs.ScheduleTexts.{schedule_text};
-ghost use Rattle.lab_explore.specs.Ends.{AreEnds, NeverStuck};
-ghost use Rattle.lab_explore.specs.Rounds.{IsRound, CanBeRepeated, AreBounded};
+ghost use Rattle.lab_worlds.specs.Ends.{AreEnds, NeverStuck};
+ghost use Rattle.lab_worlds.specs.Rounds.{IsRound, CanBeRepeated, AreBounded};
 ghost use Rattle.lab_findings.specs.Shown.{whole_report};
 ghost use Rattle.lab_findings.specs.Texts.{told_ends, findings_text};
 ghost use Rattle.lab_findings.specs.Shortfalls.{ShowsRequired, IsShortfallOf};
@@ -12,8 +12,9 @@ use crate::shortfall::shortfall_of;
 use crate::texts::{push_extent, push_round};
 use crate::told::{Told, told_of};
 use crate::{Shortfall, Show};
-use lab_explore::{Exploration, ExploreFault, Limits, Observer, Workers, explore};
+use lab_explore::explore;
 use lab_sched::{Fresh, Verdict};
+use lab_worlds::{Exploration, ExploreFault, Limits, Observer, Workers};
 use std::alloc::{AllocError, Global};
 use std::thread::Threads;
 

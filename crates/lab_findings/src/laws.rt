@@ -1,7 +1,7 @@
 //! Laws over the definitions alone.
 ghost use Rattle.lab_findings.specs.Laws.{OneText, EachToldOnce};
 
-use lab_explore::laws::alike_worlds_have_one_verdict;
+use lab_worlds::laws::alike_worlds_have_one_verdict;
 
 /// Of worlds with the same processes over kernels that are alike the same is told: the report, what the
 /// processes have written, and the messages that are left.

@@ -2,8 +2,8 @@
 ghost use Rattle.std.specs.Prelude.{◌≡◌, ◌≢◌, ◌↔◌, None, All, Any, IfSome};
 ghost use Rattle.lab_findings.specs.Shortfalls.{ShowsRequired, IsShortfall, IsShortfallOf, Shows};
 
-use lab_explore::{End, Exploration};
 use lab_sched::Verdict;
+use lab_worlds::{End, Exploration};
 
 /// Why an exploration doesn't show that programs always come to a verdict.
 #[derive(Clone, Copy, Debug, PartialEq, Eq)]

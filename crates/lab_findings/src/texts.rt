@@ -2,8 +2,8 @@
 ghost use Rattle.std.specs.Prelude.{◌≡◌, ◌++◌, OnOk, string_bytes};
 ghost use Rattle.lab_findings.specs.Texts.{schedule_line, end_lines, round_line, round_text, extent_text, extent_line};
 
-use lab_explore::Round;
 use lab_sched::Schedule;
+use lab_worlds::Round;
 use std::alloc::{AllocError, Global};
 use std::fmt::Write;
 

@@ -8,7 +8,7 @@ ghost use Rattle.lab_findings.specs.Private.Told.{TellsNext};
 use crate::Show;
 use crate::shown::shown_text;
 use crate::texts::push_end;
-use lab_explore::End;
+use lab_worlds::End;
 use std::alloc::{AllocError, Global};
 
 /// The lines of the ends that are told, what is told of each and the texts of their schedules.

@@ -6,10 +6,10 @@ use Rattle.lab_sched.specs.Schedules.{steps_of}
 use Rattle.lab_sched.specs.Worlds.{WorldState, run, machine_of}
 use Rattle.lab_sched.specs.Verdicts.{IsVerdict, AreStuck}
 use Rattle.lab_sched.proofs.VerdictLemmas.{verdict_from}
-use Rattle.lab_explore.specs.declared.ends.End.{End}
-use Rattle.lab_explore.specs.Calls.{AreAlike}
-use Rattle.lab_explore.specs.Closed.{AreAtRest}
-use Rattle.lab_explore.specs.Ends.{IsEnd, AreEnds, HaveAllEnds, IsReported}
+use Rattle.lab_worlds.specs.declared.ends.End.{End}
+use Rattle.lab_worlds.specs.Calls.{AreAlike}
+use Rattle.lab_worlds.specs.Closed.{AreAtRest}
+use Rattle.lab_worlds.specs.Ends.{IsEnd, AreEnds, HaveAllEnds, IsReported}
 use Rattle.lab_questions.specs.declared.word.Waiter.{Waiter}
 use Rattle.lab_questions.specs.declared.word.Word.{Word}
 use Rattle.lab_questions.specs.declared.word.Word.TheVariants.{Ended, Stuck, Halted, Empty, Same}

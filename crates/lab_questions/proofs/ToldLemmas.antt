@@ -3,8 +3,8 @@ use Rattle.std.proofs.Common.{◌≡◌, List, sym, subst, ◌∙◌}
 use Rattle.std.proofs.lemmas.Option.{slice_get_within, get_or_from_slice_get}
 use Rattle.lab_sched.specs.Worlds.{WorldState, run}
 use Rattle.lab_sched.proofs.VerdictLemmas.{verdict_from}
-use Rattle.lab_explore.specs.declared.ends.End.{End}
-use Rattle.lab_explore.specs.Ends.{IsEnd, AreEnds, HaveAllEnds}
+use Rattle.lab_worlds.specs.declared.ends.End.{End}
+use Rattle.lab_worlds.specs.Ends.{IsEnd, AreEnds, HaveAllEnds}
 use Rattle.lab_findings.specs.declared.show.Show.{Show}
 use Rattle.lab_findings.specs.Shown.{shown_text}
 use Rattle.lab_findings.specs.Texts.{text_of, told_ends}

@@ -9,8 +9,8 @@ use Rattle.lab_conditions.specs.declared.condition.Part.{Part}
 use Rattle.lab_conditions.specs.declared.never.Never.{Never}
 use Rattle.lab_conditions.specs.declared.never.Never.TheVariants as never
 use Rattle.lab_conditions.specs.Conditions.{PartHolds}
-use Rattle.lab_explore.specs.Calls.{Both, Alongside}
-use Rattle.lab_explore.specs.Reached.{Violates, IsKept, ViolatesIfSome, KeptIfNone}
+use Rattle.lab_worlds.specs.Calls.{Both, Alongside}
+use Rattle.lab_worlds.specs.Reached.{Violates, IsKept, ViolatesIfSome, KeptIfNone}
 use Rattle.lab_questions.specs.declared.object.Object.{Object}
 use Rattle.lab_questions.specs.Objects.{named, presence, IsOpened, IsNeverOpened, AreUnopened}
 use Rattle.lab_questions.specs.Private.Presences.{AsksFor, IsUnseen}

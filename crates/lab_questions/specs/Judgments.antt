@@ -2,7 +2,7 @@
 use Rattle.std.specs.Prelude.{ℕ, ◌≡◌, List, Option, Some, None, All, IfSome, take, slice_get}
 use Rattle.lab_sched.specs.Verdicts.{AreStuck}
 use Rattle.lab_sched.specs.Worlds.{WorldState}
-use Rattle.lab_explore.specs.declared.ends.End.{End}
+use Rattle.lab_worlds.specs.declared.ends.End.{End}
 use Rattle.lab_questions.specs.declared.word.Waiter.{Waiter}
 use Rattle.lab_questions.specs.declared.word.Word.{Word}
 use Rattle.lab_questions.specs.declared.word.Word.TheVariants.{Ended, Stuck, Halted, Empty, Same}

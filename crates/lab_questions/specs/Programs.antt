@@ -4,9 +4,9 @@ use Rattle.lab_sched.specs.declared.schedule.block.Block.{Block}
 use Rattle.lab_sched.specs.Schedules.{steps_of}
 use Rattle.lab_sched.specs.Worlds.{WorldState, run}
 use Rattle.lab_sched.specs.Execution.{AreEffective}
-use Rattle.lab_explore.specs.declared.exploring.Exploration.{Exploration}
-use Rattle.lab_explore.specs.declared.ends.End.{End}
-use Rattle.lab_explore.specs.Closed.{AreAtRest}
+use Rattle.lab_worlds.specs.declared.exploration.Exploration.{Exploration}
+use Rattle.lab_worlds.specs.declared.ends.End.{End}
+use Rattle.lab_worlds.specs.Closed.{AreAtRest}
 use Rattle.lab_findings.specs.declared.show.Show.{Show}
 use Rattle.lab_findings.specs.Shown.{shown_text}
 use Rattle.lab_findings.specs.Texts.{text_of}

@@ -5,10 +5,10 @@ use Rattle.lab_sched.specs.ScheduleTexts.{schedule_text, reading}
 use Rattle.lab_texts.specs.Rows.{texts_below}
 use Rattle.lab_conditions.specs.declared.never.Never.{Never}
 use Rattle.lab_conditions.specs.Written.{never_text}
-use Rattle.lab_explore.specs.declared.rounds.Round.{Round}
+use Rattle.lab_worlds.specs.declared.rounds.Round.{Round}
 use Rattle.lab_sched.specs.declared.schedule.block.Block.{Block}
-use Rattle.lab_explore.specs.declared.ends.End.{End}
-use Rattle.lab_explore.specs.declared.exploring.Exploration.{Exploration}
+use Rattle.lab_worlds.specs.declared.ends.End.{End}
+use Rattle.lab_worlds.specs.declared.exploration.Exploration.{Exploration}
 use Rattle.lab_findings.specs.declared.show.Show.{Show}
 use Rattle.lab_findings.specs.Texts.{told_ends, ends_text, schedule_line, round_text, extent_line}
 use Rattle.lab_questions.specs.declared.word.Word.{Word}

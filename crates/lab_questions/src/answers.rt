@@ -4,7 +4,7 @@ ghost use Rattle.lab_questions.specs.Judgments.{IsAnswer};
 
 use crate::judging::fault_in;
 use crate::{Waiter, Word};
-use lab_explore::End;
+use lab_worlds::End;
 use std::alloc::{AllocError, Global};
 
 /// The answer on a word: the number of the first end, counted from 0, that isn't as the word

@@ -1,10 +1,10 @@
 //! Explorations with what is required of their ends.
 ghost use Rattle.std.specs.Prelude.{◌≡◌, None, false, [], map, string_bytes, All, AllPairs, Any, IfOk, IfSome, IsTrue};
 ghost use Rattle.lab_sched.specs.ScheduleTexts.{schedule_text};
-ghost use Rattle.lab_explore.specs.Ends.{AreEnds, HaveAllEnds};
-ghost use Rattle.lab_explore.specs.Reached.{AreReached, AreKept};
-ghost use Rattle.lab_explore.specs.Rounds.{IsRound, CanBeRepeated, AreBounded};
-ghost use Rattle.lab_explore.specs.Fairness.{IsFairRound, AreFairlyEndless, AreFairlyBounded};
+ghost use Rattle.lab_worlds.specs.Ends.{AreEnds, HaveAllEnds};
+ghost use Rattle.lab_worlds.specs.Reached.{AreReached, AreKept};
+ghost use Rattle.lab_worlds.specs.Rounds.{IsRound, CanBeRepeated, AreBounded};
+ghost use Rattle.lab_worlds.specs.Fairness.{IsFairRound, AreFairlyEndless, AreFairlyBounded};
 ghost use Rattle.lab_findings.specs.Texts.{told_ends};
 ghost use Rattle.lab_questions.specs.Judgments.{IsAnswer};
 ghost use Rattle.lab_questions.specs.Objects.{named, AreUnopened, StandsBefore};
@@ -18,9 +18,10 @@ use crate::presence::{presences_of, unopened_in};
 use crate::texts::tell;
 use crate::{Answer, Failure, Object, Waiter, Word};
 use lab_conditions::Never;
-use lab_explore::{Exploration, ExploreFault, Limits, Observer, Workers, explore};
+use lab_explore::explore;
 use lab_findings::Show;
 use lab_sched::Fresh;
+use lab_worlds::{Exploration, ExploreFault, Limits, Observer, Workers};
 use std::alloc::Global;
 use std::thread::Threads;
 

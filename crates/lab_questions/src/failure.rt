@@ -4,8 +4,8 @@ ghost use Rattle.lab_sched.specs.declared.schedule.block.Block.{Block};
 ghost use Rattle.lab_questions.specs.Programs.{AsksRest, Passes, IsFailure};
 
 use crate::{Answer, Word};
-use lab_explore::Exploration;
 use lab_sched::Schedule;
+use lab_worlds::Exploration;
 
 /// Why an exploration doesn't show that all is as it is required.
 #[derive(Clone, Copy, Debug, PartialEq, Eq)]

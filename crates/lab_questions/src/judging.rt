@@ -6,8 +6,8 @@ ghost use Rattle.lab_questions.specs.Judgments.{Meets, IsFaultIn};
 use crate::processes::{have_halted, have_same_outputs, have_settled};
 use crate::{Waiter, Word};
 use lab_conditions::messages_in;
-use lab_explore::End;
 use lab_sched::{Verdict, World};
+use lab_worlds::End;
 
 /// Whether some process waits, and none can go on.
 fn is_stuck(world: &World) -> bool

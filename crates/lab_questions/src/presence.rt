@@ -1,6 +1,6 @@
 //! Whether semaphores and queues that conditions name are ever there.
 ghost use Rattle.std.specs.Prelude.{◌≡◌, ℕ, None, Some, false, List, [], All, AllPairs, Contains, IfOk, IsTrue, OnOk, slice_get};
-ghost use Rattle.lab_explore.specs.Calls.{Alongside};
+ghost use Rattle.lab_worlds.specs.Calls.{Alongside};
 ghost use Rattle.lab_questions.specs.declared.object.Object.{Object as Seen};
 ghost use Rattle.lab_questions.specs.Objects.{presence, StandsBefore};
 ghost use Rattle.lab_questions.specs.Private.Presences.{AsksFor, AddsUnseen, IsUnseen};

@@ -6,8 +6,8 @@ ghost use Rattle.lab_questions.specs.declared.word.Word.{Word};
 ghost use Rattle.lab_questions.specs.Texts.{IsBeyond, IsTooLong, ShowsFault, ShowsReached, ShowsRound};
 
 use crate::{Answer, Failure};
-use lab_explore::{Exploration, Round};
 use lab_sched::{SchedFault, Schedule};
+use lab_worlds::{Exploration, Round};
 use std::alloc::{AllocError, Global};
 
 /// The number of the first end that isn't as the first word that isn't so requires.

@@ -6,9 +6,9 @@ ghost use Rattle.lab_questions.specs.Texts.{word_text, schedule_at, first_lines,
 
 use crate::{Answer, Word};
 use lab_conditions::Never;
-use lab_explore::{End, Exploration};
 use lab_findings::{Show, Told, push_extent, push_round, push_schedule, told_of};
 use lab_sched::Schedule;
+use lab_worlds::{End, Exploration};
 use std::alloc::{AllocError, Global};
 use std::fmt::Write;
 

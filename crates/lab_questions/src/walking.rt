@@ -1,7 +1,7 @@
 //! Walks with what is required of the ends to which they come.
 ghost use Rattle.std.specs.Prelude.{◌≡◌, None, false, [], map, string_bytes, All, IfOk, IfSome};
 ghost use Rattle.lab_sched.specs.ScheduleTexts.{schedule_text};
-ghost use Rattle.lab_explore.specs.Ends.{AreEnds};
+ghost use Rattle.lab_worlds.specs.Ends.{AreEnds};
 ghost use Rattle.lab_findings.specs.Texts.{told_ends};
 ghost use Rattle.lab_questions.specs.Judgments.{IsAnswer};
 ghost use Rattle.lab_questions.specs.Programs.{IsRefuted, IsFailure};
@@ -11,9 +11,9 @@ use crate::answers::answers_on;
 use crate::failure::failure_of;
 use crate::texts::tell_walks;
 use crate::{Answers, Waiter, Word};
-use lab_explore::{ExploreFault, Limits, Observer, Walks, walk_randomly};
 use lab_findings::Show;
 use lab_sched::Fresh;
+use lab_worlds::{ExploreFault, Limits, Observer, Walks, walk_randomly};
 use std::alloc::Global;
 
 /// Takes walks through the interleavings of the programs of a laboratory, and judges each end to which

@@ -8,9 +8,9 @@ use Rattle.lab_conditions.specs.declared.never.Never.{Never}
 use Rattle.lab_conditions.specs.declared.never.Never.TheVariants as never
 use Rattle.lab_conditions.specs.Conditions.{Holds, world_of}
 use Rattle.lab_conditions.specs.Losses.{messages, is_receiving}
-use Rattle.lab_explore.specs.declared.store.Edge.{Edge}
-use Rattle.lab_explore.specs.declared.store.Store.{Store}
-use Rattle.lab_explore.specs.Private.Stored.{IsExactly, IsAt}
+use Rattle.lab_states.specs.declared.edges.Edge.{Edge}
+use Rattle.lab_search.specs.declared.store.Store.{Store}
+use Rattle.lab_search.specs.Stored.{IsExactly, IsAt}
 
 -- the condition holds of the world of row number i
 abbrev pub RowHolds : Store → Condition → ℕ → Type 0

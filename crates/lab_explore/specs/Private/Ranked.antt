@@ -1,25 +1,11 @@
 -- Ranks of the rows of a search that no edge raises, and a process for each rank that could always go
 -- on there and never does.
-use Rattle.std.specs.Prelude.{ℕ, ◌≡◌, ◌<◌, ◌⊎◌, List, Option, Some, None, All, length, slice_get, unwrap_or}
+use Rattle.std.specs.Prelude.{ℕ, ◌≡◌, ◌<◌, List, Option, Some, All, length}
 use Rattle.lab_sched.specs.Worlds.{WorldState, step_effect_in}
-use Rattle.lab_explore.specs.declared.store.Edge.{Edge}
-use Rattle.lab_explore.specs.declared.store.Store.{Store}
-use Rattle.lab_explore.specs.Untried.{GoesOn}
-use Rattle.lab_explore.specs.Private.Stored.{IsAt}
-
--- the rank of a row, and 0 where there is none
-abbrev pub rank_of : List ℕ → ℕ → ℕ
-rank_of ranks i = unwrap_or (slice_get ranks i) 0
-
--- the process of a rank, if it has one
-abbrev pub keeper_of : List (Option ℕ) → ℕ → Option ℕ
-keeper_of keepers k = unwrap_or (slice_get keepers k) None
-
--- the edge leads to a lesser rank, or from a rank that has a process to the same by a step of another
-pub record IsFalling (ranks : List ℕ) (keepers : List (Option ℕ)) (e : Edge) : Type 0 where
-  pub falls : (rank_of ranks e.to < rank_of ranks e.from)
-      ⊎ ((rank_of ranks e.to ≡ rank_of ranks e.from)
-      × (p : ℕ) × (keeper_of keepers (rank_of ranks e.from) ≡ Some p) × (e.pid ≡ p → ⊥))
+use Rattle.lab_worlds.specs.Untried.{GoesOn}
+use Rattle.lab_states.specs.Falling.{rank_of, keeper_of, IsFalling}
+use Rattle.lab_search.specs.declared.store.Store.{Store}
+use Rattle.lab_search.specs.Stored.{IsAt}
 
 -- the process of the rank of row number i, if it has one, goes on from the world of the row
 abbrev pub IsKept : Store → List ℕ → List (Option ℕ) → ℕ → Type 0

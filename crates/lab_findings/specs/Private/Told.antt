@@ -1,7 +1,7 @@
 -- What is told of the first of some ends.
 use Rattle.std.specs.Prelude.{◌≡◌, List, [], ◌∷◌, ◌++◌, map, string_bytes}
 use Rattle.lab_sched.specs.ScheduleTexts.{schedule_text}
-use Rattle.lab_explore.specs.declared.ends.End.{End}
+use Rattle.lab_worlds.specs.declared.ends.End.{End}
 use Rattle.lab_findings.specs.declared.show.Show.{Show}
 use Rattle.lab_findings.specs.declared.told.Told.{Told}
 use Rattle.lab_findings.specs.Texts.{text_of, told_ends, ends_text}

@@ -1,5 +1,5 @@
 use Rattle.std.proofs.Common.{refl}
-use Rattle.lab_explore.proofs.FairRounds.{fair_round}
+use Rattle.lab_worlds.proofs.FairRounds.{fair_round}
 use Rattle.lab_explore.proofs.fair.round_of.Goals as goal
 
 pub returns-in-Ok : goal.returns-in-Ok

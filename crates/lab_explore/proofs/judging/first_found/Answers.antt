@@ -3,7 +3,7 @@ use Rattle.std.specs.Prelude.{is_ok}
 use Rattle.std.proofs.lemmas.List.{get_or_default}
 use Rattle.std.proofs.lemmas.List.Elements.{All-weaker}
 use Rattle.lab_conditions.proofs.ListLemmas.{all_more, all_whole}
-use Rattle.lab_explore.specs.declared.fault.ExploreFault.{ExploreFault}
+use Rattle.lab_worlds.specs.declared.fault.ExploreFault.{ExploreFault}
 use Rattle.lab_explore.specs.Private.Judged.{StandsBefore}
 use Rattle.lab_explore.proofs.FirstRows.{fewer_before, found_in}
 use Rattle.lab_explore.proofs.judging.first_found.Goals as goal

@@ -1,7 +1,7 @@
 use Rattle.std.proofs.Common.{◌≡◌, ◌<◌, ◌≤◌, ◌++◌, arith, All, AllPairs, Contains, IfSome, ap, length, slice_get, subst, sym, take, ◌∙◌}
 use Rattle.std.proofs.Math.Seq.{take-append_seam}
-use Rattle.lab_explore.specs.Calls.{Alongside}
-use Rattle.lab_explore.specs.Reached.{ViolatesIfSome, KeptIfNone}
+use Rattle.lab_worlds.specs.Calls.{Alongside}
+use Rattle.lab_worlds.specs.Reached.{ViolatesIfSome, KeptIfNone}
 use Rattle.lab_questions.specs.Judgments.{IsAnswer}
 use Rattle.lab_questions.specs.Objects.{named, StandsBefore}
 use Rattle.lab_questions.specs.Private.Presences.{AsksFor, IsUnseen}

@@ -1,5 +1,5 @@
 use Rattle.std.proofs.Common.{take}
-use Rattle.lab_explore.specs.Calls.{Alongside}
+use Rattle.lab_worlds.specs.Calls.{Alongside}
 use Rattle.lab_questions.specs.Private.Presences.{AsksFor}
 use Rattle.lab_questions.proofs.presence.presences_of.Given as goal
 

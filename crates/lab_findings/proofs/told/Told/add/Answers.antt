@@ -2,7 +2,7 @@ use Rattle.std.proofs.Common.{ℕ, ◌≡◌, ◌∙◌, ◌+◌, [], ◌∷◌,
 use Rattle.std.specs.List.{list_any}
 use Rattle.std.proofs.lemmas.List.{map_push, length-map}
 use Rattle.lab_sched.specs.ScheduleTexts.{schedule_text}
-use Rattle.lab_explore.specs.declared.ends.End.{End}
+use Rattle.lab_worlds.specs.declared.ends.End.{End}
 use Rattle.lab_findings.specs.declared.show.Show.{Show}
 use Rattle.lab_findings.specs.Texts.{text_of, told_ends, end_lines, ends_text}
 use Rattle.lab_findings.proofs.ToldEnds.{told-known, told-new}

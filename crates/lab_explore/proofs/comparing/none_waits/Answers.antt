@@ -1,8 +1,0 @@
-use Rattle.std.proofs.Common.{arith}
-use Rattle.lab_explore.proofs.UntriedWorlds.{same_untried}
-use Rattle.lab_explore.proofs.comparing.none_waits.Goals as goal
-
-pub returns : goal.returns
-returns c = record {
-  none = λ is. same_untried c.args.world.now c.loop-pid.pid (omega arith) c.loop-pid.invariant;
-}

@@ -1,5 +1,0 @@
-use Rattle.lab_explore.proofs.OnwardRows.{onward_rising}
-use Rattle.lab_explore.proofs.graph.is_order_by_number.Goals as goal
-
-pub returns : goal.returns
-returns c = record { yes = λ onward. onward_rising c.args.count c.args.edges.now (c.are_onward.ensures.yes onward) }

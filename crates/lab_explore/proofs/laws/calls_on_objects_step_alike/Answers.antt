@@ -1,5 +1,0 @@
-use Rattle.lab_explore.proofs.StepsOnObjects.{steps_by_operand}
-use Rattle.lab_explore.proofs.laws.calls_on_objects_step_alike.Goals as goal
-
-pub returns-clause-law : goal.returns-clause-law
-returns-clause-law c = steps_by_operand

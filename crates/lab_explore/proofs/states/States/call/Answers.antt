@@ -1,9 +1,0 @@
-use Rattle.std.proofs.Common.{ap}
-use Rattle.lab_explore.specs.Private.Shorts.{Sharing}
-use Rattle.lab_explore.proofs.ShortStates.{stands_at}
-use Rattle.lab_explore.proofs.states.States.call.Goals as goal
-
-pub returns : goal.returns
-returns c =
-    let s = c.in_ok-call.ensures.stands in
-    record { stands = stands_at c.self.inside.outputs c.self.inside.shorts c.args.self.now.processes c.args.number s.0 c.in_ok-call.call.now (ap (λ (v : Sharing). v.processes) c.self.view_is) s.1 s.2 }

@@ -1,0 +1,21 @@
+use Rattle.std.proofs.lemmas.List.Sorted.{All-permutation}
+use Rattle.lab_sched.specs.Starts.{initial_world}
+use Rattle.lab_worlds.specs.Ends.{IsEnd}
+use Rattle.lab_states.specs.Depths.{depth_of}
+use Rattle.lab_explore.proofs.Explorations.{end_sorted}
+use Rattle.lab_explore.proofs.visited.Visited.ends.Goals as goal
+
+pub returns-clause-ends : goal.returns-clause-ends
+returns-clause-ends c =
+    let start = initial_world c.args.processes.now in
+    All-permutation (IsEnd start) c.in_ok-collected.collected.ends.items c.sort_by_calls.new.ends.items c.sort_by_calls.ensures.same c.in_ok-collected.ensures.ends
+
+pub returns-clause-all : goal.returns-clause-all
+returns-clause-all c whole is =
+    let all = c.in_ok-collected.ensures.all whole is in
+    record {
+      depths = all.depths;
+      are = all.are;
+      each = λ i w here rest.
+          end_sorted c.in_ok-collected.collected.ends.items c.sort_by_calls.new.ends.items w (depth_of all.depths i) c.sort_by_calls.ensures.same (all.each i w here rest);
+    }

@@ -1,0 +1,12 @@
+use Rattle.std.proofs.Common.{take}
+use Rattle.lab_sched.specs.Starts.{initial_world}
+use Rattle.lab_worlds.specs.Calls.{Alongside}
+use Rattle.lab_worlds.specs.Reached.{AreReached}
+use Rattle.lab_explore.specs.Private.Judged.{UnseenIfNone}
+use Rattle.lab_explore.proofs.visited.Visited.reached.Given as goal
+
+abbrev pub invariant-loop-never : goal.invariant-loop-never
+invariant-loop-never g l = record {
+  reached : AreReached (initial_world l.processes) (take l.never-index l.nevers) l.found.items;
+  none : Alongside (UnseenIfNone l.self.store) (take l.never-index l.nevers) l.found.items;
+}

@@ -1,5 +1,0 @@
-use Rattle.lab_explore.specs.Private.Walked.{KeepsStart}
-use Rattle.lab_explore.proofs.walking.Walk.go_local.Given as goal
-
-abbrev pub invariant-loop-pid : goal.invariant-loop-pid
-invariant-loop-pid l = KeepsStart l.fn.self l.self

@@ -1,5 +1,0 @@
-use Rattle.lab_explore.specs.Private.Walked.{KeepsStart}
-use Rattle.lab_explore.proofs.walking.Walk.go_on.Given as goal
-
-abbrev pub invariant-loop : goal.invariant-loop
-invariant-loop l = KeepsStart l.fn.self l.self

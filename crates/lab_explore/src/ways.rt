@@ -1,0 +1,91 @@
+//! Ways to the rows of a search, which are walked again.
+ghost use Rattle.std.specs.Prelude.{◌≤◌, ◌+◌, OnOk};
+ghost use Rattle.lab_worlds.specs.Untried.{untried};
+ghost use Rattle.lab_worlds.specs.Walked.{waiting, KeepsStart};
+ghost use Rattle.lab_search.specs.Stored.{IsLike};
+
+use crate::visited::Visited;
+use lab_worlds::{ExploreFault, Walk, WayCall};
+use std::alloc::Global;
+
+impl Visited {
+    /// How many local steps process `pid` takes after its step from the world of a row. The move must
+    /// have been made.
+    pub(crate) fn steps_after(&self, at: u32, pid: u8) -> Result<u32, ExploreFault> {
+        self.store
+            .known_steps(&self.moves, at as usize, pid as u32)
+            .ok_or(ExploreFault::Unvouched)
+    }
+
+    /// The calls on the way to a row, the last first.
+    fn way(&self, alloc: Global, at: usize) -> Result<Vec<WayCall>, ExploreFault> {
+        let mut way = Vec::new(alloc);
+        let mut now = at;
+        for _ in 0..self.store.rows.len() {
+            if now == 0 {
+                break;
+            }
+            let Some(parent) = self.store.parents.get(now) else {
+                break;
+            };
+            let taken = self.steps_after(parent.row, parent.pid)?;
+            let row = parent.row as usize;
+            way.push(WayCall {
+                pid: parent.pid as usize,
+                taken,
+                late: self.sparse && self.store.opens_own(row, parent.pid as u32),
+            })?;
+            now = row;
+        }
+        Ok(way)
+    }
+
+    /// Goes the way to a row, up to its last call: the local steps of a process are taken just before
+    /// its next call, and so are its opens of what is there, where worlds are left out. With the steps
+    /// that are left of each process.
+    fn go_calls(&self, alloc: Global, at: usize, walk: &mut Walk) -> Result<Vec<u32>, ExploreFault>
+        ensures walk { OnOk result (KeepsStart walk.old walk.new) }
+    {
+        let way = self.way(alloc, at)?;
+        let mut local = Vec::from_slice(alloc, self.firsts.as_slice())?;
+        for call in way.iter().rev() {
+            walk.go_call(&mut local, *call)?;
+        }
+        Ok(local)
+    }
+
+    /// Goes the way to a row, to whose world it must lead.
+    pub fn go_to(&self, alloc: Global, at: usize, walk: &mut Walk) -> Result<(), ExploreFault>
+        ensures walk { OnOk result (KeepsStart walk.old walk.new) }
+        ensures row { OnOk result (IsLike self.now.store at walk.new.world) }
+    {
+        let local = self.go_calls(alloc, at, walk)?;
+        walk.go_local(local.as_slice())?;
+        if !self.store.is_row(alloc, at, &walk.world)? {
+            return Err(ExploreFault::Unvouched);
+        }
+        Ok(())
+    }
+
+    /// Goes the way to a row of this depth from whose world no process goes on, and lets each begin to
+    /// wait that hasn't ended. It must lead to the world of the row but for who waits, by no more calls
+    /// than the depth and one for each process that waits.
+    pub(crate) fn go_to_end(
+        &self,
+        alloc: Global,
+        at: usize,
+        depth: u32,
+        walk: &mut Walk,
+    ) -> Result<(), ExploreFault>
+        ensures walk { OnOk result (KeepsStart walk.old walk.new) }
+        ensures row { OnOk result (IsLike self.now.store at (untried walk.new.world)) }
+        ensures few { OnOk result (walk.new.calls ≤ depth + waiting walk.new.world) }
+    {
+        let local = self.go_calls(alloc, at, walk)?;
+        walk.go_to_rest(local.as_slice())?;
+        if !walk.is_within(depth) || !self.store.is_untried_row(alloc, at, &walk.world)? {
+            return Err(ExploreFault::Unvouched);
+        }
+        Ok(())
+    }
+}

@@ -1,0 +1,40 @@
+-- Nodes and arrows of a picture, as rows and edges of a search have them.
+use Rattle.std.specs.Prelude.{ℕ, ◌≡◌, List, Some, All, length, slice_get}
+use Rattle.lab_sched.specs.Worlds.{WorldState}
+use Rattle.lab_worlds.specs.Closed.{HasAdvance}
+use Rattle.lab_states.specs.declared.edges.Edge.{Edge}
+use Rattle.lab_states.specs.Depths.{depth_of}
+use Rattle.lab_search.specs.declared.store.Store.{Store}
+use Rattle.lab_search.specs.Stored.{IsAt, IsLike}
+use Rattle.lab_pictures.specs.declared.picture.Node.{Node}
+use Rattle.lab_pictures.specs.declared.picture.Arrow.{Arrow}
+use Rattle.lab_pictures.specs.declared.picture.Picture.{Picture}
+use Rattle.lab_pictures.specs.Pictures.{IsNode, IsEndOfNode, HasEndAtRest, IsStep, HaveAllSteps, BeginsAt, HaveFewestNodeCalls}
+
+-- the node of row number i, by the depths of the rows
+pub record IsNodeOfRow (start : WorldState) (t : Store) (depth i : ℕ) (n : Node) : Type 0 where
+  pub node : IsNode start n
+  pub row : IsLike t i n.world
+  pub calls : n.calls ≡ depth
+  pub end : IsEndOfNode start n
+  pub at_rest : HasEndAtRest n
+
+-- each node is that of the row with its number
+pub record AreNodesOfRows (start : WorldState) (t : Store) (depths : List ℕ) (ns : List Node) : Type 0 where
+  pub count : length ns ≡ length t.rows
+  pub each : (i : ℕ) (n : Node) → slice_get ns i ≡ Some n → IsNodeOfRow start t (depth_of depths i) i n
+
+-- the arrow of an edge
+abbrev pub arrow_of : Edge → Arrow
+arrow_of e = record { from = e.from; to = e.to; process = e.pid }
+
+-- the picture shows the rows and the edges of a search in which each step was tried
+pub record IsPictureOf (start : WorldState) (t : Store) (x : Picture) : Type 0 where
+  pub nodes : All (IsNode start) x.nodes.items
+  pub arrows : All (IsStep x.nodes.items) x.arrows.items
+  pub begins : (w : WorldState) → HasAdvance (IsAt t 0) w → BeginsAt w x.nodes.items
+  pub steps : HaveAllSteps x.nodes.items x.arrows.items
+  pub fewest : HaveFewestNodeCalls x.nodes.items x.arrows.items
+  pub ends : All (IsEndOfNode start) x.nodes.items
+  pub at_rest : All HasEndAtRest x.nodes.items
+  pub count : length x.nodes.items ≡ length t.rows

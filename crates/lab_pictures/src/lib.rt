@@ -1,0 +1,7 @@
+//! The picture of all worlds that programs can come to.
+#![tactic(auto)]
+
+mod drawing;
+mod picture;
+
+pub use picture::{Arrow, MOST_DRAWN, Node, Picture, draw};

@@ -1,0 +1,83 @@
+//! Pictures of all worlds at calls.
+ghost use Rattle.std.specs.Prelude.{◌≤◌, All, IfOk, IfSome, length};
+ghost use Rattle.lab_pictures.specs.Pictures.{IsNode, IsEndOfNode, HasEndAtRest, IsStep, HaveAllSteps, BeginsAt, HaveFewestNodeCalls};
+
+use crate::drawing::picture_of;
+use ipc_kernel::Kernel;
+use lab_explore::visit;
+use lab_sched::{Fresh, World};
+use lab_worlds::{End, ExploreFault, Limits, Observer, discard};
+use std::alloc::Global;
+
+/// The most worlds of which a picture is drawn.
+pub const MOST_DRAWN: u32 = 500;
+
+/// A world at calls, how many calls lead there, and its end, if no process goes on from there.
+#[derive(Drop)]
+pub struct Node {
+    pub world: World,
+    pub calls: u32,
+    pub end: Option<End>,
+}
+
+/// A call of a process, which leads from the node with one number to that with another.
+#[derive(Clone, Copy, Debug, PartialEq, Eq, Drop)]
+pub struct Arrow {
+    pub from: u32,
+    pub to: u32,
+    pub process: u32,
+}
+
+/// All worlds at calls that a laboratory can come to, those with fewer calls first, and the calls that
+/// lead from one to another, in the order of the nodes that they lead from.
+#[derive(Drop)]
+pub struct Picture {
+    pub nodes: Vec<Node>,
+    pub arrows: Vec<Arrow>,
+}
+
+/// Nobody, who is told nothing.
+#[derive(Drop)]
+struct Nobody;
+
+impl Observer for Nobody {
+    fn see(&mut self, _visited: usize, _waiting: usize) {}
+}
+
+/// Draws every world at calls that a laboratory can come to, if there are no more than [`MOST_DRAWN`],
+/// and they can be visited within the limits. Each node is a world to which effective steps lead, by no
+/// fewer calls than are told; each arrow is a call of a process that goes on; and each such call from a
+/// node has its arrow, so that there is no other world, but for the numbers of places in the kernel and
+/// for who waits. A world from which no process goes on has its end.
+pub fn draw(alloc: Global, fresh: Fresh, limits: Limits) -> Result<Option<Picture>, ExploreFault>
+    ensures nodes { IfOk result (λ d. IfSome d (λ x. All (IsNode fresh) x.nodes.items)) }
+    ensures arrows { IfOk result (λ d. IfSome d (λ x.
+        All (IsStep x.nodes.items) x.arrows.items)) }
+    ensures begins { IfOk result (λ d. IfSome d (λ x. BeginsAt fresh x.nodes.items)) }
+    ensures all { IfOk result (λ d. IfSome d (λ x.
+        HaveAllSteps x.nodes.items x.arrows.items)) }
+    ensures fewest { IfOk result (λ d. IfSome d (λ x.
+        HaveFewestNodeCalls x.nodes.items x.arrows.items)) }
+    ensures ends { IfOk result (λ d. IfSome d (λ x. All (IsEndOfNode fresh) x.nodes.items)) }
+    ensures at_rest { IfOk result (λ d. IfSome d (λ x. All HasEndAtRest x.nodes.items)) }
+    ensures few { IfOk result (λ d. IfSome d (λ x. length x.nodes.items ≤ 500)) }
+{
+    let processes = fresh.processes();
+    let kernel = Kernel::new(alloc, processes.len())?;
+    let limits = Limits {
+        worlds: limits.worlds.min(MOST_DRAWN),
+        ..limits
+    };
+    let mut nobody = Nobody;
+    let visited = visit(alloc, &processes, &kernel, limits, &mut nobody, false)?;
+    match picture_of(&visited, alloc, &processes) {
+        Ok(picture) => {
+            discard(visited);
+            Ok(picture)
+        }
+        Err(fault) => {
+            discard(visited);
+            Err(fault)
+        }
+    }
+}

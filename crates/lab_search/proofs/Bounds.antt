@@ -1,0 +1,89 @@
+-- How many effective steps there can be, where each edge leads to a row with a greater number.
+use Rattle.std.proofs.Common.{ℕ, suc, ◌+◌, ◌-◌, ◌*◌, ◌<◌, ◌≤◌, ◌≡◌, List, [], ◌∷◌, Option, Some, None, sym, ap, subst, ◌∙◌, arith, length, slice_get, set, refl, inl, inr, ◌⊎◌}
+use Rattle.lab_sched.specs.Worlds.{WorldState, step_effect_in, step}
+use Rattle.lab_sched.specs.Execution.{AreEffective}
+use Rattle.ipc_kernel.specs.Alike.{IsConsistent}
+use Rattle.lab_search.specs.declared.store.Store.{Store}
+use Rattle.lab_worlds.specs.Untried.{GoesOn, untried, AskAgain}
+use Rattle.lab_search.specs.Stored.{IsSearched}
+use Rattle.lab_worlds.specs.Rounds.{AreBounded}
+use Rattle.lab_states.specs.Rising.{IsRising, Rises, AreRising}
+use Rattle.lab_worlds.proofs.Pushes.{all_at}
+use Rattle.lab_search.proofs.StandingWorlds.{Place, Stands, GoesNearer, GoesAlong, total, total_set, running, running_goes, running_waits, step_stands, start_stands}
+use Rattle.lab_worlds.proofs.UntriedWorlds.{tells, same_step, still_untried, goes_untried, asks_on}
+
+-- so many steps may follow a row with such a number
+abbrev pub rank : ℕ → Option ℕ → ℕ
+rank n None = 0
+rank n (Some a) = n - a
+
+-- at most so many steps may follow where a world stands
+abbrev pub left_at : List ℕ → Place → ℕ
+left_at order s = total s.taken + 4294967296 * rank (length order) (slice_get order s.at)
+
+-- at most n steps by which a process goes on may follow the world
+abbrev HasLeft : Store → List ℕ → WorldState → ℕ → Type 0
+HasLeft t order w n = (s : Place) × Stands t w s × (left_at order s ≡ n)
+
+module _ (t : Store) (order : List ℕ) (rises : Rises order t.edges) where
+  pub nearer_less : (s u : Place) (p : ℕ) → GoesNearer s u p → left_at order u < left_at order s
+  nearer_less s u p h =
+      let sums = total_set s.taken p (suc h.0) h.0 h.1 in
+      subst (λ i. total u.taken + 4294967296 * rank (length order) (slice_get order i) < left_at order s) (sym h.3)
+      (subst (λ ks. total ks + 4294967296 * rank (length order) (slice_get order s.at) < left_at order s) (sym h.2) (omega (arith, sums)))
+
+  pub along_less : (s u : Place) (p : ℕ) → GoesAlong t s u p → left_at order u < left_at order s
+  along_less s u p h =
+      let rise = all_at (IsRising order) t.edges h.0 h.1 rises h.3 in
+      let from : slice_get order s.at ≡ Some rise.before = ap (λ i. slice_get order i) (sym h.4) ∙ rise.from in
+      let to : slice_get order u.at ≡ Some rise.after = ap (λ i. slice_get order i) (sym h.5) ∙ rise.to in
+      let sums = total_set s.taken p 0 h.2 h.7 in
+      subst (λ o. total u.taken + 4294967296 * rank (length order) (slice_get order u.at) < total s.taken + 4294967296 * rank (length order) o) (sym from)
+      (subst (λ o. total u.taken + 4294967296 * rank (length order) o < total s.taken + 4294967296 * (length order - rise.before)) (sym to)
+      (subst (λ ks. total ks + 4294967296 * (length order - rise.after) < total s.taken + 4294967296 * (length order - rise.before)) (sym h.8)
+      (falls (total s.taken) (total (set s.taken p h.2)) h.2 (length order) rise.before rise.after sums h.9 rise.less rise.within)))
+    where
+      falls : (x y i l a b : ℕ) → y + 0 ≡ x + i → i < 4294967296 → a < b → b ≤ l → y + 4294967296 * (l - b) < x + 4294967296 * (l - a)
+      falls x y i l a b sums few rise within = omega arith
+
+  -- so many steps fewer may follow after either
+  pub next_less : (s u : Place) (p : ℕ) → GoesNearer s u p ⊎ GoesAlong t s u p → left_at order u < left_at order s
+  next_less s u p (inl near) = nearer_less s u p near
+  next_less s u p (inr along) = along_less s u p along
+
+module _ (t : Store) (order : List ℕ) (start : WorldState) (searched : IsSearched start t) (rises : Rises order t.edges) where
+  step_left : (w : WorldState) (p n : ℕ) → GoesOn (step_effect_in w p) → HasLeft t order w n → (j : ℕ) × (j < n) × HasLeft t order (step w p) j
+  step_left w p n effective left =
+      let next = step_stands t start searched w p left.0 effective left.1 in
+      let less = next_less t order rises left.0 next.0 p next.2 in
+      (left_at order next.0, subst (λ n. left_at order next.0 < n) left.2 less, (next.0, next.1, refl))
+
+  -- a step by which a process goes on leaves less where none has begun to wait, and one process more
+  -- may begin to; another step is the beginning of a wait
+  within : (ps : List ℕ) (w : WorldState) (n : ℕ) → AskAgain w → HasLeft t order (untried w) n → AreEffective w ps → length ps ≤ 2 * n + running w
+  within [] w n asks left h = omega arith
+  within (p ∷ ps) w n asks left h = elim (tells (step_effect_in w p)) [
+    | inl goes ↦
+        let next = step_left (untried w) p n (subst GoesOn (sym (same_step w p asks goes)) goes) left in
+        let rest = within ps (step w p) next.0 (asks_on w p asks) (subst (λ x. HasLeft t order x next.0) (sym (goes_untried w p asks goes)) next.2) h.1 in
+        more next.0 n (running w) (running (step w p)) (length ps) next.1 (running_goes w p) rest
+    | inr none ↦
+        let rest = within ps (step w p) n (asks_on w p asks) (subst (λ x. HasLeft t order x n) (sym (still_untried w p none)) left) h.1 in
+        fewer n (running w) (running (step w p)) (length ps) (running_waits w p h.0 none) rest
+  ]
+    where
+      more : (j n r s l : ℕ) → j < n → s ≤ r + 1 → l ≤ 2 * j + s → suc l ≤ 2 * n + r
+      more j n r s l a b c = omega arith
+
+      fewer : (n r s l : ℕ) → s + 1 ≡ r → l ≤ 2 * n + s → suc l ≤ 2 * n + r
+      fewer n r s l a b = omega arith
+
+  bounded : IsConsistent start.kernel → AskAgain start → untried start ≡ start → AreBounded start
+  bounded consistent asks same =
+      let begun = start_stands t start searched consistent in
+      let n = left_at order begun.0 in
+      (2 * n + running start, λ ps h. within ps start n asks (subst (λ x. HasLeft t order x n) (sym same) (begun.0, begun.1, refl)) h)
+
+-- where the rows are searched, and all edges rise, each list of effective steps has at most so many
+pub searched_bounded : (t : Store) (start : WorldState) → IsConsistent start.kernel → AskAgain start → untried start ≡ start → IsSearched start t → AreRising t.edges → AreBounded start
+searched_bounded t start consistent asks same searched rising = bounded t rising.0 start searched rising.1 consistent asks same

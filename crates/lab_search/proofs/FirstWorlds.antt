@@ -1,0 +1,110 @@
+-- The first world of a search, and what the whole search holds.
+use Rattle.std.proofs.Common.{ℕ, suc, arith, ◌≡◌, ◌<◌, ◌≤◌, ◌+◌, ◌++◌, List, [], ◌∷◌, Option, Some, None, refl, sym, ap, subst, ◌∙◌, slice_get, length, map, take, get_or}
+use Rattle.std.proofs.lemmas.List.{map-append, take_more}
+use Rattle.std.specs.Option.{option_map}
+use Rattle.ipc_kernel.specs.Kernel.{KernelState}
+use Rattle.lab_sched.specs.declared.process.Process.{Process as Kept}
+use Rattle.lab_sched.specs.Worlds.{Process, WorldState, step_effect_in, step}
+use Rattle.lab_sched.specs.Held.{process_view}
+use Rattle.lab_sched.proofs.ListPlaces.{get_past}
+use Rattle.lab_states.specs.Rows.{Row}
+use Rattle.lab_search.specs.declared.store.Store.{Store}
+use Rattle.lab_worlds.specs.Calls.{IsAhead, Both, Alongside, IsAdvance}
+use Rattle.lab_worlds.specs.Closed.{HasAdvance}
+use Rattle.lab_worlds.specs.Untried.{GoesOn, untried}
+use Rattle.lab_search.specs.Stored.{IsState, IsKernel, IsRow, IsAt, IsSearched}
+use Rattle.lab_search.specs.Private.Stored.{Grows, IsCome, IsBegun}
+use Rattle.lab_worlds.specs.Stepped.{IsReached, AreReached}
+use Rattle.lab_worlds.proofs.AfterLocalSteps.{same_by_gets, same_some}
+use Rattle.lab_states.specs.Depths.{depth_of, IsNear, AreDepths}
+use Rattle.lab_worlds.proofs.HeldAdvances.{AreLevels}
+use Rattle.lab_worlds.proofs.Pushes.{alongside_cons, alongside_push, both_weaker, all_at}
+use Rattle.lab_search.proofs.Growths.{state_grows}
+
+pub come_grows : (t u : Store) (i : ℕ) (s : Process) → Grows t u → IsCome t i s → IsCome u i s
+come_grows t u i s g h = (h.0, state_grows t u i h.0 g h.1, h.2)
+
+pub begun_grows : (t u : Store) (is : List ℕ) (ss : List Process) → Grows t u → IsBegun t is ss → IsBegun u is ss
+begun_grows t u is ss g h p = both_weaker (IsCome t) (IsCome u) (λ i s. come_grows t u i s g) (slice_get is p) (slice_get ss p) (h p)
+
+-- one process more
+pub begun_more : (t u : Store) (is js : List ℕ) (ps : List Kept) (n i : ℕ) (k : Kept) → Grows t u → IsBegun t is (map process_view (take n ps)) → n < length ps → k ≡ get_or ps n k
+    → IsCome u i (process_view k) → js ≡ is ++ i ∷ [] → IsBegun u js (map process_view (take (n + 1) ps))
+begun_more t u is js ps n i k g h within read come js-is =
+    let more : map process_view (take (n + 1) ps) ≡ map process_view (take n ps) ++ process_view k ∷ [] =
+    ap (map process_view) (take_more ps n k within ∙ ap (λ x. take n ps ++ x ∷ []) (sym read)) ∙ map-append process_view (take n ps) (k ∷ []) in
+    subst (λ xs. IsBegun u xs (map process_view (take (n + 1) ps))) (sym js-is)
+    (subst (λ ss. IsBegun u (is ++ i ∷ []) ss) (sym more) (alongside_push (IsCome u) is (map process_view (take n ps)) i (process_view k) (begun_grows t u is (map process_view (take n ps)) g h) come))
+
+-- the states that the processes begin with
+chosen : (t : Store) (is : List ℕ) (ss : List Process) → IsBegun t is ss → (us : List Process) × Alongside (IsState t) is us × Alongside IsAhead ss us
+chosen t [] [] h = ([], λ p. tt, λ p. tt)
+chosen t [] (s ∷ ss) h = absurd (h 0)
+chosen t (i ∷ is) [] h = absurd (h 0)
+chosen t (i ∷ is) (s ∷ ss) h =
+    let first : IsCome t i s = h 0 in
+    let rest = chosen t is ss (λ p. h (suc p)) in
+    (first.0 ∷ rest.0, alongside_cons (IsState t) i first.0 is rest.0 first.1 rest.1, alongside_cons IsAhead s first.0 ss rest.0 first.2 rest.2)
+
+-- the world at its first calls, by its row
+pub begins : (t : Store) (r : Row) (k : KernelState) (ss : List Process) → IsKernel t r.kernel k → IsBegun t r.states ss
+    → (v : WorldState) × IsRow t r v × IsAdvance (record { processes = ss; kernel = k }) v
+begins t r k ss kernel begun =
+    let us = chosen t r.states ss begun in
+    (record { processes = us.0; kernel = kernel.0 }, record { kernel = kernel.1; settled = kernel.3; states = us.1 }, record { kernel = kernel.2; processes = us.2 })
+
+-- the same by the parts of the row
+pub begins_row : (t : Store) (r : Row) (kernel : ℕ) (states : List ℕ) (k : KernelState) (ss : List Process) → r.kernel ≡ kernel → r.states ≡ states → IsKernel t kernel k → IsBegun t states ss
+    → (v : WorldState) × IsRow t r v × IsAdvance (record { processes = ss; kernel = k }) v
+begins_row t r kernel states k ss kernel-is states-is here begun =
+    begins t r k ss (subst (λ n. IsKernel t n k) (sym kernel-is) here) (subst (λ ns. IsBegun t ns ss) (sym states-is) begun)
+
+same_state : (t : Store) (o : Option ℕ) (a b : Option Process) → Both (IsState t) o a → Both (IsState t) o b → a ≡ b
+same_state t None None None h k = refl
+same_state t None None (Some y) h k = absurd k
+same_state t None (Some x) b h k = absurd h
+same_state t (Some i) None b h k = absurd h
+same_state t (Some i) (Some x) None h k = absurd k
+same_state t (Some i) (Some x) (Some y) h k = ap (λ z. Some z) (same_some x y (option_map process_view (slice_get t.states.processes i)) h k)
+
+-- a row stands for one world
+pub row_unique : (t : Store) (r : Row) (w v : WorldState) → IsRow t r w → IsRow t r v → w ≡ v
+row_unique t r w v h k =
+    let processes : w.processes ≡ v.processes = same_by_gets w.processes v.processes (λ p. same_state t (slice_get r.states p) (slice_get w.processes p) (slice_get v.processes p) (h.states p) (k.states p)) in
+    let kernel : w.kernel ≡ v.kernel = same_some w.kernel v.kernel (slice_get t.kernels.kernels r.kernel) h.kernel k.kernel in
+    ap (λ ps. record { processes = ps; kernel = w.kernel }) processes ∙ ap (λ x. record { processes = v.processes; kernel = x }) kernel
+
+pub at_unique : (t : Store) (i : ℕ) (w v : WorldState) → IsAt t i w → IsAt t i v → w ≡ v
+at_unique t i w v h k =
+    let same : h.0 ≡ k.0 = same_some h.0 k.0 (slice_get t.rows i) h.1 k.1 in
+    row_unique t k.0 w v (subst (λ r. IsRow t r w) same h.2) k.2
+
+-- what is reached is an advance
+pub reached_advance : (w v : WorldState) → AreReached w v → IsAdvance w v
+reached_advance w v h = record {
+  kernel = h.kernel;
+  processes = λ p. both_weaker IsReached IsAhead (λ s u r. r.ahead) (slice_get w.processes p) (slice_get v.processes p) (h.processes p);
+}
+
+-- the rows of at most this depth
+abbrev pub AreAtDepth : Store → List ℕ → ℕ → WorldState → Type 0
+AreAtDepth t depths n v = (i : ℕ) × IsAt t i v × (depth_of depths i ≤ n)
+
+-- where each row was expanded, they are levels of worlds
+pub all_levels : (t : Store) (start : WorldState) (depths : List ℕ) → untried start ≡ start → IsSearched start t → AreDepths depths t.edges → AreLevels start (AreAtDepth t depths)
+all_levels t start depths same searched deep = record {
+  begins =
+      let first = searched.begins in
+      let least = deep.first in
+      subst (HasAdvance (AreAtDepth t depths 0)) (sym same) (first.0, (0, first.1, omega arith), first.2);
+  goes_on = λ n v p held effective.
+      let i = held.0 in
+      let done = searched.expanded i (get_past t.rows i held.1.0 held.1.1) in
+      let same : v ≡ done.0 = at_unique t i v done.0 held.1 done.1 in
+      let edge = done.2 p (subst (λ w. GoesOn (step_effect_in w p)) same effective) in
+      let near : depth_of depths edge.1.to ≤ depth_of depths edge.1.from + 1 = all_at (IsNear depths) t.edges edge.0 edge.1 deep.near edge.3 in
+      let from : depth_of depths edge.1.from ≡ depth_of depths i = ap (depth_of depths) edge.4 in
+      let few = held.2 in
+      let there : HasAdvance (AreAtDepth t depths (n + 1)) (step done.0 p) = (edge.2, (edge.1.to, edge.5, omega (arith, near, from, few)), reached_advance (step done.0 p) edge.2 edge.6) in
+      subst (λ w. HasAdvance (AreAtDepth t depths (n + 1)) (step w p)) (sym same) there;
+}

@@ -1,0 +1,244 @@
+-- Stores that grow.
+use Rattle.std.proofs.Common.{All, inl, inr, Bool, true, false, ℕ, ◌≡◌, [], ◌∷◌, ◌++◌, Option, Some, None, refl, sym, ap, subst, ◌∙◌, slice_get, length}
+use Rattle.std.specs.Option.{option_map}
+use Rattle.ipc_kernel.specs.Kernel.{KernelState}
+use Rattle.lab_sched.specs.declared.process.Process.{Process as Kept}
+use Rattle.lab_sched.specs.Worlds.{Process, WorldState}
+use Rattle.lab_sched.specs.Held.{process_view}
+use Rattle.lab_states.specs.Rows.{Row}
+use Rattle.lab_states.specs.declared.edges.Edge.{Edge}
+use Rattle.lab_search.specs.declared.store.Store.{Store}
+use Rattle.lab_search.specs.declared.store.Next.{Next}
+use Rattle.lab_search.specs.declared.store.Next.TheVariants.{Nothing, Limit, To}
+use Rattle.lab_search.specs.declared.known.Moves.{Moves}
+use Rattle.lab_search.specs.Known.{AreMoves, AreKnown}
+use Rattle.lab_search.specs.Touched.{AreParts, IsEffect, IsTouched, AreTouched}
+use Rattle.lab_search.specs.declared.touches.Touch.{Touch}
+use Rattle.lab_search.specs.declared.touches.Touched.{Touched}
+use Rattle.lab_search.specs.declared.touches.Touches.{Touches}
+use Rattle.lab_search.specs.declared.touches.Effect.{Effect}
+use Rattle.lab_search.specs.declared.touches.Effect.TheVariants as effect
+use Rattle.lab_search.specs.declared.known.Move.{Move}
+use Rattle.ipc_store.specs.Kept.{GrowsKept}
+use Rattle.ipc_kernel.specs.declared.place.Place.{Place}
+use Rattle.ipc_kernel.specs.declared.process.OpenTables.{OpenTables}
+use Rattle.lab_states.specs.Shorts.{Sharing, IsSameOrMore}
+use Rattle.lab_search.specs.Sparse.{IsTriedAlone, IsTriedIn}
+use Rattle.lab_search.specs.Stored.{IsState, IsKernel, IsRow, IsAt, LeadsTo, IsStore, IsNext, IsMove, HasEdge, IsTried, IsExpanded}
+use Rattle.lab_worlds.specs.Stepped.{IsReady}
+use Rattle.lab_search.specs.Private.Stored.{Grows}
+use Rattle.std.proofs.lemmas.List.Elements.{All-push, All-weaker}
+use Rattle.lab_worlds.proofs.Pushes.{both_weaker, keeps_push, get_pushed}
+
+pub grows_more : (t u v : Store) → Grows t u → Grows u v → Grows t v
+grows_more t u v g h = record {
+  kernels = record {
+    objects = λ i x e. h.kernels.objects i x (g.kernels.objects i x e);
+    tables = λ i x e. h.kernels.tables i x (g.kernels.tables i x e);
+    kernels = λ i x e. h.kernels.kernels i x (g.kernels.kernels i x e);
+  };
+  states = λ i x e. h.states i x (g.states i x e);
+  rows = λ i x e. h.rows i x (g.rows i x e);
+  edges = λ i x e. h.edges i x (g.edges i x e);
+}
+
+-- a store is what it was where nothing was added
+pub grows_same : (t : Store) → Grows t t
+grows_same t = record {
+  kernels = record { objects = λ i x e. e; tables = λ i x e. e; kernels = λ i x e. e };
+  states = λ i x e. e;
+  rows = λ i x e. e;
+  edges = λ i x e. e;
+}
+
+kept_at : (o : Option Kept) (s : Process) → option_map process_view o ≡ Some s → (k : Kept) × (o ≡ Some k) × (process_view k ≡ s)
+kept_at None s e = absurd (cc)
+kept_at (Some k) s e = let same : process_view k ≡ s = cc in (k, refl, same)
+
+-- the state that is kept at a place
+pub state_kept : (t : Store) (i : ℕ) (s : Process) → IsState t i s → (k : Kept) × (slice_get t.states.processes i ≡ Some k) × (process_view k ≡ s)
+state_kept t i s h = kept_at (slice_get t.states.processes i) s h
+
+pub state_grows : (t u : Store) (i : ℕ) (s : Process) → Grows t u → IsState t i s → IsState u i s
+state_grows t u i s g h =
+    let k = state_kept t i s h in
+    ap (λ o. option_map process_view o) (g.states i k.0 k.1) ∙ ap (λ x. Some x) k.2
+
+pub row_grows : (t u : Store) (r : Row) (w : WorldState) → Grows t u → IsRow t r w → IsRow u r w
+row_grows t u r w g h = record {
+  kernel = g.kernels.kernels r.kernel w.kernel h.kernel;
+  settled = h.settled;
+  states = λ p. both_weaker (IsState t) (IsState u) (λ i s. state_grows t u i s g) (slice_get r.states p) (slice_get w.processes p) (h.states p);
+}
+
+pub at_grows : (t u : Store) (i : ℕ) (w : WorldState) → Grows t u → IsAt t i w → IsAt u i w
+at_grows t u i w g h = (h.0, g.rows i h.0 h.1, row_grows t u h.0 w g h.2)
+
+pub kernel_grows : (t u : Store) (i : ℕ) (k : KernelState) → Grows t u → IsKernel t i k → IsKernel u i k
+kernel_grows t u i k g h = (h.0, g.kernels.kernels i h.0 h.1, h.2, h.3)
+
+next_grows : (t u : Store) (k : KernelState) (p : ℕ) (s : Process) (n : Next) → Grows t u → IsNext t k p s n → IsNext u k p s n
+next_grows t u k p s Nothing g h = h
+next_grows t u k p s Limit g h = h
+next_grows t u k p s (To kernel state taken) g h = (h.0, kernel_grows t u kernel _ g h.1, state_grows t u state h.0 g h.2, h.3, h.4)
+
+pub move_grows : (t u : Store) (kernel p state : ℕ) (n : Next) → Grows t u → IsMove t kernel p state n → IsMove u kernel p state n
+move_grows t u kernel p state n g h = (h.0, h.1, g.kernels.kernels kernel h.0 h.2, state_grows t u state h.1 g h.3, λ settled. next_grows t u h.0 p h.1 n g (h.4 settled))
+
+edge_grows : (t u : Store) (i : ℕ) (w : WorldState) (p : ℕ) → Grows t u → HasEdge t i w p → HasEdge u i w p
+edge_grows t u i w p g h = (h.0, h.1, h.2, g.edges h.0 h.1 h.3, h.4, at_grows t u h.1.to h.2 g h.5, h.6, h.7)
+
+pub tried_grows : (t u : Store) (i : ℕ) (w : WorldState) (p : ℕ) → Grows t u → IsTried t i w p → IsTried u i w p
+tried_grows t u i w p g h e = edge_grows t u i w p g (h e)
+
+pub expanded_grows : (t u : Store) (i : ℕ) → Grows t u → IsExpanded t i → IsExpanded u i
+expanded_grows t u i g h = (h.0, at_grows t u i h.0 g h.1, λ p. tried_grows t u i h.0 p g (h.2 p))
+
+-- an edge to a later row stays one
+pub alone_grows : (t u : Store) (i : ℕ) → Grows t u → IsTriedAlone t i → IsTriedAlone u i
+unfolding edge_grows
+alone_grows t u i g (w, at, p, own, x, later) = (w, at_grows t u i w g at, p, own, edge_grows t u i w p g x, later)
+
+pub tried_in_grows : (sparse : Bool) (t u : Store) (i : ℕ) → Grows t u → IsTriedIn sparse t i → IsTriedIn sparse u i
+tried_in_grows false t u i g h = expanded_grows t u i g h
+tried_in_grows true t u i g (inl h) = inl (expanded_grows t u i g h)
+tried_in_grows true t u i g (inr h) = inr (alone_grows t u i g h)
+
+-- where a row leads, it still does
+pub leads_grow : (t u : Store) (i p j : ℕ) → Grows t u → LeadsTo t i p j → LeadsTo u i p j
+leads_grow t u i p j g (w, v, from, to, reached, goes) = (w, v, at_grows t u i w g from, at_grows t u j v g to, reached, goes)
+
+edges_lead : (t u : Store) → IsStore t → Grows t u → All (λ (e : Edge). LeadsTo u e.from e.pid e.to) t.edges
+edges_lead t u s g =
+    All-weaker (λ (e : Edge). LeadsTo t e.from e.pid e.to) (λ (e : Edge). LeadsTo u e.from e.pid e.to) (λ e h. leads_grow t u e.from e.pid e.to g h) t.edges s.edges
+
+-- each row of a store stands for the world that it stood for
+rows_grow : (t u : Store) → IsStore t → Grows t u → All (λ r. (w : WorldState) × IsRow u r w) t.rows
+rows_grow t u s g =
+    All-weaker (λ r. (w : WorldState) × IsRow t r w) (λ r. (w : WorldState) × IsRow u r w) (λ r h. (h.0, row_grows t u r h.0 g h.1)) t.rows s.rows
+
+-- a store that has more kernels, or more states
+pub store_grows : (t u : Store) → IsStore t → Grows t u → All IsReady u.states.processes → u.rows ≡ t.rows → u.edges ≡ t.edges → IsStore u
+store_grows t u s g ready same edges = record {
+  states = ready;
+  rows = subst (λ xs. All (λ r. (w : WorldState) × IsRow u r w) xs) (sym same) (rows_grow t u s g);
+  edges = subst (λ xs. All (λ (e : Edge). LeadsTo u e.from e.pid e.to) xs) (sym edges) (edges_lead t u s g);
+}
+
+-- the same kernels
+same_kernels : (t u : Store) → u.kernels ≡ t.kernels → GrowsKept t.kernels u.kernels
+same_kernels t u same = subst (λ ks. GrowsKept t.kernels ks) (sym same) (record { objects = λ i x e. e; tables = λ i x e. e; kernels = λ i x e. e })
+
+-- one state more
+pub states_pushed : (t u : Store) (k : Kept) → IsStore t → IsReady k → u.states.processes ≡ t.states.processes ++ k ∷ [] → u.kernels ≡ t.kernels → u.rows ≡ t.rows
+    → u.edges ≡ t.edges → Grows t u × IsStore u
+states_pushed t u k s ready states kernels rows edges =
+    let g : Grows t u = record {
+      kernels = same_kernels t u kernels;
+      states = λ i x e. subst (λ xs. slice_get xs i ≡ Some x) (sym states) (keeps_push t.states.processes k i x e);
+      rows = λ i x e. subst (λ xs. slice_get xs i ≡ Some x) (sym rows) e;
+      edges = λ i x e. subst (λ xs. slice_get xs i ≡ Some x) (sym edges) e;
+    } in
+    (g, store_grows t u s g (subst (λ xs. All IsReady xs) (sym states) (All-push IsReady t.states.processes k s.states ready)) rows edges)
+
+-- the same states, among other outputs
+states_same : (t u : Store) → IsStore t → u.states.processes ≡ t.states.processes → u.kernels ≡ t.kernels → u.rows ≡ t.rows → u.edges ≡ t.edges → Grows t u × IsStore u
+states_same t u s states kernels rows edges =
+    let g : Grows t u = record {
+      kernels = same_kernels t u kernels;
+      states = λ i x e. subst (λ xs. slice_get xs i ≡ Some x) (sym states) e;
+      rows = λ i x e. subst (λ xs. slice_get xs i ≡ Some x) (sym rows) e;
+      edges = λ i x e. subst (λ xs. slice_get xs i ≡ Some x) (sym edges) e;
+    } in
+    (g, store_grows t u s g (subst (λ xs. All IsReady xs) (sym states) s.states) rows edges)
+
+-- more kernels
+pub kernels_grown : (t u : Store) → IsStore t → GrowsKept t.kernels u.kernels → u.states ≡ t.states → u.rows ≡ t.rows → u.edges ≡ t.edges → Grows t u × IsStore u
+kernels_grown t u s kernels states rows edges =
+    let g : Grows t u = record {
+      kernels = kernels;
+      states = λ i x e. subst (λ (xs : Sharing). slice_get xs.processes i ≡ Some x) (sym states) e;
+      rows = λ i x e. subst (λ xs. slice_get xs i ≡ Some x) (sym rows) e;
+      edges = λ i x e. subst (λ xs. slice_get xs i ≡ Some x) (sym edges) e;
+    } in
+    (g, store_grows t u s g (subst (λ (xs : Sharing). All IsReady xs.processes) (sym states) s.states) rows edges)
+
+-- the same rows
+pub rows_same : (t u : Store) → IsStore t → u.rows ≡ t.rows → u.kernels ≡ t.kernels → u.states ≡ t.states → u.edges ≡ t.edges → Grows t u × IsStore u
+rows_same t u s rows kernels states edges = kernels_grown t u s (same_kernels t u kernels) states rows edges
+
+-- a state that is kept
+pub states_kept : (t u : Store) (k : Kept) → IsStore t → IsReady k → IsSameOrMore t.states.processes u.states.processes k → u.kernels ≡ t.kernels → u.rows ≡ t.rows → u.edges ≡ t.edges → Grows t u × IsStore u
+states_kept t u k s ready (inl same) kernels rows edges = states_same t u s same kernels rows edges
+states_kept t u k s ready (inr more) kernels rows edges = states_pushed t u k s ready more kernels rows edges
+
+-- one row more
+pub rows_pushed : (t u : Store) (r : Row) → IsStore t → ((w : WorldState) × IsRow t r w) → u.rows ≡ t.rows ++ r ∷ [] → u.kernels ≡ t.kernels → u.states ≡ t.states
+    → u.edges ≡ t.edges → Grows t u × IsStore u
+rows_pushed t u r s stands rows kernels states edges =
+    let g : Grows t u = record {
+      kernels = same_kernels t u kernels;
+      states = λ i x e. subst (λ (xs : Sharing). slice_get xs.processes i ≡ Some x) (sym states) e;
+      rows = λ i x e. subst (λ xs. slice_get xs i ≡ Some x) (sym rows) (keeps_push t.rows r i x e);
+      edges = λ i x e. subst (λ xs. slice_get xs i ≡ Some x) (sym edges) e;
+    } in
+    let here : (w : WorldState) × IsRow u r w = (stands.0, row_grows t u r stands.0 g stands.1) in
+    let old = rows_grow t u s g in (
+      g,
+      record {
+        states = subst (λ (xs : Sharing). All IsReady xs.processes) (sym states) s.states;
+        rows = subst (λ xs. All (λ q. (w : WorldState) × IsRow u q w) xs) (sym rows) (All-push (λ q. (w : WorldState) × IsRow u q w) t.rows r old here);
+        edges = subst (λ xs. All (λ (e : Edge). LeadsTo u e.from e.pid e.to) xs) (sym edges) (edges_lead t u s g);
+      },
+    )
+
+pub row_pushed : (t u : Store) (r : Row) (w : WorldState) (n : ℕ) → Grows t u → u.rows ≡ t.rows ++ r ∷ [] → n ≡ length t.rows → IsRow t r w → IsAt u n w
+row_pushed t u r w n g rows is h =
+    (r, ap (λ xs. slice_get xs n) rows ∙ ap (λ m. slice_get (t.rows ++ r ∷ []) m) is ∙ get_pushed t.rows r, row_grows t u r w g h)
+
+-- one edge more
+pub edges_pushed : (t u : Store) (e : Edge) → IsStore t → LeadsTo t e.from e.pid e.to → u.edges ≡ t.edges ++ e ∷ [] → u.kernels ≡ t.kernels → u.states ≡ t.states → u.rows ≡ t.rows
+    → Grows t u × IsStore u
+edges_pushed t u e s leads edges kernels states rows =
+    let g : Grows t u = record {
+      kernels = same_kernels t u kernels;
+      states = λ i x h. subst (λ (xs : Sharing). slice_get xs.processes i ≡ Some x) (sym states) h;
+      rows = λ i x h. subst (λ xs. slice_get xs i ≡ Some x) (sym rows) h;
+      edges = λ i x h. subst (λ xs. slice_get xs i ≡ Some x) (sym edges) (keeps_push t.edges e i x h);
+    } in
+    let all = All-push (λ (x : Edge). LeadsTo u x.from x.pid x.to) t.edges e (edges_lead t u s g) (leads_grow t u e.from e.pid e.to g leads) in (
+      g,
+      record {
+        states = subst (λ (xs : Sharing). All IsReady xs.processes) (sym states) s.states;
+        rows = subst (λ xs. All (λ r. (w : WorldState) × IsRow u r w) xs) (sym rows) (rows_grow t u s g);
+        edges = subst (λ xs. All (λ (x : Edge). LeadsTo u x.from x.pid x.to) xs) (sym edges) all;
+      },
+    )
+
+-- tables and an object stay what they are
+parts_grow : (t u : Store) (tables object : ℕ) (x : OpenTables) (o : Place) → Grows t u → AreParts t tables object x o → AreParts u tables object x o
+parts_grow t u tables object x o g h = (g.kernels.tables tables x h.0, g.kernels.objects object o h.1)
+
+pub effect_grows : (t u : Store) (k : KernelState) (p : ℕ) (s : Process) (i : ℕ) (e : Effect) → Grows t u → IsEffect t k p s i e → IsEffect u k p s i e
+effect_grows t u k p s i effect.Nothing g h = h
+effect_grows t u k p s i effect.Limit g h = h
+effect_grows t u k p s i (effect.To tables object state taken) g h =
+    (h.0, h.1, h.2, parts_grow t u tables object h.0 h.1 g h.3, state_grows t u state h.2 g h.4, h.5, h.6, h.7)
+
+pub touched_grows : (t u : Store) (x : Touch) (e : Effect) → Grows t u → IsTouched t x e → IsTouched u x e
+touched_grows t u x e g h =
+    (h.0, h.1, h.2, h.3, state_grows t u x.state h.0 g h.4, parts_grow t u x.tables x.object h.1 h.2 g h.5, h.6, λ k p settled at works. effect_grows t u k p h.0 x.place e g (h.7 k p settled at works))
+
+pub touches_grow : (t u : Store) (ts : Touches) → Grows t u → AreTouched t ts → AreTouched u ts
+touches_grow t u ts g h =
+    All-weaker (λ (m : Touched). IsTouched t m.touch m.effect) (λ (m : Touched). IsTouched u m.touch m.effect) (λ m old. touched_grows t u m.touch m.effect g old) ts.made.items h
+
+-- moves that were made stay so
+pub moves_grow : (t u : Store) (ms : Moves) → Grows t u → AreMoves t ms → AreMoves u ms
+moves_grow t u ms g h =
+    All-weaker (λ (m : Move). IsMove t m.kernel m.pid m.state m.next) (λ (m : Move). IsMove u m.kernel m.pid m.state m.next)
+    (λ m old. move_grows t u m.kernel m.pid m.state m.next g old) ms.made.items h
+
+-- what is known stays so
+pub known_grows : (t u : Store) (ms : Moves) → Grows t u → AreKnown t ms → AreKnown u ms
+known_grows t u ms g h = record { moves = moves_grow t u ms g h.moves; touches = touches_grow t u ms.touches g h.touches }

@@ -1,0 +1,47 @@
+-- Sums of numbers, and how often a number stands in a list.
+use Rattle.std.proofs.Common.{ℕ, zero, suc, ◌+◌, ◌*◌, ◌<◌, ◌≤◌, ◌≡◌, ◌≢◌, ◌==◌, true, false, List, [], ◌∷◌, Some, refl, ap, inl, inr, ◌⊎◌, arith, length, slice_get, get_or, cond}
+use Rattle.std.proofs.lemmas.Bool.Decides.{eqb_tells}
+use Rattle.lab_sched.specs.Execution.{count}
+use Rattle.lab_search.proofs.StandingWorlds.{total}
+
+-- each number of a list is at most the sum
+pub part_most : (ks : List ℕ) (q k : ℕ) → slice_get ks q ≡ Some k → k ≤ total ks
+unfolding total
+part_most [] q k e = absurd (cc)
+part_most (x ∷ ks) zero k e = let same : x ≡ k = cc in omega arith
+part_most (x ∷ ks) (suc q) k e = omega (arith, part_most ks q k e)
+
+-- where each number is at most b, the sum is at most so many times b
+pub total_most : (ks : List ℕ) (b : ℕ) → ((q k : ℕ) → slice_get ks q ≡ Some k → k ≤ b) → total ks ≤ length ks * b
+unfolding total
+total_most [] b h = omega arith
+total_most (x ∷ ks) b h = omega (arith, h 0 x refl, total_most ks b (λ q k e. h (suc q) k e))
+
+pub count_yes : (p q : ℕ) (ps : List ℕ) → q ≡ p → count p (q ∷ ps) ≡ count p ps + 1
+count_yes p q ps same = by (eqb_tells q p)
+  where
+    by : ((q == p ≡ true) × (q ≡ p)) ⊎ ((q == p ≡ false) × (q ≢ p)) → count p (q ∷ ps) ≡ count p ps + 1
+    by (inl one) = ap (λ b. cond b (count p ps + 1) (count p ps)) one.0
+    by (inr other) = absurd (other.1 same)
+
+pub count_no : (p q : ℕ) (ps : List ℕ) → (q ≡ p → ⊥) → count p (q ∷ ps) ≡ count p ps
+count_no p q ps other = by (eqb_tells q p)
+  where
+    by : ((q == p ≡ true) × (q ≡ p)) ⊎ ((q == p ≡ false) × (q ≢ p)) → count p (q ∷ ps) ≡ count p ps
+    by (inl one) = absurd (other one.1)
+    by (inr two) = ap (λ b. cond b (count p ps + 1) (count p ps)) two.0
+
+pub count_first : (p q : ℕ) (ps : List ℕ) → count p (q ∷ ps) ≡ count p (q ∷ []) + count p ps
+count_first p q ps = elim (eqb_tells q p) [
+  | inl one ↦ let a = count_yes p q ps one.1 in let c = count_yes p q [] one.1 in omega (arith, a, c)
+  | inr other ↦ let a = count_no p q ps other.1 in let c = count_no p q [] other.1 in omega (arith, a, c)
+]
+
+-- a process that takes one of the steps is counted
+pub contained_counts : (ps : List ℕ) (p k : ℕ) → k < length ps → get_or ps k p ≡ p → 1 ≤ count p ps
+contained_counts [] p k within is = absurd (omega arith)
+contained_counts (q ∷ ps) p zero within is = let one = count_yes p q ps is in omega (arith, one)
+contained_counts (q ∷ ps) p (suc k) within is =
+    let rest : 1 ≤ count p ps = contained_counts ps p k (omega arith) is in
+    let first : count p (q ∷ ps) ≡ count p (q ∷ []) + count p ps = count_first p q ps in
+    omega (arith, rest, first)

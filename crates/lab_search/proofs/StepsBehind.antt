@@ -1,0 +1,304 @@
+-- A step doesn't read what its process has written: what a process writes stands behind that.
+use Rattle.std.proofs.Common.{◌≡◌, ℕ, zero, suc, Bool, true, false, List, ◌++◌, Option, Some, None, Result, Ok, Err, refl, sym, ap, subst, ◌∙◌, ◌-◌, ◌==◌, ◌&&◌, ◌||◌, slice_get, slice_index}
+use Rattle.std.specs.Option.{option_map}
+use Rattle.lc3_machine.specs.declared.want.Want.TheVariants.{Trap, End}
+use Rattle.lc3_machine.specs.Process.{Process as Machine, Held, Outcome, GoesOn as ByItself, Stops, reg}
+use Rattle.lc3_machine.specs.Effects.{next_step}
+use Rattle.lc3_machine.proofs.Outputs.{behind as machine_behind, outcome_behind, step_behind, end_behind}
+use Rattle.ipc_kernel.specs.Kernel.{KernelState}
+use Rattle.ipc_kernel.specs.Answer.{answer}
+use Rattle.ipc_kernel.specs.declared.call.Call.{Call}
+use Rattle.ipc_kernel.specs.declared.call.Call.TheVariants as call
+use Rattle.ipc_kernel.specs.declared.call.Reply.{Reply}
+use Rattle.ipc_kernel.specs.declared.call.Reply.TheVariants as reply
+use Rattle.ipc_kernel.specs.declared.call.Answer.{Answer}
+use Rattle.ipc_kernel.specs.declared.call.Answer.TheVariants.{Done, Wait}
+use Rattle.ipc_names.specs.declared.errno.Errno.{Errno}
+use Rattle.ipc_names.specs.Errno.{number_of}
+use Rattle.ipc_traps.specs.declared.service.Service.{Service}
+use Rattle.ipc_traps.specs.declared.service.Service.TheVariants as service
+use Rattle.ipc_traps.specs.Services.{service_in}
+use Rattle.ipc_traps.specs.Names.{is_in_memory, words_at}
+use Rattle.ipc_traps.specs.Asked.{Request, Local, Refuses, Calls, Ends, name_at, request_within, request_for_name, service_request, trap_request, outcome_request, next_request}
+use Rattle.ipc_traps.specs.Reply.{service_asked, four_words_address, after_call, process_after_trap_reply, process_after_reply, HasRoomFor, CanReply, IsPrepared}
+use Rattle.lc3_machine.specs.Reply.{IsWritableIf, with_words_if}
+use Rattle.lab_sched.specs.declared.process.Process.{Process as Kept}
+use Rattle.lab_sched.specs.declared.process.Process.TheVariants as kept
+use Rattle.lab_sched.specs.Worlds.{Process, Running, Waiting, Ended, NextAction, moves, calls, action_for, next_action, process_after_reply_to, process_after_answer, StepEffect, nothing, local_step, kernel_step, retry, first_try, step_effect, process_after, kernel_after}
+use Rattle.lab_sched.specs.Held.{process_view, IsHeld, step_of}
+use Rattle.lab_sched.specs.LocalRun.{IsLocalStep, AreLocal}
+use Rattle.lab_worlds.specs.Calls.{IsAtCall}
+use Rattle.lab_worlds.specs.Untried.{GoesOn}
+use Rattle.lab_worlds.specs.declared.trying.Made.{Made}
+use Rattle.lab_worlds.specs.declared.trying.Tried.TheVariants.{Came}
+use Rattle.lab_states.specs.declared.shorts.Short.{Short}
+use Rattle.lab_search.specs.declared.store.Store.{Store}
+use Rattle.lab_states.specs.Shorts.{behind, kept_behind, whole_of}
+use Rattle.lab_search.specs.Private.Stored.{output_at}
+use Rattle.lab_search.specs.Stored.{IsState, IsStore}
+use Rattle.lab_worlds.specs.Stepped.{IsReady, IsReached, IsStepped}
+use Rattle.lab_worlds.proofs.Pushes.{all_at}
+use Rattle.lab_states.proofs.SilentProcesses.{same_trap, seen_output}
+
+-- what a process asks for that has written more before
+abbrev request_behind : List ℕ → Request → Request
+request_behind o (Local q) = Local (machine_behind o q)
+request_behind o (Refuses e) = Refuses e
+request_behind o (Calls c) = Calls c
+request_behind o (Ends how) = Ends how
+
+-- no call of the kernel is a local step
+same_within : (b : Bool) (r : Request) (o : List ℕ) → request_behind o r ≡ r → request_behind o (request_within b r) ≡ request_within b r
+same_within true r o e = e
+same_within false r o e = refl
+
+same_named : (call : List ℕ → Call) (n : Result (List ℕ) Errno) (o : List ℕ) → request_behind o (request_for_name call n) ≡ request_for_name call n
+same_named call (Err e) o = refl
+same_named call (Ok name) o = refl
+
+same_service : (s : Service) (p : Machine) (o : List ℕ) → request_behind o (service_request s p) ≡ service_request s p
+same_service service.MqOpen p o = same_within _ _ o (same_named _ (name_at p) o)
+same_service service.MqClose p o = refl
+same_service service.MqUnlink p o = same_named _ (name_at p) o
+same_service service.MqSend p o = same_within (is_in_memory (reg p 1) (reg p 2)) (Calls (call.MqSend (reg p 0) (words_at p.memory (reg p 1) (reg p 2)) (reg p 3))) o refl
+same_service service.MqReceive p o = same_within (is_in_memory (reg p 1) (reg p 2) && ((reg p 3 == 0) || is_in_memory (reg p 3) 1)) (Calls (call.MqReceive (reg p 0) (reg p 2))) o refl
+same_service service.MqGetattr p o = same_within (is_in_memory (reg p 1) 4) (Calls (call.MqGetattr (reg p 0))) o refl
+same_service service.MqSetattr p o = same_within (is_in_memory (reg p 1) 4 && ((reg p 2 == 0) || is_in_memory (reg p 2) 4)) (Calls (call.MqSetattr (reg p 0) (slice_index p.memory (reg p 1)))) o refl
+same_service service.SemOpen p o = same_named _ (name_at p) o
+same_service service.SemClose p o = refl
+same_service service.SemUnlink p o = same_named _ (name_at p) o
+same_service service.SemWait p o = refl
+same_service service.SemTrywait p o = refl
+same_service service.SemPost p o = refl
+same_service service.SemGetvalue p o = same_within (is_in_memory (reg p 1) 1) (Calls (call.SemGetvalue (reg p 0))) o refl
+
+same_request : (s : Option Service) (p : Machine) (o : List ℕ) → request_behind o (trap_request s p) ≡ trap_request s p
+same_request None p o = refl
+same_request (Some s) p o = same_service s p o
+
+outcome_asked : (x : Outcome) (p : Machine) (o : List ℕ) → outcome_request (machine_behind o p) (outcome_behind o x) ≡ request_behind o (outcome_request p x)
+outcome_asked (ByItself q) p o = refl
+outcome_asked (Stops (Trap v)) p o = same_trap (service_in v) p (o ++ p.output) ∙ sym (same_request (service_in v) p o)
+outcome_asked (Stops (End how)) p o = refl
+
+asked_behind : (p : Machine) (o : List ℕ) → next_request (machine_behind o p) ≡ request_behind o (next_request p)
+unfolding next_request
+asked_behind p o = ap (outcome_request (machine_behind o p)) (step_behind p o) ∙ outcome_asked (next_step p) p o
+
+outcome_service : (x : Outcome) (o : List ℕ) → service_asked (outcome_behind o x) ≡ service_asked x
+outcome_service (ByItself q) o = refl
+outcome_service (Stops (Trap v)) o = refl
+outcome_service (Stops (End how)) o = refl
+
+service_behind : (p : Machine) (o : List ℕ) → service_asked (next_step (machine_behind o p)) ≡ service_asked (next_step p)
+service_behind p o = ap service_asked (step_behind p o) ∙ outcome_service (next_step p) o
+
+-- where attributes are written
+four_same : (s : Option Service) (p : Machine) (o : List ℕ) → four_words_address s (machine_behind o p) ≡ four_words_address s p
+four_same None p o = refl
+four_same (Some service.MqOpen) p o = refl
+four_same (Some service.MqClose) p o = refl
+four_same (Some service.MqUnlink) p o = refl
+four_same (Some service.MqSend) p o = refl
+four_same (Some service.MqReceive) p o = refl
+four_same (Some service.MqGetattr) p o = refl
+four_same (Some service.MqSetattr) p o = refl
+four_same (Some service.SemOpen) p o = refl
+four_same (Some service.SemClose) p o = refl
+four_same (Some service.SemUnlink) p o = refl
+four_same (Some service.SemWait) p o = refl
+four_same (Some service.SemTrywait) p o = refl
+four_same (Some service.SemPost) p o = refl
+four_same (Some service.SemGetvalue) p o = refl
+
+trap_replied : (s : Option Service) (p : Machine) (r : Reply) (o : List ℕ) → process_after_trap_reply s (machine_behind o p) r ≡ machine_behind o (process_after_trap_reply s p r)
+trap_replied s p (reply.Plain r) o = refl
+trap_replied s p (reply.Message words prio) o = refl
+trap_replied s p (reply.Attr words) o = ap (λ a. after_call (machine_behind o p) 0 (with_words_if p.memory a words)) (four_same s p o)
+trap_replied s p (reply.Value value) o = refl
+
+replied_behind : (p : Machine) (r : Reply) (o : List ℕ) → process_after_reply (machine_behind o p) r ≡ machine_behind o (process_after_reply p r)
+unfolding process_after_reply
+replied_behind p r o = ap (λ s. process_after_trap_reply s (machine_behind o p) r) (service_behind p o) ∙ trap_replied (service_asked (next_step p)) p r o
+
+-- what such a process does next
+abbrev action_behind : List ℕ → NextAction → NextAction
+action_behind o (moves q) = moves (machine_behind o q)
+action_behind o (calls c) = calls c
+
+action_for_behind : (r : Request) (p : Machine) (o : List ℕ) → action_for (machine_behind o p) (request_behind o r) ≡ action_behind o (action_for p r)
+action_for_behind (Local q) p o = refl
+action_for_behind (Refuses e) p o = ap moves (replied_behind p (reply.Plain (65536 - number_of e)) o)
+action_for_behind (Calls c) p o = refl
+action_for_behind (Ends how) p o = refl
+
+acts_behind : (p : Machine) (o : List ℕ) → next_action (machine_behind o p) ≡ action_behind o (next_action p)
+unfolding next_action
+acts_behind p o = ap (action_for (machine_behind o p)) (asked_behind p o) ∙ action_for_behind (next_request p) p o
+
+-- the process after the answer to its call
+reply_to_behind : (q : Request) (m : Machine) (r : Reply) (o : List ℕ) → process_after_reply_to (machine_behind o m) (request_behind o q) r ≡ behind o (process_after_reply_to m q r)
+reply_to_behind (Local n) m r o = ap Running (replied_behind m r o)
+reply_to_behind (Refuses e) m r o = ap Running (replied_behind m r o)
+reply_to_behind (Calls c) m r o = ap Running (replied_behind m r o)
+reply_to_behind (Ends how) m r o = ap (λ p. Ended (record { process = p; how = how })) (end_behind how m o)
+
+answered_behind : (a : Answer) (m : Machine) (c : Call) (o : List ℕ) → process_after_answer (machine_behind o m) c a ≡ behind o (process_after_answer m c a)
+unfolding process_after_answer
+answered_behind Wait m c o = refl
+answered_behind (Done r) m c o = ap (λ q. process_after_reply_to (machine_behind o m) q r) (asked_behind m o) ∙ reply_to_behind (next_request m) m r o
+
+-- the step of such a process
+abbrev effect_behind : List ℕ → StepEffect → StepEffect
+effect_behind o nothing = nothing
+effect_behind o (local_step n) = local_step (machine_behind o n)
+effect_behind o (kernel_step m c a) = kernel_step (machine_behind o m) c a
+
+tries_behind : (x : NextAction) (k : KernelState) (p : ℕ) (m : Machine) (o : List ℕ) → first_try k p (machine_behind o m) (action_behind o x) ≡ effect_behind o (first_try k p m x)
+tries_behind (moves q) k p m o = refl
+tries_behind (calls c) k p m o = refl
+
+retries_behind : (a : Answer) (m : Machine) (c : Call) (o : List ℕ) → retry (machine_behind o m) c a ≡ effect_behind o (retry m c a)
+retries_behind Wait m c o = refl
+retries_behind (Done r) m c o = refl
+
+same_step : (k : KernelState) (p : ℕ) (s : Process) (o : List ℕ) → step_effect k p (Some (behind o s)) ≡ effect_behind o (step_effect k p (Some s))
+same_step k p (Running m) o = ap (first_try k p (machine_behind o m)) (acts_behind m o) ∙ tries_behind (next_action m) k p m o
+same_step k p (Waiting m c) o = retries_behind (answer k p c).0 m c o
+same_step k p (Ended e) o = refl
+
+goes : (t : StepEffect) (o : List ℕ) → GoesOn t → GoesOn (effect_behind o t)
+goes nothing o h = h
+goes (local_step n) o h = h
+goes (kernel_step m c (Done r)) o h = h
+goes (kernel_step m c Wait) o h = h
+
+went : (t : StepEffect) (o : List ℕ) → GoesOn (effect_behind o t) → GoesOn t
+went nothing o h = h
+went (local_step n) o h = h
+went (kernel_step m c (Done r)) o h = h
+went (kernel_step m c Wait) o h = h
+
+pub goes_behind : (k : KernelState) (p : ℕ) (s : Process) (o : List ℕ) → GoesOn (step_effect k p (Some s)) → GoesOn (step_effect k p (Some (behind o s)))
+goes_behind k p s o h = subst GoesOn (sym (same_step k p s o)) (goes (step_effect k p (Some s)) o h)
+
+pub went_behind : (k : KernelState) (p : ℕ) (s : Process) (o : List ℕ) → GoesOn (step_effect k p (Some (behind o s))) → GoesOn (step_effect k p (Some s))
+went_behind k p s o h = went (step_effect k p (Some s)) o (subst GoesOn (same_step k p s o) h)
+
+same_kernel : (k : KernelState) (p : ℕ) (t : StepEffect) (o : List ℕ) → kernel_after k p (effect_behind o t) ≡ kernel_after k p t
+same_kernel k p nothing o = refl
+same_kernel k p (local_step n) o = refl
+same_kernel k p (kernel_step m c a) o = refl
+
+same_process : (s : Process) (t : StepEffect) (o : List ℕ) → process_after (behind o s) (effect_behind o t) ≡ behind o (process_after s t)
+same_process s nothing o = refl
+same_process s (local_step n) o = refl
+same_process s (kernel_step m c a) o = answered_behind a m c o
+
+kernel_behind : (k : KernelState) (p : ℕ) (s : Process) (o : List ℕ) → (step_of k p (behind o s)).kernel ≡ (step_of k p s).kernel
+kernel_behind k p s o = ap (kernel_after k p) (same_step k p s o) ∙ same_kernel k p (step_effect k p (Some s)) o
+
+process_behind : (k : KernelState) (p : ℕ) (s : Process) (o : List ℕ) → (step_of k p (behind o s)).process ≡ behind o (step_of k p s).process
+process_behind k p s o = ap (process_after (behind o s)) (same_step k p s o) ∙ same_process s (step_effect k p (Some s)) o
+
+-- its local steps
+local_behind : (s u : Process) (o : List ℕ) → IsLocalStep s u → IsLocalStep (behind o s) (behind o u)
+local_behind (Running m) u o h = (machine_behind o h.0, acts_behind m o ∙ ap (action_behind o) h.1, ap (behind o) h.2)
+local_behind (Waiting m c) u o h = h
+local_behind (Ended e) u o h = h
+
+locals_behind : (n : ℕ) (s u : Process) (o : List ℕ) → AreLocal n s u → AreLocal n (behind o s) (behind o u)
+locals_behind zero s u o h = ap (behind o) h
+locals_behind (suc n) s u o h = (behind o h.0, local_behind s h.0 o h.1, locals_behind n h.0 u o h.2)
+
+at_call_behind : (s : Process) (o : List ℕ) → IsAtCall s → IsAtCall (behind o s)
+at_call_behind (Running m) o h = (h.0, acts_behind m o ∙ ap (action_behind o) h.1)
+at_call_behind (Waiting m c) o h = h
+at_call_behind (Ended e) o h = h
+
+reached_behind : (s u : Process) (o : List ℕ) → IsReached s u → IsReached (behind o s) (behind o u)
+reached_behind s u o h = record {
+  ahead = record { taken = h.ahead.taken; local = locals_behind h.ahead.taken s u o h.ahead.local; at_call = at_call_behind u o h.ahead.at_call };
+  few = h.few;
+}
+
+-- the replies that it can have, and the room for them
+can_behind : (q : Request) (r : Reply) (o : List ℕ) → CanReply q r → CanReply (request_behind o q) r
+can_behind (Local n) r o h = h
+can_behind (Refuses e) r o h = h
+can_behind (Calls c) r o h = h
+can_behind (Ends how) r o h = h
+
+could_behind : (q : Request) (r : Reply) (o : List ℕ) → CanReply (request_behind o q) r → CanReply q r
+could_behind (Local n) r o h = h
+could_behind (Refuses e) r o h = h
+could_behind (Calls c) r o h = h
+could_behind (Ends how) r o h = h
+
+-- the same pages are ready
+abbrev held_behind : List ℕ → Held → Held
+held_behind o h = record { process = machine_behind o h.process; ready = h.ready }
+
+room_behind : (s : Option Service) (h : Held) (r : Reply) (o : List ℕ) → HasRoomFor s h r → HasRoomFor s (held_behind o h) r
+room_behind s h (reply.Plain r) o room = room
+room_behind s h (reply.Message words prio) o room = room
+room_behind s h (reply.Attr words) o room = subst (λ a. IsWritableIf h.ready a 4) (sym (four_same s h.process o)) room
+room_behind s h (reply.Value value) o room = room
+
+had_behind : (s : Option Service) (h : Held) (r : Reply) (o : List ℕ) → HasRoomFor s (held_behind o h) r → HasRoomFor s h r
+had_behind s h (reply.Plain r) o room = room
+had_behind s h (reply.Message words prio) o room = room
+had_behind s h (reply.Attr words) o room = subst (λ a. IsWritableIf h.ready a 4) (four_same s h.process o) room
+had_behind s h (reply.Value value) o room = room
+
+prepared_behind : (h : Held) (o : List ℕ) → IsPrepared h → IsPrepared (held_behind o h)
+unfolding IsPrepared
+prepared_behind h o prepared r can =
+    let could = could_behind (next_request h.process) r o (subst (λ q. CanReply q r) (asked_behind h.process o) can) in
+    subst (λ s. HasRoomFor s (held_behind o h) r) (sym (service_behind h.process o)) (room_behind (service_asked (next_step h.process)) h r o (prepared r could))
+
+was_prepared : (h : Held) (o : List ℕ) → IsPrepared (held_behind o h) → IsPrepared h
+unfolding IsPrepared
+was_prepared h o prepared r can =
+    let could = subst (λ q. CanReply q r) (sym (asked_behind h.process o)) (can_behind (next_request h.process) r o can) in
+    had_behind (service_asked (next_step h.process)) h r o (subst (λ s. HasRoomFor s (held_behind o h) r) (service_behind h.process o) (prepared r could))
+
+asks_for : (q : Request) (c : Call) (o : List ℕ) → request_behind o q ≡ Calls c → q ≡ Calls c
+asks_for (Local n) c o e = absurd (cc)
+asks_for (Refuses e') c o e = e
+asks_for (Calls d) c o e = e
+asks_for (Ends how) c o e = e
+
+ready_held : (k : Kept) (o : List ℕ) → IsHeld k → IsHeld (kept_behind o k)
+ready_held (kept.Running h) o held = held
+ready_held (kept.Waiting h c) o held = (asked_behind h.process o ∙ ap (request_behind o) held.0, prepared_behind h o held.1)
+ready_held (kept.Ended e) o held = held
+
+pub was_held : (k : Kept) (o : List ℕ) → IsHeld (kept_behind o k) → IsHeld k
+was_held (kept.Running h) o held = held
+was_held (kept.Waiting h c) o held = (asks_for (next_request h.process) c o (sym (asked_behind h.process o) ∙ held.0), was_prepared h o held.1)
+was_held (kept.Ended e) o held = held
+
+-- as it is seen
+pub seen_behind : (k : Kept) (o : List ℕ) → process_view (kept_behind o k) ≡ behind o (process_view k)
+seen_behind k o = seen_output k _
+
+pub ready_behind : (k : Kept) (o : List ℕ) → IsReady k → IsReady (kept_behind o k)
+ready_behind k o ready = (ready_held k o ready.0, subst IsAtCall (sym (seen_behind k o)) (at_call_behind (process_view k) o ready.1))
+
+-- a process that has written more before comes to the same, but for what was written before
+pub stepped_behind : (k : KernelState) (p : ℕ) (s : Process) (made : Made) (o : List ℕ) → IsStepped k p s (Came made) → IsStepped k p (behind o s) (Came (record made { process = kept_behind o made.process }))
+stepped_behind k p s made o h = (
+  h.0 ∙ sym (kernel_behind k p s o),
+  ready_behind made.process o h.1,
+  subst (λ x. IsReached x (process_view (kept_behind o made.process))) (sym (process_behind k p s o))
+      (subst (λ x. IsReached (behind o (step_of k p s).process) x) (sym (seen_behind made.process o)) (reached_behind (step_of k p s).process (process_view made.process) o h.2)),
+  goes_behind k p s o h.3,
+)
+
+-- the state behind an output that is kept
+pub state_behind : (t : Store) (i : ℕ) (s : Short) → slice_get t.states.processes i ≡ Some (whole_of t.states.outputs s) → IsState t i (behind (output_at t s.before) (process_view s.process))
+state_behind t i s at = ap (option_map process_view) at ∙ ap (λ x. Some x) (seen_behind s.process (output_at t s.before))
+
+pub held_apart : (t : Store) (i : ℕ) (s : Short) → IsStore t → slice_get t.states.processes i ≡ Some (whole_of t.states.outputs s) → IsHeld s.process
+held_apart t i s is at = was_held s.process (output_at t s.before) (all_at IsReady t.states.processes i (whole_of t.states.outputs s) is.states at).0

@@ -1,0 +1,14 @@
+use Rattle.lab_search.specs.declared.store.Next.TheVariants.{Limit}
+use Rattle.lab_search.proofs.Growths.{grows_same}
+use Rattle.lab_search.proofs.TouchLemmas.{effect_goes_on, move_by_touch, not_true}
+use Rattle.lab_search.proofs.store.Store.touch_goes_on.Goals as goal
+
+pub returns : goal.returns
+returns c = record {
+  yes = λ known is k s at settled here.
+      let t = c.args.self.now in
+      let touch = c.in_ok-touch.touch in
+      let effect = c.in_ok-effect.effect in
+      move_by_touch t t c.args.kernel c.args.pid c.args.state Limit touch effect k (grows_same t) at c.in_ok-touch.ensures.state
+      (c.in_ok-touch.ensures.operand k at) (c.in_ok-effect.ensures.known t known) (λ j u exact fixed made. effect_goes_on t j c.args.pid u touch.place effect (c.is_nothing.ensures.no (not_true c.is_nothing.result is)) made) k s at settled here;
+}

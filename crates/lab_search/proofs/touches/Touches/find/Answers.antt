@@ -1,0 +1,14 @@
+use Rattle.std.proofs.Common.{All, refl, ◌-◌, sym, subst}
+use Rattle.lab_search.specs.declared.touches.Touched.{Touched}
+use Rattle.lab_search.specs.Touched.{IsTouched}
+use Rattle.lab_search.proofs.touches.Touches.find.Goals as goal
+
+pub returns-then-is_same : goal.returns-then-is_same
+returns-then-is_same c = record {
+  known = λ t known.
+      let made = c.in-Some.made.now in
+      let found = c.in-Some.ensures.lookup.3 in
+      let each = subst (All (λ (m : Touched). IsTouched t m.touch m.effect)) (sym c.deref.ensures.value) known in
+      let here = subst (λ (m : Touched). IsTouched t m.touch m.effect) (sym (found.1 made)) (each (c.loop-number.number - 1) made found.0) in
+      subst (λ x. IsTouched t x made.effect) (c.if-is_same.ensures.same refl) here;
+}

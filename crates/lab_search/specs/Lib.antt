@@ -1,0 +1,5 @@
+pub mod Stored
+pub mod Touched
+pub mod Known
+pub mod Sparse
+pub mod Private

@@ -1,0 +1,4 @@
+-- Definitions that no public contract cites.
+pub mod Stored
+pub mod Touched
+pub mod Sparse

@@ -1,0 +1,99 @@
+-- What a search keeps: kernels, states of processes, and worlds as places among these.
+use Rattle.std.specs.Prelude.{ℕ, ◌≡◌, ◌<◌, Some, All, length, slice_get}
+use Rattle.std.specs.Option.{option_map}
+use Rattle.ipc_kernel.specs.Kernel.{KernelState, IsSettled}
+use Rattle.ipc_kernel.specs.Alike.{IsAlike}
+use Rattle.lab_sched.specs.Worlds.{Process, WorldState, step_effect, step_effect_in, step}
+use Rattle.lab_sched.specs.Held.{process_view, step_of}
+use Rattle.lab_worlds.specs.Calls.{AreAlike, Alongside}
+use Rattle.lab_worlds.specs.Closed.{HasAdvance}
+use Rattle.lab_worlds.specs.Untried.{GoesOn}
+use Rattle.lab_worlds.specs.Stepped.{IsReady, IsReached, AreReached}
+use Rattle.lab_states.specs.Rows.{Row}
+use Rattle.lab_states.specs.declared.edges.Edge.{Edge}
+use Rattle.lab_search.specs.declared.store.Store.{Store}
+use Rattle.lab_search.specs.declared.store.Next.{Next}
+use Rattle.lab_search.specs.declared.store.Next.TheVariants.{Nothing, Limit, To}
+
+-- the state at a place
+abbrev pub IsState : Store → ℕ → Process → Type 0
+IsState t i s = option_map process_view (slice_get t.states.processes i) ≡ Some s
+
+-- the kernel with this number
+abbrev pub IsExactly : Store → ℕ → KernelState → Type 0
+IsExactly t i k = slice_get t.kernels.kernels i ≡ Some k
+
+-- a row stands for the world with the kernel at its place, which is settled, and the states at theirs
+pub record IsRow (t : Store) (r : Row) (w : WorldState) : Type 0 where
+  pub kernel : IsExactly t r.kernel w.kernel
+  pub settled : IsSettled w.kernel
+  pub states : Alongside (IsState t) r.states w.processes
+
+-- row number i stands for the world
+abbrev pub IsAt : Store → ℕ → WorldState → Type 0
+IsAt t i w = (r : Row) × (slice_get t.rows i ≡ Some r) × IsRow t r w
+
+-- row number i stands for a world that the world is alike
+abbrev pub IsLike : Store → ℕ → WorldState → Type 0
+IsLike t i w = (v : WorldState) × IsAt t i v × AreAlike v w
+
+-- a step of process p by which it goes on, and then all local steps, lead from the world of row number i to that of row
+-- number j
+abbrev pub LeadsTo : Store → ℕ → ℕ → ℕ → Type 0
+LeadsTo t i p j =
+    (w : WorldState) × (v : WorldState) × IsAt t i w × IsAt t j v × AreReached (step w p) v
+    × GoesOn (step_effect_in w p)
+
+-- each row stands for a world, and each edge leads to where it says
+pub record IsStore (t : Store) : Type 0 where
+  pub states : All IsReady t.states.processes
+  pub rows : All (λ r. (w : WorldState) × IsRow t r w) t.rows
+  pub edges : All (λ (e : Edge). LeadsTo t e.from e.pid e.to) t.edges
+
+-- the kernel with this number is settled, and alike a kernel
+abbrev pub IsKernel : Store → ℕ → KernelState → Type 0
+IsKernel t i k = (j : KernelState) × IsExactly t i j × IsAlike k j × IsSettled j
+
+-- what a step of process p makes of it and of the kernel, and of it then all its local steps
+abbrev pub IsNext : Store → KernelState → ℕ → Process → Next → Type 0
+IsNext t k p s Nothing = GoesOn (step_effect k p (Some s)) → ⊥
+IsNext t k p s Limit = GoesOn (step_effect k p (Some s))
+IsNext t k p s (To kernel state taken) =
+    (u : Process) × IsKernel t kernel (step_of k p s).kernel × IsState t state u
+    × IsReached (step_of k p s).process u × GoesOn (step_effect k p (Some s))
+
+-- the same where the kernel, if it is settled, and the process are given by their places
+abbrev pub IsMove : Store → ℕ → ℕ → ℕ → Next → Type 0
+IsMove t kernel p state next =
+    (k : KernelState) × (s : Process) × IsExactly t kernel k × IsState t state s
+    × (IsSettled k → IsNext t k p s next)
+
+-- the same of process p in the world of row number i
+abbrev pub IsNextAt : Store → ℕ → ℕ → Next → Type 0
+IsNextAt t i p next =
+    (w : WorldState) → IsAt t i w
+    → (s : Process) × (slice_get w.processes p ≡ Some s) × IsNext t w.kernel p s next
+
+-- an edge from row number i, of process p, leads to the world after a step of p and then all its
+-- local steps
+abbrev pub HasEdge : Store → ℕ → WorldState → ℕ → Type 0
+HasEdge t i w p =
+    (k : ℕ) × (e : Edge) × (v : WorldState) × (slice_get t.edges k ≡ Some e) × (e.from ≡ i)
+    × IsAt t e.to v × AreReached (step w p) v × (e.pid ≡ p)
+
+-- the step of process p from the world of row number i, if the process goes on, has an edge
+abbrev pub IsTried : Store → ℕ → WorldState → ℕ → Type 0
+IsTried t i w p = GoesOn (step_effect_in w p) → HasEdge t i w p
+
+-- row number i stands for a world from which each step by which a process goes on has an edge
+abbrev pub IsExpanded : Store → ℕ → Type 0
+IsExpanded t i = (w : WorldState) × IsAt t i w × ((p : ℕ) → IsTried t i w p)
+
+-- the same of each row
+abbrev pub AreExpanded : Store → Type 0
+AreExpanded t = (i : ℕ) → i < length t.rows → IsExpanded t i
+
+-- the first row stands for the advance of the start, and each step from each row is held
+pub record IsSearched (start : WorldState) (t : Store) : Type 0 where
+  pub begins : HasAdvance (IsAt t 0) start
+  pub expanded : AreExpanded t

@@ -1,0 +1,125 @@
+//! The worlds that a search keeps.
+ghost use Rattle.std.specs.Prelude.{◌≡◌, Some, IsTrue, length, slice_get, slice_set, IfOk, IfSome, OnOk};
+ghost use Rattle.lab_sched.specs.Worlds.{WorldState};
+ghost use Rattle.lab_states.specs.Rows.{Row, row_of};
+ghost use Rattle.lab_search.specs.Stored.{IsRow, IsAt, IsStore};
+ghost use Rattle.lab_search.specs.Private.Stored.{IsAfter, Grows};
+
+use crate::store::Store;
+use ipc_store::are_with;
+use lab_states::{Parent, digest_after, digest_of, place_of};
+use std::alloc::AllocError;
+
+impl Store {
+    /// Whether the row with a number is the one at another place with this kernel and this state of
+    /// process `pid`.
+    fn is_after(&self, number: usize, states: &[u32], pid: u32, kernel: u32, state: u32) -> bool
+        ensures same { IsTrue result → slice_get self.now.rows number
+            ≡ Some (record { kernel = kernel; states = slice_set states.now pid state }) }
+    {
+        match self.rows.get(number) {
+            Some((first, others)) => {
+                first == kernel && are_with(others, states, pid as usize, state)
+            }
+            None => false,
+        }
+    }
+
+    /// The number of the row that the one at a place is with this kernel and this state of process
+    /// `pid`, if it is kept.
+    pub(crate) fn find_after(&self, at: usize, pid: u32, kernel: u32, state: u32) -> Option<usize>
+        ensures found { IfSome result (λ i. IsAfter self.now at pid kernel state i) }
+    {
+        let (_, states) = self.rows.get(at)?;
+        let hash = digest_after(kernel, states, pid as usize, state);
+        let mut number = self.row_index.newest(hash);
+        while number > 0 {
+            let row = number - 1;
+            if self.is_after(row, states, pid, kernel, state) {
+                return Some(row);
+            }
+            number = self.row_index.older(number);
+        }
+        None
+    }
+
+    /// Keeps the first world, by the numbers of its row, if there is room for one; with whether it is kept.
+    pub(crate) fn keep_first_row(&mut self, row: &[u32], most: u32) -> Result<bool, AllocError>
+        requires store { IsStore self.old }
+        requires row { (w : WorldState) × IsRow self.old (row_of row.now) w }
+        ensures store { OnOk result (IsStore self.new) }
+        ensures grows { OnOk result (Grows self.old self.new) }
+        ensures kept { IfOk result (λ kept. IsTrue kept → (w : WorldState)
+            → IsRow self.old (row_of row.now) w → IsAt self.new 0 w) }
+    {
+        if self.rows.len() > 0 || most == 0 {
+            return Ok(false);
+        }
+        self.row_index.add(digest_of(row))?;
+        self.parents.push(Parent { row: 0, pid: 0 })?;
+        let pushed = self.rows.push(row)?;
+        if !pushed {
+            return Ok(false);
+        }
+        Ok(true)
+    }
+
+    /// Keeps the row that the one at a place is with this kernel and this state of process `pid`, if there
+    /// are fewer than `most`; with its number, if it is kept.
+    pub(crate) fn keep_row_after(
+        &mut self,
+        at: usize,
+        pid: u32,
+        kernel: u32,
+        state: u32,
+        most: u32,
+    ) -> Result<Option<usize>, AllocError>
+        requires store { IsStore self.old }
+        requires row { (r : Row) → slice_get self.old.rows at ≡ Some r → (w : WorldState)
+            × IsRow self.old (record { kernel = kernel; states = slice_set r.states pid state }) w }
+        ensures store { OnOk result (IsStore self.new) }
+        ensures grows { OnOk result (Grows self.old self.new) }
+        ensures kept { IfOk result (λ kept. IfSome kept (λ i. (r : Row)
+            × (slice_get self.old.rows at ≡ Some r) × (slice_get self.new.rows i ≡ Some
+            (record { kernel = kernel; states = slice_set r.states pid state })))) }
+    {
+        let number = self.rows.len();
+        if number >= most as usize {
+            return Ok(None);
+        }
+        let (Some(parent), Some((_, states))) = (Parent::of(at, pid), self.rows.get(at)) else {
+            return Ok(None);
+        };
+        let hash = digest_after(kernel, states, pid as usize, state);
+        self.row_index.add(hash)?;
+        self.parents.push(parent)?;
+        let pushed = self.rows.push_after(at, kernel, pid as usize, state)?;
+        if !pushed {
+            return Ok(None);
+        }
+        Ok(Some(number))
+    }
+
+    /// The places of the kernel and of the state of process `pid` in a row.
+    pub fn places(&self, at: usize, pid: u32) -> Option<(u32, u32)>
+        ensures places { IfSome result (λ x. (r : Row)
+            × (slice_get self.now.rows at ≡ Some r) × (r.kernel ≡ x.0)
+            × (slice_get r.states pid ≡ Some x.1)) }
+    {
+        let (kernel, states) = self.rows.get(at)?;
+        let state = states.get(pid as usize)?;
+        Some((kernel, *state))
+    }
+
+    /// The number of processes of a row.
+    pub fn width(&self, at: usize) -> Option<u32>
+        ensures width { IfSome result (λ n. (r : Row)
+            × (slice_get self.now.rows at ≡ Some r) × (n ≡ length r.states)) }
+    {
+        let (_, states) = self.rows.get(at)?;
+        match place_of(states.len()) {
+            Ok(count) => Some(count),
+            Err(_) => None,
+        }
+    }
+}

@@ -1,0 +1,131 @@
+//! The steps at calls that work on one object that a search has made.
+ghost use Rattle.std.specs.Prelude.{◌≡◌, [], false, IfOk, IfSome, IsTrue, OnOk};
+ghost use Rattle.lab_search.specs.declared.store.Store.{Store as Kept};
+ghost use Rattle.lab_search.specs.declared.touches.Effect.TheVariants.{Nothing};
+ghost use Rattle.lab_search.specs.Touched.{IsTouched, AreTouched};
+
+use ipc_store::Index;
+use lab_states::digest_of;
+use std::alloc::{AllocError, Global};
+use std::mem::size_of;
+
+/// A call that works on one object: the state of its process, the tables of the process, the place of
+/// the object, and the object there.
+#[derive(Clone, Copy, Drop)]
+pub struct Touch {
+    pub state: u32,
+    pub tables: u32,
+    pub object: u32,
+    pub place: u8,
+}
+
+/// What comes of a step at such a call.
+#[derive(Clone, Copy, Drop)]
+pub enum Effect {
+    /// Nothing: the call must wait.
+    Nothing,
+    /// More local steps than the process may take.
+    Limit,
+    /// The tables, the object and the state then, after so many local steps.
+    To {
+        tables: u32,
+        object: u32,
+        state: u32,
+        taken: u32,
+    },
+}
+
+/// A call and what comes of it.
+#[derive(Clone, Copy, Drop)]
+pub struct Touched {
+    pub touch: Touch,
+    pub effect: Effect,
+}
+
+/// Steps at calls, each of which is made once.
+#[derive(Drop)]
+pub struct Touches {
+    pub made: Vec<Touched>,
+    index: Index,
+}
+
+impl Touch {
+    /// Whether two calls are the same.
+    fn is_same(self, other: Touch) -> bool
+        ensures same { IsTrue result → self ≡ other }
+    {
+        self.state == other.state
+            && self.tables == other.tables
+            && self.object == other.object
+            && self.place == other.place
+    }
+
+    /// A digest of the call.
+    fn digest(self) -> u64 {
+        digest_of(&[self.state, self.tables, self.object])
+    }
+}
+
+impl Effect {
+    /// Whether it is nothing.
+    pub(crate) fn is_nothing(self) -> bool
+        ensures no { result ≡ false → self ≡ Nothing → ⊥ }
+    {
+        matches!(self, Effect::Nothing)
+    }
+
+    /// How many local steps the process takes then, if it goes on to its next call.
+    pub(crate) fn steps(self) -> Option<u32> {
+        match self {
+            Effect::To { taken, .. } => Some(taken),
+            _ => None,
+        }
+    }
+}
+
+impl Touches {
+    /// No step.
+    pub fn new(alloc: Global) -> Result<Touches, AllocError>
+        ensures none { IfOk result (λ touches. touches.made.items ≡ []) }
+    {
+        Ok(Touches {
+            made: Vec::new(alloc),
+            index: Index::new(alloc)?,
+        })
+    }
+
+    /// What comes of a step at a call, if it was made.
+    pub(crate) fn find(&self, touch: Touch) -> Option<Effect>
+        ensures known { (t : Kept) → AreTouched t self.now
+            → IfSome result (λ effect. IsTouched t touch effect) }
+    {
+        let mut number = self.index.newest(touch.digest());
+        while number > 0 {
+            let at = number - 1;
+            if let Some(made) = self.made.get(at) {
+                if made.touch.is_same(touch) {
+                    return Some(made.effect);
+                }
+            }
+            number = self.index.older(number);
+        }
+        None
+    }
+
+    /// Keeps what comes of a step at a call.
+    pub(crate) fn keep(&mut self, touch: Touch, effect: Effect) -> Result<(), AllocError>
+        ensures known { OnOk result ((t : Kept) → AreTouched t self.old
+            → IsTouched t touch effect → AreTouched t self.new) }
+    {
+        self.index.add(touch.digest())?;
+        self.made.push(Touched { touch, effect })?;
+        Ok(())
+    }
+
+    /// About how many bytes they take.
+    pub fn size(&self) -> usize {
+        size_of::<Touched>()
+            .saturating_add(Index::ENTRY)
+            .saturating_mul(self.made.len())
+    }
+}

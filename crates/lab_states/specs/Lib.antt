@@ -1,0 +1,7 @@
+pub mod Rows
+pub mod Edges
+pub mod Shorts
+pub mod Depths
+pub mod Rising
+pub mod Falling
+pub mod Private

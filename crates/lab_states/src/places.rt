@@ -1,0 +1,14 @@
+//! Places, as they are kept.
+ghost use Rattle.std.specs.Prelude.{◌≡◌, IfOk};
+
+use std::alloc::AllocError;
+
+/// A place, as it is kept, if it is small enough.
+pub fn place_of(at: usize) -> Result<u32, AllocError>
+    ensures value { IfOk result (λ place. place ≡ at) }
+{
+    match u32::try_from(at) {
+        Ok(place) => Ok(place),
+        Err(_) => Err(AllocError),
+    }
+}

@@ -1,0 +1,97 @@
+-- Worlds that are alike make the same steps, to worlds that are alike.
+use Rattle.std.proofs.Common.{ℕ, ◌≡◌, List, [], ◌∷◌, Option, Some, None, refl, sym, ap, subst, ◌∙◌, slice_get, set}
+use Rattle.ipc_kernel.specs.Kernel.{KernelState}
+use Rattle.ipc_kernel.specs.Alike.{IsAlike, IsConsistent}
+use Rattle.ipc_kernel.proofs.Alikes.{alike_itself, alike_then, alike_back}
+use Rattle.ipc_store.proofs.LikeAnswers.{answers_alike, stays_consistent}
+use Rattle.lab_sched.specs.Worlds.{Process, Running, Waiting, Ended, WorldState, NextAction, moves, calls, next_action, StepEffect, nothing, local_step, kernel_step, step_effect, step_effect_in, process_after_answer, after, step, run, first_try, retry, IsEffective}
+use Rattle.lab_sched.specs.Execution.{AreEffective}
+use Rattle.lab_sched.specs.Verdicts.{HaveEnded, AreStuck}
+use Rattle.lab_sched.specs.declared.verdict.Verdict.TheVariants as verdict
+use Rattle.lab_worlds.specs.Calls.{AreAlike}
+use Rattle.lab_worlds.specs.Alikes.{StepsAlike, OneVerdict}
+
+pub world_itself : (w : WorldState) → AreAlike w w
+world_itself w = record { processes = refl; kernel = alike_itself w.kernel }
+
+pub world_then : (w v u : WorldState) → AreAlike w v → AreAlike v u → AreAlike w u
+world_then w v u a b = record { processes = b.processes ∙ a.processes; kernel = alike_then w.kernel v.kernel u.kernel a.kernel b.kernel }
+
+pub world_back : (w v : WorldState) → AreAlike w v → AreAlike v w
+world_back w v a = record { processes = sym a.processes; kernel = alike_back w.kernel v.kernel a.kernel }
+
+-- kernels that are alike give a process the same step
+pub effect_alike : (k j : KernelState) (p : ℕ) (o : Option Process) → IsConsistent k → IsAlike k j → step_effect j p o ≡ step_effect k p o
+effect_alike k j p None s a = refl
+effect_alike k j p (Some (Running m)) s a = by_act (next_action m)
+  where
+    by_act : (x : NextAction) → first_try j p m x ≡ first_try k p m x
+    by_act (moves n) = refl
+    by_act (calls c) = ap (kernel_step m c) (sym (answers_alike k j p c s a).0)
+effect_alike k j p (Some (Waiting m c)) s a = ap (retry m c) (sym (answers_alike k j p c s a).0)
+effect_alike k j p (Some (Ended e)) s a = refl
+
+-- the kernels stay alike
+pub kernel_alike : (w v : WorldState) (p : ℕ) (t : StepEffect) → IsConsistent w.kernel → IsAlike w.kernel v.kernel → IsAlike (after w p t).kernel (after v p t).kernel
+kernel_alike w v p nothing s a = a
+kernel_alike w v p (local_step n) s a = a
+kernel_alike w v p (kernel_step m c r) s a = (answers_alike w.kernel v.kernel p c s a).1
+
+pub consistent_after : (w : WorldState) (p : ℕ) (t : StepEffect) → IsConsistent w.kernel → IsConsistent (after w p t).kernel
+consistent_after w p nothing s = s
+consistent_after w p (local_step n) s = s
+consistent_after w p (kernel_step m c r) s = stays_consistent w.kernel p c s
+
+pub consistent_run : (ps : List ℕ) (w : WorldState) → IsConsistent w.kernel → IsConsistent (run w ps).kernel
+unfolding run
+consistent_run [] w s = s
+consistent_run (p ∷ ps) w s = consistent_run ps (step w p) (consistent_after w p (step_effect_in w p) s)
+
+pub same_effect : (w v : WorldState) (p : ℕ) → IsConsistent w.kernel → AreAlike w v → step_effect_in v p ≡ step_effect_in w p
+same_effect w v p s a = ap (λ ps. step_effect v.kernel p (slice_get ps p)) a.processes ∙ effect_alike w.kernel v.kernel p (slice_get w.processes p) s a.kernel
+
+processes_after : (w v : WorldState) (p : ℕ) (t : StepEffect) → v.processes ≡ w.processes → (after v p t).processes ≡ (after w p t).processes
+processes_after w v p nothing e = e
+processes_after w v p (local_step n) e = ap (λ ps. set ps p (Running n)) e
+processes_after w v p (kernel_step m c r) e = ap (λ ps. set ps p (process_after_answer m c r)) e
+
+pub step_alike : (w v : WorldState) (p : ℕ) → IsConsistent w.kernel → AreAlike w v → AreAlike (step w p) (step v p)
+step_alike w v p s a = subst (λ t. AreAlike (step w p) (after v p t)) (sym (same_effect w v p s a)) (record {
+  processes = processes_after w v p (step_effect_in w p) a.processes;
+  kernel = kernel_alike w v p (step_effect_in w p) s a.kernel;
+})
+
+pub steps_alike : StepsAlike
+steps_alike w v p s a = (same_effect w v p s a, step_alike w v p s a)
+
+pub effective_alike : (ps : List ℕ) (w v : WorldState) → IsConsistent w.kernel → AreAlike w v → AreEffective w ps → AreEffective v ps
+effective_alike [] w v s a h = tt
+effective_alike (p ∷ ps) w v s a h =
+    (subst IsEffective (sym (same_effect w v p s a)) h.0, effective_alike ps (step w p) (step v p) (consistent_after w p (step_effect_in w p) s) (step_alike w v p s a) h.1)
+
+pub run_alike : (ps : List ℕ) (w v : WorldState) → IsConsistent w.kernel → AreAlike w v → AreAlike (run w ps) (run v ps)
+unfolding run
+run_alike [] w v s a = a
+run_alike (p ∷ ps) w v s a = run_alike ps (step w p) (step v p) (consistent_after w p (step_effect_in w p) s) (step_alike w v p s a)
+
+ended_alike : (w v : WorldState) → v.processes ≡ w.processes → HaveEnded w → HaveEnded v
+ended_alike w v e h p s at = h p s (ap (λ ps. slice_get ps p) (sym e) ∙ at)
+
+pub stuck_alike : (w v : WorldState) → IsConsistent w.kernel → AreAlike w v → AreStuck w → AreStuck v
+stuck_alike w v s a h = record {
+  waits = (h.waits.0, h.waits.1, ap (λ ps. slice_get ps h.waits.0) a.processes ∙ h.waits.2, h.waits.3);
+  none_runs = λ p x at. h.none_runs p x (ap (λ ps. slice_get ps p) (sym a.processes) ∙ at);
+  none_moves = λ p effective. h.none_moves p (subst IsEffective (same_effect w v p s a) effective);
+}
+
+stuck_back : (w v : WorldState) → IsConsistent w.kernel → AreAlike w v → AreStuck v → AreStuck w
+stuck_back w v s a h = record {
+  waits = (h.waits.0, h.waits.1, ap (λ ps. slice_get ps h.waits.0) (sym a.processes) ∙ h.waits.2, h.waits.3);
+  none_runs = λ p x at. h.none_runs p x (ap (λ ps. slice_get ps p) a.processes ∙ at);
+  none_moves = λ p effective. h.none_moves p (subst IsEffective (sym (same_effect w v p s a)) effective);
+}
+
+pub one_verdict : OneVerdict
+one_verdict w v verdict.Ended s a h = ended_alike w v a.processes h
+one_verdict w v verdict.Stuck s a h = stuck_alike w v s a h
+one_verdict w v verdict.Open s a h = (λ ended. h.0 (ended_alike v w (sym a.processes) ended), λ stuck. h.1 (stuck_back w v s a stuck))

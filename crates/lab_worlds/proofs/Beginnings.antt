@@ -1,0 +1,65 @@
+-- Laboratories before their first step.
+use Rattle.std.proofs.Common.{ℕ, true, All, ◌≡◌, slice_get, List, Option, Some, None, refl, sym, ap, subst, ◌∙◌, length, map}
+use Rattle.ipc_kernel.specs.Kernel.{KernelState, empty_kernel}
+use Rattle.lab_sched.specs.declared.process.Process.{Process as Kept}
+use Rattle.lab_sched.specs.declared.process.Process.TheVariants as kept
+use Rattle.std.proofs.lemmas.List.Elements.{All-weaker}
+use Rattle.ipc_kernel.specs.Alike.{IsConsistent}
+use Rattle.ipc_store.proofs.Consistents.{consistent_empty}
+use Rattle.ipc_kernel.specs.Operands.{are_named}
+use Rattle.ipc_store.proofs.CommutingCalls.{start_named}
+use Rattle.lab_sched.specs.Worlds.{WorldState}
+use Rattle.lab_sched.specs.Verdicts.{IsRunning}
+use Rattle.lab_sched.proofs.WorldLemmas.{fresh_world}
+use Rattle.lab_sched.specs.Held.{process_view, IsHeld, IsWorld}
+use Rattle.lab_sched.specs.Starts.{AreStarts, initial_world, Runs}
+use Rattle.lab_worlds.specs.Untried.{untried, AskAgain}
+use Rattle.lab_worlds.proofs.UntriedWorlds.{running_untried, running_ask, AreRunning}
+use Rattle.std.specs.Option.{option_map}
+use Rattle.std.proofs.lemmas.Option.{slice_get-map}
+use Rattle.lab_worlds.proofs.Pushes.{all_at}
+
+-- the start of a laboratory, by copies of its processes over an empty kernel
+pub started : (w : WorldState) (ps qs : List Kept) (k : KernelState) (n : ℕ) → initial_world ps ≡ w → qs ≡ ps → n ≡ length qs → k ≡ empty_kernel n
+    → w ≡ record { processes = map process_view qs; kernel = k }
+started w ps qs k n world same count empty =
+    sym world ∙ ap initial_world (sym same) ∙ ap (λ j. record { processes = map process_view qs; kernel = j }) (ap empty_kernel (sym count) ∙ sym empty)
+
+-- in the kernel of a laboratory before its first step each object has a name
+pub fresh_named : (w : WorldState) (n : ℕ) → w.kernel ≡ empty_kernel n → are_named w.kernel.places ≡ true
+fresh_named w n is = ap (λ (k : KernelState). are_named k.places) is ∙ start_named n
+
+-- copies of processes over the empty kernel
+pub copies_world : (ps cs : List Kept) (k : KernelState) → cs ≡ ps → AreStarts ps → k ≡ empty_kernel (length ps) → IsWorld cs k
+copies_world ps cs k same starts empty = subst (λ xs. IsWorld xs k) (sym same) (fresh_world ps k (record { starts = starts; empty = empty }))
+
+-- each process of a laboratory runs before its first step
+pub starts_run : (ps : List Kept) (k : KernelState) → AreStarts ps → AreRunning (record { processes = map process_view ps; kernel = k })
+starts_run ps k starts p s at = by (slice_get ps p) refl
+  where
+    by : (o : Option Kept) → slice_get ps p ≡ o → IsRunning s
+    by None e = let h : None ≡ Some s = ap (λ x. option_map process_view x) (sym e) ∙ sym (slice_get-map process_view ps p) ∙ at in absurd (cc)
+    by (Some x) e =
+        let h : Some (process_view x) ≡ Some s = ap (λ x. option_map process_view x) (sym e) ∙ sym (slice_get-map process_view ps p) ∙ at in
+        let same : process_view x ≡ s = cc in
+        subst IsRunning same (all_at Runs ps p x starts.running e)
+
+-- so none has begun to wait
+pub starts_untried : (ps qs : List Kept) (k : KernelState) → qs ≡ ps → AreStarts ps → untried (record { processes = map process_view qs; kernel = k }) ≡ record { processes = map process_view qs; kernel = k }
+starts_untried ps qs k same starts = running_untried (record { processes = map process_view qs; kernel = k }) (starts_run qs k (subst AreStarts (sym same) starts))
+
+pub starts_ask : (ps qs : List Kept) (k : KernelState) → qs ≡ ps → AreStarts ps → AskAgain (record { processes = map process_view qs; kernel = k })
+starts_ask ps qs k same starts = running_ask (record { processes = map process_view qs; kernel = k }) (starts_run qs k (subst AreStarts (sym same) starts))
+
+-- the kernel of a laboratory before its first step is consistent
+pub fresh_consistent : (w : WorldState) (n : ℕ) → w.kernel ≡ empty_kernel n → IsConsistent w.kernel
+fresh_consistent w n is = subst IsConsistent (sym is) (consistent_empty n)
+
+runs_held : (k : Kept) → Runs k → IsHeld k
+runs_held (kept.Running m) h = tt
+runs_held (kept.Waiting m c) h = absurd h
+runs_held (kept.Ended e) h = absurd h
+
+-- and asks for nothing else than what it waits for
+pub starts_held : (ps qs : List Kept) → qs ≡ ps → AreStarts ps → All IsHeld qs
+starts_held ps qs same starts = subst (All IsHeld) (sym same) (All-weaker Runs IsHeld runs_held ps starts.running)

@@ -1,0 +1,220 @@
+-- Whatever steps are taken, the list has the advance of the world that they lead to, but for who waits.
+use Rattle.std.proofs.Common.{ℕ, ◌+◌, ◌≤◌, ◌≡◌, arith, length, List, [], ◌∷◌, Option, Some, None, refl, sym, ap, subst, ◌∙◌, slice_get, inl, inr, ◌⊎◌, Contains}
+use Rattle.std.proofs.lemmas.Bool.Decides.{eqb_tells}
+use Rattle.std.proofs.lemmas.List.{length-append}
+use Rattle.lc3_machine.specs.Process.{Process as Machine}
+use Rattle.ipc_kernel.specs.declared.call.Call.{Call}
+use Rattle.ipc_kernel.specs.declared.call.Answer.{Answer}
+use Rattle.ipc_kernel.specs.declared.call.Answer.TheVariants.{Done, Wait}
+use Rattle.ipc_kernel.specs.Answer.{answer}
+use Rattle.ipc_kernel.specs.Alike.{IsConsistent}
+use Rattle.ipc_kernel.proofs.Alikes.{alike_then}
+use Rattle.lab_sched.specs.Worlds.{Process, Running, Waiting, Ended, WorldState, NextAction, moves, calls, next_action, StepEffect, nothing, local_step, kernel_step, step_effect, step_effect_in, process_after_answer, after, step, run, first_try, retry, IsEffective, entry_of, entries}
+use Rattle.lab_sched.specs.Finished.{IsAtRest}
+use Rattle.lab_sched.specs.Stepping.{before_wait}
+use Rattle.lab_sched.proofs.ListPlaces.{get-set_same, get_past}
+use Rattle.lab_sched.proofs.Executions.{effect_local}
+use Rattle.lab_sched.proofs.Commutes.{after_other}
+use Rattle.lab_worlds.specs.Calls.{AreAlike, IsAtCall, IsAhead, Both, IsAdvance}
+use Rattle.lab_worlds.specs.Untried.{GoesOn, NoneGoesOn, untried, AsksAgain, AskAgain}
+use Rattle.lab_worlds.specs.Closed.{HasAdvance, AreAtRest, HoldsEveryEnd}
+use Rattle.lab_worlds.proofs.AlikeWorlds.{effect_alike, kernel_alike, same_effect, consistent_after, consistent_run}
+use Rattle.lab_worlds.proofs.AfterLocalSteps.{stays, ahead_moves, ahead_of_ahead, same_by_gets}
+use Rattle.lab_worlds.specs.Walked.{waiting}
+use Rattle.lab_worlds.proofs.FewestCalls.{calls_in, waiting_goes, waiting_still}
+use Rattle.lab_worlds.proofs.UntriedWorlds.{tells, same_step, none_goes, untried_at, still_untried, goes_untried, asks_on}
+
+-- a step of the same kind leaves a process in the same state, whatever the rest of the world
+pub same_after : (w v : WorldState) (p : ℕ) (s : Process) (t : StepEffect) → slice_get w.processes p ≡ Some s → slice_get v.processes p ≡ Some s
+    → slice_get (after w p t).processes p ≡ slice_get (after v p t).processes p
+same_after w v p s nothing a b = a ∙ sym b
+same_after w v p s (local_step n) a b = get-set_same w.processes p (Running n) (get_past w.processes p s a) ∙ sym (get-set_same v.processes p (Running n) (get_past v.processes p s b))
+same_after w v p s (kernel_step m c r) a b = get-set_same w.processes p (process_after_answer m c r) (get_past w.processes p s a) ∙ sym (get-set_same v.processes p (process_after_answer m c r) (get_past v.processes p s b))
+
+-- where a process makes the same step in a world and in its advance, what is ahead of the one is ahead of the other
+pub both_step : (w v u : WorldState) (p : ℕ) (s : Process) (t : StepEffect) → slice_get w.processes p ≡ Some s → slice_get v.processes p ≡ Some s
+    → IsConsistent w.kernel → IsAdvance w v → IsAdvance (after v p t) u → IsAdvance (after w p t) u
+both_step w v u p s t a b c h i = record {
+  kernel = alike_then (after w p t).kernel (after v p t).kernel u.kernel (kernel_alike w v p t c h.kernel) i.kernel;
+  processes = λ j. elim (eqb_tells p j) [
+    | inl same ↦ subst (λ n. Both IsAhead (slice_get (after w p t).processes n) (slice_get u.processes n)) same.1
+        (subst (λ o. Both IsAhead o (slice_get u.processes p)) (sym (same_after w v p s t a b)) (i.processes p))
+    | inr other ↦
+        let first = subst (λ o. Both IsAhead o (slice_get v.processes j)) (sym (after_other w j p t other.1)) (h.processes j) in
+        let then = subst (λ o. Both IsAhead o (slice_get u.processes j)) (after_other v j p t other.1) (i.processes j) in
+        ahead_of_ahead (slice_get (after w p t).processes j) (slice_get v.processes j) (slice_get u.processes j) first then
+  ];
+}
+
+-- a local step of a process keeps the advance
+pub local_keeps : (w v : WorldState) (p : ℕ) (m q : Machine) (u : Process) → slice_get w.processes p ≡ Some (Running m) → slice_get v.processes p ≡ Some u
+    → next_action m ≡ moves q → IsAdvance w v → IsAhead (Running m) u → IsAdvance (after w p (local_step q)) v
+local_keeps w v p m q u a b e h i = record {
+  kernel = h.kernel;
+  processes = λ j. elim (eqb_tells p j) [
+    | inl same ↦ subst (λ n. Both IsAhead (slice_get (after w p (local_step q)).processes n) (slice_get v.processes n)) same.1 here
+    | inr other ↦ subst (λ o. Both IsAhead o (slice_get v.processes j)) (sym (after_other w j p (local_step q) other.1)) (h.processes j)
+  ];
+}
+  where
+    now : slice_get (after w p (local_step q)).processes p ≡ Some (Running q)
+    now = get-set_same w.processes p (Running q) (get_past w.processes p (Running m) a)
+
+    here : Both IsAhead (slice_get (after w p (local_step q)).processes p) (slice_get v.processes p)
+    here = subst (λ o. Both IsAhead o (slice_get v.processes p)) (sym now) (subst (λ o. Both IsAhead (Some (Running q)) o) (sym b) (ahead_moves m q u e i))
+
+-- a step that isn't effective changes nothing
+pub idle : (t : StepEffect) → (t ≡ nothing) ⊎ IsEffective t
+idle nothing = inl refl
+idle (local_step n) = inr tt
+idle (kernel_step m c r) = inr tt
+
+-- levels of worlds: level 0 has the advance of the start, and level n + 1 that of each step by which a
+-- process goes on from a world of level n
+pub record AreLevels (start : WorldState) (V : ℕ → WorldState → Type 0) : Type 0 where
+  pub begins : HasAdvance (V 0) (untried start)
+  pub goes_on : (n : ℕ) (v : WorldState) (p : ℕ) → V n v → GoesOn (step_effect_in v p) → HasAdvance (V (n + 1)) (step v p)
+
+-- a step that goes on, from a world whose advance a level has
+goes_advance : (start : WorldState) (V : ℕ → WorldState → Type 0) → AreLevels start V → (n : ℕ) (w : WorldState) (p : ℕ) → IsConsistent w.kernel → GoesOn (step_effect_in w p) → HasAdvance (V n) w
+    → HasAdvance (V (n + calls_in p (step_effect_in w p))) (step w p)
+goes_advance start V levels n w p consistent goes has = by (slice_get w.processes p) (slice_get v.processes p) refl refl (h.processes p)
+  where
+    v : WorldState
+    v = has.0
+
+    h : IsAdvance w v
+    h = has.2
+
+    effect_at : (o : Option Process) → slice_get w.processes p ≡ o → step_effect_in w p ≡ step_effect w.kernel p o
+    effect_at o a = ap (λ x. step_effect w.kernel p x) a
+
+    -- a process at a call makes the same step in both worlds
+    at_call : (s : Process) → slice_get w.processes p ≡ Some s → slice_get v.processes p ≡ Some s → calls_in p (step_effect_in w p) ≡ 1 → HasAdvance (V (n + calls_in p (step_effect_in w p))) (step w p)
+    at_call s a b one =
+        let same : step_effect_in v p ≡ step_effect_in w p = effect_alike w.kernel v.kernel p (slice_get v.processes p) consistent h.kernel ∙ ap (λ o. step_effect w.kernel p o) (b ∙ sym a) in
+        let next = levels.goes_on n v p has.1 (subst GoesOn (sym same) goes) in
+        let there = subst (λ t. IsAdvance (after v p t) next.0) same next.2 in
+        subst (λ k. HasAdvance (V (n + k)) (step w p)) (sym one) (next.0, next.1, both_step w v next.0 p s (step_effect_in w p) a b consistent h there)
+
+    running : (m : Machine) (u : Process) (a : NextAction) → next_action m ≡ a → slice_get w.processes p ≡ Some (Running m) → slice_get v.processes p ≡ Some u → IsAhead (Running m) u
+        → HasAdvance (V (n + calls_in p (step_effect_in w p))) (step w p)
+    running m u (moves q) e a b i =
+        let is : step_effect_in w p ≡ local_step q = effect_local w p m q a e in
+        let none : calls_in p (step_effect_in w p) ≡ 0 = ap (calls_in p) is in
+        let number : n ≡ n + calls_in p (step_effect_in w p) = omega (arith, none) in
+        let here : step w p ≡ after w p (local_step q) = ap (λ t. after w p t) is in
+        subst (λ k. HasAdvance (V k) (step w p)) number (v, has.1, subst (λ x. IsAdvance x v) (sym here) (local_keeps w v p m q u a b e h i))
+    running m u (calls c) e a b i =
+        at_call (Running m) a (b ∙ ap (λ x. Some x) (stays (Running m) u (c, e) i)) (ap (calls_in p) (effect_at (Some (Running m)) a ∙ ap (first_try w.kernel p m) e))
+
+    again : (m : Machine) (c : Call) (x : Answer) → GoesOn (retry m c x) → calls_in p (retry m c x) ≡ 1
+    again m c Wait h = absurd h
+    again m c (Done r) h = refl
+
+    by : (a b : Option Process) → slice_get w.processes p ≡ a → slice_get v.processes p ≡ b → Both IsAhead a b → HasAdvance (V (n + calls_in p (step_effect_in w p))) (step w p)
+    by None b a c i = absurd (subst GoesOn (effect_at None a) goes)
+    by (Some s) None a b i = absurd i
+    by (Some (Running m)) (Some u) a b i = running m u (next_action m) refl a b i
+    by (Some (Waiting m c)) (Some u) a b i =
+        let is = effect_at (Some (Waiting m c)) a in
+        at_call (Waiting m c) a (b ∙ ap (λ x. Some x) (stays (Waiting m c) u tt i)) (ap (calls_in p) is ∙ again m c (answer w.kernel p c).0 (subst GoesOn is goes))
+    by (Some (Ended e)) b a c i = absurd (subst GoesOn (effect_at (Some (Ended e)) a) goes)
+
+-- a level has the advance of the world, but for who waits; its number, and one for each process that waits, are k at most
+record IsWithin (V : ℕ → WorldState → Type 0) (w : WorldState) (k : ℕ) : Type 0 where
+  number : ℕ
+  has : HasAdvance (V number) (untried w)
+  few : number + waiting w ≤ k
+
+step_within : (start : WorldState) (V : ℕ → WorldState → Type 0) → AreLevels start V → (k : ℕ) (w : WorldState) (p : ℕ) → IsConsistent w.kernel → AskAgain w → IsWithin V w k
+    → IsWithin V (step w p) (k + calls_in p (step_effect_in w p))
+step_within start V levels k w p consistent asks h = elim (tells (step_effect_in w p)) [
+  | inl goes ↦
+      let same = same_step w p asks goes in
+      let has = goes_advance start V levels h.number (untried w) p consistent (subst GoesOn (sym same) goes) h.has in
+      record {
+        number = h.number + calls_in p (step_effect_in w p);
+        has = subst (HasAdvance (V (h.number + calls_in p (step_effect_in w p)))) (sym (goes_untried w p asks goes)) (subst (λ t. HasAdvance (V (h.number + calls_in p t)) (step (untried w) p)) same has);
+        few = let few = h.few in let less = waiting_goes w p goes in omega (arith, few, less);
+      }
+  | inr none ↦ record {
+    number = h.number;
+    has = subst (HasAdvance (V h.number)) (sym (still_untried w p none)) h.has;
+    few = let few = h.few in let more = waiting_still w p none in omega (arith, few, more);
+  }
+]
+
+-- so has one that of whatever world the steps lead to, by the calls among them
+simulates : (start : WorldState) (V : ℕ → WorldState → Type 0) → AreLevels start V → (ps : List ℕ) (k : ℕ) (w : WorldState) → IsConsistent w.kernel → AskAgain w → IsWithin V w k
+    → IsWithin V (run w ps) (k + length (entries w ps))
+unfolding run entries
+simulates start V levels [] k w consistent asks h = subst (λ n. IsWithin V w n) (omega arith) h
+simulates start V levels (p ∷ ps) k w consistent asks h =
+    let sums = length-append (entry_of p (step_effect_in w p)) (entries (step w p) ps) in
+    subst (λ n. IsWithin V (run (step w p) ps) n) (omega (arith, sums))
+    (simulates start V levels ps (k + calls_in p (step_effect_in w p)) (step w p) (consistent_after w p (step_effect_in w p) consistent) (asks_on w p asks) (step_within start V levels k w p consistent asks h))
+
+pub asks_run : (ps : List ℕ) (w : WorldState) → AskAgain w → AskAgain (run w ps)
+unfolding run
+asks_run [] w asks = asks
+asks_run (p ∷ ps) w asks = asks_run ps (step w p) (asks_on w p asks)
+
+-- no process of a world at rest goes on
+pub rests_on : (w : WorldState) (p : ℕ) → AreAtRest w → GoesOn (step_effect_in w p) → ⊥
+rests_on w p rest h = by (slice_get w.processes p) refl
+  where
+    waits : (m : Machine) (c : Call) (a : Answer) → a ≡ Wait → GoesOn (retry m c a) → ⊥
+    waits m c a e g = subst GoesOn (ap (retry m c) e) g
+
+    by : (o : Option Process) → slice_get w.processes p ≡ o → ⊥
+    by None a = subst GoesOn (ap (λ o. step_effect w.kernel p o) a) h
+    by (Some (Running m)) a = rest p (Running m) a
+    by (Some (Waiting m c)) a = waits m c (answer w.kernel p c).0 (rest p (Waiting m c) a) (subst GoesOn (ap (λ o. step_effect w.kernel p o) a) h)
+    by (Some (Ended e)) a = subst GoesOn (ap (λ o. step_effect w.kernel p o) a) h
+
+-- a process at rest is at a call, also if it hasn't begun to wait
+rest_at_call : (w : WorldState) (p : ℕ) (s : Process) → IsAtRest w.kernel p s → AsksAgain s → IsAtCall (before_wait s)
+rest_at_call w p (Running m) rest asks = absurd rest
+rest_at_call w p (Waiting m c) rest asks = (c, asks)
+rest_at_call w p (Ended e) rest asks = tt
+
+-- the world at rest but for who waits has the processes of its advance
+untried_stays : (w v : WorldState) → AskAgain w → AreAtRest w → IsAdvance (untried w) v → AreAlike (untried w) v
+untried_stays w v asks rest h = record {
+  processes = same_by_gets v.processes (untried w).processes (λ p. by p (slice_get w.processes p) (slice_get v.processes p) refl refl);
+  kernel = h.kernel;
+}
+  where
+    by : (p : ℕ) (o b : Option Process) → slice_get w.processes p ≡ o → slice_get v.processes p ≡ b → slice_get v.processes p ≡ slice_get (untried w).processes p
+    by p None None a b = b ∙ sym (untried_at w p None a)
+    by p None (Some u) a b = absurd (subst (λ x. Both IsAhead x (Some u)) (untried_at w p None a) (subst (λ x. Both IsAhead (slice_get (untried w).processes p) x) b (h.processes p)))
+    by p (Some s) None a b = absurd (subst (λ x. Both IsAhead x None) (untried_at w p (Some s) a) (subst (λ x. Both IsAhead (slice_get (untried w).processes p) x) b (h.processes p)))
+    by p (Some s) (Some u) a b =
+        let i : IsAhead (before_wait s) u = subst (λ x. Both IsAhead x (Some u)) (untried_at w p (Some s) a) (subst (λ x. Both IsAhead (slice_get (untried w).processes p) x) b (h.processes p)) in
+        b ∙ ap (λ x. Some x) (stays (before_wait s) u (rest_at_call w p s (rest p s a) (asks p s a)) i) ∙ sym (untried_at w p (Some s) a)
+
+-- a level has the advance of whatever world any steps lead to, but for who waits
+pub reaches_world : (start : WorldState) (V : ℕ → WorldState → Type 0) → IsConsistent start.kernel → AskAgain start → AreLevels start V → (ps : List ℕ)
+    → (n : ℕ) × HasAdvance (V n) (untried (run start ps))
+reaches_world start V consistent starts levels ps =
+    let h = simulates start V levels ps (waiting start) start consistent starts (record { number = 0; has = levels.begins; few = omega arith }) in
+    (h.number, h.has)
+
+-- a level has the world at rest that any steps lead to, but for who waits; its number, and one for each process that waits, are
+-- no more than the calls among the steps
+pub reaches_end : (start : WorldState) (V : ℕ → WorldState → Type 0) → IsConsistent start.kernel → AskAgain start → AreLevels start V → (ps : List ℕ) → AreAtRest (run start ps)
+    → (v : WorldState) × (n : ℕ) × V n v × NoneGoesOn v × AreAlike (untried (run start ps)) v × (n + waiting (run start ps) ≤ waiting start + length (entries start ps))
+reaches_end start V consistent starts levels ps rest =
+    let w = run start ps in
+    let asks = asks_run ps start starts in
+    let good = consistent_run ps start consistent in
+    let h = simulates start V levels ps (waiting start) start consistent starts (record { number = 0; has = levels.begins; few = omega arith }) in
+    let has = h.has in
+    let alike = untried_stays w has.0 asks rest has.2 in
+    (has.0, h.number, has.1, λ p goes. none_goes w p asks (rests_on w p rest) (subst GoesOn (same_effect (untried w) has.0 p good alike) goes), alike, h.few)
+
+pub holds_every_end : HoldsEveryEnd
+holds_every_end start vs consistent asks closed ps rest =
+    let end = reaches_end start (λ n. Contains vs) consistent asks (record { begins = closed.begins; goes_on = λ n v p. closed.goes_on v p }) ps rest in
+    (end.0, end.2, end.3, end.4)

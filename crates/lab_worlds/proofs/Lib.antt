@@ -1,0 +1,17 @@
+pub mod AlikeWorlds
+pub mod AfterLocalSteps
+pub mod UntriedWorlds
+pub mod FewestCalls
+pub mod HeldAdvances
+mod StepsToCalls
+pub mod Pushes
+pub mod WalkLemmas
+mod KeptEnds
+pub mod FairRounds
+pub mod StepsOnObjects
+pub mod IndependentSteps
+pub mod OnwardSteps
+mod StepsTold
+pub mod Beginnings
+pub mod WalkedEnds
+pub mod OwnCalls

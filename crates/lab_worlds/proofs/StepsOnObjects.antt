@@ -1,0 +1,85 @@
+-- Steps at calls that work on one object: what they depend on, and what they change.
+use Rattle.std.proofs.Common.{ℕ, ◌≡◌, Some, refl, sym, ap, subst, ◌∙◌}
+use Rattle.lc3_machine.specs.Process.{Process as Machine}
+use Rattle.ipc_kernel.specs.declared.place.Place.{Place}
+use Rattle.ipc_kernel.specs.declared.process.OpenTables.{OpenTables}
+use Rattle.ipc_kernel.specs.declared.call.Call.{Call}
+use Rattle.ipc_kernel.specs.declared.call.Answer.{Answer}
+use Rattle.ipc_kernel.specs.declared.call.Answer.TheVariants.{Done, Wait}
+use Rattle.ipc_kernel.specs.Kernel.{KernelState, IsSettled}
+use Rattle.ipc_kernel.specs.Answer.{answer}
+use Rattle.ipc_kernel.specs.Operands.{operand_in, with_operand, HasOperand, IsAnsweredAlike}
+use Rattle.ipc_store.proofs.LocalCalls.{kept}
+use Rattle.ipc_store.proofs.OperandAnswers.{answers_by_operand, operand_left}
+use Rattle.ipc_store.proofs.SettledAnswers.{stays_settled}
+use Rattle.lab_sched.specs.Worlds.{Process, Running, Waiting, Ended, calls, next_action, StepEffect, nothing, local_step, kernel_step, step_effect, first_try, retry, process_after, kernel_after}
+use Rattle.lab_sched.specs.Held.{step_of}
+use Rattle.lab_conditions.specs.Conditions.{StandsAt}
+use Rattle.lab_worlds.specs.Untried.{GoesOn}
+use Rattle.lab_worlds.specs.Operands.{IsStepAlike, StepsByOperand, StepsSettled}
+
+-- steps with one effect, which leaves the kernels as the answers say
+alike_by : (k j : KernelState) (p q : ℕ) (s : Process) (i : ℕ) (e : StepEffect) → step_effect k p (Some s) ≡ e → step_effect j q (Some s) ≡ e
+    → ((t : OpenTables) (o : Place) → HasOperand (kernel_after j q e) q i t o → kernel_after k p e ≡ with_operand k p i o t) → IsStepAlike k j p q s i
+alike_by k j p q s i e here there kernels = record {
+  goes_on = λ g. subst GoesOn (there ∙ sym here) g;
+  process = ap (process_after s) (here ∙ sym there);
+  kernel = λ t o has. ap (kernel_after k p) here ∙ kernels t o (subst (λ x. HasOperand (kernel_after j q x) q i t o) there has);
+}
+
+pub steps_by_operand : StepsByOperand
+steps_by_operand k j p q s c i t o sk sj stands at_k at_j hk hj = by s stands
+  where
+    alike : IsAnsweredAlike k j p q c i
+    alike = answers_by_operand k j p q c i t o sk sj at_k at_j hk hj
+
+    -- a call that is made for the first time
+    tried : (m : Machine) → next_action m ≡ calls c → IsStepAlike k j p q (Running m) i
+    tried m asks = alike_by k j p q (Running m) i (kernel_step m c (answer j q c).0)
+        (ap (first_try k p m) asks ∙ ap (kernel_step m c) alike.answers) (ap (first_try j q m) asks) alike.kernels
+
+    -- nothing is changed where it must still wait
+    same_kernel : (u : OpenTables) (y : Place) → HasOperand j q i u y → k ≡ with_operand k p i y u
+    same_kernel u y has =
+        let tables : Some t ≡ Some u = sym hj.tables ∙ has.tables in
+        let object : Some o ≡ Some y = sym hj.object ∙ has.object in
+        let one : t ≡ u = cc in
+        let other : o ≡ y = cc in
+        sym (kept k p i t o hk) ∙ ap (λ x. with_operand k p i x t) other ∙ ap (λ x. with_operand k p i y x) one
+
+    again : (m : Machine) (a : Answer) → (answer j q c).0 ≡ a → IsStepAlike k j p q (Waiting m c) i
+    again m Wait is = alike_by k j p q (Waiting m c) i nothing (ap (retry m c) (alike.answers ∙ is)) (ap (retry m c) is) same_kernel
+    again m (Done r) is = alike_by k j p q (Waiting m c) i (kernel_step m c (Done r)) (ap (retry m c) (alike.answers ∙ is)) (ap (retry m c) is) alike.kernels
+
+    by : (u : Process) → StandsAt u c → IsStepAlike k j p q u i
+    by (Running m) asks = tried m asks
+    by (Waiting m d) same = subst (λ x. IsStepAlike k j p q (Waiting m x) i) (sym same) (again m (answer j q c).0 refl)
+    by (Ended e) stood = absurd stood
+
+abbrev Left : KernelState → ℕ → ℕ → Type 0
+Left k p i = (t : OpenTables) × (o : Place) × HasOperand k p i t o
+
+-- after the step too there are an object in place i and tables of the process
+pub operand_left_by_step : (j : KernelState) (q : ℕ) (s : Process) (c : Call) (i : ℕ) (t : OpenTables) (o : Place) → IsSettled j → StandsAt s c → operand_in j t c ≡ Some i
+    → HasOperand j q i t o → (u : OpenTables) × (y : Place) × HasOperand (step_of j q s).kernel q i u y
+operand_left_by_step j q s c i t o settled stands at has = by s stands
+  where
+    left : Left (answer j q c).1 q i
+    left = operand_left j q c i t o settled at has
+
+    again : (m : Machine) (a : Answer) → Left (kernel_after j q (retry m c a)) q i
+    again m Wait = (t, o, has)
+    again m (Done r) = left
+
+    by : (u : Process) → StandsAt u c → Left (step_of j q u).kernel q i
+    by (Running m) asks = subst (λ a. Left (kernel_after j q (first_try j q m a)) q i) (sym asks) left
+    by (Waiting m d) same = subst (λ x. Left (step_of j q (Waiting m x)).kernel q i) (sym same) (again m (answer j q c).0)
+    by (Ended e) stood = absurd stood
+
+settled_after : (k : KernelState) (p : ℕ) (e : StepEffect) → IsSettled k → IsSettled (kernel_after k p e)
+settled_after k p nothing h = h
+settled_after k p (local_step n) h = h
+settled_after k p (kernel_step m c a) h = stays_settled k p c h
+
+pub steps_settled : StepsSettled
+steps_settled k p s h = settled_after k p (step_effect k p (Some s)) h

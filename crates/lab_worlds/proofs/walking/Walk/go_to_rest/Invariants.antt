@@ -1,0 +1,5 @@
+use Rattle.lab_worlds.specs.Walked.{KeepsStart}
+use Rattle.lab_worlds.proofs.walking.Walk.go_to_rest.Given as goal
+
+abbrev pub invariant-loop-pid : goal.invariant-loop-pid
+invariant-loop-pid l = KeepsStart l.fn.self l.self

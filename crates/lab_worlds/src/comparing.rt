@@ -1,0 +1,49 @@
+//! Worlds that are compared.
+ghost use Rattle.std.specs.Prelude.{◌≡◌, IsTrue, IfOk, slice_get};
+ghost use Rattle.lab_sched.specs.Held.{process_view};
+ghost use Rattle.lab_sched.specs.Stepping.{before_wait};
+ghost use Rattle.lab_worlds.specs.Calls.{AreAlike};
+
+use lab_sched::{Process, World};
+use std::alloc::{AllocError, Global};
+
+/// A copy of a process, as it was before it began to wait.
+pub fn copy_before_wait(alloc: Global, process: &Process) -> Result<Process, AllocError>
+    ensures before { IfOk result
+        (λ copy. process_view copy ≡ before_wait (process_view process.now)) }
+{
+    Ok(match process {
+        Process::Running(running) => Process::Running(running.copy(alloc)?),
+        Process::Waiting(waiting, _) => Process::Running(waiting.copy(alloc)?.back()),
+        Process::Ended(ended) => Process::Ended(ended.copy(alloc)?),
+    })
+}
+
+/// Whether a process is the same in two worlds.
+fn is_same_in(world: &World, other: &World, pid: usize) -> bool
+    ensures same { IsTrue result
+        → slice_get other.now.processes pid ≡ slice_get world.now.processes pid }
+{
+    let Some(process) = world.process(pid) else {
+        return false;
+    };
+    let Some(other) = other.process(pid) else {
+        return false;
+    };
+    process.is_same(other)
+}
+
+/// Whether worlds have the same processes, over kernels that are alike.
+pub fn are_alike(world: &World, other: &World) -> bool
+    ensures alike { IsTrue result → AreAlike world.now other.now }
+{
+    if world.count() != other.count() || !world.kernel().is_alike(other.kernel()) {
+        return false;
+    }
+    for pid in 0..world.count() {
+        if !is_same_in(world, other, pid) {
+            return false;
+        }
+    }
+    true
+}

@@ -1,0 +1,161 @@
+//! The ends to which walks come.
+ghost use Rattle.std.specs.Prelude.{◌≡◌, [], All};
+ghost use Rattle.lab_sched.specs.Held.{IsHeld};
+ghost use Rattle.lab_sched.specs.Worlds.{WorldState};
+ghost use Rattle.lab_sched.specs.Starts.{AreStarts, initial_world};
+ghost use Rattle.lab_worlds.specs.Ends.{IsEnd, AreEnds};
+
+use crate::dice::Dice;
+use crate::ends::End;
+use crate::fault::ExploreFault;
+use crate::limits::Limits;
+use crate::observer::Observer;
+use crate::random::end_along;
+use crate::trying::discard;
+use crate::wandering::Wanderer;
+use lab_sched::Process;
+use std::alloc::Global;
+
+/// The ends to which walks came, each once, in the order in which they were found, with a digest of
+/// each; about how many bytes they take; and how many walks were begun.
+#[derive(Drop)]
+pub struct Gathering {
+    pub ends: Vec<End>,
+    digests: Vec<u64>,
+    size: usize,
+    pub begun: u32,
+}
+
+impl Gathering {
+    /// Before the first walk.
+    pub fn new(alloc: Global) -> Gathering
+        ensures none { result.ends.items ≡ [] }
+    {
+        Gathering {
+            ends: Vec::new(alloc),
+            digests: Vec::new(alloc),
+            size: 0,
+            begun: 0,
+        }
+    }
+
+    /// Whether the world of a walk with this digest is that of an end.
+    fn is_known(&self, wanderer: &Wanderer, digest: u64) -> bool {
+        for (at, known) in self.digests.iter().enumerate() {
+            if *known == digest {
+                if let Some(end) = self.ends.get(at) {
+                    if wanderer.is_at(&end.world) {
+                        return true;
+                    }
+                }
+            }
+        }
+        false
+    }
+
+    /// Adds the end to which a walk came, if it isn't known.
+    fn add(
+        &mut self,
+        alloc: Global,
+        processes: &[Process],
+        wanderer: &mut Wanderer,
+    ) -> Result<(), ExploreFault>
+        requires starts { AreStarts processes.now }
+        ensures ends { AreEnds (initial_world processes.now) self.old.ends.items
+            → AreEnds (initial_world processes.now) self.new.ends.items }
+    {
+        let digest = wanderer.digest();
+        if self.is_known(wanderer, digest) {
+            return Ok(());
+        }
+        wanderer.finish()?;
+        self.digests.push(digest)?;
+        let end = end_along(alloc, processes, &wanderer.schedule)?;
+        self.keep(end)
+    }
+
+    /// Keeps an end.
+    fn keep(&mut self, end: End) -> Result<(), ExploreFault>
+        ensures ends { (start : WorldState) → IsEnd start end
+            → AreEnds start self.old.ends.items → AreEnds start self.new.ends.items }
+    {
+        self.size = self.size.saturating_add(end.size());
+        self.ends.push(end)?;
+        Ok(())
+    }
+
+    /// Takes one walk.
+    fn take(
+        &mut self,
+        alloc: Global,
+        processes: &[Process],
+        limits: Limits,
+        dice: &mut Dice,
+    ) -> Result<(), ExploreFault>
+        requires starts { AreStarts processes.now }
+        requires held { All IsHeld processes.now }
+        ensures ends { AreEnds (initial_world processes.now) self.old.ends.items
+            → AreEnds (initial_world processes.now) self.new.ends.items }
+    {
+        let mut wanderer = Wanderer::new(alloc, processes)?;
+        match self.lead(alloc, processes, limits, dice, &mut wanderer) {
+            Ok(()) => {
+                discard(wanderer);
+                Ok(())
+            }
+            Err(fault) => {
+                discard(wanderer);
+                Err(fault)
+            }
+        }
+    }
+
+    /// Leads a walk to its end, and adds that, if it comes there.
+    fn lead(
+        &mut self,
+        alloc: Global,
+        processes: &[Process],
+        limits: Limits,
+        dice: &mut Dice,
+        wanderer: &mut Wanderer,
+    ) -> Result<(), ExploreFault>
+        requires starts { AreStarts processes.now }
+        requires held { All IsHeld wanderer.old.processes.items }
+        ensures ends { AreEnds (initial_world processes.now) self.old.ends.items
+            → AreEnds (initial_world processes.now) self.new.ends.items }
+    {
+        if !wanderer.begin(alloc, limits.steps)? {
+            return Ok(());
+        }
+        if wanderer.wander(alloc, dice, limits.worlds, limits.steps)? {
+            self.add(alloc, processes, wanderer)?;
+        }
+        Ok(())
+    }
+
+    /// Takes so many walks, as long as their ends don't take more memory than they may.
+    pub(crate) fn take_all<O: Observer>(
+        &mut self,
+        alloc: Global,
+        processes: &[Process],
+        limits: Limits,
+        mut dice: Dice,
+        count: u32,
+        observer: &mut O,
+    ) -> Result<(), ExploreFault>
+        requires starts { AreStarts processes.now }
+        requires held { All IsHeld processes.now }
+        ensures ends { AreEnds (initial_world processes.now) self.old.ends.items
+            → AreEnds (initial_world processes.now) self.new.ends.items }
+    {
+        for begun in 0..count {
+            if self.size > limits.memory {
+                return Ok(());
+            }
+            observer.see(begun as usize, (count - begun) as usize);
+            self.begun = begun + 1;
+            self.take(alloc, processes, limits, &mut dice)?;
+        }
+        Ok(())
+    }
+}

@@ -1,0 +1,110 @@
+//! Walks at random through the interleavings, in place of every one of them.
+ghost use Rattle.std.specs.Prelude.{◌≡◌, None, false, IfOk, OnOk};
+ghost use Rattle.lab_sched.specs.Starts.{AreStarts, initial_world};
+ghost use Rattle.lab_worlds.specs.Ends.{IsEnd, AreEnds};
+ghost use Rattle.lab_worlds.specs.Walked.{KeepsStart};
+
+use crate::dice::Dice;
+use crate::ends::{End, end_of};
+use crate::exploration::Exploration;
+use crate::fault::ExploreFault;
+use crate::gathering::Gathering;
+use crate::limits::Limits;
+use crate::observer::Observer;
+use crate::trying::discard;
+use crate::walking::Walk;
+use lab_sched::{Fresh, Process, Schedule};
+use std::alloc::Global;
+
+/// So many walks, with the random numbers of a seed.
+#[derive(Clone, Copy, Debug, PartialEq, Eq)]
+pub struct Walks {
+    pub count: u32,
+    pub seed: u32,
+}
+
+impl Walk {
+    /// Takes the steps of a schedule, each of which must be effective.
+    fn go_along(&mut self, schedule: &Schedule) -> Result<(), ExploreFault>
+        ensures walk { OnOk result (KeepsStart self.old self.new) }
+    {
+        for block in schedule.blocks() {
+            self.go_on(block.pid, block.count)?;
+        }
+        Ok(())
+    }
+}
+
+/// The end to which the steps of a schedule lead.
+pub(crate) fn end_along(
+    alloc: Global,
+    processes: &[Process],
+    schedule: &Schedule,
+) -> Result<End, ExploreFault>
+    requires starts { AreStarts processes.now }
+    ensures end { IfOk result (λ e. IsEnd (initial_world processes.now) e) }
+{
+    let mut walk = Walk::start(alloc, processes)?;
+    match walk.go_along(schedule) {
+        Ok(()) => {
+            let end = end_of(walk)?;
+            Ok(end)
+        }
+        Err(fault) => {
+            discard(walk);
+            Err(fault)
+        }
+    }
+}
+
+/// Takes walks through the interleavings of a laboratory. A walk goes from world at calls to world at
+/// calls: of the processes whose step is effective a random number chooses one, which takes its step
+/// and then its local steps up to its next call, until no process has such a step. A walk breaks off
+/// that isn't there in the last of the worlds that it may visit, or whose process takes more local
+/// steps than it may. The ends to which walks come are told in the order in which they were found,
+/// each once; each has a schedule of effective steps that leads to it. The number of worlds is that of
+/// the walks which were begun: fewer than asked for, where the ends take more memory than they may,
+/// or memory is refused. Of interleavings that no walk took nothing is told, and of no condition.
+pub fn walk_randomly<O: Observer>(
+    alloc: Global,
+    fresh: Fresh,
+    limits: Limits,
+    walks: Walks,
+    observer: &mut O,
+) -> Result<Exploration, ExploreFault>
+    ensures sound { IfOk result (λ found. AreEnds fresh found.ends.items) }
+    ensures open { IfOk result (λ found. found.complete ≡ false) }
+    ensures none { IfOk result (λ found. found.round ≡ None) }
+{
+    let processes = fresh.processes();
+    let mut gathering = Gathering::new(alloc);
+    let dice = Dice::new(walks.seed);
+    let refused = match gathering.take_all(alloc, &processes, limits, dice, walks.count, observer) {
+        Ok(()) => false,
+        Err(ExploreFault::NoMemory) => true,
+        Err(fault) => {
+            discard(gathering);
+            return Err(fault);
+        }
+    };
+    Ok(gathering.found(alloc, refused))
+}
+
+impl Gathering {
+    /// What the walks found, and whether memory was refused.
+    fn found(self, alloc: Global, refused: bool) -> Exploration
+        ensures ends { result.ends ≡ self.ends }
+        ensures open { result.complete ≡ false }
+        ensures none { result.round ≡ None }
+    {
+        Exploration {
+            ends: self.ends,
+            reached: Vec::new(alloc),
+            round: None,
+            fair: false,
+            worlds: self.begun,
+            complete: false,
+            refused,
+        }
+    }
+}

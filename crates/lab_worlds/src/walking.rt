@@ -1,0 +1,262 @@
+//! Walks: effective steps from a world, one by one.
+ghost use Rattle.std.specs.Prelude.{◌≡◌, ◌≤◌, ◌+◌, ◌++◌, ◌∷◌, [], ℕ, Option, IsTrue, false, IfOk, OnOk, length};
+ghost use Rattle.ipc_traps.specs.Asked.{Request};
+ghost use Rattle.lab_sched.specs.Worlds.{StepEffect, IsEffective, entry_of, step_effect_in, step};
+ghost use Rattle.lab_sched.specs.Schedules.{steps_of};
+ghost use Rattle.lab_sched.specs.Held.{stepped_of};
+ghost use Rattle.lab_sched.specs.Starts.{AreStarts, initial_world};
+ghost use Rattle.lab_sched.specs.declared.stepped.Stepped.TheVariants.{Same};
+ghost use Rattle.lab_conditions.specs.Losses.{receives, Loses};
+ghost use Rattle.lab_worlds.specs.Walked.{waiting, IsWalk, KeepsStart};
+
+use crate::fault::ExploreFault;
+use crate::trying::discard;
+use crate::waiting::count_waiting;
+use ipc_kernel::{Kernel, PROCESS_MAX};
+use lab_conditions::{is_receiving, messages_in};
+use lab_sched::{MOST_STEPS, Process, Schedule, Stepped, World};
+use std::alloc::{AllocError, Global};
+
+/// A world, the steps that led to it, and how many of them were calls.
+#[derive(Drop)]
+pub struct Walk {
+    pub world: World,
+    pub schedule: Schedule,
+    pub calls: u32,
+}
+
+/// Copies of processes.
+pub(crate) fn copies(alloc: Global, processes: &[Process]) -> Result<Vec<Process>, AllocError>
+    ensures copies { IfOk result (λ v. v.items ≡ processes.now) }
+{
+    let mut copies = Vec::with_capacity(alloc, processes.len())?;
+    for process in processes {
+        let copy = process.copy(alloc)?;
+        copies.push(copy)?;
+    }
+    Ok(copies)
+}
+
+/// The world of processes before their first steps.
+fn world_of(alloc: Global, processes: &[Process]) -> Result<World, ExploreFault>
+    requires starts { AreStarts processes.now }
+    ensures world { IfOk result (λ w. w ≡ initial_world processes.now) }
+{
+    let kernel = Kernel::new(alloc, processes.len())?;
+    match copies(alloc, processes) {
+        Ok(copies) => Ok(World::join(copies, kernel)),
+        Err(_) => {
+            discard(kernel);
+            Err(ExploreFault::NoMemory)
+        }
+    }
+}
+
+/// Whether a step that was told so is effective.
+fn changes(stepped: &Stepped) -> bool
+    ensures effective { IsTrue result → stepped.now ≡ Same → ⊥ }
+    ensures same { result ≡ false → stepped.now ≡ Same }
+{
+    !matches!(stepped, Stepped::Same)
+}
+
+/// How many calls a step is that was told so.
+fn calls_of(stepped: &Stepped) -> u32
+    ensures count { (p : ℕ) (q : Option Request) (t : StepEffect) → stepped.now ≡ stepped_of q t
+        → result ≡ length (entry_of p t) }
+{
+    match stepped {
+        Stepped::Called(_) | Stepped::Waits => 1,
+        Stepped::Moved | Stepped::Refused(_) | Stepped::Same => 0,
+    }
+}
+
+impl Walk {
+    /// The walk that stays at a world.
+    pub fn at(alloc: Global, world: World) -> Walk
+        ensures world { result.world ≡ world }
+        ensures walk { IsWalk world result }
+    {
+        Walk {
+            world,
+            schedule: Schedule::new(alloc),
+            calls: 0,
+        }
+    }
+
+    /// The walk that stays at the world of processes before their first steps.
+    pub fn start(alloc: Global, processes: &[Process]) -> Result<Walk, ExploreFault>
+        requires starts { AreStarts processes.now }
+        ensures walk { IfOk result (λ w. IsWalk (initial_world processes.now) w) }
+    {
+        Ok(Walk::at(alloc, world_of(alloc, processes)?))
+    }
+
+    /// Takes a step, which must be effective.
+    pub fn go(&mut self, pid: usize) -> Result<(), ExploreFault>
+        ensures walk { OnOk result (KeepsStart self.old self.new) }
+        ensures world { OnOk result (self.new.world ≡ step self.old.world pid) }
+        ensures steps { OnOk result (steps_of self.new.schedule
+            ≡ steps_of self.old.schedule ++ pid ∷ []) }
+    {
+        if pid >= PROCESS_MAX || self.schedule.total() >= MOST_STEPS {
+            return Err(ExploreFault::Unvouched);
+        }
+        let Ok(stepped) = self.world.step(pid) else {
+            return Err(ExploreFault::NoMemory);
+        };
+        let Some(calls) = self.calls.checked_add(calls_of(&stepped)) else {
+            return Err(ExploreFault::Unvouched);
+        };
+        if !changes(&stepped) {
+            return Err(ExploreFault::Unvouched);
+        }
+        self.calls = calls;
+        self.schedule.push(pid, 1)?;
+        Ok(())
+    }
+
+    /// Whether process `pid` is about to receive a message, or waits for one. Where it isn't there, it
+    /// isn't.
+    fn is_receiving(&self, alloc: Global, pid: usize) -> Result<bool, AllocError>
+        ensures no { IfOk result (λ receiving. receiving ≡ false
+            → receives (step_effect_in self.now.world pid) ≡ false) }
+    {
+        match self.world.process(pid) {
+            Some(process) => is_receiving(alloc, process),
+            None => Ok(false),
+        }
+    }
+
+    /// Takes a step, which must be effective and lose a message.
+    pub fn lose(&mut self, alloc: Global, pid: usize) -> Result<(), ExploreFault>
+        ensures walk { OnOk result (KeepsStart self.old self.new) }
+        ensures loses { OnOk result (Loses self.old.world pid) }
+        ensures steps { OnOk result (steps_of self.new.schedule
+            ≡ steps_of self.old.schedule ++ pid ∷ []) }
+    {
+        let before = messages_in(self.world.kernel());
+        if self.is_receiving(alloc, pid)? {
+            return Err(ExploreFault::Unvouched);
+        }
+        self.go(pid)?;
+        if messages_in(self.world.kernel()) >= before {
+            return Err(ExploreFault::Unvouched);
+        }
+        Ok(())
+    }
+
+    /// Stays where a process must have no effective step.
+    pub(crate) fn pause(&mut self, pid: usize) -> Result<(), ExploreFault>
+        ensures world { OnOk result (self.new.world ≡ self.old.world) }
+        ensures schedule { OnOk result (self.new.schedule ≡ self.old.schedule) }
+        ensures calls { OnOk result (self.new.calls ≡ self.old.calls) }
+        ensures none { OnOk result (IsEffective (step_effect_in self.old.world pid) → ⊥) }
+    {
+        let Ok(stepped) = self.world.step(pid) else {
+            return Err(ExploreFault::NoMemory);
+        };
+        if changes(&stepped) {
+            return Err(ExploreFault::Unvouched);
+        }
+        Ok(())
+    }
+
+    /// Takes so many steps, each of which must be effective.
+    pub fn go_on(&mut self, pid: usize, count: u32) -> Result<(), ExploreFault>
+        ensures walk { OnOk result (KeepsStart self.old self.new) }
+    {
+        for _ in 0..count {
+            self.go(pid)?;
+        }
+        Ok(())
+    }
+
+    /// Makes a call, behind the steps that are left of its process, or puts it off.
+    pub fn go_call(&mut self, local: &mut Vec<u32>, call: WayCall) -> Result<(), ExploreFault>
+        ensures walk { OnOk result (KeepsStart self.old self.new) }
+    {
+        if call.late {
+            put_off(local, call)?;
+            return Ok(());
+        }
+        let before = exchange(local, call.pid, call.taken)?;
+        self.go_on(call.pid, before)?;
+        self.go(call.pid)?;
+        Ok(())
+    }
+
+    /// Takes the steps that are left of each process.
+    pub fn go_local(&mut self, local: &[u32]) -> Result<(), ExploreFault>
+        ensures walk { OnOk result (KeepsStart self.old self.new) }
+    {
+        for (pid, count) in local.iter().enumerate() {
+            self.go_on(pid, *count)?;
+        }
+        Ok(())
+    }
+
+    /// Whether a process has ended.
+    fn has_ended(&self, pid: usize) -> bool {
+        matches!(self.world.process(pid), Some(Process::Ended(_)))
+    }
+
+    /// Takes the steps that are left of each process, and behind them the one by which it begins to wait,
+    /// if it hasn't ended.
+    pub fn go_to_rest(&mut self, local: &[u32]) -> Result<(), ExploreFault>
+        ensures walk { OnOk result (KeepsStart self.old self.new) }
+    {
+        for (pid, count) in local.iter().enumerate() {
+            self.go_on(pid, *count)?;
+            if !self.has_ended(pid) {
+                self.go(pid)?;
+            }
+        }
+        Ok(())
+    }
+
+    /// Whether it has at most so many calls, and one more for each process that waits.
+    pub fn is_within(&self, depth: u32) -> bool
+        ensures yes { IsTrue result → self.now.calls ≤ depth + waiting self.now.world }
+    {
+        self.calls as u64 <= depth as u64 + count_waiting(&self.world) as u64
+    }
+}
+
+/// A call on the way to a row: its process, how many local steps that takes after it, and whether it may
+/// come just before the next call of the process.
+#[derive(Clone, Copy, Drop)]
+pub struct WayCall {
+    pub pid: usize,
+    pub taken: u32,
+    pub late: bool,
+}
+
+/// Puts off a call with the local steps after it: behind those that are left of its process.
+fn put_off(local: &mut Vec<u32>, call: WayCall) -> Result<(), ExploreFault> {
+    if call.pid >= local.len() {
+        return Err(ExploreFault::Unvouched);
+    }
+    let steps = call.taken.saturating_add(1);
+    local[call.pid] = local[call.pid].saturating_add(steps);
+    Ok(())
+}
+
+/// Puts the number of local steps of a process in its place, and answers the one that stood there.
+fn exchange(local: &mut Vec<u32>, pid: usize, count: u32) -> Result<u32, ExploreFault> {
+    if pid >= local.len() {
+        return Err(ExploreFault::Unvouched);
+    }
+    let before = local[pid];
+    local[pid] = count;
+    Ok(before)
+}
+
+impl Walk {
+    /// Whether so many of its steps are calls.
+    pub fn has_calls(&self, count: u32) -> bool
+        ensures yes { IsTrue result → self.now.calls ≡ count }
+    {
+        self.calls == count
+    }
+}
