@@ -10,7 +10,7 @@ use Rattle.lab_page.proofs.paging.run_page.Goals as goal
 pub returns-clause-page : goal.returns-clause-page
 returns-clause-page c =
     c.in_ok-page.ensures.page
-    ∙ ap (page_text (around c.args.template)) (c.deref-2.ensures.value ∙ page-made c.args.world.now c.args.schedule.now _ _ c.count-count.result _ _ _ c.count-count.ensures.count
+    ∙ ap (page_text (around c.args.template.now)) (c.deref-2.ensures.value ∙ page-made c.args.world.now c.args.schedule.now _ _ c.count-count.result _ _ _ c.count-count.ensures.count
     refl c.in_ok-json.ensures.json (c.in_ok-page_json.ensures.json ∙ ap (page_json _) c.deref.ensures.value))
 
 pub returns-clause-closed : goal.returns-clause-closed

@@ -23,7 +23,7 @@ add_blocks-requires-clause-counted c =
 
 pub returns-clause-world : goal.returns-clause-world
 returns-clause-world c =
-    let led = rw c.blocks.ensures.value at c.in_ok-add_blocks.ensures.scene in
+    let led = rw c.blocks-2.ensures.value at c.in_ok-add_blocks.ensures.scene in
     ap (λ (x : Scene). x.world) led.1 ∙ scene-world (scene_at 1 c.args.world.now c.in_ok-tally.tally) (steps_of c.args.schedule.now)
 
 pub returns-clause-json : goal.returns-clause-json
@@ -34,10 +34,10 @@ returns-clause-json c =
     let whole = ap (λ n. nat_le n most_whole) c.total-whole.ensures.steps in
     let wide = form-is v c.total.result c.count.result ps w [] c.in_ok-form.ensures.form c.total.ensures.steps c.count.ensures.count in
     let first = c.in_ok-tally.ensures.empty ∙ ap new_tally c.count-3.ensures.count in
-    let led = rw c.blocks.ensures.value at c.in_ok-add_blocks.ensures.scene in
+    let led = rw c.blocks-2.ensures.value at c.in_ok-add_blocks.ensures.scene in
     let none = ap (λ m. m.past) c.in_ok-moments.ensures.first in
-    let added = rw (c.blocks.ensures.value, none) at c.in_ok-add_blocks.ensures.moments in
-    let past = rw (c.blocks.ensures.value, none) at c.in_ok-add_blocks.ensures.past in
+    let added = rw (c.blocks-2.ensures.value, none) at c.in_ok-add_blocks.ensures.moments in
+    let past = rw (c.blocks-2.ensures.value, none) at c.in_ok-add_blocks.ensures.past in
     let after = scene_at led.0 c.add_blocks.new.world c.add_blocks.new.tally in
     run-made w c.args.schedule.now _ v (scene_at 1 w c.in_ok-tally.tally) after _ _ _ _ _ _ whole wide
     (ap (scene_at 1 w) first) led.1 (ap (λ m. m.json) c.in_ok-moments.ensures.first) added (ap (outcome_at v after) past) refl
@@ -52,8 +52,8 @@ returns-clause-trace c =
     let ss = c.args.sources.now in
     let wide = form-is v c.total-2.result c.count-2.result ps w ss c.in_ok-labels.ensures.form c.total-2.ensures.steps c.count-2.ensures.count in
     let first = c.in_ok-tally.ensures.empty ∙ ap new_tally c.count-3.ensures.count in
-    let led = rw c.blocks.ensures.value at c.in_ok-add_blocks.ensures.scene in
-    let added = rw c.blocks.ensures.value at c.in_ok-add_blocks.ensures.lines in
+    let led = rw c.blocks-2.ensures.value at c.in_ok-add_blocks.ensures.scene in
+    let added = rw c.blocks-2.ensures.value at c.in_ok-add_blocks.ensures.lines in
     trace-made w c.add_blocks.new.world ss ps v t c.add_blocks.new.tally led.0 _ _ _ _ _ wide first led.1 (ap (λ m. m.lines) c.in_ok-moments.ensures.first) added
     refl refl (c.into_parts-json.ensures.lines ∙ c.in_ok-finish.ensures.lines)
 
@@ -66,6 +66,6 @@ returns-in_err-add_blocks-clause-fault c =
     let wide = form-is v c.total.result c.count.result ps w [] c.in_ok-form.ensures.form c.total.ensures.steps c.count.ensures.count in
     let first = c.in_ok-tally.ensures.empty ∙ ap new_tally c.count-3.ensures.count in
     let none = ap (λ m. m.past) c.in_ok-moments.ensures.first in
-    let fault = rw (c.blocks.ensures.value, ap (λ m. m.json) c.in_ok-moments.ensures.first, none) at c.in_err-add_blocks.ensures.fault in
+    let fault = rw (c.blocks-2.ensures.value, ap (λ m. m.json) c.in_ok-moments.ensures.first, none) at c.in_err-add_blocks.ensures.fault in
     let p = err_from_is_err_and c.from_residual-in_err-add_blocks.result c.from_residual-in_err-add_blocks.ensures.1 in
     rw (p.1, p.2) (run-fault c.in_err-add_blocks.field-0.0 w c.args.schedule.now _ v (scene_at 1 w c.in_ok-tally.tally) whole wide (ap (scene_at 1 w) first) fault)
