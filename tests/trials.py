@@ -132,9 +132,18 @@ class Kit:
     def library(self, crate):
         return os.path.abspath(f"crates/{crate}/out/rlib/{crate}.rlib")
 
+    def is_built(self, crate):
+        """Whether a crate's library is there, and has the specs and the proofs that the crate has now."""
+        if not os.path.isdir(self.library(crate)):
+            return False
+        folder, kept = f"crates/{crate}/", f"{self.library(crate)}/lang/antt/"
+        files = [it.removeprefix(folder) for part in ("specs", "proofs") for it in glob.glob(f"{folder}{part}/**/*.antt", recursive=True)]
+        return all(
+            os.path.exists(kept + it) and read(kept + it) == read(folder + it) for it in files if not it.endswith("/Lib.antt"))
+
     def lacks(self, crate):
-        """The crates below whose libraries aren't there."""
-        return [name for name in self.below(crate) if not os.path.isdir(self.library(name))]
+        """The crates below whose libraries aren't built."""
+        return [name for name in self.below(crate) if not self.is_built(name)]
 
     def words(self, crate):
         """The command that checks a crate in the folder where it runs."""
