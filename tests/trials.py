@@ -237,7 +237,7 @@ class Said:
         """What refuses a function, or None: a goal of its contract or of its code, and not a name that is no more."""
         if not any(re.search(r": (not proved|no proof: expected answers)", line) for line in self.lines_of(path)):
             return None
-        told = [line for line in self.told_at(path) if ": error: " in line or line.startswith("note: src/")]
+        told = [line for line in self.told_at(path) if ": error: " in line or ": it is not proved that " in line]
         return next((line for line in told if not NAMES.search(line)), None)
 
     def accepts(self, path):
