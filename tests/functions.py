@@ -111,11 +111,13 @@ def own_text(text, function):
 
 
 def emptied(texts, kept):
-    """The texts in which each function but those that are kept runs for ever, and the paths of these."""
+    """The texts in which each function but those that are kept runs for ever, line by line, and the paths of these."""
     made, paths = {file: text.split("\n") for file, text in texts.items()}, []
     for file, it in reversed(all_functions(texts)):
-        if it.path not in kept and it.opened < it.end:
+        if it.path not in kept and it.opened + 1 < it.end:
             lines = made[file]
-            lines[it.opened + 1 : it.end] = [lines[it.end].replace("}", "    loop {}")]
+            for at in range(it.opened + 1, it.end):
+                lines[at] = ""
+            lines[it.opened + 1] = lines[it.end].replace("}", "    loop {}")
             paths.append(it.path)
     return {file: "\n".join(lines) for file, lines in made.items()}, paths

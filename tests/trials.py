@@ -13,7 +13,7 @@ import subprocess
 import tempfile
 import time
 
-from functions import all_functions, changed_at, emptied, own_text
+from functions import all_functions, changed_at, emptied, homes, own_text
 
 HOLE = """use Rattle.{module}.Statement.{{statement}}
 
@@ -79,26 +79,26 @@ class Edit:
         return "\n".join(own_text(made[file], it) for file, it in all_functions(made) if it.path in self.functions)
 
 
-def calls(text, paths):
-    """Whether a text calls one of these functions, by their names."""
-    for path in paths:
-        *above, name = path.split("::")
-        is_method = above and above[-1][:1].isupper()
-        call = rf"\.{name}\(|\b(?:{above[-1]}|Self)(?:::<[^()]*>)?::{name}\b" if is_method else rf"(?<![.\w]){name}\b"
-        if re.search(call, text):
-            return True
-    return False
+def call_of(path, types):
+    """How a text may call a function, by its name. Methods of traits are left out: an operator or a macro calls them, too."""
+    *above, name = path.split("::")
+    block = above[-1] if above and above[-1][:1].isupper() else None
+    if not block:
+        return rf"(?<![.\w]){name}\b"
+    return rf"\.{name}\(|\b(?:{block}|Self)(?:::<[^()]*>)?::{name}\b" if block in types else None
 
 
 def rounds_of(crate, edits):
     """The edits in rounds, each with the texts of the crate with its edits."""
     start, rounds = texts_of(crate), []
-    owns = {edit: edit.own_text(start) for edit in edits}
+    owns, types = {edit: edit.own_text(start) for edit in edits}, homes(start)
+
+    def calls(one, other):
+        ways = [call_of(path, types) for path in other.functions]
+        return any(way and re.search(way, owns[one]) for way in ways)
 
     def fits(edit, others):
-        return not any(
-            set(edit.functions) & set(it.functions) or calls(owns[edit], it.functions) or calls(owns[it], edit.functions)
-            for it in others)
+        return not any(set(edit.functions) & set(it.functions) or calls(edit, it) or calls(it, edit) for it in others)
 
     for edit in edits:
         for texts, others in rounds:
@@ -132,9 +132,18 @@ class Kit:
     def library(self, crate):
         return os.path.abspath(f"crates/{crate}/out/rlib/{crate}.rlib")
 
+    def is_built(self, crate):
+        """Whether a crate's library is there, and has the specs and the proofs that the crate has now."""
+        if not os.path.isdir(self.library(crate)):
+            return False
+        folder, kept = f"crates/{crate}/", f"{self.library(crate)}/lang/antt/"
+        files = [it.removeprefix(folder) for part in ("specs", "proofs") for it in glob.glob(f"{folder}{part}/**/*.antt", recursive=True)]
+        return all(
+            os.path.exists(kept + it) and read(kept + it) == read(folder + it) for it in files if not it.endswith("/Lib.antt"))
+
     def lacks(self, crate):
-        """The crates below whose libraries aren't there."""
-        return [name for name in self.below(crate) if not os.path.isdir(self.library(name))]
+        """The crates below whose libraries aren't built."""
+        return [name for name in self.below(crate) if not self.is_built(name)]
 
     def words(self, crate):
         """The command that checks a crate in the folder where it runs."""
@@ -228,7 +237,7 @@ class Said:
         """What refuses a function, or None: a goal of its contract or of its code, and not a name that is no more."""
         if not any(re.search(r": (not proved|no proof: expected answers)", line) for line in self.lines_of(path)):
             return None
-        told = [line for line in self.told_at(path) if ": error: " in line or line.startswith("note: src/")]
+        told = [line for line in self.told_at(path) if ": error: " in line or ": it is not proved that " in line]
         return next((line for line in told if not NAMES.search(line)), None)
 
     def accepts(self, path):
