@@ -10,10 +10,20 @@ import os
 import re
 import shutil
 import subprocess
+import sys
 import tempfile
 import time
+from importlib.machinery import SourceFileLoader
+from importlib.util import module_from_spec, spec_from_loader
 
+from checking import ROOT
 from functions import all_functions, changed_at, emptied, homes, own_text
+
+# reading it leaves no file beside it
+sys.dont_write_bytecode = True
+loader = SourceFileLoader("prove", str(ROOT / "prove"))
+prove = module_from_spec(spec_from_loader("prove", loader))
+loader.exec_module(prove)
 
 HOLE = """use Rattle.{module}.Statement.{{statement}}
 
@@ -112,25 +122,11 @@ def rounds_of(crate, edits):
     return [(texts[0], others) for texts, others in rounds]
 
 
-class Kit:
-    """The toolchain and the crates of the repository."""
+class Kit(prove.Toolchain):
+    """The toolchain and the crates of the repository, over the libraries that `rt ci` left."""
 
-    def __init__(self):
-        page = subprocess.run(["rt", "doc"], stdout=subprocess.PIPE, text=True, check=True).stdout
-        self.home = os.path.dirname(page.strip())
-        lines = [line.partition(":") for line in read("crates.txt").split("\n") if re.match(r"\w", line)]
-        self.crates = {name.split()[0]: words.split() for name, _, words in lines}
-
-    def below(self, crate):
-        """The crates of the repository on which a crate stands."""
-        found = []
-        for name in self.crates[crate]:
-            if name in self.crates:
-                found += [it for it in [*self.below(name), name] if it not in found]
-        return found
-
-    def library(self, crate):
-        return os.path.abspath(f"crates/{crate}/out/rlib/{crate}.rlib")
+    def library(self, name):
+        return f"{ROOT}/crates/{name}/out/rlib/{name}.rlib"
 
     def is_built(self, crate):
         """Whether a crate's library is there, and has the specs and the proofs that the crate has now."""
@@ -145,17 +141,9 @@ class Kit:
         """The crates below whose libraries aren't built."""
         return [name for name in self.below(crate) if not self.is_built(name)]
 
-    def words(self, crate):
+    def check(self, crate):
         """The command that checks a crate in the folder where it runs."""
-        home, root = self.home, "main" if os.path.exists(f"crates/{crate}/src/main.rt") else "lib"
-        words = [f"{home}/bin/rattle", "check", "--crate-name", crate, f"src/{root}.rt", "--jobs", "1", "--links", f"{crate}="]
-        words += ["--antt-project", f"{home}/rattle/logic/antt-project.json", "--logic-built", f"{home}/logic_built"]
-        words += ["-L", f"dependency={home}/rlibs"]
-        for name in dict.fromkeys(["std", *self.crates[crate]]):
-            words += ["--extern", f"{name}={self.library(name) if name in self.crates else f'{home}/rlibs/{name}.rlib'}"]
-        for name in self.below(crate):
-            words += ["-L", f"dependency={os.path.dirname(self.library(name))}"]
-        return words
+        return [f"{self.kit}/bin/rattle", "check", *self.words(crate), "--jobs", "1"]
 
 
 def write_hole(folder, crate, path):
@@ -207,7 +195,7 @@ class Said:
 
     def __init__(self, kit, crate, texts, paths, whole=False):
         self.crate, self.paths, self.whole = crate, paths, whole
-        words = [*kit.words(crate), *([] if whole else ["--allow-holes"])]
+        words = [*kit.check(crate), *([] if whole else ["--allow-holes"])]
         with tempfile.TemporaryDirectory(prefix="wrong-bodies-") as folder:
             self.texts = write_crate(folder, crate, texts, None if whole else paths)
             words += [word for path in paths for word in ("--only", path)]
