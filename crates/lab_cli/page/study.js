@@ -1,6 +1,3 @@
-//! What is laid out once: the lines of the sources, the rows, waits, arrows, what is held, what the objects did.
-
-pub(crate) const STUDY: &str = r##"
 // ---- the lines of a source, where the data have one
 
 function readSource([text, rows]) {               // the lines, and those of them that have words
@@ -97,4 +94,3 @@ function followObject(e, place) {
   cols[e.column].at.push(object ? levelAt(object, e.k) : { k: e.k, text: 'gone', title: 'gone' });
 }
 for (const e of EVENTS) for (const place of e.changed) followObject(e, place);
-"##;

@@ -1,6 +1,3 @@
-//! What is filled in once: title, cards, legend, the texts.
-
-pub(crate) const SETUP: &str = r##"
 // ---- title and controls
 
 const programs = () => N === 1 ? NAMES[0] : N + ' processes';
@@ -73,4 +70,3 @@ function fillTexts() {
 fillTitle(); fillCards(); fillLegend(); fillTexts();
 draw(); choose(0); goToAddress();
 if (DATA.ends) showEnds();
-"##;

@@ -1,6 +1,3 @@
-//! The list of the ends of an exploration, where the data are of one.
-
-pub(crate) const LIST: &str = r##"
 // ---- the list of ends
 
 const several = (n, one, more) => `${n.toLocaleString('en')} ${n === 1 ? one : more}`;
@@ -47,4 +44,3 @@ function showEnds() {                             // the list, or the way back t
   const from = /^#list=(\d+)$/.exec(location.hash), button = from && $('end' + from[1]);
   if (button) button.focus();
 }
-"##;

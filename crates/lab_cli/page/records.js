@@ -1,6 +1,3 @@
-//! The data, and of each process and each object what it was after each moment.
-
-pub(crate) const RECORDS: &str = r##"
 const DATA = JSON.parse($('data').textContent);    // of a run, or of ends, of which the address may name one
 const numberIn = address => Number((/^#end=(\d+)/.exec(address) || [])[1] || 0);
 const NUMBER = DATA.ends && DATA.ends[numberIn(location.hash) - 1] ? numberIn(location.hash) : 0;
@@ -64,4 +61,3 @@ const processAt = (p, k) => latest(lives[p], k);
 const wasOf = e => processAt(e.process, e.k);     // its process before it
 const takers = taken =>
   taken.map(([p, count, hasEnded]) => 'P' + p + (count > 1 ? '*' + count : '') + (hasEnded ? '(ended)' : '')).join(' ');
-"##;

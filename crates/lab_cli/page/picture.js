@@ -1,6 +1,3 @@
-//! The picture: lanes, boxes, arrows, bars and marks. Only what lies near the window is drawn: so a long run stays quick.
-
-pub(crate) const PICTURE: &str = r##"
 // ---- the picture
 
 const marker = kind => `<marker id="${kind}" viewBox="0 0 8 8" refX="3" refY="4" markerWidth="8" markerHeight="8" ` +
@@ -202,4 +199,3 @@ function draw() {
   $('pic').setAttribute('aria-label', what);
   mark();
 }
-"##;

@@ -1,6 +1,3 @@
-//! The texts of what the data hold: names, outputs, words, and messages.
-
-pub(crate) const TEXTS: &str = r##"
 'use strict';
 const $ = id => document.getElementById(id);
 
@@ -49,4 +46,3 @@ function bodyText([, words]) {
   if (words.length === 0) return '[]';
   return words.every(w => w > 32 && w < 127) ? '"' + String.fromCharCode(...words) + '"' : words.map(hex).join('.');
 }
-"##;

@@ -1,6 +1,3 @@
-//! The parts of the picture: boxes and their texts, notes, arrows, and why a process waits for ever.
-
-pub(crate) const BOXES: &str = r##"
 // ---- the texts of a box, from long to short
 
 function kindOf(e) {
@@ -70,4 +67,3 @@ function circleText(circle) {                     // each of these waits for wha
   const list = [...circle, circle[0]].map(p => 'P' + p).join(' -> ');
   return 'In a circle: ' + list + '. Each waits for a semaphore that the next has taken.';
 }
-"##;

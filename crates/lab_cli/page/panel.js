@@ -1,6 +1,3 @@
-//! The panel: objects and processes at a moment.
-
-pub(crate) const PANEL: &str = r##"
 // ---- a process
 
 let cur = 0, timer = null;
@@ -95,4 +92,3 @@ function panel(e) {                               // e is the record of the last
   for (const p of PROCESSES.map(p => processAt(p, cur))) showProcess(p, p === e);
   if (e) reveal($('card' + e.process));
 }
-"##;

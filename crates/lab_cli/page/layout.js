@@ -1,6 +1,3 @@
-//! Where the lanes, the columns of the objects and the arrows stand.
-
-pub(crate) const LAYOUT: &str = r##"
 // ---- where things stand
 
 let lay = null;
@@ -46,4 +43,3 @@ const full = () => height + FOOT;
 
 const rowIndex = y => Math.max(0, lastIndex(rows, row => row.y <= y));
 const rowAt = y => rows[rowIndex(y)];
-"##;

@@ -1,6 +1,3 @@
-//! Going from moment to moment: buttons, slider and keys.
-
-pub(crate) const MOVING: &str = r##"
 // ---- the present moment in the picture
 
 function markNow() {                              // its line, and its box
@@ -127,4 +124,3 @@ function afterPrint() {
 }
 window.addEventListener('beforeprint', beforePrint);
 window.addEventListener('afterprint', afterPrint);
-"##;

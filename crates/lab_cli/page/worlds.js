@@ -1,38 +1,3 @@
-//! The picture of all worlds, below the list of ends: its styles, and the script that draws it.
-
-pub(crate) const WORLDS_STYLE: &str = r##"
-/* the picture of all worlds */
-#worlds { margin: 18px 0 0; }
-#map { overflow: auto; max-height: 75vh; border: 1px solid var(--line); background: var(--card); border-radius: 8px; }
-#map svg { display: block; margin: 0 auto; }
-#map:focus-visible { outline-offset: -3px; }
-#worldsay { margin: 6px 0; min-height: 3em; overflow-wrap: anywhere; }
-#worldkinds { display: flex; flex-wrap: wrap; gap: 6px 18px; padding: 0; margin: 6px 0; list-style: none; }
-#worldkinds li { display: flex; align-items: center; gap: 6px; }
-#worldlist { list-style: none; margin: 6px 0; padding: 0; overflow-wrap: anywhere; }
-#worldlist li { margin: 0 0 4px; padding-left: 2ch; text-indent: -2ch; }
-.call { fill: none; stroke: var(--lane); stroke-width: 1.2; }
-.call.back { stroke-dasharray: 5 3; }
-.call.leads { stroke: var(--ink); stroke-width: 2.2; }
-.call.way { stroke: var(--now); stroke-width: 3.2; }
-.world { cursor: pointer; }
-.world .shape { fill: var(--objfill); stroke: var(--lane); stroke-width: 1.4; }
-.world.ended .shape { fill: var(--outfill); stroke: var(--out); stroke-width: 2; }
-.world.ended text { fill: var(--out); }
-.world.stuck .shape { fill: var(--badfill); stroke: var(--bad); stroke-width: 2; }
-.world.stuck text { fill: var(--bad); font-weight: 700; }
-.world.way .shape { stroke: var(--now); stroke-width: 3.2; }
-.world .ring { fill: none; stroke: none; pointer-events: all; }
-.world:hover .ring, .world.chosen .ring { stroke: var(--soft); stroke-width: 1.4; stroke-dasharray: 2 2; }
-.tipc { fill: var(--lane); } .tipl { fill: var(--ink); } .tipx { fill: var(--now); }
-@media print {
-  #map { overflow: visible; max-height: none; border: 0; }
-  #map svg { width: 100%; height: auto; }
-  #worldsay { display: none; }
-}
-"##;
-
-pub(crate) const WORLDS: &str = r##"
 // ---- the picture of all worlds
 
 const WORLD_X = 36, WORLD_Y = 52, WORLD_R = 10;   // between worlds, and the half of one
@@ -170,4 +135,3 @@ function fillWorlds() {
   $('worldlist').innerHTML = nodes.map((node, n) => `<li>${esc(worldText(node, n) + callsText(edges, n))}</li>`).join('');
   followMap(layers); followEnds();
 }
-"##;
