@@ -57,7 +57,7 @@ def unmarked(task, why):
     runs = [{"name": it.name, "verdict": "no mark", "detail": [why], "points": 0, "of": it.points, **dict.fromkeys(PAGES),
              "schedule": None, "visibility": it.visibility, "seconds": 0, "clock": 0} for it in task.runs]
     return {"key": None, "mark": "no mark", "points": 0, "of": sum(it.points for it in task.runs), "runs": runs,
-            "megabytes": 0}
+            "warnings": [], "megabytes": 0}
 
 
 class Crew:

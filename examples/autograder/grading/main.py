@@ -140,6 +140,7 @@ def grade(said, place, ear):
     given = assemble_given(laboratory, task, place)
     crew = Crew(laboratory, task, given, records, hands_for(task, said.jobs), place)
     marks = marks_of(crew, folders, said, ear)
+    print(reports.count(marks), flush=True)
     for option, written in WRITERS.items():
         if getattr(said, option):
             write_whole(Path(getattr(said, option)), written(task, marks))

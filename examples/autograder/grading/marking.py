@@ -30,7 +30,7 @@ class Marking:
         objects = self.assemble(taken)
         runs = [self.mark_run(place, run, objects) for place, run in enumerate(self.task.runs, 1)]
         record = {"key": key, "mark": mark_of(runs), "points": sum(it["points"] for it in runs),
-                  "of": sum(it.points for it in self.task.runs), "runs": runs,
+                  "of": sum(it.points for it in self.task.runs), "runs": runs, "warnings": self.warnings(objects, runs),
                   "megabytes": resource.getrusage(resource.RUSAGE_CHILDREN).ru_maxrss // 1024}
         if records and not {"no mark", "too long"} & {it["verdict"] for it in runs}:
             records.keep(record)
@@ -59,6 +59,17 @@ class Marking:
             return target
         told = [it.replace(f"{self.place}/asked/", "") for it in shown.lines(ran.errors, LONGEST_LINE + 200, 20)]
         return told or [f"{name} isn't accepted"]
+
+    def warnings(self, objects, runs):
+        """What `check` says of the sources of a mark that failed, but of those that aren't accepted, which were told already."""
+        found = []
+        for name, path in objects.items() if mark_of(runs) == "fail" else ():
+            if isinstance(path, Path):
+                words = ["check", "--profile", self.task.runs[0].options["profile"], "--", str(self.place / "asked" / name)]
+                ran = self.laboratory.run(words, self.place, self.task.runs[0].bounds)
+                told = shown.lines(ran.output + ran.errors, LONGEST_LINE + 200, 20)
+                found += [it.replace(f"{self.place}/asked/", "") for it in told if not it.startswith("lc3lab: ")]
+        return found
 
     def mark_run(self, place, run, objects):
         """A run's part of the mark."""
@@ -162,16 +173,23 @@ class Marking:
         return calls.calls_of(ran.output)
 
     def show(self, place, run, words, schedule):
-        """The end of the trace by a schedule. Beside it a page is made, where that has room."""
-        options = ["--page", f"{place}.html"]
-        for number, program in enumerate(run.programs):
-            if program.given is None:
-                options += ["--source", f"{number}={self.place / 'asked' / program.name}"]
-        ran = self.traced(run, words, schedule, *options)
+        """The end of the trace by a schedule, with the labels and lines of what was handed in. Beside it a page is made, where that
+        has room."""
+        words = [self.with_source(place, number, program, word)
+                 for number, (program, word) in enumerate(zip(run.programs, words))]
+        ran = self.traced(run, words, schedule, "--page", f"{place}.html")
         if ran.status != 0 or ran.bound:
             (self.place / f"{place}.html").unlink(missing_ok=True)
             ran = self.traced(run, words, schedule)
         return shown.lines(ran.output, LONGEST_LINE, LINES_OF_TRACE)
+
+    def with_source(self, place, number, program, word):
+        """The word for a program, with its source in the object file's place where a student has handed that in."""
+        if program.given is not None:
+            return word
+        source = f"{place}-{number}.asm"
+        shutil.copyfile(self.place / "asked" / program.name, self.place / source)
+        return source + word.removeprefix(f"{place}-{number}.obj")
 
     def page_of_ends(self, place, run, words):
         """The file of a page of all ends, by another search, where that has room."""

@@ -41,7 +41,7 @@ class Records:
         try:
             found = json.loads((self.inner / f"{key}.json").read_bytes())
             pages = [run[it] for run in found["runs"] for it in PAGES if run[it]]
-            whole = found["key"] == key and all((self.inner / it).exists() for it in pages)
+            whole = found["key"] == key and isinstance(found["warnings"], list) and all((self.inner / it).exists() for it in pages)
         except (OSError, ValueError, KeyError, TypeError):
             return None
         return found if whole else None

@@ -60,6 +60,8 @@ def junit(task, marks):
                                        skipped="0", **counts_of(mark["runs"]))
         for run in mark["runs"]:
             case_of(suite, mark, run)
+        if mark["warnings"]:
+            ElementTree.SubElement(suite, "system-out").text = xml("\n".join(mark["warnings"]))
     ElementTree.indent(root)
     return ElementTree.tostring(root, encoding="utf-8", xml_declaration=True) + b"\n"
 
@@ -71,7 +73,7 @@ def gradescope(task, marks):
               "status": "passed" if run["verdict"] == "pass" else "failed",
               "output": "\n".join([run["verdict"]] + told(run)), "output_format": "text", "visibility": run["visibility"]}
              for place, run in enumerate(mark["runs"], 1)]
-    found = {"output": task.title, "output_format": "text", "visibility": "visible", "stdout_visibility": "hidden",
+    found = {"output": "\n".join([task.title, *mark["warnings"]]), "output_format": "text", "visibility": "visible", "stdout_visibility": "hidden",
              "execution_time": round(sum(it["clock"] for it in mark["runs"]), 3), "tests": tests}
     return json.dumps(found, indent=2).encode() + b"\n"
 
@@ -108,3 +110,11 @@ def lines(mark, brief):
                 yield f"    page {shown.name(run['page'], '')}"
             if run["ends_page"]:
                 yield f"    ends {shown.name(run['ends_page'], '')}"
+    if mark["warnings"] and not brief:
+        yield "  warnings"
+        yield from (f"    {it}" for it in mark["warnings"])
+
+
+def count(marks):
+    """How many folders pass."""
+    return f"{sum(it['mark'] == 'pass' for it in marks)} of {len(marks)} pass"

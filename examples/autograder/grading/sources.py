@@ -7,6 +7,8 @@ from . import shown
 from .faults import NoMark
 
 LARGEST = 4_000_000
+# of so many folders inside one that was handed in it is told that a missing file is there
+MOST_FOLDERS = 100
 STEPS = os.O_RDONLY | os.O_NOFOLLOW | os.O_NONBLOCK | os.O_CLOEXEC
 
 
@@ -40,6 +42,18 @@ def read_up_to(file, most):
     return b"".join(pieces)
 
 
+def beside(folder, name):
+    """Which folder inside this one has a file of the name, where one has it."""
+    try:
+        inside = sorted(it.name for it in os.scandir(folder) if it.is_dir(follow_symlinks=False))
+    except OSError:
+        return ""
+    for it in inside[:MOST_FOLDERS]:
+        if os.path.lexists(os.path.join(folder, it, name)):
+            return f"; it is in the folder {shown.name(it)}"
+    return ""
+
+
 def take(folder, name):
     """The source of this name in a student's folder."""
     try:
@@ -50,7 +64,7 @@ def take(folder, name):
         file = open_below(folder, name)
     except (FileNotFoundError, NotADirectoryError) as it:
         there = os.path.lexists(folder) and not os.path.isdir(folder) or os.path.islink(folder) or it.errno == 20
-        return Taken(None, f"{name} is no file of this folder" if there else f"{name} isn't there")
+        return Taken(None, f"{name} is no file of this folder" if there else f"{name} isn't there{beside(folder, name)}")
     except OSError as it:
         told = "is no file of this folder" if it.errno == 40 else f"can't be read: {it.strerror}"
         return Taken(None, f"{name} {told}")
