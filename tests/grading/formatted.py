@@ -74,11 +74,21 @@ def look_at_gradescope(check, grader, folders):
     check(status == 2 and "--gradescope is for one folder" in complained, f"gradescope of two: status {status}: {complained}")
 
 
+def marks_in(grader, folders):
+    """The mark of each folder, from the table."""
+    table = grader.place / "marks-of-all.csv"
+    grader.call("--brief", "--csv", table, "--", TASK, *folders)
+    rows = csv.DictReader(io.StringIO(table.read_bytes().decode("utf-8", "replace"), newline=""))
+    return {it["folder"]: it["mark"] for it in rows}.values()
+
+
 def look_at_status(check, grader, folders):
     for place, status in (0, 0), (1, 1):
         check(grader.call("--must-pass", "--", TASK, folders[place])[2] == status, f"--must-pass: not {status}")
-    brief = grader.call("--brief", "--", TASK, *folders)[0].splitlines()
+    *brief, last = grader.call("--brief", "--", TASK, *folders)[0].splitlines()
     check(len(brief) == len(folders), f"--brief: {brief}")
+    passed = sum(it == "pass" for it in marks_in(grader, folders))
+    check(last == f"{passed} of {len(folders)} pass", f"--brief: {last}, and the table has {passed}")
     no_lab = grader.place / "no"
     no_lab.write_text("#!/bin/sh\n[ \"$1\" != explore ] || [ \"$2\" = --help ] || { echo '{}'; exit 0; }\n"
                       "exec \"$REAL\" \"$@\"\n")

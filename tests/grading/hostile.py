@@ -90,7 +90,8 @@ def look_at_names(check, grader):
     raw = os.fsencode(grader.place / "class") + b"/not \xff text"
     os.mkdir(raw)
     printed, complained, status = grader.call("--", TASK, *folders, os.fsdecode(raw))
-    lines = printed.splitlines()
+    *lines, last = printed.splitlines()
+    check(last == f"{len(NAMES)} of {len(NAMES) + 1} pass", f"names: {last}")
     check(status == 0 and not complained, f"names: status {status}: {complained}")
     marked = [it for it in lines if not it.startswith("  ")]
     check([it.endswith(": pass: 3 of 3 points") for it in marked] == [True] * len(NAMES) + [False], f"names: {marked}")
@@ -111,6 +112,10 @@ def look_at_parts(check, grader):
     (linked / "a").symlink_to("../own/a")
     found = grader.marks(task, [own, linked])
     check(found == {str(own): ["pass"], str(linked): ["no program"]}, f"parts of a folder: {found}")
+    inner = grader.task('[[run]]\nprograms = [{ asked = "first.asm" }]\n')
+    for folder, said in (own, "first.asm isn't there; it is in the folder a\n"), (linked, "first.asm isn't there\n"):
+        printed, _, _ = grader.call("--", inner, folder)
+        check(said in printed, f"a folder inside a folder: {printed}")
     for name in "../own/a/first.asm", "/etc/passwd", "a//first.asm", "./a", "":
         _, complained, status = grader.call(grader.task(f'[[run]]\nprograms = [{{ asked = "{name}" }}]\n'), own)
         check(status == 2 and "no path within a folder" in complained, f"asked {name}: status {status}: {complained}")
@@ -124,12 +129,12 @@ def look_at_places(check, grader):
     (place / "task.toml").write_text('[[run]]\nprograms = [{ asked = "a.asm", input-file = "x =\\\\.in" }]\noutputs = ["x"]\n')
     folder = grader.folder("echo", a__asm=ECHO)
     printed, complained, status = grader.call(place / "task.toml", folder, TMPDIR=str(place / "rooms"))
-    check(status == 0 and printed.endswith(": pass: 1 of 1 points\n"), f"places: status {status}: {printed}{complained}")
+    check(status == 0 and printed.endswith(": pass: 1 of 1 points\n1 of 1 pass\n"), f"places: status {status}: {printed}{complained}")
     # a bare name that could be taken for an option
     (grader.place / "-x").mkdir()
     (grader.place / "-x/a.asm").write_text(ECHO)
     printed, complained, status = grader.call("--", place / "task.toml", "-x")
-    check(status == 0 and printed == "./-x: pass: 1 of 1 points\n", f"-x: status {status}: {printed}{complained}")
+    check(status == 0 and printed == "./-x: pass: 1 of 1 points\n1 of 1 pass\n", f"-x: status {status}: {printed}{complained}")
 
 
 def look_at_answer(check, grader):

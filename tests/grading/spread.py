@@ -16,12 +16,13 @@ def look(check, grader):
     for part in range(1, 4):
         printed, complained, status = grader.call("--brief", "--part", f"{part}/3", "--results", results, TASK, *folders)
         check(status == 0, f"part {part}: status {status}: {complained}")
-        lines += printed.splitlines()
+        lines += printed.splitlines()[:-1]
         pending, _, status = grader.call("--pending", "--results", results, TASK, *folders)
         left = [it for place, it in enumerate(map(str, folders)) if place % 3 >= part]
         good = status == 0 and pending == "".join(f"{it}\0" for it in left)
         check(good, f"pending after part {part}: status {status}: {pending!r}")
-    whole = grader.call("--brief", TASK, *folders)[0].splitlines()
+    *whole, last = grader.call("--brief", TASK, *folders)[0].splitlines()
+    check(last == "0 of 7 pass", f"the whole: {last}")
     check(sorted(lines) == whole and len(whole) == 7, f"parts: {lines}, {whole}")
     check(len(list((results / "records").glob("*.json"))) == 7, "the parts keep not all marks")
     look_at_array(check, grader, folders, whole)
@@ -36,7 +37,7 @@ def look_at_array(check, grader, folders, whole):
         ran = subprocess.run(["sh", SPREAD / "array.sbatch", GRADE, results, TASK, folders[0].parent], env=given,
                              stdout=subprocess.PIPE, stderr=subprocess.PIPE, cwd=grader.place, check=False)
         check(ran.returncode == 0 and not ran.stderr, f"array, job {job}: status {ran.returncode}: {ran.stderr.decode()}")
-    found = grader.call("--brief", "--results", results, TASK, *folders)[0].splitlines()
+    found = grader.call("--brief", "--results", results, TASK, *folders)[0].splitlines()[:-1]
     check(found == whole and len(list((results / "records").glob("*.json"))) == 7, f"array: {found}")
 
 
@@ -52,7 +53,7 @@ def look_at_ssh(check, grader, whole):
                          stdout=subprocess.PIPE, stderr=subprocess.PIPE, cwd=grader.place, check=False)
     there = "over-ssh: 7 different marks" if "LC3LAB_MACHINES" in os.environ else "over-ssh: 0 different marks"
     check(ran.returncode == 0 and there in ran.stderr.decode(), f"over-ssh: status {ran.returncode}: {ran.stderr.decode()}")
-    found = [it for it in ran.stdout.decode().splitlines() if not it.startswith(" ")]
+    found = [it for it in ran.stdout.decode().splitlines()[:-1] if not it.startswith(" ")]
     check([it.split(":")[1:] for it in found] == [it.split(":")[1:] for it in whole], f"over-ssh: {found}")
     check(not (grader.place / "spread/records/said").exists() and sorted(it.name for it in (grader.place / "class").iterdir())
           == [f"student-{it}" for it in range(7)], "over-ssh: something is left in the class")
