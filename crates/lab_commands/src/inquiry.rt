@@ -2,8 +2,7 @@
 use crate::complaint::{At, Complaint, Reason};
 use lab_arguments::{Choice, Question, Requirements, Rest};
 use lab_conditions::{Condition, Never, Part, ReadFault, State};
-use lab_findings::Show;
-use lab_questions::{Waiter, Word};
+use lab_questions::{Show, Waiter, Word};
 use lab_sched::Verdict;
 use lab_worlds::{Limits, Walks};
 use lc3_word::unsigned;

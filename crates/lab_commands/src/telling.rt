@@ -5,11 +5,10 @@ use crate::files::write_text;
 use crate::inquiry::Inquiry;
 use crate::job::Job;
 use crate::progress::Progress;
-use lab_answers::{Extent, Manner, answers_json};
 use lab_arguments::Choice;
 use lab_conditions::Never;
 use lab_io::Output;
-use lab_questions::{Answers, Failure, Object, bad_schedule};
+use lab_questions::{Answers, Extent, Failure, Manner, Object, answers_json, bad_schedule};
 use std::alloc::{AllocError, Global};
 use std::io::Write;
 

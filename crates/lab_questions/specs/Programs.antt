@@ -7,9 +7,9 @@ use Rattle.lab_sched.specs.Execution.{AreEffective}
 use Rattle.lab_worlds.specs.declared.exploration.Exploration.{Exploration}
 use Rattle.lab_worlds.specs.declared.ends.End.{End}
 use Rattle.lab_worlds.specs.Closed.{AreAtRest}
-use Rattle.lab_findings.specs.declared.show.Show.{Show}
-use Rattle.lab_findings.specs.Shown.{shown_text}
-use Rattle.lab_findings.specs.Texts.{text_of}
+use Rattle.lab_questions.specs.declared.show.Show.{Show}
+use Rattle.lab_questions.specs.Shown.{shown_text}
+use Rattle.lab_questions.specs.EndTexts.{text_of}
 use Rattle.lab_questions.specs.declared.word.Waiter.{Waiter}
 use Rattle.lab_questions.specs.declared.word.Word.{Word}
 use Rattle.lab_questions.specs.declared.word.Word.TheVariants.{Ended, Stuck, Halted, Empty, Same}

@@ -9,8 +9,8 @@ use Rattle.lab_worlds.specs.declared.rounds.Round.{Round}
 use Rattle.lab_sched.specs.declared.schedule.block.Block.{Block}
 use Rattle.lab_worlds.specs.declared.ends.End.{End}
 use Rattle.lab_worlds.specs.declared.exploration.Exploration.{Exploration}
-use Rattle.lab_findings.specs.declared.show.Show.{Show}
-use Rattle.lab_findings.specs.Texts.{told_ends, ends_text, schedule_line, round_text, extent_line}
+use Rattle.lab_questions.specs.declared.show.Show.{Show}
+use Rattle.lab_questions.specs.EndTexts.{told_ends, ends_text, schedule_line, round_text, extent_line}
 use Rattle.lab_questions.specs.declared.word.Word.{Word}
 use Rattle.lab_questions.specs.declared.word.Word.TheVariants.{Ended, Stuck, Halted, Empty, Same}
 use Rattle.lab_questions.specs.declared.answers.Answer.{Answer}

@@ -1,12 +1,13 @@
 //! The lines of answers.
 ghost use Rattle.std.specs.Prelude.{◌≡◌, ◌<◌, ◌++◌, Some, length, slice_get, OnOk, IfOk, IfSome, All, string_bytes, flat_map, map};
 ghost use Rattle.lab_sched.specs.ScheduleTexts.{schedule_text};
-ghost use Rattle.lab_findings.specs.Texts.{told_ends, schedule_line};
+ghost use Rattle.lab_questions.specs.EndTexts.{told_ends, schedule_line};
 ghost use Rattle.lab_questions.specs.Texts.{word_text, schedule_at, first_lines, fault_lines, answer_lines, condition_lines, reached_lines, answers_text, walks_line, walks_text};
 
-use crate::{Answer, Word};
+use crate::lines::{push_extent, push_round, push_schedule};
+use crate::told::{Told, told_of};
+use crate::{Answer, Show, Word};
 use lab_conditions::Never;
-use lab_findings::{Show, Told, push_extent, push_round, push_schedule, told_of};
 use lab_sched::Schedule;
 use lab_worlds::{End, Exploration};
 use std::alloc::{AllocError, Global};

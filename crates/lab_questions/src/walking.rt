@@ -2,7 +2,7 @@
 ghost use Rattle.std.specs.Prelude.{◌≡◌, None, false, [], map, string_bytes, All, IfOk, IfSome};
 ghost use Rattle.lab_sched.specs.ScheduleTexts.{schedule_text};
 ghost use Rattle.lab_worlds.specs.Ends.{AreEnds};
-ghost use Rattle.lab_findings.specs.Texts.{told_ends};
+ghost use Rattle.lab_questions.specs.EndTexts.{told_ends};
 ghost use Rattle.lab_questions.specs.Judgments.{IsAnswer};
 ghost use Rattle.lab_questions.specs.Programs.{IsRefuted, IsFailure};
 ghost use Rattle.lab_questions.specs.Texts.{schedule_at, walks_text};
@@ -10,8 +10,7 @@ ghost use Rattle.lab_questions.specs.Texts.{schedule_at, walks_text};
 use crate::answers::answers_on;
 use crate::failure::failure_of;
 use crate::texts::tell_walks;
-use crate::{Answers, Waiter, Word};
-use lab_findings::Show;
+use crate::{Answers, Show, Waiter, Word};
 use lab_sched::Fresh;
 use lab_worlds::{ExploreFault, Limits, Observer, Walks, walk_randomly};
 use std::alloc::Global;

@@ -1,0 +1,71 @@
+//! The ends that are told: each text once.
+ghost use Rattle.std.specs.Prelude.{◌≡◌, map, IfOk, OnOk, string_bytes, bytes_eq};
+ghost use Rattle.std.specs.List.{list_any};
+ghost use Rattle.lab_sched.specs.ScheduleTexts.{schedule_text};
+ghost use Rattle.lab_questions.specs.EndTexts.{text_of, told_ends, ends_text};
+ghost use Rattle.lab_questions.specs.Private.Told.{TellsNext};
+
+use crate::Show;
+use crate::lines::push_end;
+use crate::shown::shown_text;
+use lab_worlds::End;
+use std::alloc::{AllocError, Global};
+
+/// The lines of the ends that are told, what is told of each and the texts of their schedules.
+#[derive(Drop)]
+pub(crate) struct Told {
+    pub text: String,
+    pub texts: Vec<String>,
+    pub schedules: Vec<String>,
+}
+
+/// Whether a text is among others.
+fn is_among(text: &str, texts: &[String]) -> bool
+    ensures value { result
+        ≡ list_any (λ other. bytes_eq other text.now) (map string_bytes texts.now) }
+{
+    for other in texts {
+        if other.as_str() == text {
+            return true;
+        }
+    }
+    false
+}
+
+impl Told {
+    /// Tells an end, unless one with its text was told.
+    fn add(&mut self, alloc: Global, show: Show, end: &End) -> Result<(), AllocError>
+        ensures told { OnOk result (TellsNext show self.old self.new end.now) }
+    {
+        let text = shown_text(alloc, &end.world, show)?;
+        if is_among(&text, &self.texts) {
+            return Ok(());
+        }
+        let number = self.texts.len() + 1;
+        push_end(alloc, &mut self.text, number, &text, &end.schedule)?;
+        let schedule = end.schedule.text(alloc)?;
+        self.schedules.push(schedule)?;
+        self.texts.push(text)?;
+        Ok(())
+    }
+}
+
+/// What is told of ends: each text once, with the schedule of the first end that has it.
+pub(crate) fn told_of(alloc: Global, show: Show, ends: &[End]) -> Result<Told, AllocError>
+    ensures text { IfOk result (λ told.
+        string_bytes told.text ≡ ends_text show 1 (told_ends show ends.now)) }
+    ensures texts { IfOk result (λ told. map string_bytes told.texts.items
+        ≡ map (text_of show) (told_ends show ends.now)) }
+    ensures schedules { IfOk result (λ told. map string_bytes told.schedules.items
+        ≡ map (λ e. schedule_text e.schedule) (told_ends show ends.now)) }
+{
+    let mut told = Told {
+        text: String::new(alloc),
+        texts: Vec::new(alloc),
+        schedules: Vec::new(alloc),
+    };
+    for end in ends {
+        told.add(alloc, show, end)?;
+    }
+    Ok(told)
+}
