@@ -8,8 +8,10 @@ pub mod ToldEnds
 pub mod TextLemmas
 pub mod ClaimLemmas
 mod Watched
+mod Numbered
 mod OrderLemmas
 pub mod ListLemmas
 pub mod AnswerLemmas
 pub mod ToldLemmas
+mod FailureLemmas
 mod ValueLemmas

@@ -8,7 +8,7 @@ use Rattle.lab_texts.specs.Rows.{texts_below}
 use Rattle.lab_texts.specs.Texts.{text_of, out_line}
 use Rattle.lab_texts.specs.Verdicts.{verdict_line}
 use Rattle.lab_worlds.specs.Alikes.{OneVerdict}
-use Rattle.lab_questions.specs.declared.show.Show.{Show}
+use Rattle.lab_questions.specs.declared.asked.Show.{Show}
 use Rattle.lab_questions.specs.Shown.{outcome_text, head_text, with_left, shown_text}
 use Rattle.lab_questions.specs.Laws.{OneText}
 use Rattle.lab_questions.proofs.LeftLemmas.{left_alike}

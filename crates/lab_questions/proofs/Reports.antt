@@ -4,12 +4,12 @@ use Rattle.lab_sched.specs.Worlds.{Process, Running, Waiting, Ended, WorldState,
 use Rattle.lab_sched.specs.Verdicts.{IsVerdict, verdict_of, IsWaiting, HasEnded, HaveEnded, AreStuck}
 use Rattle.lab_sched.specs.declared.verdict.Verdict.{Verdict}
 use Rattle.lab_sched.specs.declared.verdict.Verdict.TheVariants as verdict
-use Rattle.lab_sched.proofs.VerdictLemmas.{verdict_from}
 use Rattle.lab_texts.specs.Rows.{texts_below}
 use Rattle.lab_texts.specs.Texts.{text_of, state_text, status_line, status_text, out_text, output_part, out_line}
 use Rattle.lab_texts.specs.Verdicts.{verdict_line}
 use Rattle.lab_texts.specs.Reports.{report_text, process_report, process_reports}
 use Rattle.lab_questions.specs.Lines.{AreLines}
+use Rattle.lab_questions.specs.Shown.{outputs_text}
 use Rattle.lab_questions.proofs.LineLemmas.{lines-append, lines-feed, lines-below}
 
 -- the lines of processes, without their world
@@ -23,10 +23,6 @@ unfolding report_text
 same_report w v processes verdict =
     ap (λ ps. reports_of ps ++ verdict_line (verdict_of v)) processes ∙ ap (λ x. reports_of w.processes ++ verdict_line x) verdict
 
--- so worlds with one verdict have one report
-pub report_from_verdict : (w v : WorldState) (x : Verdict) → v.processes ≡ w.processes → IsVerdict w x → IsVerdict v x → report_text v ≡ report_text w
-report_from_verdict w v x processes one other = same_report w v processes (sym (verdict_from v x other) ∙ verdict_from w x one)
-
 lines_of : (text : Process → List ℕ) → ((s : Process) → AreLines (text s)) → (o : Option Process) → AreLines (text_of text o)
 lines_of text each None = tt
 lines_of text each (Some s) = each s
@@ -39,13 +35,19 @@ out_lines : (pid : ℕ) (bytes : List ℕ) → AreLines (out_line pid bytes)
 unfolding out_line
 out_lines pid bytes = lines-feed (codes "out " ++ decimal pid ++ output_part bytes)
 
+written_lines : (w : WorldState) (pid : ℕ) → AreLines (out_text pid w)
+written_lines w pid = lines_of (λ s. out_line pid (machine_of s).output) (λ s. out_lines pid (machine_of s).output) (slice_get w.processes pid)
+
+-- what all processes have written
+pub output_lines : (w : WorldState) → AreLines (outputs_text w)
+output_lines w = lines-below (length w.processes) (λ pid. out_text pid w) (written_lines w)
+
 -- the lines of all processes
 pub report_lines : (w : WorldState) → AreLines (process_reports w)
 report_lines w =
     lines-below (length w.processes) (λ pid. process_report pid w)
     (λ pid. lines-append (status_text pid w) (out_text pid w)
-    (lines_of (status_line pid) (status_lines pid) (slice_get w.processes pid))
-    (lines_of (λ s. out_line pid (machine_of s).output) (λ s. out_lines pid (machine_of s).output) (slice_get w.processes pid)))
+    (lines_of (status_line pid) (status_lines pid) (slice_get w.processes pid)) (written_lines w pid))
 
 waits_on : (s : Process) → IsWaiting s → HasEnded s → ⊥
 waits_on (Running m) waits ended = waits

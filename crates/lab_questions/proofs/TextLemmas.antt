@@ -4,7 +4,7 @@ use Rattle.lab_sched.specs.declared.schedule.block.Block.{Block}
 use Rattle.lab_sched.specs.ScheduleTexts.{schedule_text}
 use Rattle.lab_worlds.specs.declared.ends.End.{End}
 use Rattle.lab_worlds.specs.declared.rounds.Round.{Round}
-use Rattle.lab_questions.specs.declared.show.Show.{Show}
+use Rattle.lab_questions.specs.declared.asked.Show.{Show}
 use Rattle.lab_questions.specs.Lines.{AreLines, StandIn}
 use Rattle.lab_questions.specs.EndTexts.{text_of, schedule_line, end_lines, ends_text, endless_line, round_line, round_text, extent_text, extent_line}
 use Rattle.lab_questions.proofs.LineLemmas.{HasNoFeed, IsLine, lines-append, lines-onto, line-onto, no_feed_from, no_feed-append, decimal_no_feed}

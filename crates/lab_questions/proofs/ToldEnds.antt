@@ -6,7 +6,7 @@ use Rattle.std.proofs.lemmas.Slice.Eq.{bytes_eq-Decides}
 use Rattle.std.proofs.lemmas.List.Elements.{All-cons, All-head, All-tail, All-filter, All-weaker, All-contains_itself, filter-append, filter_passes}
 use Rattle.std.proofs.lemmas.List.Kept.{AllPairs-filter}
 use Rattle.lab_worlds.specs.declared.ends.End.{End}
-use Rattle.lab_questions.specs.declared.show.Show.{Show}
+use Rattle.lab_questions.specs.declared.asked.Show.{Show}
 use Rattle.lab_questions.specs.EndTexts.{text_of, has_other_text, told_ends}
 use Rattle.lab_questions.specs.Laws.{EachToldOnce}
 

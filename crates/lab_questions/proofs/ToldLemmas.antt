@@ -5,7 +5,7 @@ use Rattle.lab_sched.specs.Worlds.{WorldState, run}
 use Rattle.lab_sched.proofs.VerdictLemmas.{verdict_from}
 use Rattle.lab_worlds.specs.declared.ends.End.{End}
 use Rattle.lab_worlds.specs.Ends.{IsEnd, AreEnds, HaveAllEnds}
-use Rattle.lab_questions.specs.declared.show.Show.{Show}
+use Rattle.lab_questions.specs.declared.asked.Show.{Show}
 use Rattle.lab_questions.specs.Shown.{shown_text}
 use Rattle.lab_questions.specs.EndTexts.{text_of, told_ends}
 use Rattle.lab_questions.proofs.OneText.{same_text}

@@ -1,13 +1,13 @@
--- The text that tells what an exploration found.
-use Rattle.std.specs.Prelude.{ℕ, ◌+◌, Bool, true, false, not, Option, Some, None, List, [], ◌∷◌, ◌++◌, codes, filter, bytes_eq}
+-- The lines of ends, of a round, and the last one.
+use Rattle.std.specs.Prelude.{ℕ, ◌+◌, ◌≡◌, Bool, true, false, not, Option, Some, None, List, [], ◌∷◌, ◌++◌, codes, filter, bytes_eq, slice_get}
 use Rattle.std.specs.Fmt.{decimal}
 use Rattle.lab_sched.specs.declared.schedule.block.Block.{Block}
 use Rattle.lab_sched.specs.ScheduleTexts.{schedule_text}
 use Rattle.lab_worlds.specs.declared.ends.End.{End}
 use Rattle.lab_worlds.specs.declared.rounds.Round.{Round}
-use Rattle.lab_worlds.specs.declared.exploration.Exploration.{Exploration}
-use Rattle.lab_questions.specs.declared.show.Show.{Show}
-use Rattle.lab_questions.specs.Shown.{shown_text, whole_report}
+use Rattle.lab_worlds.specs.Calls.{Alongside}
+use Rattle.lab_questions.specs.declared.asked.Show.{Show}
+use Rattle.lab_questions.specs.Shown.{shown_text}
 
 -- what is told of the world of an end
 abbrev pub text_of : Show → End → List ℕ
@@ -21,6 +21,14 @@ has_other_text show e f = not (bytes_eq (text_of show e) (text_of show f))
 unfoldable pub told_ends : Show → List End → List End
 told_ends show [] = []
 told_ends show (e ∷ es) = e ∷ filter (has_other_text show e) (told_ends show es)
+
+-- this number, counted from 0, is that of the end
+abbrev pub IsAt : List End → ℕ → End → Type 0
+IsAt ends i e = slice_get ends i ≡ Some e
+
+-- these numbers are those of the ends that are told, in order
+abbrev pub AreTold : Show → List End → List ℕ → Type 0
+AreTold show ends numbers = Alongside (IsAt ends) numbers (told_ends show ends)
 
 -- the line of a schedule
 unfoldable pub schedule_line : List Block → List ℕ
@@ -56,9 +64,3 @@ extent_text false = codes "incomplete"
 -- the last line
 unfoldable pub extent_line : Bool → ℕ → List ℕ
 extent_line complete worlds = extent_text complete ++ codes " " ++ decimal worlds ++ codes " worlds\n"
-
--- the ends that are told by their reports, a round, if there is one, and whether these are all ends
-abbrev pub findings_text : Exploration → List ℕ
-findings_text found =
-    ends_text whole_report 1 (told_ends whole_report found.ends.items) ++ round_text found.round
-    ++ extent_line found.complete found.worlds

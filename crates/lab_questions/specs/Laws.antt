@@ -4,7 +4,7 @@ use Rattle.ipc_kernel.specs.Alike.{IsConsistent}
 use Rattle.lab_sched.specs.Worlds.{WorldState}
 use Rattle.lab_worlds.specs.declared.ends.End.{End}
 use Rattle.lab_worlds.specs.Calls.{AreAlike}
-use Rattle.lab_questions.specs.declared.show.Show.{Show}
+use Rattle.lab_questions.specs.declared.asked.Show.{Show}
 use Rattle.lab_questions.specs.Shown.{shown_text}
 use Rattle.lab_questions.specs.EndTexts.{text_of, told_ends}
 

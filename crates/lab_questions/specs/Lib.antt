@@ -3,7 +3,6 @@ pub mod Orders
 pub mod Left
 pub mod Shown
 pub mod EndTexts
-pub mod Shortfalls
 pub mod Claims
 pub mod Laws
 pub mod Requirements

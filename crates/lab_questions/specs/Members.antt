@@ -1,11 +1,12 @@
 -- The last members of the answers.
 use Rattle.std.specs.Prelude.{ℕ, Bool, true, false, List, ◌++◌, Option, Some, None, codes, map}
 use Rattle.lab_worlds.specs.declared.rounds.Round.{Round}
-use Rattle.lab_questions.specs.declared.asking.Answers.{Answers}
+use Rattle.lab_questions.specs.declared.answers.Answers.{Answers}
 use Rattle.lab_questions.specs.declared.failure.Failure.{Failure}
 use Rattle.lab_questions.specs.declared.failure.Failure.TheVariants.{Incomplete}
 use Rattle.lab_questions.specs.declared.object.Object.{Object}
 use Rattle.lab_questions.specs.Objects.{object_text}
+use Rattle.lab_questions.specs.Programs.{judges}
 use Rattle.lab_questions.specs.Values.{text_json, schedule_json, truth_json, values_json}
 
 -- objects, each as a condition names it
@@ -37,9 +38,9 @@ unfoldable pub holds_member : Bool → Option Failure → List ℕ
 holds_member judged failure = codes ",\"holds\":" ++ holds_json judged failure
 
 -- the last members, and the end of the line
-unfoldable pub last_members : Bool → Answers → List ℕ
-last_members judged answers =
+unfoldable pub last_members : Answers → List ℕ
+last_members answers =
     unopened_member answers.unopened.items
     ++ endless_members answers.exploration.fair answers.exploration.round
-    ++ holds_member judged answers.failure
+    ++ holds_member (judges answers.asked) answers.failure
     ++ codes "}\n"

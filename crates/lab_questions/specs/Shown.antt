@@ -6,7 +6,7 @@ use Rattle.lab_texts.specs.Rows.{texts_below}
 use Rattle.lab_texts.specs.Texts.{out_text}
 use Rattle.lab_texts.specs.Verdicts.{verdict_text}
 use Rattle.lab_texts.specs.Reports.{report_text}
-use Rattle.lab_questions.specs.declared.show.Show.{Show}
+use Rattle.lab_questions.specs.declared.asked.Show.{Show}
 use Rattle.lab_questions.specs.Left.{left_text}
 
 -- what each process has written, in order
@@ -30,7 +30,3 @@ with_left true k text = text ++ left_text k
 -- what is told of a world
 abbrev pub shown_text : Show → WorldState → List ℕ
 shown_text show w = with_left show.left w.kernel (head_text show.out w)
-
--- the report alone
-abbrev pub whole_report : Show
-whole_report = record { out = false; left = false }

@@ -3,9 +3,9 @@
 #![tactic(auto)]
 
 mod answers;
+mod asked;
 mod asking;
 mod failure;
-mod finding;
 mod json;
 mod judging;
 pub mod laws;
@@ -14,23 +14,16 @@ mod lines;
 mod object;
 mod presence;
 mod processes;
-mod shortfall;
-mod show;
 mod showing;
 mod shown;
 mod texts;
 mod told;
 mod walking;
-mod word;
 
-pub use answers::Answer;
-pub use asking::{Answers, ask};
+pub use answers::{Answer, Answers};
+pub use asked::{Asked, Reach, Show, Waiter, Word};
+pub use asking::ask;
 pub use failure::Failure;
-pub use finding::{Findings, find};
-pub use json::{Extent, Manner, answers_json};
+pub use json::answers_json;
 pub use object::Object;
-pub use shortfall::Shortfall;
-pub use show::Show;
-pub use showing::bad_schedule;
 pub use walking::ask_walks;
-pub use word::{Waiter, Word};

@@ -71,7 +71,7 @@ pub(crate) fn push_round(
 }
 
 /// Whether an exploration is complete, in a word.
-fn extent_of(complete: bool) -> &'static str
+pub(crate) fn extent_of(complete: bool) -> &'static str
     ensures text { result.now ≡ extent_text complete }
 {
     if complete { "complete" } else { "incomplete" }

@@ -1,8 +1,7 @@
 //! The ends that are told: each text once.
 ghost use Rattle.std.specs.Prelude.{◌≡◌, map, IfOk, OnOk, string_bytes, bytes_eq};
 ghost use Rattle.std.specs.List.{list_any};
-ghost use Rattle.lab_sched.specs.ScheduleTexts.{schedule_text};
-ghost use Rattle.lab_questions.specs.EndTexts.{text_of, told_ends, ends_text};
+ghost use Rattle.lab_questions.specs.EndTexts.{text_of, told_ends, ends_text, AreTold};
 ghost use Rattle.lab_questions.specs.Private.Told.{TellsNext};
 
 use crate::Show;
@@ -11,12 +10,12 @@ use crate::shown::shown_text;
 use lab_worlds::End;
 use std::alloc::{AllocError, Global};
 
-/// The lines of the ends that are told, what is told of each and the texts of their schedules.
+/// The lines of the ends that are told, what is told of each, and their numbers among all ends.
 #[derive(Drop)]
 pub(crate) struct Told {
     pub text: String,
     pub texts: Vec<String>,
-    pub schedules: Vec<String>,
+    pub numbers: Vec<usize>,
 }
 
 /// Whether a text is among others.
@@ -33,9 +32,9 @@ fn is_among(text: &str, texts: &[String]) -> bool
 }
 
 impl Told {
-    /// Tells an end, unless one with its text was told.
-    fn add(&mut self, alloc: Global, show: Show, end: &End) -> Result<(), AllocError>
-        ensures told { OnOk result (TellsNext show self.old self.new end.now) }
+    /// Tells the end with a number among all, unless one with its text was told.
+    fn add(&mut self, alloc: Global, show: Show, at: usize, end: &End) -> Result<(), AllocError>
+        ensures told { OnOk result (TellsNext show at self.old self.new end.now) }
     {
         let text = shown_text(alloc, &end.world, show)?;
         if is_among(&text, &self.texts) {
@@ -43,9 +42,8 @@ impl Told {
         }
         let number = self.texts.len() + 1;
         push_end(alloc, &mut self.text, number, &text, &end.schedule)?;
-        let schedule = end.schedule.text(alloc)?;
-        self.schedules.push(schedule)?;
         self.texts.push(text)?;
+        self.numbers.push(at)?;
         Ok(())
     }
 }
@@ -54,18 +52,15 @@ impl Told {
 pub(crate) fn told_of(alloc: Global, show: Show, ends: &[End]) -> Result<Told, AllocError>
     ensures text { IfOk result (λ told.
         string_bytes told.text ≡ ends_text show 1 (told_ends show ends.now)) }
-    ensures texts { IfOk result (λ told. map string_bytes told.texts.items
-        ≡ map (text_of show) (told_ends show ends.now)) }
-    ensures schedules { IfOk result (λ told. map string_bytes told.schedules.items
-        ≡ map (λ e. schedule_text e.schedule) (told_ends show ends.now)) }
+    ensures numbers { IfOk result (λ told. AreTold show ends.now told.numbers.items) }
 {
     let mut told = Told {
         text: String::new(alloc),
         texts: Vec::new(alloc),
-        schedules: Vec::new(alloc),
+        numbers: Vec::new(alloc),
     };
-    for end in ends {
-        told.add(alloc, show, end)?;
+    for (at, end) in ends.iter().enumerate() {
+        told.add(alloc, show, at, end)?;
     }
     Ok(told)
 }

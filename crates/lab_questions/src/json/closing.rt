@@ -109,14 +109,13 @@ pub(crate) fn push_last(
     alloc: Global,
     text: &mut String,
     answers: &Answers,
-    judged: bool,
 ) -> Result<(), AllocError>
     ensures text { OnOk result
-        (string_bytes text.new ≡ string_bytes text.old ++ last_members judged answers.now) }
+        (string_bytes text.new ≡ string_bytes text.old ++ last_members answers.now) }
 {
     let found = &answers.exploration;
     push_unopened(alloc, text, &answers.unopened)?;
     push_endless(alloc, text, found.fair, &found.round)?;
-    push_holds(text, judged, answers.failure)?;
+    push_holds(text, answers.asked.judges(), answers.failure)?;
     text.push_str("}\n")
 }

@@ -9,24 +9,6 @@ use lc3_word::Hex;
 use std::alloc::{AllocError, Global};
 use std::fmt::Write;
 
-/// Adds the name of a queue, or that it has none.
-fn push_name(text: &mut String, name: Option<&Name>) -> Result<(), AllocError> {
-    match name {
-        Some(name) => push_text(text, name.text().as_bytes()),
-        None => text.push_str("null"),
-    }
-}
-
-/// Adds words, with commas between them.
-fn push_words(text: &mut String, words: &[u16]) -> Result<(), AllocError> {
-    for (at, word) in words.iter().enumerate() {
-        push_comma(text, at)?;
-        let word = Hex(*word);
-        write!(text, "\"{word}\"")?;
-    }
-    Ok(())
-}
-
 /// Adds a message in a queue of this name, or of none.
 fn push_message(
     text: &mut String,
@@ -35,9 +17,16 @@ fn push_message(
     words: &[u16],
 ) -> Result<(), AllocError> {
     text.push_str("{\"queue\":")?;
-    push_name(text, name)?;
+    match name {
+        Some(name) => push_text(text, name.text().as_bytes())?,
+        None => text.push_str("null")?,
+    }
     write!(text, ",\"priority\":{priority},\"words\":[")?;
-    push_words(text, words)?;
+    for (at, word) in words.iter().enumerate() {
+        push_comma(text, at)?;
+        let word = Hex(*word);
+        write!(text, "\"{word}\"")?;
+    }
     text.push_str("]}")
 }
 
@@ -45,26 +34,11 @@ fn push_message(
 /// with commas between them.
 fn push_messages(text: &mut String, name: Option<&Name>, queue: &Queue) -> Result<(), AllocError> {
     let (_, _, count) = queue.attr();
-    for at in 0..count {
-        let Some((priority, words)) = queue.entry(at as usize) else {
-            return Ok(());
-        };
-        push_comma(text, at as usize)?;
-        push_message(text, name, priority, words)?;
-    }
-    Ok(())
-}
-
-/// Adds a place, behind the lines of the messages in it, if there are any.
-fn push_place(
-    alloc: Global,
-    places: &mut Vec<(String, u8)>,
-    kernel: &Kernel,
-    place: u8,
-) -> Result<(), AllocError> {
-    let lines = left_lines(alloc, kernel, place)?;
-    if !lines.is_empty() {
-        places.push((lines, place))?;
+    for at in 0..usize::from(count) {
+        if let Some((priority, words)) = queue.entry(at) {
+            push_comma(text, at)?;
+            push_message(text, name, priority, words)?;
+        }
     }
     Ok(())
 }
@@ -73,7 +47,10 @@ fn push_place(
 fn places_of(alloc: Global, kernel: &Kernel) -> Result<Vec<(String, u8)>, AllocError> {
     let mut places = Vec::new(alloc);
     for place in 0..OBJECT_PLACES as u8 {
-        push_place(alloc, &mut places, kernel, place)?;
+        let lines = left_lines(alloc, kernel, place)?;
+        if !lines.is_empty() {
+            places.push((lines, place))?;
+        }
     }
     places.sort()?;
     Ok(places)

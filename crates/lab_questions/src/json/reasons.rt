@@ -1,29 +1,9 @@
 //! Why an exploration isn't complete.
-use crate::Show;
+use crate::Reach;
 use crate::json::values::push_comma;
 use lab_worlds::{Exploration, Limits};
 use std::alloc::{AllocError, Global};
-
-/// How far an exploration was to go.
-#[derive(Clone, Copy)]
-pub enum Extent {
-    /// It was to visit every interleaving, as far as these limits allow.
-    Worlds(Limits),
-    /// It was to take so many walks.
-    Walks(u32),
-}
-
-/// What was asked of an exploration, and how it is told.
-#[derive(Clone, Copy)]
-pub struct Manner {
-    /// What is told of each end.
-    pub show: Show,
-    pub extent: Extent,
-    /// Whether it went no further than its extent because something was found.
-    pub first: bool,
-    /// Whether something has to be so.
-    pub judged: bool,
-}
+use std::fmt::Write;
 
 /// The names of the limits that walks met: so many were to be taken, or, where something was found, no more.
 fn limits_of_walks(
@@ -72,32 +52,20 @@ fn limits_of_worlds(
     Ok(met)
 }
 
-/// The names of the limits that were met, where not everything was visited.
-fn limits_met(
-    alloc: Global,
-    found: &Exploration,
-    extent: Extent,
-    first: bool,
-) -> Result<Vec<&'static str>, AllocError> {
-    match extent {
-        Extent::Worlds(limits) => limits_of_worlds(alloc, found, limits, first),
-        Extent::Walks(count) => limits_of_walks(alloc, found, count, first),
-    }
-}
-
-/// Adds the names of the limits that were met, with commas between them.
+/// Adds the names of the limits that were met, where not everything was visited, with commas between them.
 pub(crate) fn push_limits(
     alloc: Global,
     text: &mut String,
     found: &Exploration,
-    manner: Manner,
+    reach: Reach,
 ) -> Result<(), AllocError> {
-    let names = limits_met(alloc, found, manner.extent, manner.first)?;
+    let names = match reach.walks {
+        Some(walks) => limits_of_walks(alloc, found, walks.count, reach.is_stage)?,
+        None => limits_of_worlds(alloc, found, reach.limits, reach.is_stage)?,
+    };
     for (at, name) in names.iter().enumerate() {
         push_comma(text, at)?;
-        text.push_str("\"")?;
-        text.push_str(name)?;
-        text.push_str("\"")?;
+        write!(text, "\"{name}\"")?;
     }
     Ok(())
 }
