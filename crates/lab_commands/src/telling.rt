@@ -41,7 +41,7 @@ fn write_schedule<W: Write>(
     number: usize,
     output: &mut Output<W>,
 ) -> Result<(), Complaint<'static>> {
-    match found.end(number) {
+    match number.checked_sub(1).and_then(|before| found.end(before)) {
         None if found.exploration.refused => Ok(()),
         None => Err(Reason::NoEnd.at("explore")),
         Some(end) => {

@@ -47,10 +47,9 @@ pub(crate) struct Said {
 }
 
 impl Answers {
-    /// The end that is told with a number, from 1.
-    pub fn end(&self, number: usize) -> Option<&End> {
-        let at = self.told.get(number.checked_sub(1)?)?;
-        self.exploration.ends.get(*at)
+    /// The end that is told behind so many others.
+    pub fn end(&self, before: usize) -> Option<&End> {
+        self.exploration.ends.get(*self.told.get(before)?)
     }
 }
 

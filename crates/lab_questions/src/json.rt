@@ -20,7 +20,7 @@ use lab_worlds::{End, Exploration};
 use std::alloc::{AllocError, Global};
 use std::fmt::Write;
 
-/// Adds how far the exploration went.
+/// Begins the object with how far the exploration went.
 fn push_extent(
     alloc: Global,
     text: &mut String,
@@ -28,7 +28,7 @@ fn push_extent(
     reach: Reach,
 ) -> Result<(), AllocError> {
     let search = extent_of(found.complete);
-    write!(text, "\"search\":\"{search}\",\"limits\":[")?;
+    write!(text, "{{\"search\":\"{search}\",\"limits\":[")?;
     push_limits(alloc, text, found, reach)?;
     let unit = match reach.walks {
         Some(_) => "walks",
@@ -74,6 +74,20 @@ fn push_faults(alloc: Global, text: &mut String, answers: &Answers) -> Result<()
     Ok(())
 }
 
+/// Adds what must never be so and was reached.
+fn push_condition(
+    alloc: Global,
+    text: &mut String,
+    condition: &Never,
+    schedule: &Schedule,
+) -> Result<(), AllocError> {
+    text.push_str("{\"never\":")?;
+    push_text(text, condition.text().as_bytes())?;
+    text.push_str(",\"schedule\":")?;
+    push_schedule(alloc, text, schedule)?;
+    text.push_str("}")
+}
+
 /// Adds all that must never be so and was reached, with commas between.
 fn push_conditions(
     alloc: Global,
@@ -86,11 +100,7 @@ fn push_conditions(
         if let Some(schedule) = reached {
             push_comma(text, told)?;
             told = 1;
-            text.push_str("{\"never\":")?;
-            push_text(text, condition.text().as_bytes())?;
-            text.push_str(",\"schedule\":")?;
-            push_schedule(alloc, text, schedule)?;
-            text.push_str("}")?;
+            push_condition(alloc, text, condition, schedule)?;
         }
     }
     Ok(())
@@ -104,7 +114,6 @@ fn push_findings(
     reach: Reach,
 ) -> Result<(), AllocError> {
     let found = &answers.exploration;
-    text.push_str("{")?;
     push_extent(alloc, text, found, reach)?;
     text.push_str(",\"ends\":[")?;
     push_ends(alloc, text, answers)?;

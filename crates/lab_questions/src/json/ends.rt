@@ -50,6 +50,21 @@ fn push_processes(text: &mut String, world: &World, out: bool) -> Result<(), All
     Ok(())
 }
 
+/// Adds the messages that are left in a world, if these are told.
+fn push_rest(
+    alloc: Global,
+    text: &mut String,
+    world: &World,
+    left: bool,
+) -> Result<(), AllocError> {
+    if !left {
+        return Ok(());
+    }
+    text.push_str("\"left\":[")?;
+    push_left(alloc, text, world.kernel())?;
+    text.push_str("],")
+}
+
 /// Adds end number `number`.
 fn push_end(
     alloc: Global,
@@ -66,11 +81,7 @@ fn push_end(
         Verdict::Open => "open",
     };
     write!(text, "],\"verdict\":\"{verdict}\",")?;
-    if show.left {
-        text.push_str("\"left\":[")?;
-        push_left(alloc, text, end.world.kernel())?;
-        text.push_str("],")?;
-    }
+    push_rest(alloc, text, &end.world, show.left)?;
     text.push_str("\"schedule\":")?;
     push_schedule(alloc, text, &end.schedule)?;
     text.push_str("}")
@@ -83,7 +94,7 @@ pub(crate) fn push_ends(
     answers: &Answers,
 ) -> Result<(), AllocError> {
     for at in 0..answers.told.len() {
-        if let Some(end) = answers.end(at + 1) {
+        if let Some(end) = answers.end(at) {
             push_comma(text, at)?;
             push_end(alloc, text, answers.asked.show, at + 1, end)?;
         }
