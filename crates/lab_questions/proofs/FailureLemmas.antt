@@ -22,7 +22,7 @@ use Rattle.lab_questions.specs.Judgments.{Meets, IsFault, IsFaultIn, IsAnswer, H
 use Rattle.lab_questions.specs.Programs.{AlwaysMeet, ComeTo, AsksRest, Passes, IsUnmet, IsReached, IsEndless, IsFailure}
 
 none_unmet : (found : Exploration) (answers : List Answer) (word : Word) → IsUnmet answers word → Passes found answers → ⊥
-none_unmet found answers word (i, a, within, is, named, fault) passes = fault (ap (λ x. x.fault) (sym is) ∙ passes.met i a within)
+none_unmet found answers word (i, a, within, is, both) passes = both.1 (ap (λ x. x.fault) (sym is) ∙ passes.met i a within)
 
 none_reached : (found : Exploration) (answers : List Answer) (i : ℕ) → IsReached found i → Passes found answers → ⊥
 none_reached found answers i (s, at) passes =
