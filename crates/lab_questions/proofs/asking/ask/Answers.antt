@@ -1,8 +1,9 @@
-use Rattle.std.proofs.Common.{◌≡◌, ◌≤◌, ◌++◌, arith, AllPairs, Contains, All, ap, length, refl, slice_get, string_bytes, subst, sym, take, ◌∙◌}
+use Rattle.std.proofs.Common.{◌≡◌, ◌++◌, arith, ap, length, refl, string_bytes, take, ◌∙◌}
 use Rattle.std.proofs.Math.Seq.{take-append_seam}
-use Rattle.lab_worlds.specs.Calls.{Alongside}
+use Rattle.lab_worlds.specs.declared.exploration.Exploration.{Exploration}
 use Rattle.lab_worlds.specs.Reached.{ViolatesIfSome, KeptIfNone}
-use Rattle.lab_questions.specs.Objects.{named, StandsBefore}
+use Rattle.lab_questions.specs.declared.asked.Asked.{Asked}
+use Rattle.lab_questions.specs.Objects.{named}
 use Rattle.lab_questions.proofs.AnswerLemmas.{all_refuted, all_met}
 use Rattle.lab_questions.proofs.ClaimLemmas.{is_complete, has_no_round, tells_every_end, none_stuck}
 use Rattle.lab_questions.proofs.FailureLemmas.{no_failure, all_come, all_other}
@@ -78,19 +79,77 @@ returns-clause-told g c complete =
 
 pub returns-clause-says_all : goal.returns-clause-says_all
 returns-clause-says_all g c says =
-    let complete = is_complete _ _ _ _ c.in_ok-said.ensures.text says in
-    tells_every_end _ _ _ _ c.in_ok-said.ensures.text c.args.fresh c.in_ok-exploration.ensures.sound c.in_ok-exploration.ensures.ordered
+    let asked : Asked = record {
+      words = c.args.asked.words;
+      waiters = c.args.asked.waiters;
+      never = c.truncate.new.self;
+      fair = c.args.asked.fair;
+      show = c.args.asked.show;
+      plain = c.args.asked.plain;
+    } in
+    let found : Exploration = record {
+      ends = c.in_ok-exploration.exploration.ends;
+      reached = c.unopened_in.new.reached;
+      round = c.in_ok-exploration.exploration.round;
+      fair = c.in_ok-exploration.exploration.fair;
+      worlds = c.in_ok-exploration.exploration.worlds;
+      complete = c.in_ok-exploration.exploration.complete;
+      refused = c.in_ok-exploration.exploration.refused;
+    } in
+    let answers = c.in_ok-said.said.answers.items in
+    let text = string_bytes c.in_ok-said.said.text in
+    let is = c.in_ok-said.ensures.text in
+    let complete = is_complete asked found answers text is says in
+    tells_every_end asked found answers text is c.args.fresh c.in_ok-exploration.ensures.sound c.in_ok-exploration.ensures.ordered
     (c.in_ok-exploration.ensures.complete complete) (c.in_ok-exploration.ensures.fewest complete)
 
 pub returns-clause-says_free : goal.returns-clause-says_free
 returns-clause-says_free g c says quiet =
-    let text = c.in_ok-said.ensures.text in
-    c.in_ok-exploration.ensures.free (is_complete _ _ _ _ text says) (none_stuck _ _ _ _ text c.args.fresh c.in_ok-exploration.ensures.sound quiet)
+    let asked : Asked = record {
+      words = c.args.asked.words;
+      waiters = c.args.asked.waiters;
+      never = c.truncate.new.self;
+      fair = c.args.asked.fair;
+      show = c.args.asked.show;
+      plain = c.args.asked.plain;
+    } in
+    let found : Exploration = record {
+      ends = c.in_ok-exploration.exploration.ends;
+      reached = c.unopened_in.new.reached;
+      round = c.in_ok-exploration.exploration.round;
+      fair = c.in_ok-exploration.exploration.fair;
+      worlds = c.in_ok-exploration.exploration.worlds;
+      complete = c.in_ok-exploration.exploration.complete;
+      refused = c.in_ok-exploration.exploration.refused;
+    } in
+    let answers = c.in_ok-said.said.answers.items in
+    let text = string_bytes c.in_ok-said.said.text in
+    let is = c.in_ok-said.ensures.text in
+    c.in_ok-exploration.ensures.free (is_complete asked found answers text is says) (none_stuck asked found answers text is c.args.fresh c.in_ok-exploration.ensures.sound quiet)
 
 pub returns-clause-says_bounded : goal.returns-clause-says_bounded
 returns-clause-says_bounded g c unfair says quiet =
-    let text = c.in_ok-said.ensures.text in
-    c.in_ok-exploration.ensures.bounded unfair (is_complete _ _ _ _ text says) (has_no_round _ _ _ _ text quiet)
+    let asked : Asked = record {
+      words = c.args.asked.words;
+      waiters = c.args.asked.waiters;
+      never = c.truncate.new.self;
+      fair = c.args.asked.fair;
+      show = c.args.asked.show;
+      plain = c.args.asked.plain;
+    } in
+    let found : Exploration = record {
+      ends = c.in_ok-exploration.exploration.ends;
+      reached = c.unopened_in.new.reached;
+      round = c.in_ok-exploration.exploration.round;
+      fair = c.in_ok-exploration.exploration.fair;
+      worlds = c.in_ok-exploration.exploration.worlds;
+      complete = c.in_ok-exploration.exploration.complete;
+      refused = c.in_ok-exploration.exploration.refused;
+    } in
+    let answers = c.in_ok-said.said.answers.items in
+    let text = string_bytes c.in_ok-said.said.text in
+    let is = c.in_ok-said.ensures.text in
+    c.in_ok-exploration.ensures.bounded unfair (is_complete asked found answers text is says) (has_no_round asked found answers text is quiet)
 
 pub returns-clause-passes : goal.returns-clause-passes
 returns-clause-passes g c =
