@@ -2,9 +2,7 @@
 use crate::complaint::{At, Complaint, Reason};
 use lab_arguments::{Choice, Question, Requirements, Rest};
 use lab_conditions::{Condition, Never, Part, ReadFault, State};
-use lab_findings::Show;
-use lab_questions::{Waiter, Word};
-use lab_sched::Verdict;
+use lab_questions::{Asked, Reach, Show, Waiter, Word};
 use lab_worlds::{Limits, Walks};
 use lc3_word::unsigned;
 use std::alloc::{AllocError, Global};
@@ -15,77 +13,52 @@ const MEGABYTE: usize = 1_048_576;
 /// How far an exploration goes, and how what it finds is told.
 #[derive(Clone, Copy)]
 pub struct Inquiry {
-    pub limits: Limits,
+    pub reach: Reach,
     /// How many threads judge conditions; none stands for as many as there are processors.
     pub threads: Option<u32>,
-    /// The walks that are taken in place of every interleaving.
-    pub walks: Option<Walks>,
-    /// What is told of each end.
-    pub show: Show,
-    /// Whether something has to be so.
-    pub judges: bool,
     /// Which schedule is printed alone.
     pub choice: Option<Choice>,
     /// Whether the answers are printed as JSON.
     pub json: bool,
-    /// Whether it goes further where nothing is found that isn't as it has to be.
-    pub is_stage: bool,
-}
-
-/// What the answers are about.
-#[derive(Drop)]
-pub enum Asked {
-    /// The ends, and whether each has this verdict, where one is required.
-    Verdict(Option<Verdict>),
-    /// Whether each end is as the words require, and nothing happens on the way that must never be so.
-    More {
-        words: Vec<Word>,
-        waiters: Vec<Waiter>,
-        /// What must never be so.
-        never: Vec<Never>,
-        /// Whether only rounds that are fair are told.
-        fair: bool,
-    },
 }
 
 /// How far a question lets an exploration go, and how what it finds is told.
 pub fn inquiry_of(question: &Question<'_>) -> Inquiry {
     Inquiry {
-        limits: Limits {
-            worlds: question.worlds,
-            steps: question.steps,
-            memory: (question.memory as usize).saturating_mul(MEGABYTE),
+        reach: Reach {
+            limits: Limits {
+                worlds: question.worlds,
+                steps: question.steps,
+                memory: (question.memory as usize).saturating_mul(MEGABYTE),
+            },
+            walks: question.random.map(|walks| Walks {
+                count: walks.count,
+                seed: walks.seed,
+            }),
+            is_stage: false,
         },
         threads: question.threads,
-        walks: question.random.map(|walks| Walks {
-            count: walks.count,
-            seed: walks.seed,
-        }),
-        show: Show {
-            out: question.show.out,
-            left: question.show.left,
-        },
-        judges: question.judges(),
         choice: question.schedule,
         json: question.json,
-        is_stage: false,
     }
 }
 
-/// What a question asks of the exploration of so many processes.
+/// What a question asks of so many processes.
 pub fn asked_of<'a>(
     alloc: Global,
     question: &Question<'a>,
     count: usize,
 ) -> Result<Asked, Complaint<'a>> {
-    if !question.asks_more() {
-        return Ok(Asked::Verdict(verdict_of(question.required.rest)));
-    }
-    Ok(Asked::More {
+    Ok(Asked {
         words: words_of(alloc, question.required).at("run")?,
         waiters: waiters_of(alloc, question.waiters.as_slice(), count)?,
         never: nevers_of(alloc, question.never.as_slice(), count)?,
         fair: question.fair,
+        show: Show {
+            out: question.show.out,
+            left: question.show.left,
+        },
+        plain: !question.asks_more(),
     })
 }
 
@@ -97,15 +70,6 @@ pub fn refuse_question<'a>(
 ) -> Result<(), Complaint<'a>> {
     asked_of(alloc, question, count)?;
     Ok(())
-}
-
-/// The verdict that is required of programs.
-fn verdict_of(rest: Option<Rest>) -> Option<Verdict> {
-    match rest? {
-        Rest::Ended => Some(Verdict::Ended),
-        Rest::Stuck => Some(Verdict::Stuck),
-        Rest::Halted => None,
-    }
 }
 
 /// The words that requirements are, in the order in which they are answered.

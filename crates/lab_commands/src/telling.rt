@@ -1,35 +1,54 @@
 //! What `explore` writes of answers, and what it complains of.
+ghost use Rattle.std.specs.Prelude.{◌≡◌, false};
+
 use crate::complaint::{At, Complaint, Reason};
-use crate::explore::write_schedule;
+use crate::explore::Search;
 use crate::files::write_text;
 use crate::inquiry::Inquiry;
 use crate::job::Job;
 use crate::progress::Progress;
-use lab_answers::{Extent, Manner, answers_json};
 use lab_arguments::Choice;
 use lab_conditions::Never;
 use lab_io::Output;
-use lab_questions::{Answers, Failure, Object, bad_schedule};
+use lab_questions::{Answers, Failure, Object, Word, answers_json};
+use lab_sched::Verdict;
 use std::alloc::{AllocError, Global};
 use std::io::Write;
 
-/// Writes answers, says which objects that conditions name nobody opens, and complains where not all is as it has to be.
-pub(crate) fn tell_answers<T, W: Write, P: Progress>(
+/// Writes what was found, says which objects that conditions name nobody opens, and complains where memory was refused on the
+/// way, or not all is as it has to be.
+pub fn tell_ends<T, W: Write, P: Progress>(
     job: &Job<'_, T, P>,
-    found: &Answers,
-    inquiry: &Inquiry,
+    search: &Search,
     output: &mut Output<W>,
-) -> Result<(), Complaint<'static>> {
-    match inquiry.choice {
-        Some(Choice::End(number)) => {
-            let refused = found.exploration.refused;
-            write_schedule(found.schedules.as_slice(), number, refused, output)?;
-        }
+) -> Result<(), Complaint<'static>>
+    requires output_healthy { output.old.failed ≡ false }
+{
+    let found = &search.answers;
+    match search.inquiry.choice {
+        Some(Choice::End(number)) => write_schedule(job.alloc, found, number as usize, output)?,
         Some(Choice::Bad) => write_bad(job.alloc, found, output)?,
-        None => write_answers(job.alloc, found, inquiry, output)?,
+        None => write_answers(job.alloc, found, &search.inquiry, output)?,
     }
     tell_unopened(job, &found.unopened).at("run")?;
-    complain(job.alloc, found, inquiry.judges)
+    complain(job.alloc, found)
+}
+
+/// Writes the schedule of the end that is told with a number, from 1, which must be there, unless memory was refused.
+fn write_schedule<W: Write>(
+    alloc: Global,
+    found: &Answers,
+    number: usize,
+    output: &mut Output<W>,
+) -> Result<(), Complaint<'static>> {
+    match number.checked_sub(1).and_then(|before| found.end(before)) {
+        None if found.exploration.refused => Ok(()),
+        None => Err(Reason::NoEnd.at("explore")),
+        Some(end) => {
+            write_text(&end.schedule.text(alloc).at("run")?, output)?;
+            write_text("\n", output)
+        }
+    }
 }
 
 /// Says which objects that conditions name nobody opens.
@@ -50,8 +69,7 @@ fn write_bad<W: Write>(
     found: &Answers,
     output: &mut Output<W>,
 ) -> Result<(), Complaint<'static>> {
-    let schedule = bad_schedule(alloc, &found.exploration, &found.answers, found.failure);
-    let Some(schedule) = schedule.at("run")? else {
+    let Some(schedule) = found.bad_schedule(alloc).at("run")? else {
         return Ok(());
     };
     write_text(&schedule, output)?;
@@ -68,26 +86,8 @@ fn write_answers<W: Write>(
     if !inquiry.json {
         return write_text(&found.text, output);
     }
-    let json = answers_json(alloc, found, manner_of(inquiry)).at("run")?;
+    let json = answers_json(alloc, found, inquiry.reach).at("run")?;
     write_text(&json, output)
-}
-
-/// What was asked, and how it is told.
-fn manner_of(inquiry: &Inquiry) -> Manner {
-    Manner {
-        show: inquiry.show,
-        extent: extent_of(inquiry),
-        first: inquiry.is_stage,
-        judged: inquiry.judges,
-    }
-}
-
-/// How far an exploration was to go.
-fn extent_of(inquiry: &Inquiry) -> Extent {
-    match inquiry.walks {
-        Some(walks) => Extent::Walks(walks.count),
-        None => Extent::Worlds(inquiry.limits),
-    }
 }
 
 /// The complaint that what must never be so was reached, by its number.
@@ -102,12 +102,26 @@ fn reached(alloc: Global, conditions: &[Never], number: usize) -> Complaint<'sta
     }
 }
 
+/// The complaint that an end isn't as a word requires; of an end alone, its verdict.
+fn unmet(word: Word, plain: bool) -> Reason {
+    match word {
+        Word::Ended if plain => Reason::Stands {
+            verdict: Verdict::Stuck,
+        },
+        Word::Stuck if plain => Reason::Stands {
+            verdict: Verdict::Ended,
+        },
+        _ => Reason::Not { word },
+    }
+}
+
 /// Complains where something has to be so and isn't, or where memory was refused on the way.
-fn complain(alloc: Global, found: &Answers, judges: bool) -> Result<(), Complaint<'static>> {
+fn complain(alloc: Global, found: &Answers) -> Result<(), Complaint<'static>> {
     let refused = found.exploration.refused;
+    let judges = found.asked.judges();
     match found.failure {
-        Some(Failure::Not(word)) => Err(Reason::Not { word }.at("explore")),
-        Some(Failure::Reached(number)) => Err(reached(alloc, &found.conditions, number)),
+        Some(Failure::Not(word)) => Err(unmet(word, found.asked.plain).at("explore")),
+        Some(Failure::Reached(number)) => Err(reached(alloc, &found.asked.never, number)),
         Some(Failure::Endless) => Err(Reason::Endless.at("explore")),
         Some(Failure::Incomplete) if refused => Err(Reason::NoMemory.at("run")),
         Some(Failure::Incomplete) if judges => Err(Reason::Incomplete.at("explore")),

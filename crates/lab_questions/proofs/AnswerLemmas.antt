@@ -10,9 +10,9 @@ use Rattle.lab_worlds.specs.declared.ends.End.{End}
 use Rattle.lab_worlds.specs.Calls.{AreAlike}
 use Rattle.lab_worlds.specs.Closed.{AreAtRest}
 use Rattle.lab_worlds.specs.Ends.{IsEnd, AreEnds, HaveAllEnds, IsReported}
-use Rattle.lab_questions.specs.declared.word.Waiter.{Waiter}
-use Rattle.lab_questions.specs.declared.word.Word.{Word}
-use Rattle.lab_questions.specs.declared.word.Word.TheVariants.{Ended, Stuck, Halted, Empty, Same}
+use Rattle.lab_questions.specs.declared.asked.Waiter.{Waiter}
+use Rattle.lab_questions.specs.declared.asked.Word.{Word}
+use Rattle.lab_questions.specs.declared.asked.Word.TheVariants.{Ended, Stuck, Halted, Empty, Same}
 use Rattle.lab_questions.specs.declared.answers.Answer.{Answer}
 use Rattle.lab_questions.specs.Requirements.{AreEmptied, outputs}
 use Rattle.lab_conditions.proofs.MessageCounts.{messages_alike}

@@ -1,5 +1,17 @@
+pub mod LineLemmas
+pub mod Ordered
+pub mod PlaceSums
+pub mod LeftLemmas
+pub mod Reports
+pub mod OneText
+pub mod ToldEnds
+pub mod TextLemmas
+pub mod ClaimLemmas
 mod Watched
+mod Numbered
 mod OrderLemmas
 pub mod ListLemmas
 pub mod AnswerLemmas
 pub mod ToldLemmas
+mod FailureLemmas
+mod ValueLemmas

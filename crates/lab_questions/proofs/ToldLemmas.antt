@@ -5,11 +5,11 @@ use Rattle.lab_sched.specs.Worlds.{WorldState, run}
 use Rattle.lab_sched.proofs.VerdictLemmas.{verdict_from}
 use Rattle.lab_worlds.specs.declared.ends.End.{End}
 use Rattle.lab_worlds.specs.Ends.{IsEnd, AreEnds, HaveAllEnds}
-use Rattle.lab_findings.specs.declared.show.Show.{Show}
-use Rattle.lab_findings.specs.Shown.{shown_text}
-use Rattle.lab_findings.specs.Texts.{text_of, told_ends}
-use Rattle.lab_findings.proofs.OneText.{same_text}
-use Rattle.lab_findings.proofs.ToldEnds.{Has, told_some, any_of}
+use Rattle.lab_questions.specs.declared.asked.Show.{Show}
+use Rattle.lab_questions.specs.Shown.{shown_text}
+use Rattle.lab_questions.specs.EndTexts.{text_of, told_ends}
+use Rattle.lab_questions.proofs.OneText.{same_text}
+use Rattle.lab_questions.proofs.ToldEnds.{Has, told_some, any_of}
 use Rattle.lab_questions.specs.Programs.{TellEveryEnd}
 
 end_at : (start : WorldState) (ends : List End) (e : End) → AreEnds start ends → Has ends e → IsEnd start e

@@ -1,11 +1,13 @@
 -- Whether ends are as they are required to be.
-use Rattle.std.specs.Prelude.{ℕ, ◌≡◌, List, Option, Some, None, All, IfSome, take, slice_get}
+use Rattle.std.specs.Prelude.{ℕ, ◌≡◌, ◌≢◌, List, Option, Some, None, All, IfSome, take, slice_get}
+use Rattle.lab_sched.specs.declared.verdict.Verdict.{Verdict}
+use Rattle.lab_sched.specs.declared.verdict.Verdict.TheVariants as verdict
 use Rattle.lab_sched.specs.Verdicts.{AreStuck}
 use Rattle.lab_sched.specs.Worlds.{WorldState}
 use Rattle.lab_worlds.specs.declared.ends.End.{End}
-use Rattle.lab_questions.specs.declared.word.Waiter.{Waiter}
-use Rattle.lab_questions.specs.declared.word.Word.{Word}
-use Rattle.lab_questions.specs.declared.word.Word.TheVariants.{Ended, Stuck, Halted, Empty, Same}
+use Rattle.lab_questions.specs.declared.asked.Waiter.{Waiter}
+use Rattle.lab_questions.specs.declared.asked.Word.{Word}
+use Rattle.lab_questions.specs.declared.asked.Word.TheVariants.{Ended, Stuck, Halted, Empty, Same}
 use Rattle.lab_questions.specs.declared.answers.Answer.{Answer}
 use Rattle.lab_questions.specs.Requirements.{HaveSettled, HaveHalted, AreEmptied, outputs}
 
@@ -36,3 +38,15 @@ IsFaultIn word waiters ends (Some i) = IsFault word waiters ends i
 -- the answer on a word
 abbrev pub IsAnswer : List Waiter → List End → Answer → Type 0
 IsAnswer waiters ends a = IsFaultIn a.word waiters ends a.fault
+
+-- the verdict of each end that is as the word requires, where no process may wait
+abbrev pub verdict_asked : Word → Option Verdict
+verdict_asked Ended = Some verdict.Ended
+verdict_asked Stuck = Some verdict.Stuck
+verdict_asked Halted = None
+verdict_asked Empty = None
+verdict_asked Same = None
+
+-- end number i, counted from 0, has another verdict, if the word asks for one
+abbrev pub HasOtherVerdict : List End → Word → ℕ → Type 0
+HasOtherVerdict ends word i = IfSome (verdict_asked word) (λ v. IfSome (slice_get ends i) (λ e. e.verdict ≢ v))

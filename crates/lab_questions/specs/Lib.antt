@@ -1,6 +1,15 @@
+pub mod Lines
+pub mod Orders
+pub mod Left
+pub mod Shown
+pub mod EndTexts
+pub mod Claims
+pub mod Laws
 pub mod Requirements
 pub mod Objects
 pub mod Judgments
 pub mod Programs
 pub mod Texts
+pub mod Values
+pub mod Members
 pub mod Private

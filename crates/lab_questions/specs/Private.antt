@@ -1,2 +1,4 @@
 -- Definitions that only contracts inside the crate cite.
+pub mod Told
 pub mod Presences
+pub mod Values

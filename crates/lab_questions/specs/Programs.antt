@@ -1,18 +1,22 @@
 -- What answers say of the programs of a laboratory.
-use Rattle.std.specs.Prelude.{ℕ, ◌≡◌, ◌≢◌, IsTrue, false, Some, None, List, All, Any, slice_get}
+use Rattle.std.specs.Prelude.{ℕ, ◌≡◌, ◌≢◌, Bool, true, not, ◌&&◌, ◌==◌, IsTrue, false, Some, None, List, All, Any, length, slice_get}
 use Rattle.lab_sched.specs.declared.schedule.block.Block.{Block}
+use Rattle.lab_sched.specs.declared.verdict.Verdict.{Verdict}
 use Rattle.lab_sched.specs.Schedules.{steps_of}
+use Rattle.lab_sched.specs.Verdicts.{IsVerdict}
 use Rattle.lab_sched.specs.Worlds.{WorldState, run}
 use Rattle.lab_sched.specs.Execution.{AreEffective}
 use Rattle.lab_worlds.specs.declared.exploration.Exploration.{Exploration}
 use Rattle.lab_worlds.specs.declared.ends.End.{End}
 use Rattle.lab_worlds.specs.Closed.{AreAtRest}
-use Rattle.lab_findings.specs.declared.show.Show.{Show}
-use Rattle.lab_findings.specs.Shown.{shown_text}
-use Rattle.lab_findings.specs.Texts.{text_of}
-use Rattle.lab_questions.specs.declared.word.Waiter.{Waiter}
-use Rattle.lab_questions.specs.declared.word.Word.{Word}
-use Rattle.lab_questions.specs.declared.word.Word.TheVariants.{Ended, Stuck, Halted, Empty, Same}
+use Rattle.lab_worlds.specs.Rounds.{AreBounded}
+use Rattle.lab_questions.specs.declared.asked.Show.{Show}
+use Rattle.lab_questions.specs.Shown.{shown_text}
+use Rattle.lab_questions.specs.EndTexts.{text_of}
+use Rattle.lab_questions.specs.declared.asked.Asked.{Asked}
+use Rattle.lab_questions.specs.declared.asked.Waiter.{Waiter}
+use Rattle.lab_questions.specs.declared.asked.Word.{Word}
+use Rattle.lab_questions.specs.declared.asked.Word.TheVariants.{Ended, Stuck, Halted, Empty, Same}
 use Rattle.lab_questions.specs.declared.answers.Answer.{Answer}
 use Rattle.lab_questions.specs.declared.failure.Failure.{Failure}
 use Rattle.lab_questions.specs.declared.failure.Failure.TheVariants.{Not, Reached, Endless, Incomplete}
@@ -39,6 +43,16 @@ pub record IsRefuted (word : Word) (waiters : List Waiter) (start : WorldState) 
   pub second_rests : AreAtRest (run start (steps_of b))
   pub unmet : Meets word waiters (run start (steps_of a)) (run start (steps_of b)) → ⊥
 
+-- no list of effective steps has more than some number of them, and whatever steps are taken from the
+-- start, effective or not: if the world after them is at rest, it has the verdict
+pub record ComeTo (verdict : Verdict) (start : WorldState) : Type 0 where
+  pub bounded : AreBounded start
+  pub rests : (ps : List ℕ) → AreAtRest (run start ps) → IsVerdict (run start ps) verdict
+
+-- something has to be so
+abbrev pub judges : Asked → Bool
+judges asked = not (length asked.words.items == 0 && length asked.never.items == 0)
+
 -- the word asks that each run comes to rest
 abbrev pub AsksRest : Word → Type 0
 AsksRest Ended = Unit {0}
@@ -54,13 +68,37 @@ pub record Passes (found : Exploration) (answers : List Answer) : Type 0 where
   pub ends : Any (λ a. AsksRest a.word) answers → found.round ≡ None
   pub complete : IsTrue found.complete
 
+-- some interleaving never ends, and a word asks that each run comes to rest
+abbrev pub IsEndless : Exploration → List Answer → Type 0
+IsEndless found answers = Any (λ a. AsksRest a.word) answers × (found.round ≢ None)
+
+-- one of the answers tells that the word isn't so
+abbrev pub IsUnmet : List Answer → Word → Type 0
+IsUnmet answers word = Any (λ a. (a.word ≡ word) × (a.fault ≢ None)) answers
+
+-- condition number i, counted from 0, was reached
+abbrev pub IsReached : Exploration → ℕ → Type 0
+IsReached found i = (s : List Block) × (slice_get found.reached.items i ≡ Some (Some s))
+
 -- the first of these that is so
-abbrev pub IsFailure : Exploration → List Answer → Failure → Type 0
-IsFailure found answers (Not word) = Any (λ a. (a.word ≡ word) × (a.fault ≢ None)) answers
-IsFailure found answers (Reached i) =
-    All (λ a. a.fault ≡ None) answers × (s : List Block) × (slice_get found.reached.items i ≡ Some (Some s))
-IsFailure found answers Endless =
-    All (λ a. a.fault ≡ None) answers × All (λ s. s ≡ None) found.reached.items × Any (λ a. AsksRest a.word) answers × (found.round ≢ None)
-IsFailure found answers Incomplete =
+abbrev pub IsFirst : Exploration → List Answer → Failure → Type 0
+IsFirst found answers (Not word) = IsUnmet answers word
+IsFirst found answers (Reached i) = All (λ a. a.fault ≡ None) answers × IsReached found i
+IsFirst found answers Endless =
+    All (λ a. a.fault ≡ None) answers × All (λ s. s ≡ None) found.reached.items × IsEndless found answers
+IsFirst found answers Incomplete =
     All (λ a. a.fault ≡ None) answers × All (λ s. s ≡ None) found.reached.items × (Any (λ a. AsksRest a.word) answers → found.round ≡ None)
     × (found.complete ≡ false)
+
+-- the first of the same where what wasn't visited counts before what was found
+abbrev pub IsFirstOfAll : Exploration → List Answer → Failure → Type 0
+IsFirstOfAll found answers Incomplete = found.complete ≡ false
+IsFirstOfAll found answers Endless = IsTrue found.complete × IsEndless found answers
+IsFirstOfAll found answers (Not word) = IsTrue found.complete × (Any (λ a. AsksRest a.word) answers → found.round ≡ None) × IsUnmet answers word
+IsFirstOfAll found answers (Reached i) =
+    IsTrue found.complete × (Any (λ a. AsksRest a.word) answers → found.round ≡ None) × All (λ a. a.fault ≡ None) answers × IsReached found i
+
+-- the first that is so, in the one order or the other
+abbrev pub IsFailure : Bool → Exploration → List Answer → Failure → Type 0
+IsFailure false found answers failure = IsFirst found answers failure
+IsFailure true found answers failure = IsFirstOfAll found answers failure

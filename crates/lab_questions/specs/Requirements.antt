@@ -3,7 +3,7 @@ use Rattle.std.specs.Prelude.{ℕ, ◌≡◌, ◌≤◌, List, Some, Any, map, s
 use Rattle.lc3_machine.specs.declared.want.How.TheVariants.{Halt}
 use Rattle.lab_sched.specs.Worlds.{Process, Running, Waiting, Ended, WorldState, machine_of}
 use Rattle.lab_conditions.specs.Losses.{messages}
-use Rattle.lab_questions.specs.declared.word.Waiter.{Waiter}
+use Rattle.lab_questions.specs.declared.asked.Waiter.{Waiter}
 
 -- one of these names process p, and lies around the address
 abbrev pub MayWait : List Waiter → ℕ → ℕ → Type 0

@@ -1,5 +1,5 @@
 -- The text that tells what was found and answered.
-use Rattle.std.specs.Prelude.{ℕ, ◌≡◌, ◌≤◌, Option, Some, None, Ok, List, [], ◌++◌, Any, codes, flat_map, length, min, slice_get}
+use Rattle.std.specs.Prelude.{ℕ, ◌≡◌, ◌≤◌, Bool, true, false, Option, Some, None, Ok, List, [], ◌++◌, Any, codes, flat_map, length, min, slice_get}
 use Rattle.std.specs.Fmt.{decimal}
 use Rattle.lab_sched.specs.ScheduleTexts.{schedule_text, reading}
 use Rattle.lab_texts.specs.Rows.{texts_below}
@@ -9,10 +9,10 @@ use Rattle.lab_worlds.specs.declared.rounds.Round.{Round}
 use Rattle.lab_sched.specs.declared.schedule.block.Block.{Block}
 use Rattle.lab_worlds.specs.declared.ends.End.{End}
 use Rattle.lab_worlds.specs.declared.exploration.Exploration.{Exploration}
-use Rattle.lab_findings.specs.declared.show.Show.{Show}
-use Rattle.lab_findings.specs.Texts.{told_ends, ends_text, schedule_line, round_text, extent_line}
-use Rattle.lab_questions.specs.declared.word.Word.{Word}
-use Rattle.lab_questions.specs.declared.word.Word.TheVariants.{Ended, Stuck, Halted, Empty, Same}
+use Rattle.lab_questions.specs.declared.asked.Asked.{Asked}
+use Rattle.lab_questions.specs.EndTexts.{told_ends, ends_text, schedule_line, round_text, extent_line}
+use Rattle.lab_questions.specs.declared.asked.Word.{Word}
+use Rattle.lab_questions.specs.declared.asked.Word.TheVariants.{Ended, Stuck, Halted, Empty, Same}
 use Rattle.lab_questions.specs.declared.answers.Answer.{Answer}
 
 -- a word as it is written
@@ -60,21 +60,26 @@ unfoldable pub reached_lines : List Never → List (Option (List Block)) → Lis
 reached_lines conditions reached =
     texts_below (min (length conditions) (length reached)) (λ i. condition_lines (slice_get conditions i) (slice_get reached i))
 
--- the ends that are told, the answers, what was reached, a round, if there is one, and whether these are all ends
-abbrev pub answers_text : Show → List Never → Exploration → List Answer → List ℕ
-answers_text show conditions found answers =
-    ends_text show 1 (told_ends show found.ends.items) ++ flat_map (answer_lines found.ends.items) answers
-    ++ reached_lines conditions found.reached.items ++ round_text found.round ++ extent_line found.complete found.worlds
+-- the lines of answers, unless no more is asked than the ends
+abbrev pub word_lines : Bool → List End → List Answer → List ℕ
+word_lines true ends answers = []
+word_lines false ends answers = flat_map (answer_lines ends) answers
 
 -- the last line where walks were taken
 unfoldable pub walks_line : ℕ → List ℕ
 walks_line walks = codes "incomplete " ++ decimal walks ++ codes " walks\n"
 
--- the ends that are told, the answers, and how many walks were taken
-abbrev pub walks_text : Show → Exploration → List Answer → List ℕ
-walks_text show found answers =
-    ends_text show 1 (told_ends show found.ends.items) ++ flat_map (answer_lines found.ends.items) answers
-    ++ walks_line found.worlds
+-- the last lines: of walks how many were taken; else what was reached, a round, if there is one, and whether the ends are all
+abbrev pub last_lines : Bool → List Never → Exploration → List ℕ
+last_lines true never found = walks_line found.worlds
+last_lines false never found =
+    reached_lines never found.reached.items ++ round_text found.round ++ extent_line found.complete found.worlds
+
+-- the ends that are told, the answers, and the last lines
+abbrev pub answers_text : Bool → Asked → Exploration → List Answer → List ℕ
+answers_text walks asked found answers =
+    ends_text asked.show 1 (told_ends asked.show found.ends.items) ++ word_lines asked.plain found.ends.items answers
+    ++ last_lines walks asked.never.items found
 
 -- the text of the schedule of an end that an answer names
 abbrev pub ShowsFault : List End → List Answer → List ℕ → Type 0

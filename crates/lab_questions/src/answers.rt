@@ -1,10 +1,15 @@
-//! Answers.
-ghost use Rattle.std.specs.Prelude.{◌≡◌, map, All, IfOk};
+//! Answers on what was found.
+ghost use Rattle.std.specs.Prelude.{◌≡◌, None, map, string_bytes, All, IfOk, IfSome};
+ghost use Rattle.lab_questions.specs.EndTexts.{AreTold};
 ghost use Rattle.lab_questions.specs.Judgments.{IsAnswer};
+ghost use Rattle.lab_questions.specs.Programs.{Passes, IsFailure};
+ghost use Rattle.lab_questions.specs.Texts.{answers_text};
 
+use crate::failure::failure_of;
 use crate::judging::fault_in;
-use crate::{Waiter, Word};
-use lab_worlds::End;
+use crate::texts::tell;
+use crate::{Asked, Failure, Object, Waiter, Word};
+use lab_worlds::{End, Exploration};
 use std::alloc::{AllocError, Global};
 
 /// The answer on a word: the number of the first end, counted from 0, that isn't as the word
@@ -15,8 +20,41 @@ pub struct Answer {
     pub fault: Option<usize>,
 }
 
+/// What was asked and what was found of the programs of a laboratory, the answer on each word that
+/// is required, the text that tells both, and why not all is shown to be as it is required, if it
+/// isn't.
+#[derive(Drop)]
+pub struct Answers {
+    pub asked: Asked,
+    pub exploration: Exploration,
+    pub answers: Vec<Answer>,
+    /// The semaphores and queues that the conditions name and that are never there. Where not
+    /// everything was visited that isn't known, and there are none here.
+    pub unopened: Vec<Object>,
+    pub text: String,
+    /// The numbers of the ends that are told, counted from 0, in the order in which they are.
+    pub told: Vec<usize>,
+    pub failure: Option<Failure>,
+}
+
+/// What is said of what was found: the members of the answers.
+#[derive(Drop)]
+pub(crate) struct Said {
+    pub answers: Vec<Answer>,
+    pub text: String,
+    pub told: Vec<usize>,
+    pub failure: Option<Failure>,
+}
+
+impl Answers {
+    /// The end that is told behind so many others.
+    pub fn end(&self, before: usize) -> Option<&End> {
+        self.exploration.ends.get(*self.told.get(before)?)
+    }
+}
+
 /// The answer on each word.
-pub(crate) fn answers_on(
+fn answers_on(
     alloc: Global,
     words: &[Word],
     waiters: &[Waiter],
@@ -33,4 +71,33 @@ pub(crate) fn answers_on(
         })?;
     }
     Ok(answers)
+}
+
+/// The answers on what was found, by walks or by a search, and the text that tells both.
+pub(crate) fn said_of(
+    alloc: Global,
+    asked: &Asked,
+    found: &Exploration,
+    walks: bool,
+) -> Result<Said, AllocError>
+    ensures words { IfOk result (λ s. map (λ x. x.word) s.answers.items
+        ≡ asked.now.words.items) }
+    ensures answers { IfOk result (λ s.
+        All (IsAnswer asked.now.waiters.items found.now.ends.items) s.answers.items) }
+    ensures text { IfOk result (λ s.
+        string_bytes s.text ≡ answers_text walks asked.now found.now s.answers.items) }
+    ensures told { IfOk result (λ s. AreTold asked.now.show found.now.ends.items s.told.items) }
+    ensures none { IfOk result (λ s. s.failure ≡ None → Passes found.now s.answers.items) }
+    ensures some { IfOk result (λ s.
+        IfSome s.failure (λ f. IsFailure asked.now.plain found.now s.answers.items f)) }
+{
+    let answers = answers_on(alloc, &asked.words, &asked.waiters, &found.ends)?;
+    let told = tell(alloc, asked, found, &answers, walks)?;
+    let failure = failure_of(found, &answers, asked.plain);
+    Ok(Said {
+        answers,
+        text: told.text,
+        told: told.numbers,
+        failure,
+    })
 }

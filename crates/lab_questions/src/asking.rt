@@ -1,48 +1,30 @@
 //! Explorations with what is required of their ends.
-ghost use Rattle.std.specs.Prelude.{◌≡◌, None, false, [], map, string_bytes, All, AllPairs, Any, IfOk, IfSome, IsTrue};
-ghost use Rattle.lab_sched.specs.ScheduleTexts.{schedule_text};
-ghost use Rattle.lab_worlds.specs.Ends.{AreEnds, HaveAllEnds};
+ghost use Rattle.std.specs.Prelude.{◌≡◌, ◌↔◌, None, false, [], map, string_bytes, All, AllPairs, IfOk, IfSome, IsTrue};
+ghost use Rattle.std.specs.List.Sorted.{IsNonDecreasingBy};
+ghost use Rattle.lab_worlds.specs.Ends.{AreEnds, HaveAllEnds, HaveFewestCalls, NeverStuck};
 ghost use Rattle.lab_worlds.specs.Reached.{AreReached, AreKept};
 ghost use Rattle.lab_worlds.specs.Rounds.{IsRound, CanBeRepeated, AreBounded};
 ghost use Rattle.lab_worlds.specs.Fairness.{IsFairRound, AreFairlyEndless, AreFairlyBounded};
-ghost use Rattle.lab_findings.specs.Texts.{told_ends};
-ghost use Rattle.lab_questions.specs.Judgments.{IsAnswer};
+ghost use Rattle.lab_questions.specs.Claims.{SaysComplete, SaysEndless, SaysStuck, TellsEveryEnd};
+ghost use Rattle.lab_questions.specs.EndTexts.{told_ends, AreTold};
+ghost use Rattle.lab_questions.specs.Judgments.{IsAnswer, HasOtherVerdict, verdict_asked};
 ghost use Rattle.lab_questions.specs.Objects.{named, AreUnopened, StandsBefore};
-ghost use Rattle.lab_questions.specs.Programs.{TellEveryEnd, AlwaysMeet, IsRefuted, AsksRest, Passes, IsFailure};
+ghost use Rattle.lab_questions.specs.Programs.{TellEveryEnd, AlwaysMeet, ComeTo, IsRefuted, Passes, IsFailure};
 ghost use Rattle.lab_questions.specs.Texts.{schedule_at, answers_text};
 
-use crate::answers::answers_on;
-use crate::failure::failure_of;
-use crate::object::named_in;
-use crate::presence::{presences_of, unopened_in};
-use crate::texts::tell;
-use crate::{Answer, Failure, Object, Waiter, Word};
-use lab_conditions::Never;
+use crate::answers::said_of;
+use crate::presence::{unopened_in, watch};
+use crate::{Answers, Asked};
 use lab_explore::explore;
-use lab_findings::Show;
 use lab_sched::Fresh;
-use lab_worlds::{Exploration, ExploreFault, Limits, Observer, Workers};
+use lab_worlds::{ExploreFault, Limits, Observer, Workers};
 use std::alloc::Global;
 use std::thread::Threads;
 
-/// What was found of the programs of a laboratory, what must never be so, the answer on each word that
-/// is required, the text that tells both, the texts of the schedules of the ends that are told, and why
-/// not all is shown to be as it is required, if it isn't.
-#[derive(Drop)]
-pub struct Answers {
-    pub exploration: Exploration,
-    pub conditions: Vec<Never>,
-    pub answers: Vec<Answer>,
-    /// The semaphores and queues that the conditions name and that are never there. Where not
-    /// everything was visited that isn't known, and there are none here.
-    pub unopened: Vec<Object>,
-    pub text: String,
-    pub schedules: Vec<String>,
-    pub failure: Option<Failure>,
-}
-
 /// Explores the programs of a laboratory, as far as the limits allow, and judges each end by each
-/// word. Where a word isn't so, the schedules that are told with it lead to ends which show that.
+/// word. Where the last line of the text says that the search is complete, no steps lead to rest
+/// where something is told that the text doesn't, or by fewer calls than its schedule has. Where a
+/// word isn't so, the schedules that are told with it lead to ends which show that.
 /// Where the exploration is complete and the word is so, every world at rest that any steps lead to
 /// is as the word requires. The schedule of what must never be so leads to it; where the exploration is
 /// complete and there is none, no steps do. Where it is complete, exactly those of the semaphores and
@@ -54,78 +36,97 @@ pub fn ask<O: Observer, R: Threads + Sync>(
     alloc: Global,
     fresh: Fresh,
     limits: Limits,
-    words: &[Word],
-    waiters: &[Waiter],
-    conditions: Vec<Never>,
-    fair: bool,
-    show: Show,
+    asked: Asked,
     observer: &mut O,
     workers: &Workers<'_, R>,
 ) -> Result<Answers, ExploreFault>
+    ensures words { IfOk result (λ a. map (λ x. x.word) a.answers.items ≡ asked.words.items) }
+    ensures conditions { IfOk result (λ a. a.asked.never.items ≡ asked.never.items) }
+    ensures shows { IfOk result (λ a. a.asked.show ≡ asked.show) }
+    ensures plain { IfOk result (λ a. a.asked.plain ≡ asked.plain) }
     ensures text { IfOk result (λ a.
-        string_bytes a.text ≡ answers_text show conditions.items a.exploration a.answers.items) }
-    ensures schedules { IfOk result (λ a. map string_bytes a.schedules.items
-        ≡ map (λ e. schedule_text e.schedule) (told_ends show a.exploration.ends.items)) }
-    ensures words { IfOk result (λ a. map (λ x. x.word) a.answers.items ≡ words.now) }
+        string_bytes a.text ≡ answers_text false a.asked a.exploration a.answers.items) }
+    ensures numbers { IfOk result (λ a.
+        AreTold asked.show a.exploration.ends.items a.told.items) }
     ensures answers { IfOk result (λ a.
-        All (IsAnswer waiters.now a.exploration.ends.items) a.answers.items) }
+        All (IsAnswer asked.waiters.items a.exploration.ends.items) a.answers.items) }
     ensures sound { IfOk result (λ a. AreEnds fresh a.exploration.ends.items) }
+    ensures ordered { IfOk result (λ a.
+        IsNonDecreasingBy (λ e. e.calls) a.exploration.ends.items) }
     ensures round { IfOk result (λ a. IfSome a.exploration.round (λ r. IsRound fresh r)) }
     ensures repeats { IfOk result (λ a.
         IfSome a.exploration.round (λ r. CanBeRepeated fresh r)) }
     ensures complete { IfOk result (λ a. IsTrue a.exploration.complete
         → HaveAllEnds fresh a.exploration.ends.items) }
+    ensures fewest { IfOk result (λ a. IsTrue a.exploration.complete
+        → HaveFewestCalls fresh a.exploration.ends.items) }
     ensures told { IfOk result (λ a. IsTrue a.exploration.complete
-        → TellEveryEnd show fresh (told_ends show a.exploration.ends.items)) }
-    ensures bounded { IfOk result (λ a. fair ≡ false → IsTrue a.exploration.complete
+        → TellEveryEnd asked.show fresh (told_ends asked.show a.exploration.ends.items)) }
+    ensures bounded { IfOk result (λ a. asked.fair ≡ false → IsTrue a.exploration.complete
         → a.exploration.round ≡ None → AreBounded fresh) }
-    ensures fair { IfOk result (λ a. a.exploration.fair ≡ fair) }
-    ensures fair_round { IfOk result (λ a. IsTrue fair
+    ensures says_all { IfOk result (λ a. SaysComplete (string_bytes a.text)
+        → TellsEveryEnd asked.show fresh (string_bytes a.text)) }
+    ensures says_free { IfOk result (λ a. SaysComplete (string_bytes a.text)
+        → (SaysStuck (string_bytes a.text) → ⊥) → NeverStuck fresh) }
+    ensures says_bounded { IfOk result (λ a. asked.fair ≡ false
+        → SaysComplete (string_bytes a.text) → (SaysEndless (string_bytes a.text) → ⊥)
+        → AreBounded fresh) }
+    ensures fair { IfOk result (λ a. a.exploration.fair ≡ asked.fair) }
+    ensures fair_round { IfOk result (λ a. IsTrue asked.fair
         → IfSome a.exploration.round (λ r. IsFairRound fresh r)) }
-    ensures fairly_endless { IfOk result (λ a. IsTrue fair
+    ensures fairly_endless { IfOk result (λ a. IsTrue asked.fair
         → IfSome a.exploration.round (λ r. AreFairlyEndless fresh)) }
-    ensures fairly_bounded { IfOk result (λ a. IsTrue fair → IsTrue a.exploration.complete
+    ensures fairly_bounded { IfOk result (λ a. IsTrue asked.fair → IsTrue a.exploration.complete
         → a.exploration.round ≡ None → AreFairlyBounded fresh) }
     ensures refuted { IfOk result (λ a. All (λ x. IfSome x.fault (λ i.
-        IsRefuted x.word waiters.now fresh (schedule_at a.exploration.ends.items 0)
+        IsRefuted x.word asked.waiters.items fresh (schedule_at a.exploration.ends.items 0)
         (schedule_at a.exploration.ends.items i))) a.answers.items) }
+    ensures others { IfOk result (λ a. All (λ x. IfSome x.fault (λ i.
+        HasOtherVerdict a.exploration.ends.items x.word i)) a.answers.items) }
     ensures met { IfOk result (λ a. IsTrue a.exploration.complete
-        → All (λ x. x.fault ≡ None → AlwaysMeet x.word waiters.now fresh) a.answers.items) }
-    ensures conditions { IfOk result (λ a. a.conditions.items ≡ conditions.items) }
+        → All (λ x. x.fault ≡ None → AlwaysMeet x.word asked.waiters.items fresh)
+        a.answers.items) }
     ensures reached { IfOk result (λ a.
-        AreReached fresh conditions.items a.exploration.reached.items) }
+        AreReached fresh asked.never.items a.exploration.reached.items) }
     ensures unreached { IfOk result (λ a. IsTrue a.exploration.complete
-        → AreKept fresh conditions.items a.exploration.reached.items) }
+        → AreKept fresh asked.never.items a.exploration.reached.items) }
     ensures unopened { IfOk result (λ a. IsTrue a.exploration.complete
-        → AreUnopened fresh conditions.items a.unopened.items) }
+        → AreUnopened fresh asked.never.items a.unopened.items) }
     ensures unknown { IfOk result (λ a. a.exploration.complete ≡ false
         → a.unopened.items ≡ []) }
     ensures order { IfOk result (λ a.
-        AllPairs (StandsBefore (named conditions.items)) a.unopened.items) }
-    ensures passes { IfOk result (λ a. a.failure ≡ None
-        → Passes a.exploration a.answers.items) }
+        AllPairs (StandsBefore (named asked.never.items)) a.unopened.items) }
+    ensures passes { IfOk result (λ a. (a.failure ≡ None)
+        ↔ Passes a.exploration a.answers.items) }
     ensures failure { IfOk result (λ a.
-        IfSome a.failure (λ f. IsFailure a.exploration a.answers.items f)) }
+        IfSome a.failure (λ f. IsFailure asked.plain a.exploration a.answers.items f)) }
+    ensures come { IfOk result (λ a. asked.waiters.items ≡ [] → asked.fair ≡ false
+        → a.failure ≡ None → All (λ x. IfSome (verdict_asked x.word) (λ v. ComeTo v fresh))
+        a.answers.items) }
 {
-    let mut conditions = conditions;
-    let asked = conditions.len();
-    let objects = named_in(alloc, &conditions)?;
-    let mut presences = presences_of(alloc, &objects)?;
-    conditions.append(&mut presences)?;
-    let mut exploration = explore(alloc, fresh, limits, &conditions, fair, observer, workers)?;
-    conditions.truncate(asked);
-    let seen = exploration.reached.split_off(asked)?;
-    let unopened = unopened_in(alloc, exploration.complete, &objects, &seen)?;
-    let answers = answers_on(alloc, words, waiters, &exploration.ends)?;
-    let told = tell(alloc, show, &exploration, &answers, &conditions)?;
-    let failure = failure_of(&exploration, &answers);
+    let mut asked = asked;
+    let count = asked.never.len();
+    let objects = watch(alloc, &mut asked.never)?;
+    let mut exploration = explore(
+        alloc,
+        fresh,
+        limits,
+        &asked.never,
+        asked.fair,
+        observer,
+        workers,
+    )?;
+    asked.never.truncate(count);
+    let complete = exploration.complete;
+    let unopened = unopened_in(alloc, complete, objects, &mut exploration.reached, count)?;
+    let said = said_of(alloc, &asked, &exploration, false)?;
     Ok(Answers {
+        asked,
         exploration,
-        conditions,
-        answers,
+        answers: said.answers,
         unopened,
-        text: told.text,
-        schedules: told.schedules,
-        failure,
+        text: said.text,
+        told: said.told,
+        failure: said.failure,
     })
 }

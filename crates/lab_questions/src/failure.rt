@@ -1,7 +1,7 @@
 //! Why ends aren't as they are required to be.
 ghost use Rattle.std.specs.Prelude.{◌≡◌, ◌≢◌, ◌↔◌, false, List, Some, None, All, Any, IfSome, IsTrue, slice_get};
 ghost use Rattle.lab_sched.specs.declared.schedule.block.Block.{Block};
-ghost use Rattle.lab_questions.specs.Programs.{AsksRest, Passes, IsFailure};
+ghost use Rattle.lab_questions.specs.Programs.{AsksRest, Passes, IsEndless, IsUnmet, IsReached, IsFailure};
 
 use crate::{Answer, Word};
 use lab_sched::Schedule;
@@ -24,7 +24,7 @@ pub enum Failure {
 fn unmet_word(answers: &[Answer]) -> Option<Word>
     ensures none { result ≡ None → All (λ a. a.fault ≡ None) answers.now }
     ensures some { IfSome result (λ word.
-        Any (λ a. (a.word ≡ word) × (a.fault ≢ None)) answers.now) }
+        IsUnmet answers.now word) }
 {
     for answer in answers {
         if answer.fault.is_some() {
@@ -75,18 +75,35 @@ fn ask_rest(answers: &[Answer]) -> bool
     false
 }
 
-/// Why an exploration doesn't show that all is as it is required, if it doesn't.
-pub(crate) fn failure_of(found: &Exploration, answers: &[Answer]) -> Option<Failure>
-    ensures none { result ≡ None → Passes found.now answers.now }
-    ensures some { IfSome result (λ failure. IsFailure found.now answers.now failure) }
+/// Whether some interleaving never ends, and a word asks that each run comes to rest.
+fn is_endless(found: &Exploration, answers: &[Answer]) -> bool
+    ensures yes { IsTrue result → IsEndless found.now answers.now }
+    ensures no { result ≡ false → Any (λ a. AsksRest a.word) answers.now
+        → found.now.round ≡ None }
 {
+    found.round.is_some() && ask_rest(answers)
+}
+
+/// Why an exploration doesn't show that all is as it is required, if it doesn't: what was found, or else what wasn't visited,
+/// which counts first where no more is asked than a verdict.
+pub(crate) fn failure_of(found: &Exploration, answers: &[Answer], plain: bool) -> Option<Failure>
+    ensures none { result ≡ None → Passes found.now answers.now }
+    ensures some { IfSome result (λ failure. IsFailure plain found.now answers.now failure) }
+{
+    let endless = is_endless(found, answers);
+    if plain && !found.complete {
+        return Some(Failure::Incomplete);
+    }
+    if plain && endless {
+        return Some(Failure::Endless);
+    }
     if let Some(word) = unmet_word(answers) {
         return Some(Failure::Not(word));
     }
     if let Some(number) = first_reached(&found.reached) {
         return Some(Failure::Reached(number));
     }
-    if found.round.is_some() && ask_rest(answers) {
+    if endless {
         return Some(Failure::Endless);
     }
     if !found.complete {

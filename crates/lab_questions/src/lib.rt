@@ -1,22 +1,29 @@
-//! Questions on the ends of an exploration: what is required of each, and where it isn't so.
+//! Questions on the programs of a laboratory: what their ends are, what is required of each, where it isn't so, and the text
+//! and the JSON that tell it.
 #![tactic(auto)]
 
 mod answers;
+mod asked;
 mod asking;
 mod failure;
+mod json;
 mod judging;
+pub mod laws;
+mod left;
+mod lines;
 mod object;
 mod presence;
 mod processes;
 mod showing;
+mod shown;
 mod texts;
+mod told;
 mod walking;
-mod word;
 
-pub use answers::Answer;
-pub use asking::{Answers, ask};
+pub use answers::{Answer, Answers};
+pub use asked::{Asked, Reach, Show, Waiter, Word};
+pub use asking::ask;
 pub use failure::Failure;
+pub use json::answers_json;
 pub use object::Object;
-pub use showing::bad_schedule;
 pub use walking::ask_walks;
-pub use word::{Waiter, Word};

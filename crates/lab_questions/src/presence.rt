@@ -1,12 +1,14 @@
 //! Whether semaphores and queues that conditions name are ever there.
-ghost use Rattle.std.specs.Prelude.{◌≡◌, ℕ, None, Some, false, List, [], All, AllPairs, Contains, IfOk, IsTrue, OnOk, slice_get};
+ghost use Rattle.std.specs.Prelude.{◌≡◌, ◌≤◌, ◌++◌, ℕ, None, Some, false, List, [], All, AllPairs, Contains, IfOk, IsTrue, OnOk, drop, length, slice_get, take};
 ghost use Rattle.lab_worlds.specs.Calls.{Alongside};
+ghost use Rattle.lab_conditions.specs.declared.never.Never.{Never as Asking};
 ghost use Rattle.lab_questions.specs.declared.object.Object.{Object as Seen};
-ghost use Rattle.lab_questions.specs.Objects.{presence, StandsBefore};
+ghost use Rattle.lab_questions.specs.Objects.{named, presence, StandsBefore};
 ghost use Rattle.lab_questions.specs.Private.Presences.{AsksFor, AddsUnseen, IsUnseen};
 
 use crate::Object;
 use crate::failure::has_schedule;
+use crate::object::named_in;
 use lab_conditions::{Condition, Never, Part, Relation};
 use lab_sched::Schedule;
 use std::alloc::{AllocError, Global};
@@ -46,7 +48,7 @@ fn presence_of(alloc: Global, object: &Object) -> Result<Never, AllocError>
 }
 
 /// For each object, in order, the condition that holds of each world which has it.
-pub(crate) fn presences_of(alloc: Global, objects: &[Object]) -> Result<Vec<Never>, AllocError>
+fn presences_of(alloc: Global, objects: &[Object]) -> Result<Vec<Never>, AllocError>
     ensures asks { IfOk result (λ conditions. Alongside AsksFor objects.now conditions.items) }
 {
     let mut conditions = Vec::with_capacity(alloc, objects.len())?;
@@ -55,6 +57,25 @@ pub(crate) fn presences_of(alloc: Global, objects: &[Object]) -> Result<Vec<Neve
         conditions.push(condition)?;
     }
     Ok(conditions)
+}
+
+/// Adds, behind conditions, one for each object that they name, which holds of each world that has it; the objects, each once, in
+/// the order in which the conditions first name them.
+pub(crate) fn watch(alloc: Global, conditions: &mut Vec<Never>) -> Result<Vec<Object>, AllocError>
+    ensures asks { IfOk result (λ objects. (presences : List Asking)
+        × (conditions.new.items ≡ conditions.old.items ++ presences)
+        × Alongside AsksFor objects.items presences) }
+    ensures all { IfOk result (λ objects.
+        All (Contains objects.items) (named conditions.old.items)) }
+    ensures only { IfOk result (λ objects.
+        All (Contains (named conditions.old.items)) objects.items) }
+    ensures order { IfOk result (λ objects.
+        AllPairs (StandsBefore (named conditions.old.items)) objects.items) }
+{
+    let objects = named_in(alloc, conditions)?;
+    let mut presences = presences_of(alloc, &objects)?;
+    conditions.append(&mut presences)?;
+    Ok(objects)
 }
 
 /// Adds an object, unless there is a schedule for it.
@@ -94,25 +115,30 @@ fn unseen(
     Ok(unseen)
 }
 
-/// The objects for which there is no schedule, if everything was visited.
+/// Takes the schedules behind the first ones, which are those of objects; the objects without one, if everything was visited.
 pub(crate) fn unopened_in(
     alloc: Global,
     complete: bool,
-    objects: &[Object],
-    seen: &[Option<Schedule>],
+    objects: Vec<Object>,
+    reached: &mut Vec<Option<Schedule>>,
+    asked: usize,
 ) -> Result<Vec<Object>, AllocError>
+    requires there { asked ≤ length reached.old.items }
+    ensures first { OnOk result (reached.new.items ≡ take asked reached.old.items) }
     ensures each { IfOk result (λ unopened.
-        All (IsUnseen objects.now seen.now) unopened.items) }
+        All (IsUnseen objects.items (drop asked reached.old.items)) unopened.items) }
     ensures all { IfOk result (λ unopened. IsTrue complete → (i : ℕ) (o : Seen)
-        → slice_get objects.now i ≡ Some o → slice_get seen.now i ≡ Some None
+        → slice_get objects.items i ≡ Some o
+        → slice_get (drop asked reached.old.items) i ≡ Some None
         → Contains unopened.items o) }
     ensures unknown { IfOk result (λ unopened. complete ≡ false → unopened.items ≡ []) }
     ensures order { IfOk result (λ unopened. (names : List Seen)
-        → AllPairs (StandsBefore names) objects.now
+        → AllPairs (StandsBefore names) objects.items
         → AllPairs (StandsBefore names) unopened.items) }
 {
+    let seen = reached.split_off(asked)?;
     if complete {
-        unseen(alloc, objects, seen)
+        unseen(alloc, &objects, &seen)
     } else {
         Ok(Vec::new(alloc))
     }

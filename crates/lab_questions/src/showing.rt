@@ -1,11 +1,12 @@
 //! Schedules that show why ends aren't as they are required to be.
-ghost use Rattle.std.specs.Prelude.{◌≡◌, ◌⊎◌, ℕ, List, None, Some, All, Any, IfOk, IfSome, length, slice_get, string_bytes};
+ghost use Rattle.std.specs.Prelude.{◌≡◌, ◌⊎◌, ℕ, List, None, Some, All, Any, IfOk, IfSome, length, slice_get, string_bytes, ◌++◌, codes};
+ghost use Rattle.lab_sched.specs.ScheduleTexts.{schedule_text};
 ghost use Rattle.lab_sched.specs.declared.schedule.block.Block.{Block};
 ghost use Rattle.lab_questions.specs.declared.failure.Failure.TheVariants.{Not, Reached, Endless};
-ghost use Rattle.lab_questions.specs.declared.word.Word.{Word};
+ghost use Rattle.lab_questions.specs.declared.asked.Word.{Word};
 ghost use Rattle.lab_questions.specs.Texts.{IsBeyond, IsTooLong, ShowsFault, ShowsReached, ShowsRound};
 
-use crate::{Answer, Failure};
+use crate::{Answer, Answers, Failure};
 use lab_sched::{SchedFault, Schedule};
 use lab_worlds::{Exploration, Round};
 use std::alloc::{AllocError, Global};
@@ -61,52 +62,62 @@ fn reached_schedule(
     }
 }
 
+/// The texts of the schedule of a round and of its steps, with a blank between.
+fn round_text(alloc: Global, round: &Round) -> Result<String, AllocError>
+    ensures text { IfOk result (λ text. string_bytes text ≡ schedule_text round.now.schedule
+        ++ codes " " ++ schedule_text round.now.steps) }
+{
+    let mut text = round.schedule.text(alloc)?;
+    text.push_str(" ")?;
+    text.push_str(&round.steps.text(alloc)?)?;
+    Ok(text)
+}
+
 /// The text of the schedule of a round with its steps behind it, as one schedule, unless they are too many for one.
 fn round_schedule(alloc: Global, round: &Round) -> Result<Option<String>, AllocError>
     ensures round { IfOk result (λ shown. IfSome shown (λ text.
         ShowsRound round.now (string_bytes text))) }
     ensures none { IfOk result (λ shown. shown ≡ None → IsTooLong round.now) }
 {
-    let before = round.schedule.text(alloc)?;
-    let steps = round.steps.text(alloc)?;
-    let both = format!(in alloc; "{before} {steps}")?;
-    match Schedule::read(alloc, &both) {
+    match Schedule::read(alloc, &round_text(alloc, round)?) {
         Ok(whole) => Ok(Some(whole.text(alloc)?)),
         Err(SchedFault::NoMemory) => Err(AllocError),
         Err(SchedFault::BadBlock { .. }) | Err(SchedFault::TooLong { .. }) => Ok(None),
     }
 }
 
-/// The text of the schedule that shows a failure, if it has one: that of the first end that isn't as it is required,
-/// that of the first condition that was reached, or that of a round with its steps behind it.
-pub fn bad_schedule(
-    alloc: Global,
-    found: &Exploration,
-    answers: &[Answer],
-    failure: Option<Failure>,
-) -> Result<Option<String>, AllocError>
-    ensures fault { IfOk result (λ shown. (word : Word) → failure ≡ Some (Not word)
-        → IfSome shown (λ text. ShowsFault found.now.ends.items answers.now (string_bytes text))) }
-    ensures reached { IfOk result (λ shown. (i : ℕ) → failure ≡ Some (Reached i)
-        → IfSome shown (λ text. ShowsReached found.now.reached.items i (string_bytes text))) }
-    ensures round { IfOk result (λ shown. failure ≡ Some Endless
-        → IfSome shown (λ text. IfSome found.now.round (λ r. ShowsRound r (string_bytes text)))) }
-    ensures no_fault { IfOk result (λ shown. (word : Word) → failure ≡ Some (Not word)
-        → shown ≡ None → All (λ a. a.fault ≡ None) answers.now
-        ⊎ Any (IsBeyond (length found.now.ends.items)) answers.now) }
-    ensures not_reached { IfOk result (λ shown. (i : ℕ) → failure ≡ Some (Reached i)
-        → shown ≡ None → (s : List Block)
-        → slice_get found.now.reached.items i ≡ Some (Some s) → ⊥) }
-    ensures too_long { IfOk result (λ shown. failure ≡ Some Endless
-        → shown ≡ None → IfSome found.now.round (λ r. IsTooLong r)) }
-{
-    match failure {
-        Some(Failure::Not(_)) => fault_schedule(alloc, found, answers),
-        Some(Failure::Reached(number)) => reached_schedule(alloc, &found.reached, number),
-        Some(Failure::Endless) => match &found.round {
-            Some(round) => round_schedule(alloc, round),
-            None => Ok(None),
-        },
-        Some(Failure::Incomplete) | None => Ok(None),
+impl Answers {
+    /// The text of the schedule that shows the failure, if it has one: that of the first end that isn't as it is required,
+    /// that of the first condition that was reached, or that of a round with its steps behind it.
+    pub fn bad_schedule(&self, alloc: Global) -> Result<Option<String>, AllocError>
+        ensures fault { IfOk result (λ shown. (word : Word) → self.now.failure ≡ Some (Not word)
+            → IfSome shown (λ text. ShowsFault self.now.exploration.ends.items
+            self.now.answers.items (string_bytes text))) }
+        ensures reached { IfOk result (λ shown. (i : ℕ) → self.now.failure ≡ Some (Reached i)
+            → IfSome shown (λ text. ShowsReached self.now.exploration.reached.items i
+            (string_bytes text))) }
+        ensures round { IfOk result (λ shown. self.now.failure ≡ Some Endless
+            → IfSome shown (λ text. IfSome self.now.exploration.round (λ r.
+            ShowsRound r (string_bytes text)))) }
+        ensures no_fault { IfOk result (λ shown. (word : Word)
+            → self.now.failure ≡ Some (Not word) → shown ≡ None
+            → All (λ a. a.fault ≡ None) self.now.answers.items
+            ⊎ Any (IsBeyond (length self.now.exploration.ends.items)) self.now.answers.items) }
+        ensures not_reached { IfOk result (λ shown. (i : ℕ)
+            → self.now.failure ≡ Some (Reached i) → shown ≡ None → (s : List Block)
+            → slice_get self.now.exploration.reached.items i ≡ Some (Some s) → ⊥) }
+        ensures too_long { IfOk result (λ shown. self.now.failure ≡ Some Endless
+            → shown ≡ None → IfSome self.now.exploration.round (λ r. IsTooLong r)) }
+    {
+        let found = &self.exploration;
+        match self.failure {
+            Some(Failure::Not(_)) => fault_schedule(alloc, found, &self.answers),
+            Some(Failure::Reached(number)) => reached_schedule(alloc, &found.reached, number),
+            Some(Failure::Endless) => match &found.round {
+                Some(round) => round_schedule(alloc, round),
+                None => Ok(None),
+            },
+            Some(Failure::Incomplete) | None => Ok(None),
+        }
     }
 }

@@ -1,31 +1,16 @@
 //! The lines of answers.
-ghost use Rattle.std.specs.Prelude.{◌≡◌, ◌<◌, ◌++◌, Some, length, slice_get, OnOk, IfOk, IfSome, All, string_bytes, flat_map, map};
-ghost use Rattle.lab_sched.specs.ScheduleTexts.{schedule_text};
-ghost use Rattle.lab_findings.specs.Texts.{told_ends, schedule_line};
-ghost use Rattle.lab_questions.specs.Texts.{word_text, schedule_at, first_lines, fault_lines, answer_lines, condition_lines, reached_lines, answers_text, walks_line, walks_text};
+ghost use Rattle.std.specs.Prelude.{◌≡◌, ◌<◌, ◌++◌, Some, length, slice_get, OnOk, IfOk, IfSome, All, string_bytes, flat_map};
+ghost use Rattle.lab_questions.specs.EndTexts.{schedule_line, AreTold};
+ghost use Rattle.lab_questions.specs.Texts.{schedule_at, first_lines, fault_lines, answer_lines, condition_lines, reached_lines, word_lines, walks_line, last_lines, answers_text};
 
-use crate::{Answer, Word};
+use crate::lines::{push_extent, push_round, push_schedule};
+use crate::told::{Told, told_of};
+use crate::{Answer, Asked, Word};
 use lab_conditions::Never;
-use lab_findings::{Show, Told, push_extent, push_round, push_schedule, told_of};
 use lab_sched::Schedule;
 use lab_worlds::{End, Exploration};
 use std::alloc::{AllocError, Global};
 use std::fmt::Write;
-
-impl Word {
-    /// The word as it is written.
-    pub fn text(self) -> &'static str
-        ensures text { result.now ≡ word_text self }
-    {
-        match self {
-            Word::Ended => "ended",
-            Word::Stuck => "stuck",
-            Word::Halted => "halted",
-            Word::Empty => "empty",
-            Word::Same => "same",
-        }
-    }
-}
 
 /// Adds the line of the schedule of an end, by its number, counted from 0.
 fn push_schedule_at(
@@ -167,43 +152,59 @@ fn push_walks(text: &mut String, walks: u32) -> Result<(), AllocError>
     }
 }
 
-/// Tells an exploration and answers.
-pub(crate) fn tell(
+/// Adds the lines of answers, unless no more is asked than the ends.
+fn push_words(
     alloc: Global,
-    show: Show,
-    found: &Exploration,
+    text: &mut String,
+    plain: bool,
+    ends: &[End],
     answers: &[Answer],
-    conditions: &[Never],
-) -> Result<Told, AllocError>
-    requires there { All (λ a. IfSome a.fault (λ i. i < length found.now.ends.items)) answers.now }
-    ensures text { IfOk result (λ told.
-        string_bytes told.text ≡ answers_text show conditions.now found.now answers.now) }
-    ensures schedules { IfOk result (λ told. map string_bytes told.schedules.items
-        ≡ map (λ e. schedule_text e.schedule) (told_ends show found.now.ends.items)) }
+) -> Result<(), AllocError>
+    requires there { All (λ a. IfSome a.fault (λ i. i < length ends.now)) answers.now }
+    ensures text { OnOk result (string_bytes text.new
+        ≡ string_bytes text.old ++ word_lines plain ends.now answers.now) }
 {
-    let mut told = told_of(alloc, show, &found.ends)?;
-    push_answers(alloc, &mut told.text, &found.ends, answers)?;
-    push_conditions(alloc, &mut told.text, conditions, &found.reached)?;
-    push_round(alloc, &mut told.text, &found.round)?;
-    push_extent(&mut told.text, found.complete, found.worlds)?;
-    Ok(told)
+    if plain {
+        return Ok(());
+    }
+    push_answers(alloc, text, ends, answers)
 }
 
-/// Tells what walks found, and answers.
-pub(crate) fn tell_walks(
+/// Adds the last lines: of walks how many were taken; else what was reached, a round, and whether everything was visited.
+fn push_last(
     alloc: Global,
-    show: Show,
+    text: &mut String,
+    walks: bool,
+    never: &[Never],
+    found: &Exploration,
+) -> Result<(), AllocError>
+    ensures text { OnOk result (string_bytes text.new
+        ≡ string_bytes text.old ++ last_lines walks never.now found.now) }
+{
+    if walks {
+        return push_walks(text, found.worlds);
+    }
+    push_conditions(alloc, text, never, &found.reached)?;
+    push_round(alloc, text, &found.round)?;
+    push_extent(text, found.complete, found.worlds)
+}
+
+/// Tells what was found, by walks or by a search, and answers.
+pub(crate) fn tell(
+    alloc: Global,
+    asked: &Asked,
     found: &Exploration,
     answers: &[Answer],
+    walks: bool,
 ) -> Result<Told, AllocError>
     requires there { All (λ a. IfSome a.fault (λ i. i < length found.now.ends.items)) answers.now }
     ensures text { IfOk result (λ told.
-        string_bytes told.text ≡ walks_text show found.now answers.now) }
-    ensures schedules { IfOk result (λ told. map string_bytes told.schedules.items
-        ≡ map (λ e. schedule_text e.schedule) (told_ends show found.now.ends.items)) }
+        string_bytes told.text ≡ answers_text walks asked.now found.now answers.now) }
+    ensures told { IfOk result (λ told.
+        AreTold asked.now.show found.now.ends.items told.numbers.items) }
 {
-    let mut told = told_of(alloc, show, &found.ends)?;
-    push_answers(alloc, &mut told.text, &found.ends, answers)?;
-    push_walks(&mut told.text, found.worlds)?;
+    let mut told = told_of(alloc, asked.show, &found.ends)?;
+    push_words(alloc, &mut told.text, asked.plain, &found.ends, answers)?;
+    push_last(alloc, &mut told.text, walks, &asked.never, found)?;
     Ok(told)
 }

@@ -1,9 +1,0 @@
-pub mod LineLemmas
-pub mod Ordered
-pub mod PlaceSums
-pub mod LeftLemmas
-pub mod Reports
-pub mod OneText
-pub mod ToldEnds
-pub mod TextLemmas
-pub mod ProgramLemmas

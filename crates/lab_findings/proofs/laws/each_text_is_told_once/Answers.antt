@@ -1,5 +1,0 @@
-use Rattle.lab_findings.proofs.ToldEnds.{each_told_once}
-use Rattle.lab_findings.proofs.laws.each_text_is_told_once.Goals as goal
-
-pub returns : goal.returns
-returns c = record { law = each_told_once }

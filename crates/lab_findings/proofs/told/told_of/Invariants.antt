@@ -1,7 +1,0 @@
-use Rattle.std.proofs.Common.{take}
-use Rattle.lab_findings.specs.Private.Told.{IsTold}
-use Rattle.lab_findings.proofs.told.told_of.Given as goal
-
--- the ends so far are told
-abbrev pub invariant-loop-end : goal.invariant-loop-end
-invariant-loop-end l = IsTold l.show l.told (take l.end-index l.ends)

@@ -1,9 +1,0 @@
-pub mod Lines
-pub mod Orders
-pub mod Left
-pub mod Shown
-pub mod Texts
-pub mod Shortfalls
-pub mod Programs
-pub mod Laws
-pub mod Private

@@ -1,0 +1,184 @@
+-- What the text says of programs, by what was found of them.
+use Rattle.std.proofs.Common.{ℕ, ◌≡◌, ◌+◌, Bool, true, false, List, [], ◌∷◌, ◌++◌, Option, Some, None, get_or, slice_get, length, All, refl, sym, ap, subst, ◌∙◌, append_assoc, append-nil, flat_map, codes, decimal, arith, ◌≤◌}
+use Rattle.std.specs.List.Sorted.{IsNonDecreasingBy}
+use Rattle.std.proofs.lemmas.Option.{slice_get_within, get_or_from_slice_get}
+use Rattle.ipc_kernel.specs.Kernel.{KernelState}
+use Rattle.lab_sched.specs.declared.schedule.block.Block.{Block}
+use Rattle.lab_sched.specs.declared.verdict.Verdict.TheVariants.{Stuck}
+use Rattle.lab_sched.specs.ScheduleTexts.{schedule_text}
+use Rattle.lab_sched.specs.Worlds.{WorldState, run}
+use Rattle.lab_sched.specs.Verdicts.{IsVerdict, verdict_of}
+use Rattle.lab_sched.proofs.VerdictLemmas.{verdict_from}
+use Rattle.lab_conditions.specs.declared.never.Never.{Never}
+use Rattle.lab_conditions.specs.Written.{never_text}
+use Rattle.lab_texts.specs.Verdicts.{verdict_line, verdict_text}
+use Rattle.lab_texts.specs.Reports.{report_text, process_reports}
+use Rattle.lab_worlds.specs.declared.ends.End.{End}
+use Rattle.lab_worlds.specs.declared.rounds.Round.{Round}
+use Rattle.lab_worlds.specs.declared.exploration.Exploration.{Exploration}
+use Rattle.lab_worlds.specs.Closed.{AreAtRest}
+use Rattle.lab_worlds.specs.Ends.{IsEnd, AreEnds, HaveAllEnds, NoneStuck, HaveFewestCalls}
+use Rattle.lab_questions.specs.declared.answers.Answer.{Answer}
+use Rattle.lab_questions.specs.declared.asked.Asked.{Asked}
+use Rattle.lab_questions.specs.declared.asked.Show.{Show}
+use Rattle.lab_questions.specs.declared.asked.Word.{Word}
+use Rattle.lab_questions.specs.Claims.{SaysComplete, SaysEndless, SaysStuck, TellsEveryEnd}
+use Rattle.lab_questions.specs.EndTexts.{text_of, told_ends, schedule_line, end_lines, ends_text, endless_line, round_text, extent_line}
+use Rattle.lab_questions.specs.Left.{left_text}
+use Rattle.lab_questions.specs.Lines.{AreLines, StandIn}
+use Rattle.lab_questions.specs.Shown.{outputs_text, outcome_text, head_text, with_left, shown_text}
+use Rattle.lab_questions.specs.Texts.{word_text, schedule_at, first_lines, fault_lines, answer_lines, word_lines, condition_lines, reached_lines, answers_text}
+use Rattle.lab_questions.proofs.LineLemmas.{lines-append, lines-feed, lines-onto, lines-below, same_last}
+use Rattle.lab_questions.proofs.OneText.{same_text}
+use Rattle.lab_questions.proofs.Reports.{report_lines, output_lines, same_verdict}
+use Rattle.lab_questions.proofs.ToldEnds.{Has, told_some, told_all, has_at}
+use Rattle.lab_questions.proofs.TextLemmas.{stand_behind, stand_before, stand_within, ends_whole, end_stands, round_whole, endless_stands, extent_is_line, extent_tells}
+
+all_has : (P : End → Type 0) (es : List End) (e : End) → All P es → Has es e → P e
+all_has P es e all has = subst P (get_or_from_slice_get es has.0 e e has.1) (all has.0 e (slice_get_within es has.0 e has.1))
+
+-- the lines of answers, and of what was reached, are whole lines
+fault_whole : (ends : List End) (word : Word) (o : Option ℕ) → AreLines (fault_lines ends word o)
+unfolding schedule_line
+fault_whole ends word None = tt
+fault_whole ends word (Some i) = lines-onto (codes "not " ++ word_text word ++ codes "\n" ++ first_lines ends word) (codes "schedule " ++ schedule_text (schedule_at ends i))
+
+answers_whole : (ends : List End) (answers : List Answer) → AreLines (flat_map (answer_lines ends) answers)
+answers_whole ends [] = tt
+answers_whole ends (a ∷ answers) = lines-append (answer_lines ends a) (flat_map (answer_lines ends) answers) (fault_whole ends a.word a.fault) (answers_whole ends answers)
+
+words_whole : (plain : Bool) (ends : List End) (answers : List Answer) → AreLines (word_lines plain ends answers)
+words_whole true ends answers = tt
+words_whole false ends answers = answers_whole ends answers
+
+condition_whole : (c : Option Never) (s : Option (Option (List Block))) → AreLines (condition_lines c s)
+unfolding schedule_line
+condition_whole (Some c) (Some (Some s)) = lines-onto (codes "reached " ++ never_text c ++ codes "\n") (codes "schedule " ++ schedule_text s)
+condition_whole (Some c) (Some None) = tt
+condition_whole (Some c) None = tt
+condition_whole None (Some (Some s)) = tt
+condition_whole None (Some None) = tt
+condition_whole None None = tt
+
+reached_whole : (never : List Never) (reached : List (Option (List Block))) → AreLines (reached_lines never reached)
+unfolding reached_lines
+reached_whole never reached = lines-below _ (λ i. condition_lines (slice_get never i) (slice_get reached i)) (λ i. condition_whole (slice_get never i) (slice_get reached i))
+
+-- the verdict stands in what is told of a world, behind whole lines
+head_parts : (out : Bool) (w : WorldState) → (front : List ℕ) × AreLines front × (head_text out w ≡ front ++ verdict_text w)
+unfolding report_text outcome_text
+head_parts false w = (process_reports w, report_lines w, refl)
+head_parts true w = (outputs_text w, output_lines w, refl)
+
+left_parts : (left : Bool) (k : KernelState) (text front verdict : List ℕ) → text ≡ front ++ verdict → (rest : List ℕ) × (with_left left k text ≡ front ++ (verdict ++ rest))
+left_parts false k text front verdict is = ([], is ∙ ap (λ l. front ++ l) (sym (append-nil verdict)))
+left_parts true k text front verdict is = (left_text k, ap (λ t. t ++ left_text k) is ∙ append_assoc front verdict (left_text k))
+
+regrouped : (h f v r l : List ℕ) → (h ++ (f ++ (v ++ r))) ++ l ≡ (h ++ f) ++ (v ++ (r ++ l))
+regrouped h f v r l = ap (λ x. x ++ l) (sym (append_assoc h f (v ++ r))) ∙ append_assoc (h ++ f) (v ++ r) l ∙ ap (λ x. (h ++ f) ++ x) (append_assoc v r l)
+
+stuck_stands : (show : Show) (w : WorldState) (n : ℕ) (blocks : List Block) (text : List ℕ) → verdict_of w ≡ Stuck → StandIn (end_lines n (shown_text show w) blocks) text → SaysStuck text
+unfolding end_lines
+stuck_stands show w n blocks text is stands =
+    let above = codes "end " ++ decimal n ++ codes "\n" in
+    let head = head_parts show.out w in
+    let left = left_parts show.left w.kernel (head_text show.out w) head.0 (verdict_text w) head.2 in
+    let below = left.0 ++ schedule_line blocks in
+    let parts = ap (λ t. (above ++ t) ++ schedule_line blocks) left.1 ∙ regrouped above head.0 (verdict_text w) left.0 (schedule_line blocks)
+    ∙ ap (λ v. (above ++ head.0) ++ (verdict_line v ++ below)) is in
+    stand_within (above ++ head.0) (verdict_line Stuck) below text (lines-append above head.0 (lines-feed (codes "end " ++ decimal n)) head.1)
+    (subst (λ l. StandIn l text) parts stands)
+
+module _ (asked : Asked) (found : Exploration) (answers : List Answer) (text : List ℕ) (is : text ≡ answers_text false asked found answers) where
+  abbrev ends : List ℕ
+  ends = ends_text asked.show 1 (told_ends asked.show found.ends.items)
+
+  abbrev words : List ℕ
+  words = word_lines asked.plain found.ends.items answers
+
+  abbrev reached : List ℕ
+  reached = reached_lines asked.never.items found.reached.items
+
+  abbrev last : List ℕ
+  last = extent_line found.complete found.worlds
+
+  -- the last line, and what is above it
+  whole : text ≡ (ends ++ words ++ (reached ++ round_text found.round)) ++ last
+  whole = is ∙ sym (append_assoc (ends ++ words) (reached ++ round_text found.round) last)
+
+  front_whole : AreLines (ends ++ words)
+  front_whole = lines-append ends words (ends_whole asked.show 1 (told_ends asked.show found.ends.items)) (words_whole asked.plain found.ends.items answers)
+
+  above_whole : AreLines (ends ++ words ++ (reached ++ round_text found.round))
+  above_whole =
+      lines-append (ends ++ words) (reached ++ round_text found.round) front_whole
+      (lines-append reached (round_text found.round) (reached_whole asked.never.items found.reached.items) (round_whole found.round))
+
+  -- a text that says `complete` tells an exploration that is
+  pub is_complete : SaysComplete text → found.complete ≡ true
+  is_complete says =
+      extent_tells found.complete found.worlds says.0
+      (same_last (ends ++ words ++ (reached ++ round_text found.round)) says.1.above last (extent_line true says.0) above_whole says.1.whole
+      (extent_is_line found.complete found.worlds) (extent_is_line true says.0) (sym whole ∙ says.1.ends))
+
+  -- what stands among the ends stands in the text
+  in_text : (these : List ℕ) → StandIn these ends → StandIn these text
+  in_text these stands =
+      subst (StandIn these) (sym whole)
+      (stand_before these (ends ++ words ++ (reached ++ round_text found.round)) last
+      (stand_before these (ends ++ words) (reached ++ round_text found.round) (stand_before these ends words stands)))
+
+  -- a text that doesn't say `endless` tells an exploration without a round
+  pub has_no_round : (SaysEndless text → ⊥) → found.round ≡ None
+  has_no_round quiet = by found.round refl
+    where
+      by : (r : Option Round) → found.round ≡ r → found.round ≡ None
+      by None at = at
+      by (Some r) at =
+          let stands = subst (StandIn endless_line) (ap round_text (sym at)) (endless_stands r) in
+          absurd (quiet (subst (StandIn endless_line) (sym whole)
+          (stand_before endless_line (ends ++ words ++ (reached ++ round_text found.round)) last
+          (stand_behind (ends ++ words) endless_line (reached ++ round_text found.round) front_whole
+          (stand_behind reached endless_line (round_text found.round) (reached_whole asked.never.items found.reached.items) stands)))))
+
+  -- where all ends were found, by the fewest calls, the text tells each
+  pub tells_every_end : (start : WorldState) → AreEnds start found.ends.items
+      → IsNonDecreasingBy (λ e. e.calls) found.ends.items → HaveAllEnds start found.ends.items → HaveFewestCalls start found.ends.items → TellsEveryEnd asked.show start text
+  tells_every_end start each sorted all fewest ps rest =
+      let es = found.ends.items in
+      let show = asked.show in
+      let w = run start ps in
+      let one = all ps rest in
+      let has = fewest ps rest in
+      let first = all_has (IsEnd start) es one.1 each (one.0, one.2) in
+      let end = all_has (IsEnd start) es has.1 each (has.0, has.2) in
+      let verdict = same_verdict w has.1.world one.1.verdict has.1.verdict has.3.processes one.4 first.closed end.verdict end.closed in
+      let stands = subst (IsVerdict w) verdict one.4 in
+      let same = same_text show w has.1.world has.3.processes has.3.kernel (sym (verdict_from has.1.world has.1.verdict end.verdict) ∙ verdict_from w has.1.verdict stands) in
+      let some = told_some show (λ s t. s.calls ≤ t.calls) (λ e. let h : e.calls ≤ e.calls = omega arith in h) es has.1 (λ i j d h k. sorted i j d (omega arith) k) (has.0, has.2) in
+      let told = all_has (IsEnd start) (told_ends show es) some.0 (told_all show (IsEnd start) es each) some.1 in
+      let shown : text_of show some.0 ≡ shown_text show w = some.2 ∙ same in
+      let number = 1 + some.1.0 in
+      let lines = in_text (end_lines number (text_of show some.0) some.0.schedule) (end_stands show 1 (told_ends show es) some.1.0 some.0 some.1.1) in
+      record {
+        number = number;
+        schedule = some.0.schedule;
+        told = subst (λ r. StandIn (end_lines number r some.0.schedule) text) shown lines;
+        effective = told.effective;
+        rests = subst AreAtRest (sym told.leads) told.rests;
+        few = omega (arith, told.calls, some.3, has.4);
+        shown = ap (shown_text show) told.leads ∙ shown;
+      }
+
+  -- a text that doesn't say `verdict stuck` tells no end that is stuck
+  pub none_stuck : (start : WorldState) → AreEnds start found.ends.items → (SaysStuck text → ⊥) → NoneStuck found.ends.items
+  none_stuck start each quiet i d within stuck =
+      let es = found.ends.items in
+      let show = asked.show in
+      let e = get_or es i d in
+      let end = each i d within in
+      let some = told_some show (λ s t. Unit {0}) (λ x. tt) es e (λ j k x h l. tt) (i, has_at es i d within) in
+      let number = 1 + some.1.0 in
+      let stands = in_text (end_lines number (text_of show some.0) some.0.schedule) (end_stands show 1 (told_ends show es) some.1.0 some.0 some.1.1) in
+      quiet (stuck_stands show e.world number some.0.schedule text (sym (verdict_from e.world e.verdict end.verdict) ∙ stuck)
+      (subst (λ r. StandIn (end_lines number r some.0.schedule) text) some.2 stands))

@@ -1,0 +1,112 @@
+-- Why not all is as it is required, and that nothing is wrong where there is no such reason.
+use Rattle.std.proofs.Common.{ℕ, ◌≡◌, ◌≢◌, Bool, true, false, List, [], Option, Some, None, All, Any, IfSome, get_or, slice_get, length, arith, refl, sym, ap, subst, ◌∙◌}
+use Rattle.std.proofs.lemmas.List.{get_or_default}
+use Rattle.std.proofs.lemmas.Option.{slice_get_within, get_or_from_slice_get}
+use Rattle.lab_sched.specs.declared.schedule.block.Block.{Block}
+use Rattle.lab_sched.specs.declared.verdict.Verdict.TheVariants as verdict
+use Rattle.lab_sched.specs.Worlds.{Process, Running, Waiting, WorldState}
+use Rattle.lab_sched.specs.Worlds as world
+use Rattle.lab_sched.specs.Verdicts.{IsVerdict, HasEnded, HaveEnded, AreStuck}
+use Rattle.lab_worlds.specs.declared.ends.End.{End}
+use Rattle.lab_worlds.specs.declared.exploration.Exploration.{Exploration}
+use Rattle.lab_worlds.specs.Ends.{IsEnd, AreEnds}
+use Rattle.lab_worlds.specs.Rounds.{AreBounded}
+use Rattle.lab_questions.specs.declared.answers.Answer.{Answer}
+use Rattle.lab_questions.specs.declared.asked.Waiter.{Waiter}
+use Rattle.lab_questions.specs.declared.asked.Word.{Word}
+use Rattle.lab_questions.specs.declared.asked.Word.TheVariants.{Ended, Stuck, Halted, Empty, Same}
+use Rattle.lab_questions.specs.declared.failure.Failure.{Failure}
+use Rattle.lab_questions.specs.declared.failure.Failure.TheVariants.{Not, Reached, Endless, Incomplete}
+use Rattle.lab_questions.specs.Requirements.{HasSettled, HaveSettled}
+use Rattle.lab_questions.specs.Judgments.{Meets, IsFault, IsFaultIn, IsAnswer, HasOtherVerdict, verdict_asked}
+use Rattle.lab_questions.specs.Programs.{AlwaysMeet, ComeTo, AsksRest, Passes, IsUnmet, IsReached, IsEndless, IsFailure}
+
+none_unmet : (found : Exploration) (answers : List Answer) (word : Word) → IsUnmet answers word → Passes found answers → ⊥
+none_unmet found answers word (i, a, within, is, both) passes = both.1 (ap (λ x. x.fault) (sym is) ∙ passes.met i a within)
+
+none_reached : (found : Exploration) (answers : List Answer) (i : ℕ) → IsReached found i → Passes found answers → ⊥
+none_reached found answers i (s, at) passes =
+    let items = found.reached.items in
+    let none : ◌≡◌ {A = Option (List Block)} (Some s) None = sym (get_or_from_slice_get items i (Some s) (Some s) at) ∙ passes.unreached i (Some s) (slice_get_within items i (Some s) at) in
+    absurd (cc)
+
+none_endless : (found : Exploration) (answers : List Answer) → IsEndless found answers → Passes found answers → ⊥
+none_endless found answers (asks, round) passes = round (passes.ends asks)
+
+none_open : (found : Exploration) (answers : List Answer) → found.complete ≡ false → Passes found answers → ⊥
+none_open found answers ajar passes = let both : true ≡ false = sym passes.complete ∙ ajar in cc
+
+-- what passes has no failure
+not_both : (plain : Bool) (found : Exploration) (answers : List Answer) (f : Failure) → IsFailure plain found answers f → Passes found answers → ⊥
+not_both false found answers (Not word) is passes = none_unmet found answers word is passes
+not_both false found answers (Reached i) (met, reached) passes = none_reached found answers i reached passes
+not_both false found answers Endless (met, unreached, endless) passes = none_endless found answers endless passes
+not_both false found answers Incomplete (met, unreached, ends, ajar) passes = none_open found answers ajar passes
+not_both true found answers (Not word) (complete, ends, unmet) passes = none_unmet found answers word unmet passes
+not_both true found answers (Reached i) (complete, ends, met, reached) passes = none_reached found answers i reached passes
+not_both true found answers Endless (complete, endless) passes = none_endless found answers endless passes
+not_both true found answers Incomplete ajar passes = none_open found answers ajar passes
+
+pub no_failure : (plain : Bool) (found : Exploration) (answers : List Answer) (o : Option Failure) → IfSome o (IsFailure plain found answers) → Passes found answers → o ≡ None
+no_failure plain found answers None is passes = refl
+no_failure plain found answers (Some f) is passes = absurd (not_both plain found answers f is passes)
+
+ended_settles : (waiters : List Waiter) (p : ℕ) (s : Process) → HasEnded s → HasSettled waiters p s
+ended_settles waiters p (Running m) ended = ended
+ended_settles waiters p (Waiting m c) ended = absurd ended
+ended_settles waiters p (world.Ended e) ended = tt
+
+settled_ends : (p : ℕ) (s : Process) → HasSettled [] p s → HasEnded s
+settled_ends p (Running m) settled = settled
+settled_ends p (Waiting m c) settled = absurd (omega (arith, settled.2))
+settled_ends p (world.Ended e) settled = tt
+
+if_each : (P : End → Type 0) (o : Option End) → ((e : End) → P e) → IfSome o P
+if_each P None each = tt
+if_each P (Some e) each = each e
+
+-- an end that isn't as a word requires has another verdict than the word asks for
+other : (word : Word) (waiters : List Waiter) (start : WorldState) (ends : List End) (i : ℕ) → AreEnds start ends → IsFault word waiters ends i → HasOtherVerdict ends word i
+other word waiters start ends i each fault = by word fault.unmet
+  where
+    end : IsEnd start fault.end
+    end = subst (IsEnd start) (get_or_from_slice_get ends i fault.end fault.end fault.there) (each i fault.end (slice_get_within ends i fault.end fault.there))
+
+    by : (word : Word) → (IfSome (slice_get ends 0) (λ first. Meets word waiters first.world fault.end.world) → ⊥) → HasOtherVerdict ends word i
+    by Ended unmet = subst (λ o. IfSome o (λ e. e.verdict ≢ verdict.Ended)) (sym fault.there)
+        (λ is. unmet (if_each (λ first. HaveSettled waiters fault.end.world) (slice_get ends 0)
+        (λ first p s at. ended_settles waiters p s (subst (IsVerdict fault.end.world) is end.verdict p s at))))
+    by Stuck unmet = subst (λ o. IfSome o (λ e. e.verdict ≢ verdict.Stuck)) (sym fault.there)
+        (λ is. unmet (if_each (λ first. AreStuck fault.end.world) (slice_get ends 0) (λ first. subst (IsVerdict fault.end.world) is end.verdict)))
+    by Halted unmet = tt
+    by Empty unmet = tt
+    by Same unmet = tt
+
+fault_other : (word : Word) (waiters : List Waiter) (start : WorldState) (ends : List End) → AreEnds start ends → (o : Option ℕ) → IsFaultIn word waiters ends o → IfSome o (HasOtherVerdict ends word)
+fault_other word waiters start ends sound None fault = tt
+fault_other word waiters start ends sound (Some i) fault = other word waiters start ends i sound fault
+
+pub all_other : (waiters : List Waiter) (start : WorldState) (ends : List End) (answers : List Answer) → AreEnds start ends → All (IsAnswer waiters ends) answers
+    → All (λ a. IfSome a.fault (λ i. HasOtherVerdict ends a.word i)) answers
+all_other waiters start ends answers sound each k d within =
+    fault_other (get_or answers k d).word waiters start ends sound (get_or answers k d).fault (each k d within)
+
+-- where no process may wait, what is always as the word requires comes to the verdict that it asks for
+comes : (word : Word) (waiters : List Waiter) (start : WorldState) → waiters ≡ [] → AlwaysMeet word waiters start → (AsksRest word → AreBounded start)
+    → IfSome (verdict_asked word) (λ v. ComeTo v start)
+comes Ended waiters start none meet bounded = record {
+  bounded = bounded tt;
+  rests = λ ps rest p s at. settled_ends p s (subst (λ ws. HasSettled ws p s) none (meet ps ps rest rest p s at));
+}
+comes Stuck waiters start none meet bounded = record { bounded = bounded tt; rests = λ ps rest. meet ps ps rest rest }
+comes Halted waiters start none meet bounded = tt
+comes Empty waiters start none meet bounded = tt
+comes Same waiters start none meet bounded = tt
+
+pub all_come : (waiters : List Waiter) (start : WorldState) (found : Exploration) (answers : List Answer) → waiters ≡ [] → Passes found answers
+    → All (λ a. a.fault ≡ None → AlwaysMeet a.word waiters start) answers → (found.round ≡ None → AreBounded start)
+    → All (λ a. IfSome (verdict_asked a.word) (λ v. ComeTo v start)) answers
+all_come waiters start found answers none passes meet bounded k d within =
+    let a = get_or answers k d in
+    comes a.word waiters start none (meet k d within (passes.met k d within))
+    (λ asks. bounded (passes.ends (k, a, within, get_or_default answers k a d within, asks)))

@@ -1,0 +1,58 @@
+use Rattle.std.proofs.Common.{ℕ, ◌≡◌, ◌∙◌, ◌+◌, [], ◌∷◌, ◌++◌, Bool, List, map, length, string_bytes, bytes_eq, sym, ap, arith}
+use Rattle.std.specs.List.{list_any}
+use Rattle.std.proofs.lemmas.List.{map_push, length-map}
+use Rattle.lab_worlds.specs.declared.ends.End.{End}
+use Rattle.lab_questions.specs.declared.asked.Show.{Show}
+use Rattle.lab_questions.specs.EndTexts.{text_of, told_ends, end_lines, ends_text}
+use Rattle.lab_questions.proofs.Numbered.{numbers_known, numbers_new}
+use Rattle.lab_questions.proofs.ToldEnds.{told-known, told-new}
+use Rattle.lab_questions.proofs.TextLemmas.{ends-push}
+use Rattle.lab_questions.proofs.told.Told.add.Goals as goal
+
+-- the answer is that of the ends that are told
+answered : (show : Show) (es : List End) (e : End) (others : List (List ℕ)) (text : List ℕ) (r known : Bool) → others ≡ map (text_of show) (told_ends show es)
+    → text ≡ text_of show e → r ≡ list_any (λ other. bytes_eq other text) others → r ≡ known
+    → list_any (λ other. bytes_eq other (text_of show e)) (map (text_of show) (told_ends show es)) ≡ known
+answered show es e others text r known told is value here =
+    ap (λ xs. list_any (λ other. bytes_eq other (text_of show e)) xs) (sym told) ∙ ap (λ x. list_any (λ other. bytes_eq other x) others) (sym is) ∙ sym value ∙ here
+
+pub returns-then-is_among : goal.returns-then-is_among
+returns-then-is_among c = record {
+  told = λ ends at told.
+      let e = c.args.end.now in
+      let show = c.args.show in
+      let others = ap (map string_bytes) c.deref-2.ensures.value ∙ told.texts in
+      let text = c.deref.ensures ∙ c.in_ok-text.ensures.text in
+      let known = told-known show ends e (answered show ends e _ _ _ _ others text c.is_among.ensures.value c.if-is_among.true) in
+      record {
+        text = told.text ∙ ap (ends_text show 1) (sym known);
+        texts = told.texts ∙ ap (map (text_of show)) (sym known);
+        numbers = numbers_known show ends e c.args.self.now.numbers.items known told.numbers;
+      };
+}
+
+pub returns : goal.returns
+returns c = record {
+  told = λ ends at told.
+      let e = c.args.end.now in
+      let show = c.args.show in
+      let old = c.args.self.now in
+      let others = ap (map string_bytes) c.deref-2.ensures.value ∙ told.texts in
+      let text = c.deref.ensures ∙ c.in_ok-text.ensures.text in
+      let is_new = told-new show ends e (answered show ends e _ _ _ _ others text c.is_among.ensures.value c.if-is_among.false) in
+      let again = c.deref-3.ensures ∙ c.in_ok-text.ensures.text in
+      let count : c.len-number.result + 1 ≡ 1 + length (told_ends show ends) =
+      let same = ap length told.texts in
+      omega (arith, same, length-map old.texts.items string_bytes, length-map (told_ends show ends) (text_of show), c.len-number.ensures, old.texts.ok.0) in
+      record {
+        text = c.in_ok-push_end.ensures.text ∙ ap (λ t. t ++ end_lines (c.len-number.result + 1) c.deref-3.result.now e.schedule) told.text
+            ∙ ap (λ n. ends_text show 1 (told_ends show ends) ++ end_lines n c.deref-3.result.now e.schedule) count
+            ∙ ap (λ r. ends_text show 1 (told_ends show ends) ++ end_lines (1 + length (told_ends show ends)) r e.schedule) again
+            ∙ sym (ends-push show 1 (told_ends show ends) e) ∙ ap (ends_text show 1) (sym is_new);
+        texts = ap (map string_bytes) c.in_ok-push.ensures.items ∙ map_push string_bytes old.texts.items c.in_ok-text.text
+            ∙ ap (λ rs. rs ++ string_bytes c.in_ok-text.text ∷ []) told.texts
+            ∙ ap (λ r. map (text_of show) (told_ends show ends) ++ r ∷ []) c.in_ok-text.ensures.text
+            ∙ sym (map_push (text_of show) (told_ends show ends) e) ∙ ap (map (text_of show)) (sym is_new);
+        numbers = numbers_new show ends e old.numbers.items _ c.args.at is_new at c.in_ok-push-2.ensures.items told.numbers;
+      };
+}

@@ -1,0 +1,121 @@
+//! The last members of the answers.
+ghost use Rattle.std.specs.Prelude.{◌≡◌, ◌++◌, OnOk, string_bytes};
+ghost use Rattle.lab_questions.specs.Members.{last_members, objects_json, round_json, holds_json, unopened_member, endless_members, holds_member};
+ghost use Rattle.lab_questions.specs.Private.Values.{first_comma};
+ghost use Rattle.lab_questions.specs.Values.{text_json};
+ghost use Rattle.lab_questions.specs.Objects.{object_text};
+
+use crate::json::values::{push_comma, push_schedule, push_text, truth_name};
+use crate::{Answers, Failure, Object};
+use lab_worlds::Round;
+use std::alloc::{AllocError, Global};
+
+/// Adds an object, behind a comma unless it is the first.
+fn push_object(
+    alloc: Global,
+    text: &mut String,
+    at: usize,
+    object: &Object,
+) -> Result<(), AllocError>
+    ensures text { OnOk result (string_bytes text.new
+        ≡ string_bytes text.old ++ first_comma at ++ text_json (object_text object.now)) }
+{
+    push_comma(text, at)?;
+    let named = format!(in alloc; "{object}")?;
+    push_text(text, named.as_bytes())
+}
+
+/// Adds objects, with commas between them.
+fn push_objects(alloc: Global, text: &mut String, objects: &[Object]) -> Result<(), AllocError>
+    ensures text { OnOk result
+        (string_bytes text.new ≡ string_bytes text.old ++ objects_json objects.now) }
+{
+    for (at, object) in objects.iter().enumerate() {
+        push_object(alloc, text, at, object)?;
+    }
+    Ok(())
+}
+
+/// Adds a round, or that there is none.
+fn push_round(alloc: Global, text: &mut String, round: &Option<Round>) -> Result<(), AllocError>
+    ensures text { OnOk result
+        (string_bytes text.new ≡ string_bytes text.old ++ round_json round.now) }
+{
+    let Some(round) = round else {
+        return text.push_str("null");
+    };
+    text.push_str("{\"schedule\":")?;
+    push_schedule(alloc, text, &round.schedule)?;
+    text.push_str(",\"round\":")?;
+    push_schedule(alloc, text, &round.steps)?;
+    text.push_str("}")
+}
+
+/// Whether all is as it has to be, where something has to be so and that is known.
+fn holds_name(judged: bool, failure: Option<Failure>) -> &'static str
+    ensures text { result.now ≡ holds_json judged failure }
+{
+    if !judged {
+        return "null";
+    }
+    match failure {
+        None => "true",
+        Some(Failure::Not(_)) | Some(Failure::Reached(_)) | Some(Failure::Endless) => "false",
+        Some(Failure::Incomplete) => "null",
+    }
+}
+
+/// Adds the member for the objects that nobody opens.
+#[tactic(auto, unfolding(crate::specs::Members::unopened_member))]
+fn push_unopened(alloc: Global, text: &mut String, objects: &[Object]) -> Result<(), AllocError>
+    ensures text { OnOk result
+        (string_bytes text.new ≡ string_bytes text.old ++ unopened_member objects.now) }
+{
+    text.push_str(",\"unopened\":[")?;
+    push_objects(alloc, text, objects)?;
+    text.push_str("]")
+}
+
+/// Adds the members for whether only fair rounds are told, and for a round.
+#[tactic(auto, unfolding(crate::specs::Members::endless_members))]
+fn push_endless(
+    alloc: Global,
+    text: &mut String,
+    fair: bool,
+    round: &Option<Round>,
+) -> Result<(), AllocError>
+    ensures text { OnOk result
+        (string_bytes text.new ≡ string_bytes text.old ++ endless_members fair round.now) }
+{
+    text.push_str(",\"fair\":")?;
+    text.push_str(truth_name(fair))?;
+    text.push_str(",\"endless\":")?;
+    push_round(alloc, text, round)
+}
+
+/// Adds the member for whether all is as it has to be.
+#[tactic(auto, unfolding(crate::specs::Members::holds_member))]
+fn push_holds(text: &mut String, judged: bool, failure: Option<Failure>) -> Result<(), AllocError>
+    ensures text { OnOk result
+        (string_bytes text.new ≡ string_bytes text.old ++ holds_member judged failure) }
+{
+    text.push_str(",\"holds\":")?;
+    text.push_str(holds_name(judged, failure))
+}
+
+/// Adds the last members, and the end of the line.
+#[tactic(auto, unfolding(crate::specs::Members::last_members))]
+pub(crate) fn push_last(
+    alloc: Global,
+    text: &mut String,
+    answers: &Answers,
+) -> Result<(), AllocError>
+    ensures text { OnOk result
+        (string_bytes text.new ≡ string_bytes text.old ++ last_members answers.now) }
+{
+    let found = &answers.exploration;
+    push_unopened(alloc, text, &answers.unopened)?;
+    push_endless(alloc, text, found.fair, &found.round)?;
+    push_holds(text, answers.asked.judges(), answers.failure)?;
+    text.push_str("}\n")
+}

@@ -1,0 +1,136 @@
+//! The messages that are left in queues.
+ghost use Rattle.std.specs.Prelude.{◌≡◌, ◌++◌, [], ◌∷◌, OnOk, IfOk, filter, flat_map, map, string_bytes};
+ghost use Rattle.std.specs.Option.{option_copied};
+ghost use Rattle.ipc_kernel.specs.Places.{place_at};
+ghost use Rattle.lab_texts.specs.Objects.{name_text, word_part};
+ghost use Rattle.lab_questions.specs.Left.{left_line, left_lines, is_text, left_texts, left_text};
+ghost use Rattle.lab_questions.specs.Orders.{in_order};
+
+use ipc_kernel::{Kernel, OBJECT_PLACES};
+use ipc_names::Name;
+use ipc_objects::Queue;
+use lc3_word::Hex;
+use std::alloc::{AllocError, Global};
+use std::fmt::Write;
+
+/// The name of a queue, or a dash where it has none.
+fn name_of(name: Option<&Name>) -> &str
+    ensures name { result.now ≡ name_text (option_copied name.entry) }
+{
+    match name {
+        Some(name) => name.text(),
+        None => "-",
+    }
+}
+
+/// Adds words, each after a blank.
+fn push_words(text: &mut String, words: &[u16]) -> Result<(), AllocError>
+    ensures text { OnOk result (string_bytes text.new
+        ≡ string_bytes text.old ++ flat_map word_part words.now) }
+{
+    for word in words {
+        let word = Hex(*word);
+        write!(text, " {word}")?;
+    }
+    Ok(())
+}
+
+/// Adds the line of a message in a queue of this name, or of none.
+#[tactic(auto, unfolding(crate::specs::Left::left_line, lab_texts::specs::Objects::message_line))]
+fn push_message(
+    text: &mut String,
+    name: Option<&Name>,
+    priority: u16,
+    words: &[u16],
+) -> Result<(), AllocError>
+    ensures text { OnOk result (string_bytes text.new ≡ string_bytes text.old
+        ++ left_line (option_copied name.entry) (record { priority = priority; words = words.now })) }
+{
+    let name = name_of(name);
+    write!(text, "left {name} {priority}")?;
+    push_words(text, words)?;
+    text.push_str("\n")
+}
+
+/// Adds the lines of the messages in a queue of this name, or of none, in the order in which they would
+/// be received.
+fn push_messages(text: &mut String, name: Option<&Name>, queue: &Queue) -> Result<(), AllocError>
+    ensures text { OnOk result (string_bytes text.new ≡ string_bytes text.old
+        ++ flat_map (left_line (option_copied name.entry)) queue.now.messages) }
+{
+    let (_, _, count) = queue.attr();
+    for i in 0..count {
+        let Some((priority, words)) = queue.entry(i as usize) else {
+            return Ok(());
+        };
+        push_message(text, name, priority, words)?;
+    }
+    Ok(())
+}
+
+/// The lines of the messages in a place of a kernel, each `left NAME PRIORITY WORDS`, in the order in
+/// which they would be received.
+pub(crate) fn left_lines(alloc: Global, kernel: &Kernel, place: u8) -> Result<String, AllocError>
+    ensures lines { IfOk result (λ text.
+        string_bytes text ≡ left_lines (place_at kernel.now.places place)) }
+{
+    let mut text = String::new(alloc);
+    if let Some((name, queue)) = kernel.queue_at(place) {
+        push_messages(&mut text, name, queue)?;
+    }
+    Ok(text)
+}
+
+/// Adds a text, if it isn't empty.
+fn push_text(texts: &mut Vec<String>, text: String) -> Result<(), AllocError>
+    ensures texts { OnOk result (map string_bytes texts.new.items
+        ≡ map string_bytes texts.old.items ++ filter is_text (string_bytes text ∷ [])) }
+{
+    if !text.is_empty() {
+        texts.push(text)?;
+    }
+    Ok(())
+}
+
+/// The lines of each queue that holds messages, with a name or without.
+fn left_texts(alloc: Global, kernel: &Kernel) -> Result<Vec<String>, AllocError>
+    ensures texts { IfOk result (λ texts. map string_bytes texts.items ≡ left_texts kernel.now) }
+{
+    let mut texts = Vec::new(alloc);
+    for place in 0..OBJECT_PLACES as u8 {
+        let lines = left_lines(alloc, kernel, place)?;
+        push_text(&mut texts, lines)?;
+    }
+    Ok(texts)
+}
+
+/// Puts texts in the order of their bytes.
+#[tactic(auto, using(crate::proofs::Ordered::sorted_texts))]
+fn put_in_order(texts: &mut Vec<String>) -> Result<(), AllocError>
+    ensures order { OnOk result (map string_bytes texts.new.items
+        ≡ in_order (map string_bytes texts.old.items)) }
+{
+    texts.sort()
+}
+
+/// Adds texts, one behind the other.
+fn push_all(text: &mut String, texts: &[String]) -> Result<(), AllocError>
+    ensures text { OnOk result (string_bytes text.new
+        ≡ string_bytes text.old ++ flat_map (λ lines. lines) (map string_bytes texts.now)) }
+{
+    for part in texts {
+        text.push_str(part)?;
+    }
+    Ok(())
+}
+
+/// Adds the lines of all messages that are left in the queues of a kernel.
+#[tactic(auto, unfolding(crate::specs::Left::left_text))]
+pub(crate) fn push_left(alloc: Global, text: &mut String, kernel: &Kernel) -> Result<(), AllocError>
+    ensures text { OnOk result (string_bytes text.new
+        ≡ string_bytes text.old ++ left_text kernel.now) }
+{
+    let mut texts = left_texts(alloc, kernel)?;
+    put_in_order(&mut texts)?;
+    push_all(text, &texts)
+}

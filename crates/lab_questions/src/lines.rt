@@ -1,0 +1,91 @@
+//! The lines of the text.
+ghost use Rattle.std.specs.Prelude.{◌≡◌, ◌++◌, OnOk, string_bytes};
+ghost use Rattle.lab_questions.specs.EndTexts.{schedule_line, end_lines, round_line, round_text, extent_text, extent_line};
+
+use lab_sched::Schedule;
+use lab_worlds::Round;
+use std::alloc::{AllocError, Global};
+use std::fmt::Write;
+
+/// Adds the line of a schedule.
+#[tactic(auto, unfolding(crate::specs::EndTexts::schedule_line))]
+pub(crate) fn push_schedule(
+    alloc: Global,
+    text: &mut String,
+    schedule: &Schedule,
+) -> Result<(), AllocError>
+    ensures text { OnOk result (string_bytes text.new
+        ≡ string_bytes text.old ++ schedule_line schedule.now) }
+{
+    let steps = schedule.text(alloc)?;
+    match write!(text, "schedule {steps}\n") {
+        Ok(()) => Ok(()),
+        Err(error) => Err(error),
+    }
+}
+
+/// Adds the lines of end number `number`: what is told of it, and then a schedule.
+#[tactic(auto, unfolding(crate::specs::EndTexts::end_lines))]
+pub(crate) fn push_end(
+    alloc: Global,
+    text: &mut String,
+    number: usize,
+    told: &str,
+    schedule: &Schedule,
+) -> Result<(), AllocError>
+    ensures text { OnOk result (string_bytes text.new
+        ≡ string_bytes text.old ++ end_lines number told.now schedule.now) }
+{
+    write!(text, "end {number}\n{told}")?;
+    push_schedule(alloc, text, schedule)
+}
+
+/// Adds the line of the steps of a round.
+#[tactic(auto, unfolding(crate::specs::EndTexts::round_line))]
+fn push_steps(alloc: Global, text: &mut String, steps: &Schedule) -> Result<(), AllocError>
+    ensures text { OnOk result (string_bytes text.new
+        ≡ string_bytes text.old ++ round_line steps.now) }
+{
+    let steps = steps.text(alloc)?;
+    match write!(text, "round {steps}\n") {
+        Ok(()) => Ok(()),
+        Err(error) => Err(error),
+    }
+}
+
+/// Adds the lines of a round, if there is one.
+pub(crate) fn push_round(
+    alloc: Global,
+    text: &mut String,
+    round: &Option<Round>,
+) -> Result<(), AllocError>
+    ensures text { OnOk result (string_bytes text.new
+        ≡ string_bytes text.old ++ round_text round.now) }
+{
+    let Some(round) = round else {
+        return Ok(());
+    };
+    text.push_str("endless\n")?;
+    push_schedule(alloc, text, &round.schedule)?;
+    push_steps(alloc, text, &round.steps)
+}
+
+/// Whether an exploration is complete, in a word.
+pub(crate) fn extent_of(complete: bool) -> &'static str
+    ensures text { result.now ≡ extent_text complete }
+{
+    if complete { "complete" } else { "incomplete" }
+}
+
+/// Adds the last line: whether an exploration of so many worlds is complete.
+#[tactic(auto, unfolding(crate::specs::EndTexts::extent_line))]
+pub(crate) fn push_extent(text: &mut String, complete: bool, worlds: u32) -> Result<(), AllocError>
+    ensures text { OnOk result (string_bytes text.new
+        ≡ string_bytes text.old ++ extent_line complete worlds) }
+{
+    let extent = extent_of(complete);
+    match write!(text, "{extent} {worlds} worlds\n") {
+        Ok(()) => Ok(()),
+        Err(error) => Err(error),
+    }
+}

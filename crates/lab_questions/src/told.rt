@@ -1,0 +1,66 @@
+//! The ends that are told: each text once.
+ghost use Rattle.std.specs.Prelude.{◌≡◌, map, IfOk, OnOk, string_bytes, bytes_eq};
+ghost use Rattle.std.specs.List.{list_any};
+ghost use Rattle.lab_questions.specs.EndTexts.{text_of, told_ends, ends_text, AreTold};
+ghost use Rattle.lab_questions.specs.Private.Told.{TellsNext};
+
+use crate::Show;
+use crate::lines::push_end;
+use crate::shown::shown_text;
+use lab_worlds::End;
+use std::alloc::{AllocError, Global};
+
+/// The lines of the ends that are told, what is told of each, and their numbers among all ends.
+#[derive(Drop)]
+pub(crate) struct Told {
+    pub text: String,
+    pub texts: Vec<String>,
+    pub numbers: Vec<usize>,
+}
+
+/// Whether a text is among others.
+fn is_among(text: &str, texts: &[String]) -> bool
+    ensures value { result
+        ≡ list_any (λ other. bytes_eq other text.now) (map string_bytes texts.now) }
+{
+    for other in texts {
+        if other.as_str() == text {
+            return true;
+        }
+    }
+    false
+}
+
+impl Told {
+    /// Tells the end with a number among all, unless one with its text was told.
+    fn add(&mut self, alloc: Global, show: Show, at: usize, end: &End) -> Result<(), AllocError>
+        ensures told { OnOk result (TellsNext show at self.old self.new end.now) }
+    {
+        let text = shown_text(alloc, &end.world, show)?;
+        if is_among(&text, &self.texts) {
+            return Ok(());
+        }
+        let number = self.texts.len() + 1;
+        push_end(alloc, &mut self.text, number, &text, &end.schedule)?;
+        self.texts.push(text)?;
+        self.numbers.push(at)?;
+        Ok(())
+    }
+}
+
+/// What is told of ends: each text once, with the schedule of the first end that has it.
+pub(crate) fn told_of(alloc: Global, show: Show, ends: &[End]) -> Result<Told, AllocError>
+    ensures text { IfOk result (λ told.
+        string_bytes told.text ≡ ends_text show 1 (told_ends show ends.now)) }
+    ensures numbers { IfOk result (λ told. AreTold show ends.now told.numbers.items) }
+{
+    let mut told = Told {
+        text: String::new(alloc),
+        texts: Vec::new(alloc),
+        numbers: Vec::new(alloc),
+    };
+    for (at, end) in ends.iter().enumerate() {
+        told.add(alloc, show, at, end)?;
+    }
+    Ok(told)
+}
