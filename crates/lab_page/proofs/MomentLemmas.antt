@@ -3,21 +3,21 @@ use Rattle.std.proofs.Common.{◌≡◌, ℕ, zero, suc, ◌+◌, ◌<◌, Bool,
 use Rattle.std.proofs.lemmas.List.{replicate-append-replicate}
 use Rattle.serde_json.specs.Data.{Data}
 use Rattle.lab_sched.specs.Schedules.{steps_of}
-use Rattle.lab_sched.specs.Worlds.{WorldState, StepEffect, nothing, local_step, kernel_step, step_effect_in}
+use Rattle.lab_sched.specs.Worlds.{StepEffect, nothing, local_step, kernel_step, step_effect_in}
 use Rattle.lab_sched.specs.declared.schedule.block.Block.{Block}
 use Rattle.lab_sched.proofs.ScheduleRuns.{steps-more}
-use Rattle.lab_told.specs.Scenes.{Scene, first_scene, told, next, scene_after}
+use Rattle.lab_told.specs.Scenes.{Scene, told, next, scene_after}
 use Rattle.lab_trace.specs.Lines.{line, events}
-use Rattle.lab_trace.specs.Forms.{Form, form_for}
+use Rattle.lab_trace.specs.Forms.{Form}
 use Rattle.lab_told.specs.declared.told.Told.{Told}
 use Rattle.lab_told.specs.declared.told.Told.TheVariants.{Nothing}
 use Rattle.lab_trace.proofs.LineLemmas.{Stands, events-append, events-more}
 use Rattle.lab_told.proofs.SceneLemmas.{renumbered, next-still, told-still, told-some}
 use Rattle.lab_page.specs.Private.Json.{more_json}
-use Rattle.lab_moments.specs.Pasts.{Past, first_past}
+use Rattle.lab_moments.specs.Pasts.{Past}
 use Rattle.lab_page.specs.Moments.{next_past, past_then}
 use Rattle.lab_moments.specs.Moments.{moment_by}
-use Rattle.lab_page.specs.Moments.{moment, moments, moments_of}
+use Rattle.lab_page.specs.Moments.{moment, moments}
 use Rattle.lab_page.proofs.JsonLemmas.{more-append}
 
 pub moments-none : (v : Form) (whole : Bool) (s : Scene) (b : Past) → moments v whole s b [] ≡ []
@@ -98,14 +98,6 @@ json-block v whole s u b c bs i d old was now within is past was-is now-is =
     ∙ ap (λ (x : Past). first ++ moments v whole u x steps) (sym past) in
     now-is ∙ ap (λ (l : List ℕ). l ++ more_json (moments v whole u c steps)) was-is ∙ append_assoc old (more_json first) (more_json (moments v whole u c steps))
     ∙ ap (λ (l : List ℕ). old ++ l) (sym (more-append first (moments v whole u c steps)) ∙ ap more_json (sym all))
-
--- the moments of all the steps
-pub moments-whole : (whole : Bool) (w : WorldState) (ps : List ℕ) (v : Form) (s : Scene) → v ≡ form_for (length ps) (length w.processes) []
-    → s ≡ first_scene w → moments v whole s (first_past w) ps ≡ moments_of whole w ps
-unfolding moments_of
-moments-whole whole w ps v s wide first =
-    let none : Past = first_past w in
-    ap (λ x. moments x whole s none ps) wide ∙ ap (λ x. moments (form_for (length ps) (length w.processes) []) whole x none ps) first
 
 -- the lines of k steps of a block more
 pub lines-more : (v : Form) (s u : Scene) (done k p : ℕ) (old was now : List ℕ) → u ≡ scene_after s (replicate done p) → Stands v u p k

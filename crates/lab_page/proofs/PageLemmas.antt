@@ -1,5 +1,6 @@
 -- The JSON of a page by the parts that the code makes.
-use Rattle.std.proofs.Common.{◌≡◌, ℕ, Option, List, length, ap, ◌∙◌}
+use Rattle.std.proofs.Common.{◌≡◌, ℕ, Option, Result, Ok, Err, List, length, ap, ◌∙◌}
+use Rattle.std.specs.Prelude.{IfErr}
 use Rattle.serde_json.specs.Data.{Data}
 use Rattle.serde_json.specs.Written.{compact_text}
 use Rattle.lab_sched.specs.Worlds.{WorldState}
@@ -25,3 +26,8 @@ pub fault-explains : (e : PageFault) (w : WorldState) (s : List Block) (json : L
 fault-explains (NoProcess done) w s json h = absurd h
 fault-explains TooLarge w s json h = h
 fault-explains NoMemory w s json h = tt
+
+pub result-explains : {T : Type 0} (r : Result T PageFault) (w : WorldState) (s : List Block) (json : List ℕ) → IfErr r (λ e. IsFault e json)
+    → IfErr r (λ e. Explains e w s json)
+result-explains (Ok x) w s json h = tt
+result-explains (Err e) w s json h = fault-explains e w s json h

@@ -1,12 +1,11 @@
 -- The moments of a run: after each step with an effect, what stands in its process and what it did.
-use Rattle.std.specs.Prelude.{ℕ, Bool, List, [], ◌∷◌, ◌++◌, length}
+use Rattle.std.specs.Prelude.{ℕ, Bool, List, [], ◌∷◌, ◌++◌}
 use Rattle.serde_json.specs.Data.{Data}
-use Rattle.lab_sched.specs.Worlds.{WorldState}
-use Rattle.lab_trace.specs.Forms.{Form, form_for}
-use Rattle.lab_told.specs.Scenes.{Scene, first_scene, told, next}
+use Rattle.lab_trace.specs.Forms.{Form}
+use Rattle.lab_told.specs.Scenes.{Scene, told, next}
 use Rattle.lab_moments.specs.Between.{waits_at}
 use Rattle.lab_moments.specs.Moments.{moment_by}
-use Rattle.lab_moments.specs.Pasts.{Past, first_past, past_after}
+use Rattle.lab_moments.specs.Pasts.{Past, past_after}
 
 -- after so many steps of process p from a scene on, of which the same is told
 abbrev pub past_by : ℕ → Scene → ℕ → Past → Past
@@ -29,7 +28,3 @@ moment v whole s h p = moment_by v whole s.number p (told s p) (next s p).world 
 unfoldable pub moments : Form → Bool → Scene → Past → List ℕ → List Data
 moments v whole s h [] = []
 moments v whole s h (p ∷ ps) = moment v whole s h p ++ moments v whole (next s p) (next_past s p h) ps
-
--- the moments of all the steps of a run; their lines are without labels
-unfoldable pub moments_of : Bool → WorldState → List ℕ → List Data
-moments_of whole w ps = moments (form_for (length ps) (length w.processes) []) whole (first_scene w) (first_past w) ps

@@ -15,10 +15,11 @@ use Rattle.lab_told.specs.Scenes.{Scene, first_scene, scene_after}
 use Rattle.lab_moments.specs.Between.{between_data}
 use Rattle.lab_moments.specs.Holds.{holds_data}
 use Rattle.lab_template.specs.Limits.{most_whole}
-use Rattle.lab_page.specs.Moments.{moments_of}
 use Rattle.lab_moments.specs.Pasts.{Past, first_past}
-use Rattle.lab_page.specs.Moments.{past_then}
+use Rattle.lab_page.specs.Moments.{moments, past_then}
+use Rattle.lab_page.specs.declared.look.Look.{Look}
 use Rattle.lab_page.specs.Sources.{Source, programs}
+use Rattle.lab_sources.specs.declared.source.Source.{Source as GivenSource}
 use Rattle.lab_moments.specs.States.{states}
 use Rattle.lab_moments.specs.Values.{list, natural, naturals, all_below}
 use Rattle.lab_moments.specs.Waits.{waits_data, circles_data}
@@ -55,11 +56,6 @@ outcome_at v s h =
     ∷ outputs s.world ∷ between_data h.between ∷ holds_data h.holds ∷ naturals h.unreceived ∷ waits_data s.world s.tally h.objects
     ∷ circles_data s.world h.holds ∷ [])
 
--- the end of the run of a world by these steps; its lines are without labels
-unfoldable pub outcome_of : WorldState → List ℕ → Data
-outcome_of w ps =
-    outcome_at (form_for (length ps) (length w.processes) []) (scene_after (first_scene w) ps) (past_then (first_scene w) ps (first_past w))
-
 -- whether a page of a schedule has its counted steps too
 abbrev pub is_whole : List Block → Bool
 is_whole s = nat_le (length (steps_of s)) most_whole
@@ -70,9 +66,23 @@ run_with moments outcome blocks whole =
     object (member (codes "moments") (list moments) (member (codes "outcome") outcome
     (member (codes "schedule") blocks (member (codes "whole") (boolean whole) no_members))))
 
--- the run of a world by a schedule; the first moment is that before the first step
+-- how the run of a world by a schedule is written, where processes were given as sources: the lines on the page are without labels
+abbrev pub look_for : WorldState → List Block → List (Option GivenSource) → Look
+look_for w s ss = record {
+  page = form_for (length (steps_of s)) (length w.processes) [];
+  trace = form_for (length (steps_of s)) (length w.processes) ss;
+  whole = is_whole s;
+}
+
+-- the run from a scene on by a schedule; the first moment is that before the first step
+unfoldable pub run_from : Form → Bool → Scene → List Block → Data
+run_from v whole x s =
+    run_with (states x.world ∷ moments v whole x (first_past x.world) (steps_of s))
+    (outcome_at v (scene_after x (steps_of s)) (past_then x (steps_of s) (first_past x.world))) (schedule_data s) whole
+
+-- the run of a world by a schedule; its lines are without labels
 unfoldable pub run_data : WorldState → List Block → Data
-run_data w s = run_with (states w ∷ moments_of (is_whole s) w (steps_of s)) (outcome_of w (steps_of s)) (schedule_data s) (is_whole s)
+run_data w s = run_from (form_for (length (steps_of s)) (length w.processes) []) (is_whole s) (first_scene w) s
 
 -- what a page holds of a run: the processes, and the run
 abbrev pub page_data : Data → Data → Data

@@ -152,7 +152,6 @@ impl EndList {
     }
 }
 
-/// An interleaving that never ends, where there is one.
 fn endless_value(alloc: Global, endless: &Option<Endless<'_>>) -> Result<Value, AllocError>
     ensures value { IfOk result (λ v. view v ≡ or_null (option_map endless_shown endless.now)) }
 {
@@ -165,7 +164,6 @@ fn endless_value(alloc: Global, endless: &Option<Endless<'_>>) -> Result<Value, 
     ])
 }
 
-/// How far an exploration went.
 fn extent_value(alloc: Global, extent: Extent) -> Result<Value, AllocError>
     ensures value { IfOk result (λ v. view v ≡ extent_data extent) }
 {
@@ -200,7 +198,7 @@ pub fn ends_json(
         processes,
     )?;
     json.extend_from_slice(b",\"worlds\":")?;
-    push_worlds(&mut json, alloc, worlds)?;
+    push_worlds(&mut json, worlds)?;
     json.extend_from_slice(b"}")?;
     Ok(json)
 }

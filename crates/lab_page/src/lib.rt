@@ -5,6 +5,7 @@
 mod ends;
 mod fault;
 mod json;
+mod look;
 mod moments;
 mod outcome;
 mod paging;

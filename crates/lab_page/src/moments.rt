@@ -1,5 +1,5 @@
 //! The moments of a run.
-ghost use Rattle.std.specs.Prelude.{◌≡◌, ◌<◌, ◌≤◌, ◌+◌, ◌++◌, ◌∷◌, [], ℕ, false, OnOk, IfOk, IfErr, IfSome, length, replicate, codes};
+ghost use Rattle.std.specs.Prelude.{◌≡◌, ◌<◌, ◌≤◌, ◌+◌, ◌++◌, [], ℕ, false, OnOk, IfOk, IfErr, IfSome, length, replicate, codes};
 ghost use Rattle.std.specs.Option.{option_map, option_to_list};
 ghost use Rattle.serde_json.specs.View.{view};
 ghost use Rattle.serde_json.specs.Written.{compact_text, has_float};
@@ -12,19 +12,21 @@ ghost use Rattle.lab_told.specs.declared.told.Told.TheVariants.{Nothing};
 ghost use Rattle.lab_page.specs.Faults.{IsFault};
 ghost use Rattle.lab_template.specs.Limits.{most_bytes};
 ghost use Rattle.lab_page.specs.Moments.{moment, moments};
-ghost use Rattle.lab_moments.specs.Pasts.{first_past};
+ghost use Rattle.lab_moments.specs.Moments.{moment_by};
+ghost use Rattle.lab_moments.specs.Pasts.{first_past, past_after};
 ghost use Rattle.lab_page.specs.Moments.{past_by, past_then};
 ghost use Rattle.lab_moments.specs.States.{states};
 ghost use Rattle.lab_page.specs.Private.Json.{more_json, run_end};
 ghost use Rattle.lab_page.specs.Runs.{outcome_at, schedule_data};
 
 use crate::fault::PageFault;
-use crate::json::{push_more, push_value};
+use crate::json::{push_behind, push_more};
+use crate::look::Look;
 use crate::outcome::push_run_end;
 use lab_moments::{Past, moment_by, states};
 use lab_sched::{Block, Schedule, World};
 use lab_template::MOST_BYTES;
-use lab_trace::{Form, Tally, Told, ending, step_line, steps_told, trace_step};
+use lab_trace::{Tally, Told, ending, step_line, steps_told, trace_step};
 use serde_json::Value;
 use std::alloc::{AllocError, Global};
 use std::marker::Model;
@@ -50,6 +52,16 @@ impl Model for Moments {
     } };
 }
 
+/// The JSON up to the moment before the first step.
+fn first_json(alloc: Global, world: &World) -> Result<Vec<u8>, AllocError>
+    ensures json { IfOk result (λ v. v.items
+        ≡ codes "{\"moments\":[" ++ compact_text (states world.now)) }
+{
+    let mut json = Vec::new(alloc);
+    push_behind(&mut json, "{\"moments\":[", &states(alloc, world)?)?;
+    Ok(json)
+}
+
 impl Moments {
     /// The moment before the first step alone.
     pub fn new(alloc: Global, world: &World) -> Result<Moments, AllocError>
@@ -59,14 +71,10 @@ impl Moments {
           past = first_past world.now;
         }) }
     {
-        let states = states(alloc, world)?;
-        let mut json = Vec::new(alloc);
-        json.extend_from_slice(b"{\"moments\":[")?;
-        push_value(&mut json, &states)?;
         Ok(Moments {
-            json,
-            lines: Vec::new(alloc),
             past: Past::new(alloc, world)?,
+            json: first_json(alloc, world)?,
+            lines: Vec::new(alloc),
         })
     }
 
@@ -98,35 +106,52 @@ impl Moments {
         Ok(())
     }
 
-    /// Adds the line of step number `number`, of process `pid`, by what is told of it.
-    fn push_line(
+    /// Adds the moment after a step, where it has one, and its line, and keeps so many steps of which this is told.
+    fn keep_step(
         &mut self,
-        alloc: Global,
-        labels: &Form<'_>,
+        world: &World,
+        tally: &Tally,
+        look: &Look<'_>,
         number: u32,
         pid: usize,
+        waited: bool,
         told: &Told,
-    ) -> Result<(), AllocError>
-        ensures json { self.new.json ≡ self.old.json }
-        ensures lines { OnOk result (self.new.lines ≡ self.old.lines
-            ++ step_line labels.now number pid told.now) }
-        ensures past { self.new.past ≡ self.old.past }
+        count: u32,
+    ) -> Result<(), PageFault>
+        requires process { pid < length world.now.processes }
+        ensures moment { OnOk result (self.new.json ≡ self.old.json
+            ++ more_json (moment_by look.now.page look.now.whole number pid told.now world.now
+            tally.now self.old.past)) }
+        ensures line { OnOk result (self.new.lines ≡ self.old.lines
+            ++ step_line look.now.trace number pid told.now) }
+        ensures past { OnOk result (self.new.past
+            ≡ past_after count number pid waited told.now world.now tally.now self.old.past) }
+        ensures fault { IfErr result (λ e. IsFault e (self.old.json
+            ++ more_json (moment_by look.now.page look.now.whole number pid told.now world.now
+            tally.now self.old.past))) }
     {
-        let line = step_line(alloc, labels, number, pid, told)?;
-        self.lines.extend_from_slice(line.as_bytes())
+        let alloc = *self.json.allocator();
+        let (past, whole) = (&self.past, look.whole);
+        let moment = moment_by(
+            alloc, world, tally, past, &look.page, whole, number, pid, told,
+        )?;
+        self.push(moment)?;
+        let line = step_line(alloc, &look.trace, number, pid, told)?;
+        self.lines.extend_from_slice(line.as_bytes())?;
+        self.past
+            .keep(world, tally, number, pid, waited, told, count)?;
+        Ok(())
     }
 
-    /// Takes step number `number`, of process `pid`, and adds the moment after it, where it has one, and its line, which `labels`
-    /// shows. The answer is how many of at most so many steps of the process it stands for; so many are kept.
+    /// Takes step number `number`, of process `pid`, and adds the moment after it, where it has one, and its line. The answer is how
+    /// many of at most so many steps of the process it stands for; so many are kept.
     #[tactic(auto, unfolding(crate::specs::Moments::moment))]
     fn add_step(
         &mut self,
         alloc: Global,
         world: &mut World,
         tally: &mut Tally,
-        form: &Form<'_>,
-        labels: &Form<'_>,
-        whole: bool,
+        look: &Look<'_>,
         number: u32,
         pid: usize,
         most: u32,
@@ -135,10 +160,10 @@ impl Moments {
         requires kept { IsKept (scene_at number world.old tally.old) }
         requires some { 1 ≤ most }
         ensures moments { OnOk result (self.new.json ≡ self.old.json
-            ++ more_json (moment form.now whole (scene_at number world.old tally.old)
-            self.old.past pid)) }
+            ++ more_json (moment look.now.page look.now.whole
+            (scene_at number world.old tally.old) self.old.past pid)) }
         ensures lines { OnOk result (self.new.lines ≡ self.old.lines
-            ++ line labels.now (scene_at number world.old tally.old) pid) }
+            ++ line look.now.trace (scene_at number world.old tally.old) pid) }
         ensures past { IfOk result (λ done. self.new.past
             ≡ past_by done (scene_at number world.old tally.old) pid self.old.past) }
         ensures world { OnOk result (world.new ≡ step world.old pid) }
@@ -149,18 +174,13 @@ impl Moments {
         ensures some { IfOk result (λ done. 1 ≤ done) }
         ensures within { IfOk result (λ done. done ≤ most) }
         ensures fault { IfErr result (λ e. IsFault e (self.old.json
-            ++ more_json (moment form.now whole (scene_at number world.old tally.old)
-            self.old.past pid))) }
+            ++ more_json (moment look.now.page look.now.whole
+            (scene_at number world.old tally.old) self.old.past pid))) }
     {
-        let waits = tally.account(pid).since.is_some();
+        let waited = tally.account(pid).since.is_some();
         let told = trace_step(alloc, world, tally, number, pid)?;
-        let past = &self.past;
-        let moment = moment_by(alloc, world, tally, past, form, whole, number, pid, &told)?;
-        self.push(moment)?;
-        self.push_line(alloc, labels, number, pid, &told)?;
         let done = steps_told(&told, most);
-        self.past
-            .keep(world, tally, number, pid, waits, &told, done)?;
+        self.keep_step(world, tally, look, number, pid, waited, &told, done)?;
         Ok(done)
     }
 
@@ -170,9 +190,7 @@ impl Moments {
         alloc: Global,
         world: &mut World,
         tally: &mut Tally,
-        form: &Form<'_>,
-        labels: &Form<'_>,
-        whole: bool,
+        look: &Look<'_>,
         first: u32,
         block: Block,
     ) -> Result<(), PageFault>
@@ -181,10 +199,10 @@ impl Moments {
         requires kept { IsKept (scene_at first world.old tally.old) }
         requires counted { block.pid < length self.old.past.between }
         ensures moments { OnOk result (self.new.json ≡ self.old.json
-            ++ more_json (moments form.now whole (scene_at first world.old tally.old)
+            ++ more_json (moments look.now.page look.now.whole (scene_at first world.old tally.old)
             self.old.past (replicate block.count block.pid))) }
         ensures lines { OnOk result (self.new.lines ≡ self.old.lines
-            ++ events labels.now (scene_at first world.old tally.old)
+            ++ events look.now.trace (scene_at first world.old tally.old)
             (replicate block.count block.pid)) }
         ensures past { OnOk result (self.new.past
             ≡ past_then (scene_at first world.old tally.old)
@@ -193,7 +211,7 @@ impl Moments {
             ≡ scene_after (scene_at first world.old tally.old)
             (replicate block.count block.pid)) }
         ensures fault { IfErr result (λ e. IsFault e (self.old.json
-            ++ more_json (moments form.now whole (scene_at first world.old tally.old)
+            ++ more_json (moments look.now.page look.now.whole (scene_at first world.old tally.old)
             self.old.past (replicate block.count block.pid)))) }
     {
         let mut done = 0;
@@ -201,7 +219,7 @@ impl Moments {
             let number = first + done;
             let most = block.count - done;
             let pid = block.pid;
-            let taken = self.add_step(alloc, world, tally, form, labels, whole, number, pid, most)?;
+            let taken = self.add_step(alloc, world, tally, look, number, pid, most)?;
             done += taken;
         }
         Ok(())
@@ -213,9 +231,7 @@ impl Moments {
         alloc: Global,
         world: &mut World,
         tally: &mut Tally,
-        form: &Form<'_>,
-        labels: &Form<'_>,
-        whole: bool,
+        look: &Look<'_>,
         blocks: &[Block],
     ) -> Result<(), PageFault>
         requires kept { IsKept (scene_at 1 world.old tally.old) }
@@ -223,21 +239,21 @@ impl Moments {
         requires there { AreThere world.old blocks.now }
         requires counted { length self.old.past.between ≡ length world.old.processes }
         ensures moments { OnOk result (self.new.json ≡ self.old.json
-            ++ more_json (moments form.now whole (scene_at 1 world.old tally.old)
+            ++ more_json (moments look.now.page look.now.whole (scene_at 1 world.old tally.old)
             self.old.past (steps_of blocks.now))) }
         ensures lines { OnOk result (self.new.lines ≡ self.old.lines
-            ++ events labels.now (scene_at 1 world.old tally.old) (steps_of blocks.now)) }
+            ++ events look.now.trace (scene_at 1 world.old tally.old) (steps_of blocks.now)) }
         ensures past { OnOk result (self.new.past
             ≡ past_then (scene_at 1 world.old tally.old) (steps_of blocks.now) self.old.past) }
         ensures scene { OnOk result ((number : ℕ) × (scene_at number world.new tally.new
             ≡ scene_after (scene_at 1 world.old tally.old) (steps_of blocks.now))) }
         ensures fault { IfErr result (λ e. IsFault e (self.old.json
-            ++ more_json (moments form.now whole (scene_at 1 world.old tally.old)
+            ++ more_json (moments look.now.page look.now.whole (scene_at 1 world.old tally.old)
             self.old.past (steps_of blocks.now)))) }
     {
         let mut number = 1;
         for block in blocks {
-            self.add_block(alloc, world, tally, form, labels, whole, number, *block)?;
+            self.add_block(alloc, world, tally, look, number, *block)?;
             number += block.count;
         }
         Ok(())
@@ -248,28 +264,18 @@ impl Moments {
         &mut self,
         world: &World,
         tally: &Tally,
-        form: &Form<'_>,
-        labels: &Form<'_>,
-        whole: bool,
+        look: &Look<'_>,
         schedule: &Schedule,
     ) -> Result<(), AllocError>
         ensures json { (number : ℕ) → OnOk result (self.new.json ≡ self.old.json
-            ++ run_end (outcome_at form.now (scene_at number world.now tally.now) self.old.past)
-            (schedule_data schedule.now) whole) }
+            ++ run_end (outcome_at look.now.page (scene_at number world.now tally.now)
+            self.old.past) (schedule_data schedule.now) look.now.whole) }
         ensures lines { OnOk result (self.new.lines ≡ self.old.lines
-            ++ ending labels.now world.now tally.now) }
+            ++ ending look.now.trace world.now tally.now) }
     {
         let alloc = *self.json.allocator();
-        push_run_end(
-            &mut self.json,
-            world,
-            tally,
-            &self.past,
-            form,
-            schedule,
-            whole,
-        )?;
-        let ending = ending(alloc, world, tally, labels)?;
+        push_run_end(&mut self.json, world, tally, &self.past, look, schedule)?;
+        let ending = ending(alloc, world, tally, &look.trace)?;
         self.lines.extend_from_slice(ending.as_bytes())
     }
 }

@@ -6,6 +6,7 @@ ghost use Rattle.lab_page.specs.Private.Json.{run_end};
 ghost use Rattle.lab_page.specs.Runs.{block_data, schedule_data, verdict_word, output_of, outputs, outcome_at};
 
 use crate::json::push_behind;
+use crate::look::Look;
 use lab_moments::{Past, bytes_value, circles_value, holds_value, steps_value, waits_value};
 use lab_sched::{Block, Schedule, Verdict, World};
 use lab_texts::report_text;
@@ -13,7 +14,6 @@ use lab_trace::{Form, Tally, stands};
 use serde_json::{Value, json};
 use std::alloc::{AllocError, Global};
 
-/// So many steps of a process in a row.
 fn block_value(alloc: Global, block: Block) -> Result<Value, AllocError>
     ensures value { IfOk result (λ v. view v ≡ block_data block) }
 {
@@ -42,7 +42,6 @@ pub(crate) fn verdict_word(verdict: Verdict) -> &'static str
     }
 }
 
-/// The bytes that process `pid` has written, where it is there.
 fn output_value(alloc: Global, world: &World, pid: usize) -> Result<Value, AllocError>
     ensures value { IfOk result (λ v. view v ≡ output_of (slice_get world.now.processes pid)) }
 {
@@ -52,7 +51,6 @@ fn output_value(alloc: Global, world: &World, pid: usize) -> Result<Value, Alloc
     }
 }
 
-/// What each process has written.
 #[tactic(auto, using(lab_moments::proofs::ValueLemmas::all_below_none))]
 fn outputs(alloc: Global, world: &World) -> Result<Value, AllocError>
     ensures value { IfOk result (λ v. view v ≡ outputs world.now) }
@@ -95,19 +93,20 @@ pub(crate) fn push_run_end(
     world: &World,
     tally: &Tally,
     past: &Past,
-    form: &Form<'_>,
+    look: &Look<'_>,
     schedule: &Schedule,
-    whole: bool,
 ) -> Result<(), AllocError>
     ensures added { (number : ℕ) → OnOk result (json.new.items ≡ json.old.items
-        ++ run_end (outcome_at form.now (scene_at number world.now tally.now) past.now)
-        (schedule_data schedule.now) whole) }
+        ++ run_end (outcome_at look.now.page (scene_at number world.now tally.now) past.now)
+        (schedule_data schedule.now) look.now.whole) }
 {
     let alloc = *json.allocator();
-    let outcome = outcome_value(alloc, world, tally, past, form)?;
-    push_behind(json, "],\"outcome\":", &outcome)?;
-    let blocks = schedule_value(alloc, schedule)?;
-    push_behind(json, ",\"schedule\":", &blocks)?;
-    push_behind(json, ",\"whole\":", &Value::Bool(whole))?;
+    push_behind(
+        json,
+        "],\"outcome\":",
+        &outcome_value(alloc, world, tally, past, &look.page)?,
+    )?;
+    push_behind(json, ",\"schedule\":", &schedule_value(alloc, schedule)?)?;
+    push_behind(json, ",\"whole\":", &Value::Bool(look.whole))?;
     Ok(json.push(b'}')?)
 }

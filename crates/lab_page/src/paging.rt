@@ -17,7 +17,7 @@ ghost use Rattle.lab_page.specs.Sources.{programs, sources_shown};
 use crate::ends::{EndList, Endless, Extent, ends_json};
 use crate::fault::PageFault;
 use crate::json::push_value;
-use crate::run::{Taken, written_run};
+use crate::run::{WrittenRun, written_run};
 use crate::source::{Source, programs};
 use crate::worlds::Worlds;
 use lab_sched::{Schedule, World};
@@ -38,7 +38,6 @@ fn page_of(alloc: Global, template: &Template<'_>, json: &[u8]) -> Result<Vec<u8
     Ok(page_with(alloc, template, json)?)
 }
 
-/// What a page holds of a run as JSON.
 #[tactic(auto, unfolding(crate::specs::Private::Json::page_json))]
 fn page_json(
     alloc: Global,
@@ -103,7 +102,7 @@ pub fn run_page(
     ensures untouched { (done : ℕ) → result ≡ Err (NoProcess done) → world.new ≡ world.old }
 {
     let count = world.count();
-    let Taken { json, trace } = written_run(alloc, world, schedule, given)?;
+    let WrittenRun { json, trace } = written_run(alloc, world, schedule, given)?;
     let page = page_of(
         alloc,
         template,

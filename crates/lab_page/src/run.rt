@@ -3,62 +3,52 @@ ghost use Rattle.std.specs.Prelude.{◌≡◌, ℕ, Some, Err, OnOk, IfOk, IfErr
 ghost use Rattle.serde_json.specs.Written.{compact_text};
 ghost use Rattle.lab_sched.specs.Schedules.{steps_of};
 ghost use Rattle.lab_sched.specs.Worlds.{run};
-ghost use Rattle.lab_trace.specs.Traces.{missing_after, trace_text, AreThere};
-ghost use Rattle.lab_page.specs.Faults.{Explains};
-ghost use Rattle.lab_page.specs.Runs.{run_data};
+ghost use Rattle.lab_told.specs.Scenes.{scene_at, IsKept};
+ghost use Rattle.lab_trace.specs.Traces.{missing_after, trace_text, trace_with, AreThere};
+ghost use Rattle.lab_page.specs.Faults.{Explains, IsFault};
+ghost use Rattle.lab_page.specs.Runs.{run_data, run_from};
 ghost use Rattle.lab_page.specs.declared.fault.PageFault.TheVariants.{NoProcess};
 
 use crate::fault::PageFault;
+use crate::look::Look;
 use crate::moments::Moments;
 use lab_sched::{Schedule, World};
 use lab_sources::Source;
-use lab_template::MOST_WHOLE;
-use lab_trace::{Form, Tally, missing_after};
+use lab_trace::{Tally, missing_after};
 use std::alloc::Global;
 
 /// What was written of a run.
 #[derive(Drop)]
-pub(crate) struct Taken {
+pub(crate) struct WrittenRun {
     /// The run as JSON.
     pub json: Vec<u8>,
     /// Its trace.
     pub trace: Vec<u8>,
 }
 
-/// Takes the steps of a schedule, whose processes are all there, and writes the run and its trace. The lines on the page are
-/// without labels, for it shows the sources themselves; the trace has those of the processes that were given as sources.
+/// Takes the steps of a schedule, whose processes are all there, and writes the run and its trace.
 fn take_steps(
     alloc: Global,
     world: &mut World,
+    tally: &mut Tally,
+    look: &Look<'_>,
     schedule: &Schedule,
-    sources: &[Option<Source>],
-) -> Result<Taken, PageFault>
+) -> Result<WrittenRun, PageFault>
     requires there { AreThere world.old schedule.now }
-    ensures json { IfOk result (λ t. t.json.items
-        ≡ compact_text (run_data world.old schedule.now)) }
-    ensures trace { IfOk result (λ t. t.trace.items
-        ≡ trace_text world.old sources.now (steps_of schedule.now)) }
+    requires kept { IsKept (scene_at 1 world.old tally.old) }
+    ensures json { IfOk result (λ r. r.json.items ≡ compact_text (run_from look.now.page
+        look.now.whole (scene_at 1 world.old tally.old) schedule.now)) }
+    ensures trace { IfOk result (λ r. r.trace.items
+        ≡ trace_with look.now.trace (scene_at 1 world.old tally.old) (steps_of schedule.now)) }
     ensures world { OnOk result (world.new ≡ run world.old (steps_of schedule.now)) }
-    ensures fault { IfErr result (λ e. Explains e world.old schedule.now
-        (compact_text (run_data world.old schedule.now))) }
+    ensures fault { IfErr result (λ e. IsFault e (compact_text (run_from look.now.page
+        look.now.whole (scene_at 1 world.old tally.old) schedule.now))) }
 {
-    let whole = schedule.total() <= MOST_WHOLE;
-    let form = Form::new(alloc, schedule.total(), world.count(), &[])?;
-    let labels = Form::new(alloc, schedule.total(), world.count(), sources)?;
-    let mut tally = Tally::new(alloc, world.count())?;
     let mut moments = Moments::new(alloc, world)?;
-    moments.add_blocks(
-        alloc,
-        world,
-        &mut tally,
-        &form,
-        &labels,
-        whole,
-        schedule.blocks(),
-    )?;
-    moments.finish(world, &tally, &form, &labels, whole, schedule)?;
+    moments.add_blocks(alloc, world, tally, look, schedule.blocks())?;
+    moments.finish(world, tally, look, schedule)?;
     let (json, trace) = moments.into_parts();
-    Ok(Taken { json, trace })
+    Ok(WrittenRun { json, trace })
 }
 
 /// The run of a world by a schedule, as JSON and as a trace. The world takes the schedule's steps; where it names a process that
@@ -74,7 +64,7 @@ pub(crate) fn written_run(
     world: &mut World,
     schedule: &Schedule,
     sources: &[Option<Source>],
-) -> Result<Taken, PageFault>
+) -> Result<WrittenRun, PageFault>
     ensures json { IfOk result (λ t. t.json.items
         ≡ compact_text (run_data world.old schedule.now)) }
     ensures trace { IfOk result (λ t. t.trace.items
@@ -89,5 +79,7 @@ pub(crate) fn written_run(
     if let Some(done) = missing_after(world, schedule) {
         return Err(PageFault::NoProcess { done });
     }
-    take_steps(alloc, world, schedule, sources)
+    let look = Look::new(alloc, world, schedule, sources)?;
+    let mut tally = Tally::new(alloc, world.count())?;
+    take_steps(alloc, world, &mut tally, &look, schedule)
 }

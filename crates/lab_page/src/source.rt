@@ -37,7 +37,6 @@ pub fn source_of(alloc: Global, text: String, assembled: &Assembled) -> Result<S
     })
 }
 
-/// The words of a line.
 fn row_words<'a>(source: &'a Source, row: &Row) -> &'a [u16]
     ensures words { result.now ≡ row_words (source_shown source.now) row.now }
 {
@@ -47,7 +46,6 @@ fn row_words<'a>(source: &'a Source, row: &Row) -> &'a [u16]
     &rest[..row.count.min(rest.len())]
 }
 
-/// The call that the first of some words makes, where it makes one.
 fn first_call(words: &[u16]) -> Option<Service>
     ensures service { result ≡ first_call words.now }
 {
@@ -57,7 +55,6 @@ fn first_call(words: &[u16]) -> Option<Service>
     }
 }
 
-/// A line that has words.
 #[tactic(auto, unfolding(crate::specs::Sources::row_data))]
 fn row_value(alloc: Global, source: &Source, row: &Row) -> Result<Value, AllocError>
     ensures value { IfOk result (λ v. view v ≡ row_data (source_shown source.now) row.now) }
@@ -73,7 +70,6 @@ fn row_value(alloc: Global, source: &Source, row: &Row) -> Result<Value, AllocEr
     }
 }
 
-/// A source, with its lines that have words.
 #[tactic(auto, unfolding(crate::specs::Sources::source_data))]
 fn source_value(alloc: Global, source: &Source) -> Result<Value, AllocError>
     ensures value { IfOk result (λ v. view v ≡ source_data (source_shown source.now)) }
@@ -85,7 +81,6 @@ fn source_value(alloc: Global, source: &Source) -> Result<Value, AllocError>
     json!(in alloc; [&source.text, rows])
 }
 
-/// The name of a process, where one is given.
 #[tactic(auto, using(lab_moments::proofs::ValueLemmas::slice_get_seen))]
 fn name_at(alloc: Global, names: &[String], process: usize) -> Result<Value, AllocError>
     ensures value { IfOk result (λ v. view v ≡ name_at (map string_bytes names.now) process) }
@@ -96,7 +91,6 @@ fn name_at(alloc: Global, names: &[String], process: usize) -> Result<Value, All
     }
 }
 
-/// The source of a process, where there is one.
 #[tactic(auto, using(lab_moments::proofs::ValueLemmas::slice_get_seen))]
 fn source_at(alloc: Global, sources: &[Option<Source>], process: usize) -> Result<Value, AllocError>
     ensures value { IfOk result (λ v. view v ≡ source_at (sources_shown sources.now) process) }
@@ -108,7 +102,6 @@ fn source_at(alloc: Global, sources: &[Option<Source>], process: usize) -> Resul
     }
 }
 
-/// How a process is called, and its source.
 fn program_at(
     alloc: Global,
     names: &[String],

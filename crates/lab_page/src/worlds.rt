@@ -118,21 +118,18 @@ fn standing_value(
     json!(in alloc; [pc, state, stand_text(alloc, world, pid, process)?])
 }
 
-/// Whether an edge is of a process, and leads from the world with a number.
 fn is_from(edge: &WorldEdge, number: usize, process: usize) -> bool
     ensures value { result ≡ is_from number process edge.now }
 {
     edge.from as usize == number && edge.process as usize == process
 }
 
-/// Whether an edge of a process leads from the world with a number.
 fn has_edge(edges: &[WorldEdge], number: usize, process: usize) -> bool
     ensures has { result ≡ has_edge edges.now number process }
 {
     edges.iter().any(|edge| is_from(edge, number, process))
 }
 
-/// Where process `pid` of the world with a number stands, if it is there.
 fn standing_at(
     alloc: Global,
     world: &World,
@@ -169,14 +166,12 @@ fn standings(
     Ok(standings)
 }
 
-/// Whether an edge leads to the world with a number.
 fn is_to(edge: &WorldEdge, number: usize) -> bool
     ensures value { result ≡ is_to number edge.now }
 {
     edge.to as usize == number
 }
 
-/// The first edge that leads to the world with a number.
 fn edge_to(edges: &[WorldEdge], number: usize) -> Option<usize>
     ensures edge { result ≡ position (is_to number) edges.now }
 {
@@ -193,7 +188,6 @@ fn edge_before(edges: &[WorldEdge], number: usize) -> Option<usize>
     edge_to(edges, number)
 }
 
-/// A verdict, where there is one.
 fn verdict_value(alloc: Global, verdict: Option<Verdict>) -> Result<Value, AllocError>
     ensures value { IfOk result (λ v. view v
         ≡ or_null (option_map (λ x. string (verdict_word x)) verdict)) }
@@ -227,7 +221,6 @@ fn node_value(
     ])
 }
 
-/// An edge.
 fn edge_value(alloc: Global, edge: &WorldEdge) -> Result<Value, AllocError>
     ensures value { IfOk result (λ v. view v ≡ edge_data edge.now) }
 {
@@ -235,7 +228,6 @@ fn edge_value(alloc: Global, edge: &WorldEdge) -> Result<Value, AllocError>
     json!(in alloc; [from, to, process])
 }
 
-/// The edges, one by one.
 fn edges_value(alloc: Global, edges: &[WorldEdge]) -> Result<Value, AllocError>
     ensures value { IfOk result (λ v. view v ≡ list (map edge_data edges.now)) }
 {
@@ -281,27 +273,22 @@ impl Worlds {
     }
 }
 
-/// Adds the JSON of worlds.
-fn push_listed(json: &mut Vec<u8>, alloc: Global, worlds: &Worlds) -> Result<(), AllocError>
+fn push_listed(json: &mut Vec<u8>, worlds: &Worlds) -> Result<(), AllocError>
     ensures added { OnOk result (json.new.items ≡ json.old.items ++ listed_json worlds.now) }
 {
-    let edges = edges_value(alloc, &worlds.edges)?;
+    let alloc = *json.allocator();
     json.extend_from_slice(b"[[")?;
     json.extend_from_slice(&worlds.json)?;
-    push_behind(json, "],", &edges)?;
+    push_behind(json, "],", &edges_value(alloc, &worlds.edges)?)?;
     json.extend_from_slice(b"]")
 }
 
 /// Adds the JSON of worlds, where they are drawn.
-pub fn push_worlds(
-    json: &mut Vec<u8>,
-    alloc: Global,
-    worlds: &Option<Worlds>,
-) -> Result<(), AllocError>
+pub fn push_worlds(json: &mut Vec<u8>, worlds: &Option<Worlds>) -> Result<(), AllocError>
     ensures added { OnOk result (json.new.items ≡ json.old.items ++ worlds_json worlds.now) }
 {
     match worlds {
-        Some(worlds) => push_listed(json, alloc, worlds),
+        Some(worlds) => push_listed(json, worlds),
         None => json.extend_from_slice(b"null"),
     }
 }

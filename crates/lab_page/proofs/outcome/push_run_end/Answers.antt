@@ -12,21 +12,21 @@ use Rattle.lab_page.proofs.outcome.push_run_end.Goals as goal
 
 pub push_behind-requires : goal.push_behind-requires
 push_behind-requires c = record {
-  plain = rw (c.in_ok-outcome.ensures.value 0) (outcome-plain c.args.form.now (scene_at 0 c.args.world.now c.args.tally.now) _);
+  plain = rw (c.in_ok-outcome_value.ensures.value 0) (outcome-plain c.args.look.now.page (scene_at 0 c.args.world.now c.args.tally.now) _);
 }
 
 pub push_behind-requires-2 : goal.push_behind-requires-2
-push_behind-requires-2 c = record { plain = rw c.in_ok-blocks.ensures.value (schedule-plain c.args.schedule.now) }
+push_behind-requires-2 c = record { plain = rw c.in_ok-schedule_value.ensures.value (schedule-plain c.args.schedule.now) }
 
 pub returns : goal.returns
 returns c =
     let old = c.args.json.now.items in
-    let whole = c.args.whole in
+    let whole = c.args.look.now.whole in
     let seen : view (Bool whole) ≡ boolean whole = search (rules, the_lemmas) in
     let last = c.in_ok-push_behind-3.ensures.added ∙ ap (λ (d : Data). c.push_behind-2.new.json.items ++ (codes ",\"whole\":" ++ compact_text d)) seen in
-    let made = run-end-made old _ _ _ _ (view c.in_ok-outcome.outcome) (view c.in_ok-blocks.blocks) whole c.in_ok-push_behind.ensures.added
+    let made = run-end-made old _ _ _ _ (view c.in_ok-outcome_value.field-0) (view c.in_ok-schedule_value.field-0) whole c.in_ok-push_behind.ensures.added
     c.in_ok-push_behind-2.ensures.added last c.in_ok-push.ensures.items in
     record {
-      added = λ (number : ℕ). made ∙ ap (λ (d : Data). old ++ run_end d (view c.in_ok-blocks.blocks) whole) (c.in_ok-outcome.ensures.value number)
-          ∙ ap (λ (d : Data). old ++ run_end (outcome_at c.args.form.now (scene_at number c.args.world.now c.args.tally.now) c.args.past.now) d whole) c.in_ok-blocks.ensures.value;
+      added = λ (number : ℕ). made ∙ ap (λ (d : Data). old ++ run_end d (view c.in_ok-schedule_value.field-0) whole) (c.in_ok-outcome_value.ensures.value number)
+          ∙ ap (λ (d : Data). old ++ run_end (outcome_at c.args.look.now.page (scene_at number c.args.world.now c.args.tally.now) c.args.past.now) d whole) c.in_ok-schedule_value.ensures.value;
     }

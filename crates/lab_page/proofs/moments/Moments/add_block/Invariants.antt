@@ -13,9 +13,9 @@ invariant-loop-done l = record {
   scene : record { number = l.first + l.done; world = l.world; tally = l.tally }
       ≡ scene_after (record { number = l.first; world = l.fn.world; tally = l.fn.tally }) (replicate l.done l.block.pid);
   moments : l.self.json ≡ l.fn.self.json
-      ++ more_json (moments l.form l.whole (record { number = l.first; world = l.fn.world; tally = l.fn.tally }) l.fn.self.past (replicate l.done l.block.pid));
+      ++ more_json (moments l.look.page l.look.whole (record { number = l.first; world = l.fn.world; tally = l.fn.tally }) l.fn.self.past (replicate l.done l.block.pid));
   lines : l.self.lines ≡ l.fn.self.lines
-      ++ events l.labels (record { number = l.first; world = l.fn.world; tally = l.fn.tally }) (replicate l.done l.block.pid);
+      ++ events l.look.trace (record { number = l.first; world = l.fn.world; tally = l.fn.tally }) (replicate l.done l.block.pid);
   past : l.self.past
       ≡ past_then (record { number = l.first; world = l.fn.world; tally = l.fn.tally }) (replicate l.done l.block.pid) l.fn.self.past;
   kept : IsKept (record { number = l.first + l.done; world = l.world; tally = l.tally });

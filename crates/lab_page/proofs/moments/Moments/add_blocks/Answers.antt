@@ -22,12 +22,12 @@ use Rattle.lab_page.proofs.moments.Moments.add_blocks.Goals as goal
 pub loop-block-init : goal.loop-block-init
 loop-block-init c =
     let s = scene_at 1 c.args.world.now c.args.tally.now in
-    let v = c.args.form.now in
+    let v = c.args.look.now.page in
     record {
       number = omega (arith, ap length steps_of-none);
       scene = sym (ap (scene_after s) steps_of-none ∙ scene-none s);
-      moments = sym (ap (λ (l : List Data). c.args.self.now.json ++ more_json l) (ap (moments v c.args.whole s c.args.self.now.past) steps_of-none ∙ moments-none v c.args.whole s c.args.self.now.past) ∙ append-nil c.args.self.now.json);
-      lines = sym (ap (λ (l : List ℕ). c.args.self.now.lines ++ l) (ap (events c.args.labels.now s) steps_of-none ∙ events-none c.args.labels.now s) ∙ append-nil c.args.self.now.lines);
+      moments = sym (ap (λ (l : List Data). c.args.self.now.json ++ more_json l) (ap (moments v c.args.look.now.whole s c.args.self.now.past) steps_of-none ∙ moments-none v c.args.look.now.whole s c.args.self.now.past) ∙ append-nil c.args.self.now.json);
+      lines = sym (ap (λ (l : List ℕ). c.args.self.now.lines ++ l) (ap (events c.args.look.now.trace s) steps_of-none ∙ events-none c.args.look.now.trace s) ∙ append-nil c.args.self.now.lines);
       past = sym (ap (λ (l : List ℕ). past_then s l c.args.self.now.past) steps_of-none ∙ past-none s c.args.self.now.past);
       kept = c.requires.kept;
       count = refl;
@@ -69,9 +69,9 @@ loop-block-preserved c =
     record {
       number = omega (arith, more, length-replicate count (get_or bs i (block 0 0)).pid, c.loop-block.invariant.number);
       scene = told;
-      moments = json-block c.args.form.now c.args.whole s u c.args.self.now.past c.loop-block.self.past bs i (block 0 0) _ _ _ within
+      moments = json-block c.args.look.now.page c.args.look.now.whole s u c.args.self.now.past c.loop-block.self.past bs i (block 0 0) _ _ _ within
           c.loop-block.invariant.scene c.loop-block.invariant.past c.loop-block.invariant.moments c.in_ok-add_block.ensures.moments;
-      lines = lines-block c.args.labels.now s u bs i (block 0 0) _ _ _ within c.loop-block.invariant.scene c.loop-block.invariant.lines c.in_ok-add_block.ensures.lines;
+      lines = lines-block c.args.look.now.trace s u bs i (block 0 0) _ _ _ within c.loop-block.invariant.scene c.loop-block.invariant.lines c.in_ok-add_block.ensures.lines;
       past = past-block s u bs i (block 0 0) c.args.self.now.past c.loop-block.self.past _ within c.loop-block.invariant.scene
           c.loop-block.invariant.past c.in_ok-add_block.ensures.past;
       kept = subst IsKept (sym told) (kept-after s (steps_of (take (i + 1) bs)) c.requires.kept);
@@ -83,5 +83,5 @@ returns-in_err-add_block-clause-fault c =
     let s = scene_at 1 c.args.world.now c.args.tally.now in
     let u = scene_at c.loop-block.number c.loop-block.world c.loop-block.tally in
     let p = err_from_is_err_and c.from_residual.result c.from_residual.ensures.1 in
-    rw (p.1, p.2) (fault-block c.args.form.now c.args.whole s u c.args.self.now.past c.loop-block.self.past c.args.blocks.now c.loop-block.block-index (block 0 0) _ _ _
+    rw (p.1, p.2) (fault-block c.args.look.now.page c.args.look.now.whole s u c.args.self.now.past c.loop-block.self.past c.args.blocks.now c.loop-block.block-index (block 0 0) _ _ _
     c.loop-block-test.true c.loop-block.invariant.scene c.loop-block.invariant.past c.loop-block.invariant.moments c.in_err-add_block.ensures.fault)

@@ -14,9 +14,9 @@ invariant-loop-block l = record {
   scene : record { number = l.number; world = l.world; tally = l.tally }
       ≡ scene_after (record { number = 1; world = l.fn.world; tally = l.fn.tally }) (steps_of (take l.block-index l.blocks));
   moments : l.self.json ≡ l.fn.self.json
-      ++ more_json (moments l.form l.whole (record { number = 1; world = l.fn.world; tally = l.fn.tally }) l.fn.self.past (steps_of (take l.block-index l.blocks)));
+      ++ more_json (moments l.look.page l.look.whole (record { number = 1; world = l.fn.world; tally = l.fn.tally }) l.fn.self.past (steps_of (take l.block-index l.blocks)));
   lines : l.self.lines ≡ l.fn.self.lines
-      ++ events l.labels (record { number = 1; world = l.fn.world; tally = l.fn.tally }) (steps_of (take l.block-index l.blocks));
+      ++ events l.look.trace (record { number = 1; world = l.fn.world; tally = l.fn.tally }) (steps_of (take l.block-index l.blocks));
   past : l.self.past
       ≡ past_then (record { number = 1; world = l.fn.world; tally = l.fn.tally }) (steps_of (take l.block-index l.blocks)) l.fn.self.past;
   kept : IsKept (record { number = l.number; world = l.world; tally = l.tally });
