@@ -17,9 +17,7 @@ use Rattle.lab_moments.specs.Holds.{holds_data}
 use Rattle.lab_template.specs.Limits.{most_whole}
 use Rattle.lab_moments.specs.Pasts.{Past, first_past}
 use Rattle.lab_page.specs.Moments.{moments, past_then}
-use Rattle.lab_page.specs.declared.look.Look.{Look}
 use Rattle.lab_page.specs.Sources.{Source, programs}
-use Rattle.lab_sources.specs.declared.source.Source.{Source as GivenSource}
 use Rattle.lab_moments.specs.States.{states}
 use Rattle.lab_moments.specs.Values.{list, natural, naturals, all_below}
 use Rattle.lab_moments.specs.Waits.{waits_data, circles_data}
@@ -65,14 +63,6 @@ abbrev pub run_with : List Data → Data → Data → Bool → Data
 run_with moments outcome blocks whole =
     object (member (codes "moments") (list moments) (member (codes "outcome") outcome
     (member (codes "schedule") blocks (member (codes "whole") (boolean whole) no_members))))
-
--- how the run of a world by a schedule is written, where processes were given as sources: the lines on the page are without labels
-abbrev pub look_for : WorldState → List Block → List (Option GivenSource) → Look
-look_for w s ss = record {
-  page = form_for (length (steps_of s)) (length w.processes) [];
-  trace = form_for (length (steps_of s)) (length w.processes) ss;
-  whole = is_whole s;
-}
 
 -- the run from a scene on by a schedule; the first moment is that before the first step
 unfoldable pub run_from : Form → Bool → Scene → List Block → Data

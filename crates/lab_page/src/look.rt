@@ -1,6 +1,6 @@
 //! How a run is written.
 ghost use Rattle.std.specs.Prelude.{◌≡◌, IfOk};
-ghost use Rattle.lab_page.specs.Runs.{look_for};
+ghost use Rattle.lab_page.specs.Private.Looks.{look_for};
 
 use lab_sched::{Schedule, World};
 use lab_sources::Source;
