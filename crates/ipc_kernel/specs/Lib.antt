@@ -8,7 +8,6 @@ pub mod Semaphores
 pub mod Answer
 pub mod Replies
 pub mod Alike
-pub mod Renamings
 pub mod Operands
 pub mod OwnCalls
 pub mod Private

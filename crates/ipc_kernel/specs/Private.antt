@@ -2,5 +2,4 @@
 pub mod Decisions
 pub mod Counts
 pub mod Index
-pub mod Renamings
 pub mod Messages

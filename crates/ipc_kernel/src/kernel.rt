@@ -19,8 +19,6 @@ use ipc_objects::Queue;
 use std::alloc::{AllocError, Global};
 use std::marker::Model;
 
-mod alike;
-mod arranged;
 mod assembly;
 mod changes;
 mod copies;

@@ -1,7 +1,6 @@
 //! The kernel: object places, descriptors, slots, and the calls on message queues and semaphores.
 #![tactic(auto)]
 
-mod arrangement;
 mod call;
 mod kernel;
 pub mod laws;
@@ -10,13 +9,9 @@ mod place;
 mod places;
 mod process;
 mod processes;
-mod renaming;
 
-pub use arrangement::Arrangement;
 pub use call::{Answer, Call, Handle, Reply};
 pub use kernel::Kernel;
 pub use limits::{OBJECT_PLACES, OPEN_MAX, OPENS_MAX, PROCESS_MAX, limits_are_defined};
 pub use place::Place;
 pub use process::{Descriptor, OpenTables, Slot};
-pub use processes::{is_renamed_process, renamed_process};
-pub use renaming::{Renaming, renamed_by};

@@ -12,8 +12,6 @@ ghost use Rattle.ipc_kernel.specs.Private.Messages.{HasRoomFor, HasMessage};
 ghost use Rattle.ipc_kernel.specs.Places.{is_empty, semaphore_value, with_queue_in, with_value_in, without_name_in, queue_name, semaphore_name, queue_named, semaphore_named, queue_and_name, value_and_name, place_at, places_or_empty};
 ghost use Rattle.ipc_kernel.specs.declared.place.Place.TheVariants.{Empty, Mq, Sem};
 
-mod alike;
-mod arranged;
 mod assembly;
 mod copies;
 

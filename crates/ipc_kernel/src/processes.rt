@@ -4,8 +4,6 @@ ghost use Rattle.ipc_kernel.specs.Private.Counts.{indicator};
 ghost use Rattle.ipc_kernel.specs.Limits.{object_places, open_max, process_max};
 ghost use Rattle.ipc_kernel.specs.Processes.{slot_refers, descriptor_refers, is_referred, with_descriptor, with_slot};
 
-mod alike;
-mod arranged;
 mod assembly;
 mod copies;
 
@@ -14,8 +12,6 @@ use crate::process::{
     Descriptor, OpenTables, Slot, descriptor_at, first_free_descriptor, first_free_slot,
     first_that_refers, slot_at, write_descriptor, write_slot,
 };
-pub use alike::is_renamed_process;
-pub use arranged::renamed_process;
 use std::alloc::{AllocError, Global};
 use std::marker::Model;
 

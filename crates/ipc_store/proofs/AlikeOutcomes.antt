@@ -19,8 +19,8 @@ use Rattle.ipc_kernel.specs.Outcomes.{Outcome, refusal, waiting, completion, wai
 use Rattle.ipc_kernel.specs.Alike.{renamed_descriptor, renamed_slot, IsRenaming, IsAlike, AreDistinct, IsConsistent}
 use Rattle.ipc_kernel.proofs.PlaceLemmas.{first_empty_place}
 use Rattle.ipc_kernel.proofs.IndexLemmas.{place_at-set_same, is_name-true, is_name-itself, position_there, place_within}
-use Rattle.ipc_kernel.proofs.Renamings.{descriptor_of-renamed, slot_of-renamed, free_descriptor-renamed, free_slot-renamed, slot_for-renamed}
-use Rattle.ipc_kernel.proofs.Alikes.{renaming_to, renaming_done, renaming_place, renaming_descriptor, renaming_slot, renaming_closed}
+use Rattle.ipc_store.proofs.Renamings.{descriptor_of-renamed, slot_of-renamed, free_descriptor-renamed, free_slot-renamed, slot_for-renamed}
+use Rattle.ipc_store.proofs.Alikes.{renaming_to, renaming_done, renaming_place, renaming_descriptor, renaming_slot, renaming_closed}
 use Rattle.ipc_store.proofs.Consistents.{IsFree, consistent_done, consistent_place, consistent_descriptor, consistent_slot, consistent_closed}
 
 -- a consistent kernel, and the same with its places renamed

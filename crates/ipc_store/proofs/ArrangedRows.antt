@@ -8,16 +8,16 @@ use Rattle.std.proofs.lemmas.List.{ext_get_or, length-append, length-replicate, 
 use Rattle.ipc_kernel.specs.declared.place.Place.{Place}
 use Rattle.ipc_kernel.specs.declared.place.Place.TheVariants.{Empty}
 use Rattle.ipc_kernel.specs.declared.process.OpenTables.{OpenTables}
-use Rattle.ipc_kernel.specs.declared.renaming.Renaming.{Renaming}
+use Rattle.ipc_store.specs.declared.renaming.Renaming.{Renaming}
 use Rattle.ipc_kernel.specs.Places.{place_at, places_or_empty, padded}
 use Rattle.ipc_kernel.specs.Processes.{process_at}
 use Rattle.ipc_kernel.specs.Kernel.{KernelState, IsSettled}
 use Rattle.ipc_kernel.specs.Alike.{IsPermutation, IsRenaming, IsAlike, renamed_process}
 use Rattle.ipc_kernel.specs.Operands.{with_operand}
 use Rattle.ipc_store.specs.Rows.{KernelRow, kernel_of}
-use Rattle.ipc_kernel.specs.Renamings.{Permutes, renamed_by}
+use Rattle.ipc_store.specs.Private.Renamings.{Permutes, renamed_by}
 use Rattle.ipc_store.specs.Private.KeptRows.{AreRows}
-use Rattle.ipc_kernel.proofs.Alikes.{renaming_done}
+use Rattle.ipc_store.proofs.Alikes.{renaming_done}
 use Rattle.ipc_kernel.proofs.IndexLemmas.{place_at-get_or, place_at-past, place_at-set_same, place_at-set_other}
 use Rattle.ipc_kernel.proofs.PlaceLemmas.{length-emptied}
 use Rattle.ipc_store.proofs.KeptLemmas.{Grows, padded_has, padded_behind, rows_grow, rows_with, kernel_of_row}

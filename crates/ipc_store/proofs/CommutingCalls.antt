@@ -19,7 +19,7 @@ use Rattle.ipc_kernel.specs.Operands.{are_named}
 use Rattle.ipc_kernel.specs.OwnCalls.{is_own, OwnCallsCommute, StartNamed, StayNamed, OwnAlike}
 use Rattle.ipc_store.proofs.OpeningCalls.{mq_open_at, sem_open_at}
 use Rattle.ipc_store.proofs.OperandAnswers.{mq_open_is}
-use Rattle.ipc_kernel.proofs.Alikes.{alike_back}
+use Rattle.ipc_store.proofs.Alikes.{alike_back}
 use Rattle.ipc_store.proofs.AlikeOutcomes.{found_named}
 use Rattle.ipc_store.proofs.NamedPlaces.{is_named, KeepNames, names_kept, all_at, all_by}
 use Rattle.ipc_store.proofs.TableCalls.{ChangesTables, tables_same, tables_exit, tables_mq_close, tables_sem_close, tables_mq_open, tables_sem_open}

@@ -16,7 +16,7 @@ use Rattle.ipc_kernel.specs.Kernel.{KernelState, empty_kernel}
 use Rattle.ipc_kernel.specs.Alike.{AreDistinct, IsConsistent}
 use Rattle.ipc_kernel.proofs.PlaceLemmas.{length-emptied}
 use Rattle.ipc_kernel.proofs.IndexLemmas.{place_at-set_same, place_at-set_other, place_at-past}
-use Rattle.ipc_kernel.proofs.Alikes.{done, place_at-emptied}
+use Rattle.ipc_store.proofs.Alikes.{done, place_at-emptied}
 
 or_false : (a b : Bool) → (a || b) ≡ false → (a ≡ false) × (b ≡ false)
 or_false true b e = cc

@@ -1,3 +1,8 @@
+pub mod Renamings
+pub mod Alikes
+mod Exchanges
+mod FollowingRenamings
+mod ExactAlikes
 pub mod Consistents
 pub mod AlikeOutcomes
 pub mod LikeAnswers

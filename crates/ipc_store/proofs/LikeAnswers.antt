@@ -24,7 +24,7 @@ use Rattle.ipc_kernel.specs.Queues.{mq_send, take_first, mq_receive, attributes,
 use Rattle.ipc_kernel.specs.Semaphores.{sem_getvalue, sem_post, sem_wait, sem_trywait, sem_close, new_slot, one_more_open, sem_open_place, sem_create_at, sem_create, sem_look_up, sem_open}
 use Rattle.ipc_kernel.specs.Answer.{answer}
 use Rattle.ipc_kernel.specs.Alike.{renamed_descriptor, renamed_slot, AnswersAlike, StaysConsistent}
-use Rattle.ipc_kernel.proofs.Alikes.{alike_itself}
+use Rattle.ipc_store.proofs.Alikes.{alike_itself}
 use Rattle.ipc_store.proofs.Consistents.{descriptor_unreferred, slot_unreferred}
 use Rattle.ipc_store.proofs.AlikeOutcomes.{IsTwin, AreLike, HaveRoom, like_refused, like_waiting, like_done, like_if, like_blocked, like_unlinked, twin_queue, twin_value, twin_descriptor, twin_slot, twin_closed, twin_made, made_filled, other_place, by_room, found_descriptor, found_slot, found_free_descriptor, found_free_slot, found_slot_for, found_queue, found_semaphore, found_named, name_found, not_named, renamed_held, renamed_open}
 

@@ -2,19 +2,20 @@
 //! that are alike are equal is in no contract.
 use crate::support::{Q, copy_of, kernel_of, mq_open, name, sem_open, succeeds};
 use ipc_kernel::{Call, Kernel};
+use ipc_store::is_alike;
 use std::alloc::Global;
 use std::process::Abort;
 
 /// Each kernel is the other with its places renamed, and isn't the other as it is; their digests are equal.
 fn are_alike(rt: &impl Abort, one: &Kernel, other: &Kernel) {
     assert!(rt; !one.is_same(other), "not the same");
-    assert!(rt; one.is_alike(other) && other.is_alike(one), "alike");
+    assert!(rt; is_alike(one, other) && is_alike(other, one), "alike");
     assert!(rt; one.digest() == other.digest(), "the digest");
 }
 
 /// Neither of two kernels is the other with its places renamed, and their digests differ.
 fn are_apart(rt: &impl Abort, one: &Kernel, other: &Kernel) {
-    assert!(rt; !one.is_alike(other) && !other.is_alike(one), "not alike");
+    assert!(rt; !is_alike(one, other) && !is_alike(other, one), "not alike");
     assert!(rt; one.digest() != other.digest(), "the digests");
 }
 

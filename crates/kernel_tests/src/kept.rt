@@ -65,9 +65,9 @@ fn get(rt: &impl Abort, alloc: Global, kernels: &Kernels, number: u32) -> Kernel
 }
 
 fn arranged(rt: &impl Abort, alloc: Global, kernel: &Kernel) -> Option<Kernel> {
-    match kernel.arranged(alloc) {
+    match ipc_store::arranged(alloc, kernel) {
         Ok(arranged) => arranged,
-        Err(_) => kernel.arranged(alloc).expect(rt, "memory"),
+        Err(_) => ipc_store::arranged(alloc, kernel).expect(rt, "memory"),
     }
 }
 

@@ -9,7 +9,7 @@ use Rattle.ipc_kernel.specs.declared.place.Place.TheVariants.{Empty}
 use Rattle.ipc_kernel.specs.Places.{place_at}
 use Rattle.ipc_kernel.specs.Kernel.{KernelState}
 use Rattle.ipc_kernel.specs.Alike.{IsAlike}
-use Rattle.ipc_kernel.proofs.Alikes.{alike_back}
+use Rattle.ipc_store.proofs.Alikes.{alike_back}
 use Rattle.ipc_kernel.proofs.IndexLemmas.{place_at-set_other, place_at-past}
 use Rattle.lab_conditions.specs.Losses.{messages_at, messages}
 

@@ -2,7 +2,7 @@
 use Rattle.std.proofs.Common.{ℕ, ◌+◌, ◌≡◌, true, false, ◌&&◌, nat_le, Option, Some, None, is_some, refl, sym, ap, subst, ◌∙◌, slice_get}
 use Rattle.ipc_kernel.specs.Kernel.{KernelState}
 use Rattle.ipc_kernel.specs.Alike.{IsConsistent}
-use Rattle.ipc_kernel.proofs.Alikes.{alike_back}
+use Rattle.ipc_store.proofs.Alikes.{alike_back}
 use Rattle.lc3_machine.specs.Process.{Process as Machine}
 use Rattle.lab_sched.specs.Worlds.{Process, Running, Waiting, Ended, WorldState, NextAction, moves, calls, next_action, step_effect_in, step, run, machine_of}
 use Rattle.lab_sched.specs.Verdicts.{is_ended}

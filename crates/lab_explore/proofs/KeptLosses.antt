@@ -6,7 +6,7 @@ use Rattle.ipc_kernel.specs.declared.call.Answer.{Answer}
 use Rattle.ipc_kernel.specs.declared.call.Answer.TheVariants.{Done, Wait}
 use Rattle.ipc_kernel.specs.Answer.{answer, is_receive}
 use Rattle.ipc_kernel.specs.Alike.{IsAlike, IsConsistent}
-use Rattle.ipc_kernel.proofs.Alikes.{alike_then}
+use Rattle.ipc_store.proofs.Alikes.{alike_then}
 use Rattle.lab_sched.specs.Worlds.{Process, Running, Waiting, Ended, WorldState, NextAction, moves, calls, next_action, StepEffect, nothing, step_effect, step_effect_in, first_try, retry, kernel_after, after, step, run}
 use Rattle.lab_sched.proofs.ListPlaces.{get_past}
 use Rattle.lab_sched.proofs.Executions.{effect_local}

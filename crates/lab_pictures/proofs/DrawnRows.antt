@@ -4,7 +4,7 @@ use Rattle.std.specs.Option.{option_map}
 use Rattle.std.proofs.lemmas.List.{length-append}
 use Rattle.std.proofs.lemmas.Option.{slice_get-map, slice_get-get_or}
 use Rattle.ipc_kernel.specs.Alike.{IsConsistent}
-use Rattle.ipc_kernel.proofs.Alikes.{alike_then}
+use Rattle.ipc_store.proofs.Alikes.{alike_then}
 use Rattle.lab_sched.specs.Worlds.{WorldState, step_effect_in, step}
 use Rattle.lab_sched.proofs.ListPlaces.{get_past}
 use Rattle.lab_worlds.specs.declared.ends.End.{End}

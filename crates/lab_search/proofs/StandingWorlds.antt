@@ -23,7 +23,7 @@ use Rattle.lab_worlds.specs.Stepped.{IsReached, AreReached}
 use Rattle.lab_worlds.proofs.AfterLocalSteps.{none_local}
 use Rattle.lab_search.proofs.FirstWorlds.{at_unique}
 use Rattle.ipc_kernel.specs.Alike.{IsAlike, IsConsistent}
-use Rattle.ipc_kernel.proofs.Alikes.{alike_then}
+use Rattle.ipc_store.proofs.Alikes.{alike_then}
 use Rattle.lab_worlds.proofs.AlikeWorlds.{effect_alike, kernel_alike, consistent_after}
 use Rattle.lab_worlds.proofs.HeldAdvances.{same_after}
 use Rattle.lab_worlds.proofs.FewestCalls.{count_set, set_most, one_most}

@@ -7,7 +7,7 @@ use Rattle.ipc_kernel.specs.Operands.{HasOperand, operand_in, with_operand}
 use Rattle.ipc_kernel.specs.declared.call.Call.{Call}
 use Rattle.ipc_kernel.specs.declared.place.Place.{Place}
 use Rattle.ipc_kernel.specs.declared.process.OpenTables.{OpenTables}
-use Rattle.ipc_kernel.proofs.Alikes.{alike_itself}
+use Rattle.ipc_store.proofs.Alikes.{alike_itself}
 use Rattle.lab_conditions.specs.Conditions.{StandsAt}
 use Rattle.lab_sched.specs.Worlds.{Process, Running, Waiting, Ended, calls, step_effect}
 use Rattle.lab_sched.specs.Verdicts.{HasEnded}

@@ -9,6 +9,7 @@ ghost use Rattle.lab_search.specs.Stored.{IsExactly, IsState, IsLike};
 
 use crate::store::Store;
 use ipc_kernel::Kernel;
+use ipc_store::is_alike;
 use lab_sched::{Process, World};
 use lab_worlds::{copy_before_wait, none_waits, waits};
 use std::alloc::{AllocError, Global};
@@ -34,7 +35,7 @@ impl Store {
         let Some(kept) = self.kernels.get(alloc, number)? else {
             return Ok(false);
         };
-        Ok(kept.is_alike(kernel))
+        Ok(is_alike(&kept, kernel))
     }
 
     /// Whether a row stands for a world that is alike this one, with each process that waits before

@@ -10,7 +10,7 @@ ghost use Rattle.lab_search.specs.Private.Stored.{Grows};
 
 use crate::known::Moves;
 use ipc_kernel::Kernel;
-use ipc_store::{Index, Kernels};
+use ipc_store::{Index, Kernels, arranged};
 use lab_sched::Process;
 use lab_states::{Edges, Parents, Rows, Short, States};
 use std::alloc::{AllocError, Global};
@@ -143,7 +143,7 @@ impl Store {
         ensures grows { OnOk result (Grows self.old self.new) }
         ensures kernel { IfOk result (λ i. IsKernel self.new i kernel.now) }
     {
-        if let Some(arranged) = kernel.arranged(alloc)? {
+        if let Some(arranged) = arranged(alloc, kernel)? {
             let number = self.keep_kernel(alloc, &arranged)?;
             return Ok(number);
         }

@@ -9,7 +9,7 @@ use Rattle.lc3_machine.specs.Effects.{next_step}
 use Rattle.lc3_machine.proofs.Outputs.{want_of, same_want}
 use Rattle.ipc_kernel.specs.declared.call.Call.{Call}
 use Rattle.ipc_kernel.specs.Kernel.{KernelState}
-use Rattle.ipc_kernel.proofs.Alikes.{alike_itself}
+use Rattle.ipc_store.proofs.Alikes.{alike_itself}
 use Rattle.ipc_traps.specs.declared.service.Service.{Service}
 use Rattle.ipc_traps.specs.declared.service.Service.TheVariants as service
 use Rattle.ipc_traps.specs.Services.{service_in}

@@ -2,7 +2,7 @@
 use Rattle.std.proofs.Common.{ℕ, ◌≡◌, List, [], ◌∷◌, Option, Some, None, refl, sym, ap, subst, ◌∙◌, slice_get, set}
 use Rattle.ipc_kernel.specs.Kernel.{KernelState}
 use Rattle.ipc_kernel.specs.Alike.{IsAlike, IsConsistent}
-use Rattle.ipc_kernel.proofs.Alikes.{alike_itself, alike_then, alike_back}
+use Rattle.ipc_store.proofs.Alikes.{alike_itself, alike_then, alike_back}
 use Rattle.ipc_store.proofs.LikeAnswers.{answers_alike, stays_consistent}
 use Rattle.lab_sched.specs.Worlds.{Process, Running, Waiting, Ended, WorldState, NextAction, moves, calls, next_action, StepEffect, nothing, local_step, kernel_step, step_effect, step_effect_in, process_after_answer, after, step, run, first_try, retry, IsEffective}
 use Rattle.lab_sched.specs.Execution.{AreEffective}

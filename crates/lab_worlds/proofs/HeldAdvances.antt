@@ -8,7 +8,7 @@ use Rattle.ipc_kernel.specs.declared.call.Answer.{Answer}
 use Rattle.ipc_kernel.specs.declared.call.Answer.TheVariants.{Done, Wait}
 use Rattle.ipc_kernel.specs.Answer.{answer}
 use Rattle.ipc_kernel.specs.Alike.{IsConsistent}
-use Rattle.ipc_kernel.proofs.Alikes.{alike_then}
+use Rattle.ipc_store.proofs.Alikes.{alike_then}
 use Rattle.lab_sched.specs.Worlds.{Process, Running, Waiting, Ended, WorldState, NextAction, moves, calls, next_action, StepEffect, nothing, local_step, kernel_step, step_effect, step_effect_in, process_after_answer, after, step, run, first_try, retry, IsEffective, entry_of, entries}
 use Rattle.lab_sched.specs.Finished.{IsAtRest}
 use Rattle.lab_sched.specs.Stepping.{before_wait}

@@ -4,6 +4,7 @@ ghost use Rattle.lab_sched.specs.Held.{process_view};
 ghost use Rattle.lab_sched.specs.Stepping.{before_wait};
 ghost use Rattle.lab_worlds.specs.Calls.{AreAlike};
 
+use ipc_store::is_alike;
 use lab_sched::{Process, World};
 use std::alloc::{AllocError, Global};
 
@@ -37,7 +38,7 @@ fn is_same_in(world: &World, other: &World, pid: usize) -> bool
 pub fn are_alike(world: &World, other: &World) -> bool
     ensures alike { IsTrue result → AreAlike world.now other.now }
 {
-    if world.count() != other.count() || !world.kernel().is_alike(other.kernel()) {
+    if world.count() != other.count() || !is_alike(world.kernel(), other.kernel()) {
         return false;
     }
     for pid in 0..world.count() {

@@ -9,6 +9,7 @@ use crate::fault::ExploreFault;
 use crate::trying::discard;
 use crate::walking::copies;
 use ipc_kernel::{Kernel, PROCESS_MAX};
+use ipc_store::is_alike;
 use lab_sched::{MOST_STEPS, Process, Schedule, World, take_step};
 use std::alloc::{AllocError, Global};
 
@@ -168,7 +169,7 @@ impl Wanderer {
 
     /// Whether a world is that of the walk, but for the numbers of places in the kernel.
     pub(crate) fn is_at(&self, world: &World) -> bool {
-        if !self.kernel.is_alike(world.kernel()) || world.count() != self.processes.len() {
+        if !is_alike(&self.kernel, world.kernel()) || world.count() != self.processes.len() {
             return false;
         }
         for (pid, process) in self.processes.iter().enumerate() {

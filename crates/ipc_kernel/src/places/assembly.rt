@@ -117,6 +117,14 @@ impl Places {
         are_used(self.places.as_slice(), processes)
     }
 
+    /// All 64 places.
+    pub(crate) fn all(&self) -> &[Place]
+        ensures all { result.now ≡ self.now }
+        ensures count { length result.now ≡ object_places }
+    {
+        self.places.as_slice()
+    }
+
     /// The places up to the last that is not empty.
     pub(crate) fn used(&self) -> &[Place]
         ensures used { padded object_places result.now ≡ self.now }

@@ -1,6 +1,7 @@
 //! Processes from their tables.
-ghost use Rattle.std.specs.Prelude.{◌≡◌, ◌<◌, ◌+◌, ℕ, IsTrue, IfSome, All, slice_index, count_by, length};
-ghost use Rattle.ipc_kernel.specs.Processes.{descriptor_refers, slot_refers};
+ghost use Rattle.std.specs.Prelude.{◌≡◌, ◌<◌, ◌+◌, ℕ, IsTrue, IfSome, All, slice_index, count_by, length, true};
+ghost use Rattle.ipc_kernel.specs.Limits.{object_places};
+ghost use Rattle.ipc_kernel.specs.Processes.{descriptor_refers, slot_refers, is_referred};
 ghost use Rattle.ipc_kernel.specs.Private.Counts.{references_in, references_to, HasFullTables};
 
 use super::{Processes, note_descriptor, note_slot};
@@ -91,6 +92,7 @@ impl Processes {
     /// The tables of each process.
     pub(crate) fn tables(&self) -> &[OpenTables]
         ensures tables { result.now ≡ self.now }
+        ensures range { (i : ℕ) → is_referred self.now i ≡ true → i < object_places }
     {
         self.tables.as_slice()
     }

@@ -8,13 +8,15 @@ ghost use Rattle.ipc_kernel.specs.Kernel.{KernelState, IsSettled};
 ghost use Rattle.ipc_store.specs.Kept.{GrowsKept};
 ghost use Rattle.ipc_kernel.specs.Operands.{with_operand};
 ghost use Rattle.ipc_kernel.specs.Alike.{IsAlike};
-ghost use Rattle.ipc_kernel.specs.Renamings.{Permutes, renamed_by};
+ghost use Rattle.ipc_store.specs.Private.Renamings.{Permutes, renamed_by};
 
 use super::Kernels;
 use super::changes::{number_at, with_number};
 use super::objects::Objects;
 use super::renames::Taken;
-use ipc_kernel::{Arrangement, OBJECT_PLACES, Renaming, renamed_by};
+use crate::arrangement::Arrangement;
+use crate::renaming::{Renaming, renamed_by};
+use ipc_kernel::OBJECT_PLACES;
 use std::alloc::{AllocError, Global};
 
 /// The number at a place, where another one stands at one place.

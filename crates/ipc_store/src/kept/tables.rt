@@ -4,12 +4,14 @@ ghost use Rattle.std.specs.Option.{option_copied};
 ghost use Rattle.ipc_kernel.specs.declared.process.OpenTables.{OpenTables};
 ghost use Rattle.ipc_kernel.specs.Processes.{process_at};
 ghost use Rattle.ipc_kernel.specs.Alike.{renamed_process};
-ghost use Rattle.ipc_kernel.specs.Renamings.{renamed_by};
+ghost use Rattle.ipc_store.specs.Private.Renamings.{renamed_by};
 
 use super::renames::{Renames, Taken};
 use super::rows::number_of;
+use crate::alike::is_renamed_process;
+use crate::arranging::renamed_process;
 use crate::index::Index;
-use ipc_kernel::{OpenTables, is_renamed_process, renamed_process};
+use ipc_kernel::OpenTables;
 use std::alloc::{AllocError, Global};
 use std::marker::Model;
 use std::mem::size_of;

@@ -1,5 +1,5 @@
 use Rattle.std.proofs.Common.{◌≡◌, ◌≤◌, Some, length, map, slice_get, sym, subst, ◌∙◌}
-use Rattle.ipc_kernel.specs.Renamings.{renamed_by}
+use Rattle.ipc_store.specs.Private.Renamings.{renamed_by}
 use Rattle.ipc_store.proofs.KeptLemmas.{rows_grow, kept_grows}
 use Rattle.ipc_store.proofs.ArrangedRows.{AreMoved, kernel_with_new, rows_with_new}
 use Rattle.ipc_store.proofs.kept.Kernels.keep_with_new.Goals as goal

@@ -1,5 +1,5 @@
 use Rattle.std.proofs.Common.{arith}
-use Rattle.ipc_kernel.specs.Renamings.{renamed_by}
+use Rattle.ipc_store.specs.Private.Renamings.{renamed_by}
 use Rattle.ipc_store.proofs.ArrangedRows.{all_moved}
 use Rattle.ipc_store.proofs.kept.arranged.are_moved.Goals as goal
 

@@ -1,5 +1,5 @@
 use Rattle.std.proofs.Common.{ℕ, ◌<◌, ◌≡◌, ◌==◌, Some, length, slice_get, if◌then◌else◌}
-use Rattle.ipc_kernel.specs.Renamings.{renamed_by}
+use Rattle.ipc_store.specs.Private.Renamings.{renamed_by}
 use Rattle.ipc_store.proofs.kept.arranged.are_moved.Given as goal
 
 abbrev pub invariant-loop-place : goal.invariant-loop-place

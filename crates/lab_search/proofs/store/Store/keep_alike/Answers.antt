@@ -1,4 +1,4 @@
-use Rattle.ipc_kernel.proofs.Alikes.{alike_itself}
+use Rattle.ipc_store.proofs.Alikes.{alike_itself}
 use Rattle.lab_search.proofs.store.Store.keep_alike.Goals as goal
 
 pub returns-clause-kernel : goal.returns-clause-kernel

@@ -1,4 +1,4 @@
-use Rattle.ipc_kernel.specs.Renamings.{Permutes}
+use Rattle.ipc_store.specs.Private.Renamings.{Permutes}
 use Rattle.ipc_store.proofs.kept.objects.Objects.arrangement.Given as goal
 
 abbrev pub invariant-loop-at : goal.invariant-loop-at

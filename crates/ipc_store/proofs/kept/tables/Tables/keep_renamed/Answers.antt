@@ -1,6 +1,6 @@
 use Rattle.std.proofs.Common.{[], length, ap, arith}
 use Rattle.ipc_kernel.specs.Alike.{renamed_process}
-use Rattle.ipc_kernel.specs.Renamings.{renamed_by}
+use Rattle.ipc_store.specs.Private.Renamings.{renamed_by}
 use Rattle.ipc_store.proofs.NumberLemmas.{made_more}
 use Rattle.ipc_store.proofs.kept.tables.Tables.keep_renamed.Goals as goal
 

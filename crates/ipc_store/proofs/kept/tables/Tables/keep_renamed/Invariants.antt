@@ -2,7 +2,7 @@ use Rattle.std.proofs.Common.{◌≡◌, ℕ, Some, map, slice_get, take}
 use Rattle.ipc_kernel.specs.declared.process.OpenTables.{OpenTables}
 use Rattle.ipc_kernel.specs.Processes.{process_at}
 use Rattle.ipc_kernel.specs.Alike.{renamed_process}
-use Rattle.ipc_kernel.specs.Renamings.{renamed_by}
+use Rattle.ipc_store.specs.Private.Renamings.{renamed_by}
 use Rattle.ipc_store.proofs.kept.tables.Tables.keep_renamed.Given as goal
 
 abbrev pub invariant-loop-number : goal.invariant-loop-number

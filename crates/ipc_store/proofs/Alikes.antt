@@ -1,0 +1,264 @@
+-- Kernels of which the one is the other with its places renamed, and what each change makes of both.
+use Rattle.std.proofs.Common.{◌≡◌, ◌≢◌, ◌↔◌, ℕ, ◌==◌, ◌<◌, ◌≤◌, Bool, true, false, cond, ◌||◌, List, [], ◌∷◌, length, map, set, length-set, Option, Some, None, refl, sym, ap, subst, ◌∙◌, inl, inr, arith, if◌then◌else◌}
+use Rattle.std.specs.Option.{option_map}
+use Rattle.std.specs.List.{list_any}
+use Rattle.std.proofs.lemmas.Bool.{cases_lt, eq-eqb}
+use Rattle.std.proofs.lemmas.Bool.Decides.{eqb_tells}
+use Rattle.std.proofs.lemmas.Option.{unwrap_or-slice_get}
+use Rattle.ipc_kernel.specs.declared.place.Place.{Place}
+use Rattle.ipc_kernel.specs.declared.place.Place.TheVariants.{Empty}
+use Rattle.ipc_kernel.specs.declared.process.OpenTables.{OpenTables}
+use Rattle.ipc_kernel.specs.declared.process.Slot.{Slot}
+use Rattle.ipc_kernel.specs.declared.process.Descriptor.{Descriptor}
+use Rattle.ipc_kernel.specs.Processes.{slot_refers, descriptor_refers, process_refers, is_referred, with_descriptor, with_slot, closed_process}
+use Rattle.ipc_kernel.specs.Places.{place_at, has_name, place_or_empty, places_or_empty}
+use Rattle.ipc_kernel.specs.Kernel.{KernelState}
+use Rattle.ipc_kernel.specs.Alike.{renamed_descriptor, renamed_slot, renamed_process, IsPermutation, IsRenaming, IsAlike, IsConsistent}
+use Rattle.ipc_kernel.proofs.PlaceLemmas.{get_or-emptied, length-emptied}
+use Rattle.ipc_kernel.proofs.KernelLemmas.{kept-Empty}
+use Rattle.ipc_kernel.proofs.IndexLemmas.{place_at-set_same, place_at-set_other, place_at-past}
+use Rattle.ipc_store.proofs.Renamings.{renamed_twice, with_descriptor-renamed, with_slot-renamed, closed-renamed, is_referred-renamed}
+
+-- what a place holds once each without a name and a reference is emptied
+pub place_at-emptied : (processes : List OpenTables) (ps : List Place) (i : ℕ) → place_at (places_or_empty processes ps) i ≡ place_or_empty processes i (place_at ps i)
+place_at-emptied processes ps i = elim (cases_lt i (length ps)) [
+  | inl less ↦ unwrap_or-slice_get (places_or_empty processes ps) i Empty ∙ get_or-emptied processes ps i Empty less ∙ ap (place_or_empty processes i) (sym (unwrap_or-slice_get ps i Empty))
+  | inr past ↦ place_at-past (places_or_empty processes ps) i (omega (arith, length-emptied processes ps)) ∙ sym (ap (place_or_empty processes i) (place_at-past ps i past) ∙ kept-Empty processes i)
+]
+
+-- the kernel whose places without a name and a reference are emptied
+abbrev pub done : KernelState → KernelState
+done k = record k { places = places_or_empty k.processes k.places }
+
+pub apart_renamed : (f g : ℕ → ℕ) → IsPermutation f g → (i a : ℕ) → i ≢ a → f i ≢ f a
+apart_renamed f g h i a apart e = apart (sym (h.undone i) ∙ ap g e ∙ h.undone a)
+
+pub renaming_done : (f g : ℕ → ℕ) (k j : KernelState) → IsRenaming f g k j → IsRenaming f g (done k) (done j)
+renaming_done f g k j r = record {
+  permutation = r.permutation;
+  count = length-emptied j.processes j.places ∙ r.count ∙ sym (length-emptied k.processes k.places);
+  places = λ i. place_at-emptied j.processes j.places (f i)
+      ∙ ap (λ b. cond (has_name (place_at j.places (f i)) || b) (place_at j.places (f i)) Empty) (referred i)
+      ∙ ap (λ p. cond (has_name p || is_referred k.processes i) p Empty) (r.places i)
+      ∙ sym (place_at-emptied k.processes k.places i);
+  processes = r.processes;
+}
+  where
+    referred : (i : ℕ) → is_referred j.processes (f i) ≡ is_referred k.processes i
+    referred i = ap (λ ps. is_referred ps (f i)) r.processes ∙ is_referred-renamed f g r.permutation k.processes i
+
+-- a place of each is written
+pub renaming_place : (f g : ℕ → ℕ) (k j : KernelState) → IsRenaming f g k j → length k.places ≡ 64 → (a : ℕ) (x : Place)
+    → IsRenaming f g (record k { places = set k.places a x }) (record j { places = set j.places (f a) x })
+renaming_place f g k j r count a x = record {
+  permutation = r.permutation;
+  count = length-set j.places (f a) x ∙ r.count ∙ sym (length-set k.places a x);
+  places = λ i. elim (eqb_tells i a) [
+    | inl same ↦ subst (λ n. place_at (set j.places (f a) x) (f n) ≡ place_at (set k.places a x) n) (sym same.1) here
+    | inr apart ↦ place_at-set_other j.places (f i) (f a) x (apart_renamed f g r.permutation i a apart.1) ∙ r.places i ∙ sym (place_at-set_other k.places i a x apart.1)
+  ];
+  processes = r.processes;
+}
+  where
+    past : (ps : List Place) (n : ℕ) → length ps ≡ 64 → 64 ≤ n → place_at (set ps n x) n ≡ Empty
+    past ps n is h = place_at-past (set ps n x) n (omega (arith, length-set ps n x))
+
+    here : place_at (set j.places (f a) x) (f a) ≡ place_at (set k.places a x) a
+    here = elim (cases_lt a 64) [
+      | inl less ↦
+          let inside : f a < 64 = (r.permutation.within a).1 less in
+          place_at-set_same j.places (f a) x (omega (arith, r.count)) ∙ sym (place_at-set_same k.places a x (omega arith))
+      | inr more ↦ elim (cases_lt (f a) 64) [
+        | inl inside ↦ absurd (let less : a < 64 = (r.permutation.within a).0 inside in omega arith)
+        | inr outside ↦ past j.places (f a) (r.count ∙ count) outside ∙ sym (past k.places a count more)
+      ]
+    ]
+
+-- the tables of the processes are written
+pub renaming_processes : (f g : ℕ → ℕ) (k j : KernelState) → IsRenaming f g k j → (ps qs : List OpenTables) → qs ≡ map (renamed_process f) ps → IsRenaming f g (record k { processes = ps }) (record j { processes = qs })
+renaming_processes f g k j r ps qs same = record { permutation = r.permutation; count = r.count; places = r.places; processes = same }
+
+pub renaming_descriptor : (f g : ℕ → ℕ) (k j : KernelState) → IsRenaming f g k j → (p d : ℕ) (v : Option Descriptor)
+    → IsRenaming f g (record k { processes = with_descriptor k.processes p d v }) (record j { processes = with_descriptor j.processes p d (option_map (renamed_descriptor f) v) })
+renaming_descriptor f g k j r p d v = renaming_processes f g k j r _ _ (ap (λ ps. with_descriptor ps p d (option_map (renamed_descriptor f) v)) r.processes ∙ with_descriptor-renamed f k.processes p d v)
+
+pub renaming_slot : (f g : ℕ → ℕ) (k j : KernelState) → IsRenaming f g k j → (p s : ℕ) (v : Option Slot)
+    → IsRenaming f g (record k { processes = with_slot k.processes p s v }) (record j { processes = with_slot j.processes p s (option_map (renamed_slot f) v) })
+renaming_slot f g k j r p s v = renaming_processes f g k j r _ _ (ap (λ ps. with_slot ps p s (option_map (renamed_slot f) v)) r.processes ∙ with_slot-renamed f k.processes p s v)
+
+pub renaming_closed : (f g : ℕ → ℕ) (k j : KernelState) → IsRenaming f g k j → (p : ℕ)
+    → IsRenaming f g (record k { processes = set k.processes p closed_process }) (record j { processes = set j.processes p closed_process })
+renaming_closed f g k j r p = renaming_processes f g k j r _ _ (ap (λ ps. set ps p closed_process) r.processes ∙ closed-renamed f k.processes p)
+
+-- one renaming after another
+pub permutation_then : (f g h i : ℕ → ℕ) → IsPermutation f g → IsPermutation h i → IsPermutation (λ n. h (f n)) (λ n. g (i n))
+permutation_then f g h i p q = record {
+  undone = λ n. ap g (q.undone (f n)) ∙ p.undone n;
+  redone = λ n. ap h (p.redone (i n)) ∙ q.redone n;
+  within = λ n. (λ e. (p.within n).0 ((q.within (f n)).0 e), λ e. (q.within (f n)).1 ((p.within n).1 e));
+}
+
+pub renaming_then : (f g h i : ℕ → ℕ) (k j l : KernelState) → IsRenaming f g k j → IsRenaming h i j l → IsRenaming (λ n. h (f n)) (λ n. g (i n)) k l
+renaming_then f g h i k j l r q = record {
+  permutation = permutation_then f g h i r.permutation q.permutation;
+  count = q.count ∙ r.count;
+  places = λ n. q.places (f n) ∙ r.places n;
+  processes = q.processes ∙ ap (map (renamed_process h)) r.processes ∙ renamed_twice f h k.processes;
+}
+
+pub alike_then : (k j l : KernelState) → IsAlike k j → IsAlike j l → IsAlike k l
+alike_then k j l a b = (λ n. b.0 (a.0 n), λ n. a.1 (b.1 n), renaming_then a.0 a.1 b.0 b.1 k j l a.2 b.2)
+
+map_id : {A : Type 0} (h : A → A) → ((x : A) → h x ≡ x) → (xs : List A) → map h xs ≡ xs
+map_id h same [] = refl
+map_id h same (x ∷ xs) = rw (same x, map_id h same xs) refl
+
+option_id : {A : Type 0} (h : A → A) → ((x : A) → h x ≡ x) → (o : Option A) → option_map h o ≡ o
+option_id h same None = refl
+option_id h same (Some x) = ap (λ y. Some y) (same x)
+
+abbrev tables : List (Option Descriptor) → List (Option Slot) → OpenTables
+tables descriptors slots = record { descriptors = descriptors; slots = slots }
+
+-- a kernel is alike itself
+pub alike_itself : (k : KernelState) → IsAlike k k
+alike_itself k = (
+  λ i. i,
+  λ i. i,
+  record {
+    permutation = record { undone = λ i. refl; redone = λ i. refl; within = λ i. (λ e. e, λ e. e) };
+    count = refl;
+    places = λ i. refl;
+    processes = sym (map_id (renamed_process (λ i. i)) (λ p.
+        ap (λ ds. tables ds (map (option_map (renamed_slot (λ i. i))) p.slots)) (map_id (option_map (renamed_descriptor (λ i. i))) (option_id (renamed_descriptor (λ i. i)) (λ d. refl)) p.descriptors)
+        ∙ ap (tables p.descriptors) (map_id (option_map (renamed_slot (λ i. i))) (option_id (renamed_slot (λ i. i)) (λ s. refl)) p.slots)) k.processes);
+  },
+)
+
+-- a renaming undone
+pub alike_back : (k j : KernelState) → IsAlike k j → IsAlike j k
+alike_back k j a = (
+  g,
+  f,
+  record {
+    permutation = record {
+      undone = h.redone;
+      redone = h.undone;
+      within = λ i. (λ e. subst (λ n. n < 64) (h.redone i) ((h.within (g i)).1 e), λ e. (h.within (g i)).0 (subst (λ n. n < 64) (sym (h.redone i)) e));
+    };
+    count = sym r.count;
+    places = λ i. sym (r.places (g i)) ∙ ap (place_at j.places) (h.redone i);
+    processes = sym (ap (map (renamed_process g)) r.processes ∙ renamed_twice f g k.processes ∙ map_id (renamed_process (λ i. g (f i))) process_back k.processes);
+  },
+)
+  where
+    f : ℕ → ℕ
+    f = a.0
+
+    g : ℕ → ℕ
+    g = a.1
+
+    r : IsRenaming f g k j
+    r = a.2
+
+    h : IsPermutation f g
+    h = r.permutation
+
+    process_back : (p : OpenTables) → renamed_process (λ i. g (f i)) p ≡ p
+    process_back p =
+        ap (λ ds. tables ds (map (option_map (renamed_slot (λ i. g (f i)))) p.slots))
+        (map_id (option_map (renamed_descriptor (λ i. g (f i)))) (option_id (renamed_descriptor (λ i. g (f i))) (λ d. ap (λ n. record d { place = n }) (h.undone d.place))) p.descriptors)
+        ∙ ap (tables p.descriptors) (map_id (option_map (renamed_slot (λ i. g (f i)))) (option_id (renamed_slot (λ i. g (f i))) (λ s. ap (λ n. record s { place = n }) (h.undone s.place))) p.slots)
+
+-- and so is an equal one
+pub alike_same : (k j : KernelState) → k ≡ j → IsAlike k j
+alike_same k j same = subst (λ x. IsAlike k x) same (alike_itself k)
+
+-- two places exchanged
+abbrev pub swap : ℕ → ℕ → ℕ → ℕ
+swap x y i = if i == x then y else if i == y then x else i
+
+pub swap_first : (x y i : ℕ) → i ≡ x → swap x y i ≡ y
+swap_first x y i e = rw (eq-eqb i x e) refl
+
+pub swap_second : (x y i : ℕ) → i ≡ y → swap x y i ≡ x
+swap_second x y i e = elim (eqb_tells i x) [ inl same ↦ rw same.0 (sym e ∙ same.1) | inr apart ↦ rw (apart.0, eq-eqb i y e) refl ]
+
+pub swap_other : (x y i : ℕ) → (i == x) ≡ false → (i == y) ≡ false → swap x y i ≡ i
+swap_other x y i e d = rw (e, d) refl
+
+-- what can be said of an exchanged place by its kind
+by_swap : (P : ℕ → ℕ → Type 0) (x y i : ℕ) → (i ≡ x → P i y) → (i ≡ y → P i x) → P i i → P i (swap x y i)
+by_swap P x y i first second other = elim (eqb_tells i x) [
+  | inl same ↦ subst (P i) (sym (swap_first x y i same.1)) (first same.1)
+  | inr apart ↦ elim (eqb_tells i y) [
+    | inl met ↦ subst (P i) (sym (swap_second x y i met.1)) (second met.1)
+    | inr different ↦ subst (P i) (sym (swap_other x y i apart.0 different.0)) other
+  ]
+]
+
+swap_twice : (x y i : ℕ) → swap x y (swap x y i) ≡ i
+swap_twice x y i = elim (eqb_tells i x) [
+  | inl same ↦ ap (swap x y) (swap_first x y i same.1) ∙ swap_second x y y refl ∙ sym same.1
+  | inr apart ↦ elim (eqb_tells i y) [
+    | inl met ↦ ap (swap x y) (swap_second x y i met.1) ∙ swap_first x y x refl ∙ sym met.1
+    | inr different ↦ ap (swap x y) (swap_other x y i apart.0 different.0) ∙ swap_other x y i apart.0 different.0
+  ]
+]
+
+pub swap_permutes : (x y : ℕ) → x < 64 → y < 64 → IsPermutation (swap x y) (swap x y)
+swap_permutes x y h d = record {
+  undone = swap_twice x y;
+  redone = swap_twice x y;
+  within = λ i. by_swap (λ n m. (m < 64) ↔ (n < 64)) x y i (λ e. (λ _. omega arith, λ _. d)) (λ e. (λ _. omega arith, λ _. h)) (λ e. e, λ e. e);
+}
+
+or_false : (a b : Bool) → (a || b) ≡ false → (a ≡ false) × (b ≡ false)
+or_false true b e = cc
+or_false false b e = (refl, e)
+
+-- elements that pass neither test stay
+map_unless : {A : Type 0} (q r : A → Bool) (h : A → A) → ((x : A) → q x ≡ false → r x ≡ false → h x ≡ x) → (xs : List A) → list_any q xs ≡ false → list_any r xs ≡ false → map h xs ≡ xs
+map_unless q r h same [] e d = refl
+map_unless q r h same (x ∷ xs) e d =
+    let first = or_false (q x) (list_any q xs) e in
+    let second = or_false (r x) (list_any r xs) d in
+    rw (same x first.0 second.0, map_unless q r h same xs first.1 second.1) refl
+
+descriptor_stays : (x y : ℕ) (o : Option Descriptor) → descriptor_refers x o ≡ false → descriptor_refers y o ≡ false → option_map (renamed_descriptor (swap x y)) o ≡ o
+descriptor_stays x y None e d = refl
+descriptor_stays x y (Some held) e d = ap (λ n. Some (record held { place = n })) (swap_other x y held.place e d)
+
+slot_stays : (x y : ℕ) (o : Option Slot) → slot_refers x o ≡ false → slot_refers y o ≡ false → option_map (renamed_slot (swap x y)) o ≡ o
+slot_stays x y None e d = refl
+slot_stays x y (Some held) e d = ap (λ n. Some (record held { place = n })) (swap_other x y held.place e d)
+
+process_stays : (x y : ℕ) (p : OpenTables) → process_refers x p ≡ false → process_refers y p ≡ false → renamed_process (swap x y) p ≡ p
+process_stays x y p e d =
+    let first = or_false (list_any (descriptor_refers x) p.descriptors) (list_any (slot_refers x) p.slots) e in
+    let second = or_false (list_any (descriptor_refers y) p.descriptors) (list_any (slot_refers y) p.slots) d in
+    ap (λ ds. tables ds (map (option_map (renamed_slot (swap x y))) p.slots)) (map_unless (descriptor_refers x) (descriptor_refers y) (option_map (renamed_descriptor (swap x y))) (descriptor_stays x y) p.descriptors first.0 second.0)
+    ∙ ap (tables p.descriptors) (map_unless (slot_refers x) (slot_refers y) (option_map (renamed_slot (swap x y))) (slot_stays x y) p.slots first.1 second.1)
+
+-- two empty places of a kernel can be exchanged
+renaming_swap : (k : KernelState) (x y : ℕ) → IsConsistent k → x < 64 → y < 64 → place_at k.places x ≡ Empty → place_at k.places y ≡ Empty → IsRenaming (swap x y) (swap x y) k k
+renaming_swap k x y s h d e f = record {
+  permutation = swap_permutes x y h d;
+  count = refl;
+  places = λ i. by_swap (λ n m. place_at k.places m ≡ place_at k.places n) x y i
+      (λ same. f ∙ sym (ap (place_at k.places) same ∙ e)) (λ same. e ∙ sym (ap (place_at k.places) same ∙ f)) refl;
+  processes = sym (map_unless (process_refers x) (process_refers y) (renamed_process (swap x y)) (process_stays x y) k.processes (s.referred x e) (s.referred y f));
+}
+
+-- a renaming of a kernel with an empty place a that takes it to an empty place b
+pub renaming_to : (f g : ℕ → ℕ) (k j : KernelState) (a b : ℕ) → IsConsistent k → IsRenaming f g k j → a < 64 → b < 64 → place_at k.places a ≡ Empty → place_at j.places b ≡ Empty
+    → (h : ℕ → ℕ) × (i : ℕ → ℕ) × IsRenaming h i k j × (h a ≡ b)
+renaming_to f g k j a b s r ha hb ea eb =
+    let inside : g b < 64 = (r.permutation.within (g b)).0 (subst (λ n. n < 64) (sym (r.permutation.redone b)) hb) in
+    let empty : place_at k.places (g b) ≡ Empty = sym (r.places (g b)) ∙ ap (place_at j.places) (r.permutation.redone b) ∙ eb in
+    let first = renaming_swap k a (g b) s ha inside ea empty in (
+      λ n. f (swap a (g b) n),
+      λ n. swap a (g b) (g n),
+      renaming_then (swap a (g b)) (swap a (g b)) f g k k j first r,
+      ap f (swap_first a (g b) a refl) ∙ r.permutation.redone b,
+    )

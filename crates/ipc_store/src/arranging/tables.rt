@@ -1,0 +1,84 @@
+//! The order in which processes have places open, and tables in which places are renamed.
+ghost use Rattle.ipc_store.specs.Private.Renamings.{Permutes};
+
+use crate::arrangement::Arrangement;
+use crate::renaming::renamed_by;
+use ipc_kernel::{Descriptor, OpenTables, Slot};
+use std::alloc::{AllocError, Global};
+
+/// Takes the place of each open descriptor.
+fn arrange_descriptors(descriptors: &[Option<Descriptor>], arrangement: &mut Arrangement)
+    requires permutation { Permutes arrangement.old.renaming }
+    ensures permutation { Permutes arrangement.new.renaming }
+{
+    for descriptor in descriptors {
+        if let Some(held) = descriptor {
+            arrangement.take(held.place);
+        }
+    }
+}
+
+/// Takes the place of each open slot.
+fn arrange_slots(slots: &[Option<Slot>], arrangement: &mut Arrangement)
+    requires permutation { Permutes arrangement.old.renaming }
+    ensures permutation { Permutes arrangement.new.renaming }
+{
+    for slot in slots {
+        if let Some(held) = slot {
+            arrangement.take(held.place);
+        }
+    }
+}
+
+/// Takes the place of what each process has open, process by process, first the descriptors and
+/// then the slots.
+pub(crate) fn arrange(processes: &[OpenTables], arrangement: &mut Arrangement)
+    requires permutation { Permutes arrangement.old.renaming }
+    ensures permutation { Permutes arrangement.new.renaming }
+{
+    for process in processes {
+        arrange_descriptors(&process.descriptors, arrangement);
+        arrange_slots(&process.slots, arrangement);
+    }
+}
+
+/// Renames the places of descriptors.
+fn rename_descriptors(descriptors: &mut [Option<Descriptor>], to: &[u8]) {
+    for at in 0..descriptors.len() {
+        if let Some(held) = descriptors[at] {
+            let place = renamed_by(to, held.place);
+            descriptors[at] = Some(Descriptor { place, ..held });
+        }
+    }
+}
+
+/// Renames the places of slots.
+fn rename_slots(slots: &mut [Option<Slot>], to: &[u8]) {
+    for at in 0..slots.len() {
+        if let Some(held) = slots[at] {
+            let place = renamed_by(to, held.place);
+            slots[at] = Some(Slot { place, ..held });
+        }
+    }
+}
+
+/// The tables of a process with the places renamed.
+pub(crate) fn renamed_process(process: &OpenTables, to: &[u8]) -> OpenTables {
+    let mut renamed = *process;
+    rename_descriptors(&mut renamed.descriptors, to);
+    rename_slots(&mut renamed.slots, to);
+    renamed
+}
+
+/// The tables of each process with the places renamed.
+pub(crate) fn renamed(
+    alloc: Global,
+    processes: &[OpenTables],
+    to: &[u8],
+) -> Result<Vec<OpenTables>, AllocError> {
+    let mut tables = Vec::with_capacity(alloc, processes.len())?;
+    for process in processes {
+        tables.push(renamed_process(process, to))?;
+    }
+    Ok(tables)
+}
