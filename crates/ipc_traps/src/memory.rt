@@ -9,7 +9,6 @@ use lc3_machine::Machine;
 use lc3_word::{FIRST_DEVICE, Reg};
 use std::alloc::{AllocError, Global};
 
-/// The word of a register.
 #[inline(always)]
 pub(crate) fn register(machine: &Machine, number: u16) -> u16
     requires number { number < 8 }
@@ -42,7 +41,6 @@ pub fn read_words(
     Ok(words)
 }
 
-/// The words of a short range.
 pub(crate) fn read_few(machine: &Machine, at: u16, len: u16) -> FewWords
     requires range { is_in_memory at len ≡ true }
     requires few { len ≤ FEW_WORDS }
@@ -55,7 +53,6 @@ pub(crate) fn read_few(machine: &Machine, at: u16, len: u16) -> FewWords
     words
 }
 
-/// The four words at an address.
 pub(crate) fn read_four(machine: &Machine, at: u16) -> [u16; 4]
     requires range { is_in_memory at 4 ≡ true }
     ensures words { result ≡ words_at machine.now.process.memory at 4 }

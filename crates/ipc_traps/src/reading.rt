@@ -30,7 +30,6 @@ pub fn read_call(alloc: Global, machine: &Machine, vector: u8) -> Result<Asked, 
     }
 }
 
-/// What a process asks for by this call.
 #[inline(always)]
 fn read_service(alloc: Global, machine: &Machine, service: Service) -> Result<Asked, AllocError>
     ensures request { IfOk result (λ a. request_of a
@@ -75,7 +74,6 @@ fn has_attributes(machine: &Machine) -> bool
     register(machine, 1) & O_CREAT != 0 && register(machine, 2) != 0
 }
 
-/// The attributes for mq_open.
 fn attributes(machine: &Machine) -> Option<[u16; 4]>
     requires range { has_attributes machine.now.process ≡ true
         → is_in_memory (reg machine.now.process 2) 4 ≡ true }
@@ -88,7 +86,6 @@ fn attributes(machine: &Machine) -> Option<[u16; 4]>
     }
 }
 
-/// mq_open
 fn read_open(alloc: Global, machine: &Machine) -> Result<Asked, AllocError>
     ensures request { IfOk result (λ a. request_of a ≡ mq_open_request machine.now.process) }
 {
@@ -105,7 +102,6 @@ fn read_open(alloc: Global, machine: &Machine) -> Result<Asked, AllocError>
     }
 }
 
-/// mq_unlink
 fn read_unlink(alloc: Global, machine: &Machine) -> Result<Asked, AllocError>
     ensures request { IfOk result (λ a. request_of a
         ≡ request_by_name machine.now.process true MqUnlink) }
@@ -116,7 +112,6 @@ fn read_unlink(alloc: Global, machine: &Machine) -> Result<Asked, AllocError>
     }
 }
 
-/// sem_open
 fn read_sem_open(alloc: Global, machine: &Machine) -> Result<Asked, AllocError>
     ensures request { IfOk result (λ a. request_of a ≡ sem_open_request machine.now.process) }
 {
@@ -130,7 +125,6 @@ fn read_sem_open(alloc: Global, machine: &Machine) -> Result<Asked, AllocError>
     }
 }
 
-/// sem_unlink
 fn read_sem_unlink(alloc: Global, machine: &Machine) -> Result<Asked, AllocError>
     ensures request { IfOk result (λ a. request_of a
         ≡ request_by_name machine.now.process true SemUnlink) }
@@ -141,7 +135,6 @@ fn read_sem_unlink(alloc: Global, machine: &Machine) -> Result<Asked, AllocError
     }
 }
 
-/// The words of a message.
 fn read_message(alloc: Global, machine: &Machine, at: u16, len: u16) -> Result<Words, AllocError>
     requires range { is_in_memory at len ≡ true }
     ensures words { IfOk result (λ words. words ≡ words_at machine.now.process.memory at len) }
@@ -152,7 +145,6 @@ fn read_message(alloc: Global, machine: &Machine, at: u16, len: u16) -> Result<W
     Words::from_vec(read_words(alloc, machine, at, len)?)
 }
 
-/// mq_send
 fn read_send(alloc: Global, machine: &Machine) -> Result<Asked, AllocError>
     ensures request { IfOk result (λ a. request_of a ≡ mq_send_request machine.now.process) }
 {
@@ -169,7 +161,6 @@ fn read_send(alloc: Global, machine: &Machine) -> Result<Asked, AllocError>
     }))
 }
 
-/// mq_receive
 fn read_receive(machine: &Machine) -> Asked
     ensures request { request_of result ≡ mq_receive_request machine.now.process }
 {
@@ -187,7 +178,6 @@ fn read_receive(machine: &Machine) -> Asked
     })
 }
 
-/// mq_getattr
 fn read_getattr(machine: &Machine) -> Asked
     ensures request { request_of result ≡ mq_getattr_request machine.now.process }
 {
@@ -199,7 +189,6 @@ fn read_getattr(machine: &Machine) -> Asked
     })
 }
 
-/// mq_setattr
 fn read_setattr(machine: &Machine) -> Asked
     ensures request { request_of result ≡ mq_setattr_request machine.now.process }
 {
@@ -217,7 +206,6 @@ fn read_setattr(machine: &Machine) -> Asked
     })
 }
 
-/// sem_getvalue
 fn read_getvalue(machine: &Machine) -> Asked
     ensures request { request_of result ≡ sem_getvalue_request machine.now.process }
 {

@@ -84,7 +84,6 @@ pub fn prepare(process: &mut Running, vector: u8) -> Result<(), AllocError>
     }
 }
 
-/// mq_receive: the message and its priority
 fn prepare_receive(process: &mut Running) -> Result<(), AllocError>
     ensures process { process.new.process ≡ process.old.process }
     ensures ready { StaysReady process.old.ready process.new.ready }
@@ -107,7 +106,6 @@ fn prepare_receive(process: &mut Running) -> Result<(), AllocError>
     process.reserve(prio_at, 1)
 }
 
-/// mq_getattr: the attributes
 fn prepare_getattr(process: &mut Running) -> Result<(), AllocError>
     ensures process { process.new.process ≡ process.old.process }
     ensures ready { StaysReady process.old.ready process.new.ready }
@@ -121,7 +119,6 @@ fn prepare_getattr(process: &mut Running) -> Result<(), AllocError>
     process.reserve(at, 4)
 }
 
-/// mq_setattr: the old attributes
 fn prepare_setattr(process: &mut Running) -> Result<(), AllocError>
     ensures process { process.new.process ≡ process.old.process }
     ensures ready { StaysReady process.old.ready process.new.ready }
@@ -138,7 +135,6 @@ fn prepare_setattr(process: &mut Running) -> Result<(), AllocError>
     process.reserve(at, 4)
 }
 
-/// sem_getvalue: the value
 fn prepare_getvalue(process: &mut Running) -> Result<(), AllocError>
     ensures process { process.new.process ≡ process.old.process }
     ensures ready { StaysReady process.old.ready process.new.ready }
