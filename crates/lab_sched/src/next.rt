@@ -29,7 +29,6 @@ pub enum Next {
     Short,
 }
 
-/// What a running process does next that stands before a trap of the kernel.
 #[tactic(auto, using(crate::proofs::LocalSteps::asks))]
 fn next_trap(alloc: Global, running: &mut Running, vector: u8) -> Next
     requires trap { next_step running.old.process ≡ Stops (Trap vector) }
@@ -43,7 +42,6 @@ fn next_trap(alloc: Global, running: &mut Running, vector: u8) -> Next
     }
 }
 
-/// What a process does next that takes no local step of its own.
 fn next_call(alloc: Global, process: &mut Process, progress: Progress) -> Next
     requires held { IsHeld process.old }
     requires stops { StopsBy (process_view process.old) progress }

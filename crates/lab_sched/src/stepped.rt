@@ -22,7 +22,6 @@ pub enum Stepped {
 impl Stepped {
     ghost use Rattle.lab_sched.specs.Private.Moved.{has_moved};
 
-    /// Whether the step had an effect.
     pub(crate) fn has_moved(&self) -> bool
         ensures value { result ≡ has_moved self.now }
     {

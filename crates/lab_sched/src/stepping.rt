@@ -19,7 +19,6 @@ use lc3_machine::{How, Progress, Want};
 use std::alloc::{AllocError, Global};
 pub(crate) use untold::move_on;
 
-/// The trap that a process stands before, by its vector, and the call that it makes by it.
 #[derive(Drop)]
 struct CallAt {
     vector: u8,
@@ -44,7 +43,6 @@ pub fn local_steps(process: &mut Process, most: u32) -> (u32, Progress)
     }
 }
 
-/// The process that waits for the answer to its call.
 fn waiting(process: Process, at: CallAt) -> (Process, ())
     requires stands { StandsBefore (process_view process) (Trap at.vector) }
     requires may { MayWait process at.call }
@@ -100,7 +98,6 @@ pub fn answer_call(process: &mut Process, vector: u8, reply: &Reply)
     }
 }
 
-/// The process that the reply to its call makes of one that waits.
 #[inline(always)]
 fn replied(process: Process, reply: &Reply) -> (Process, ())
     requires held { IsHeld process }
@@ -120,14 +117,13 @@ fn replied(process: Process, reply: &Reply) -> (Process, ())
     }
 }
 
-/// The process that has ended.
 fn ended(process: Process, how: How) -> (Process, ())
     requires stands { StandsBefore (process_view process) (End how) }
     ensures ended { process_view result.0 ≡ after_end (process_view process) how }
     ensures held { IsHeld result.0 }
 {
     match process {
-        Process::Running(running) => { (Process::Ended(running.end(how)), ()) }
+        Process::Running(running) => (Process::Ended(running.end(how)), ()),
         Process::Waiting(_, _) | Process::Ended(_) => unreachable!(),
     }
 }
@@ -142,7 +138,6 @@ pub fn end_process(process: &mut Process, how: How)
     replace_with(process, how, ended)
 }
 
-/// Tries the call that a process waits for.
 #[inline(never)]
 fn retry(process: &mut Process, kernel: &mut Kernel, pid: usize) -> Result<Stepped, AllocError>
     requires process { pid < length kernel.old.processes }
@@ -168,7 +163,6 @@ fn retry(process: &mut Process, kernel: &mut Kernel, pid: usize) -> Result<Stepp
     }
 }
 
-/// The step of a process that stands before a trap of the kernel.
 #[inline(always)]
 fn step_trap(
     alloc: Global,
@@ -223,7 +217,6 @@ fn step_end(
     Ok(Stepped::Called(Reply::Plain(0)))
 }
 
-/// The next step of a process that takes no local step.
 fn step_on(
     alloc: Global,
     process: &mut Process,

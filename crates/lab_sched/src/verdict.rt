@@ -17,7 +17,6 @@ pub enum Verdict {
 }
 
 impl World {
-    /// Whether all processes have ended.
     fn have_ended(&self) -> bool
         ensures yes { result ≡ true → HaveEnded self.now }
         ensures no { result ≡ false
@@ -31,7 +30,6 @@ impl World {
         true
     }
 
-    /// Whether the step of some process is effective.
     fn can_move(&self) -> bool
         ensures yes { result ≡ true → (p : ℕ) × IsEffective (step_effect_in self.now p) }
         ensures no { result ≡ false

@@ -1,9 +1,9 @@
 //! Worlds of processes over one kernel.
-ghost use Rattle.std.specs.Prelude.{◌≡◌, ◌<◌, ◌≤◌, ◌↔◌, map, length, slice_get, All, Err, Some, true, false, IfOk, OnOk, OnErr};
+ghost use Rattle.std.specs.Prelude.{◌≡◌, ◌<◌, ◌≤◌, ◌↔◌, map, length, slice_get, All, Err, true, false, IfOk, OnOk, OnErr};
 ghost use Rattle.ipc_kernel.specs.Limits.{process_max};
 ghost use Rattle.std.specs.Option.{option_map, option_copied};
-ghost use Rattle.lab_sched.specs.Worlds.{HasNoProcess, HasProfile, first_profile, step_effect, step_effect_in, step, nothing, IsEffective};
-ghost use Rattle.lab_sched.specs.Verdicts.{HasEnded, HasEndedIn, HasNotEndedIn};
+ghost use Rattle.lab_sched.specs.Worlds.{HasNoProcess, HasProfile, first_profile, step_effect_in, step, nothing, IsEffective};
+ghost use Rattle.lab_sched.specs.Verdicts.{HasEndedIn, HasNotEndedIn};
 ghost use Rattle.lab_sched.specs.Held.{process_view, told_in, IsWorld};
 ghost use Rattle.lab_sched.specs.declared.world.StepFault.TheVariants.{NoProcess};
 
@@ -54,29 +54,6 @@ impl Model for World {
     ghost invariant = { λ w. IsWorld w.processes.items w.kernel };
 }
 
-fn has_ended(process: &Process) -> bool
-    ensures yes { result ≡ true → HasEnded (process_view process.now) }
-    ensures no { result ≡ false → HasEnded (process_view process.now) → ⊥ }
-{
-    matches!(process, Process::Ended(_))
-}
-
-/// Whether the step of process `pid` is effective, by the process and the kernel.
-#[tactic(auto, using(crate::proofs::VerdictsByProcess::running_moves, crate::proofs::VerdictsByProcess::retry_moves, crate::proofs::VerdictsByProcess::retry_rests))]
-fn can_step(process: &Process, kernel: &Kernel, pid: usize) -> bool
-    requires process { pid < length kernel.now.processes }
-    ensures yes { result ≡ true
-        → IsEffective (step_effect kernel.now pid (Some (process_view process.now))) }
-    ensures no { result ≡ false → step_effect kernel.now pid (Some (process_view process.now))
-        ≡ nothing }
-{
-    match process {
-        Process::Running(_) => true,
-        Process::Waiting(_, call) => kernel.can_go(pid, call),
-        Process::Ended(_) => false,
-    }
-}
-
 impl World {
     /// The world of these processes, which have one profile, over this kernel. Each waiting process
     /// asks for the call that it is kept with, and the words of the reply are ready.
@@ -121,22 +98,25 @@ impl World {
         &self.kernel
     }
 
-    /// Whether a process has ended.
     pub(crate) fn has_ended(&self, pid: usize) -> bool
         requires process { pid < length self.now.processes }
         ensures yes { result ≡ true → HasEndedIn self.now pid }
         ensures no { result ≡ false → HasNotEndedIn self.now pid }
     {
-        has_ended(&self.processes[pid])
+        matches!(self.processes[pid], Process::Ended(_))
     }
 
-    /// Whether the step of a process is effective.
+    #[tactic(auto, using(crate::proofs::VerdictsByProcess::running_moves, crate::proofs::VerdictsByProcess::retry_moves, crate::proofs::VerdictsByProcess::retry_rests))]
     pub(crate) fn can_step(&self, pid: usize) -> bool
         requires process { pid < length self.now.processes }
         ensures yes { result ≡ true → IsEffective (step_effect_in self.now pid) }
         ensures no { result ≡ false → step_effect_in self.now pid ≡ nothing }
     {
-        can_step(&self.processes[pid], &self.kernel, pid)
+        match &self.processes[pid] {
+            Process::Running(_) => true,
+            Process::Waiting(_, call) => self.kernel.can_go(pid, call),
+            Process::Ended(_) => false,
+        }
     }
 
     /// Takes one step of a process. After a fault nothing has changed.

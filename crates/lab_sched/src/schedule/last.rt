@@ -7,7 +7,6 @@ ghost use Rattle.lab_sched.specs.declared.schedule.block.Block.{Block as BlockSe
 
 use super::{Block, Schedule};
 
-/// Puts `n` steps in the place of the last step of the last block.
 fn resize_last(blocks: &mut Vec<Block>, n: u32)
     requires valid { AllByRecursion IsBlock blocks.old.items }
     requires some { 0 < length blocks.old.items }

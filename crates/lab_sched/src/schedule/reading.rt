@@ -43,7 +43,6 @@ fn count_in(digits: &[u8]) -> Option<u32>
     in_range(1, MOST_STEPS, digits)
 }
 
-/// Where the first `*` of a word stands.
 fn star(word: &[u8]) -> Option<usize>
     ensures place { result ≡ position is_star word.now }
     ensures within { IfSome result (λ i. i < length word.now) }
@@ -66,7 +65,6 @@ fn block_in(word: &[u8]) -> Option<Block>
     Some(Block { pid, count })
 }
 
-/// The blocks that words write, one each.
 fn blocks_of_words(alloc: Global, words: &[&[u8]]) -> Result<Vec<Block>, SchedFault>
     ensures exact { Gives (λ v. v.items) result
         (blocks_of_words 1 (map (λ word. word.now) words.now)) }
@@ -82,7 +80,6 @@ fn blocks_of_words(alloc: Global, words: &[&[u8]]) -> Result<Vec<Block>, SchedFa
     Ok(blocks)
 }
 
-/// The schedule of blocks in a row.
 fn schedule_of_blocks(alloc: Global, blocks: &[Block]) -> Result<Schedule, SchedFault>
     requires valid { All IsBlock blocks.now }
     ensures exact { Gives (λ s. s) result (schedule_of_blocks blocks.now) }
@@ -105,7 +102,6 @@ pub(crate) fn schedule_of_words(alloc: Global, words: &[&[u8]]) -> Result<Schedu
     schedule_of_blocks(alloc, blocks.as_slice())
 }
 
-/// The schedule that a text writes, by its words.
 pub(crate) fn schedule_of(alloc: Global, text: &[u8]) -> Result<Schedule, SchedFault>
     ensures exact { Gives (λ s. s) result (reading text.now) }
 {

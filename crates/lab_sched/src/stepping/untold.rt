@@ -73,10 +73,7 @@ pub(crate) fn move_on(
             }
             Progress::Short | Progress::Moved => Err(AllocError),
         },
-        Process::Waiting(_, _) => {
-            let stepped = retry(process, kernel, pid)?;
-            Ok(stepped.has_moved())
-        }
+        Process::Waiting(_, _) => Ok(retry(process, kernel, pid)?.has_moved()),
         Process::Ended(_) => Ok(false),
     }
 }

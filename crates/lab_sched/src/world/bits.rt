@@ -2,7 +2,6 @@
 ghost use Rattle.std.specs.Prelude.{◌≡◌, ◌<◌, ◌⊎◌, ℕ, IsTrue, true, false};
 ghost use Rattle.std.specs.Int.{bit_at};
 
-/// Whether a bit is set.
 pub(super) fn has_bit(bits: u64, at: usize) -> bool
     requires place { at < 64 }
     ensures yes { result ≡ true → bit_at bits at ≡ 1 }
@@ -11,7 +10,6 @@ pub(super) fn has_bit(bits: u64, at: usize) -> bool
     bits >> at & 1 == 1
 }
 
-/// The bits, with this one set too where `set` is.
 pub(super) fn with_bit(bits: u64, at: usize, set: bool) -> u64
     requires place { at < 64 }
     ensures kept { (p : ℕ) → bit_at bits p ≡ 1 → bit_at result p ≡ 1 }

@@ -106,7 +106,6 @@ impl World {
         Ok(moved)
     }
 
-    /// Takes so many steps of a process.
     fn run_steps(&mut self, pid: usize, count: u32) -> Result<(), RunStop>
         ensures world { OnOk result (self.new ≡ run self.old (replicate count pid)) }
         ensures stop { IfErr result (λ stop. self.new ≡ run self.old (replicate stop.done pid)) }

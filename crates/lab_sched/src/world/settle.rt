@@ -21,7 +21,6 @@ fn has_moved(moved: bool, taken: u32) -> bool
     moved || taken > 0
 }
 
-/// The answer of a call, by what its step was.
 fn answer_of(stepped: Stepped) -> Answer
     ensures answer { result ≡ answer_told stepped }
 {
