@@ -25,7 +25,6 @@ fn mode_name(nonblock: bool) -> &'static str
     if nonblock { "nonblock" } else { "block" }
 }
 
-/// Adds the line of a descriptor, where it is open.
 #[tactic(auto, unfolding(crate::specs::Objects::descriptor_line))]
 fn push_descriptor(text: &mut String, mqd: u16, held: Option<Descriptor>) -> Result<(), AllocError>
     ensures text { OnOk result (Adds text.old text.new (descriptor_line mqd held)) }
@@ -42,7 +41,6 @@ fn push_descriptor(text: &mut String, mqd: u16, held: Option<Descriptor>) -> Res
     }
 }
 
-/// Adds the line of a slot, where it is open.
 #[tactic(auto, unfolding(crate::specs::Objects::slot_line))]
 fn push_slot(text: &mut String, slot: u16, held: Option<Slot>) -> Result<(), AllocError>
     ensures text { OnOk result (Adds text.old text.new (slot_line slot held)) }
@@ -58,7 +56,6 @@ fn push_slot(text: &mut String, slot: u16, held: Option<Slot>) -> Result<(), All
     }
 }
 
-/// Adds the open descriptors of a process.
 #[tactic(auto, using(crate::proofs::RowLemmas::texts_below_none))]
 fn push_descriptors(text: &mut String, world: &World, pid: usize) -> Result<(), AllocError>
     requires process { pid < length world.now.processes }
@@ -71,7 +68,6 @@ fn push_descriptors(text: &mut String, world: &World, pid: usize) -> Result<(), 
     Ok(())
 }
 
-/// Adds the open slots of a process.
 #[tactic(auto, using(crate::proofs::RowLemmas::texts_below_none))]
 fn push_slots(text: &mut String, world: &World, pid: usize) -> Result<(), AllocError>
     requires process { pid < length world.now.processes }

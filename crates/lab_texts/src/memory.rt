@@ -11,7 +11,6 @@ use lc3_table::WordText;
 use lc3_word::Hex;
 use std::alloc::AllocError;
 
-/// Adds an address and its word.
 #[tactic(auto, unfolding(crate::specs::Texts::word_line))]
 fn push_word(text: &mut String, address: u16, word: u16) -> Result<(), AllocError>
     ensures text { OnOk result (Adds text.old text.new (word_line address word)) }
@@ -24,7 +23,6 @@ fn push_word(text: &mut String, address: u16, word: u16) -> Result<(), AllocErro
     }
 }
 
-/// Adds an address, its word and the word's text.
 #[tactic(auto, unfolding(lc3_table::specs::Text::line_text))]
 fn push_word_text(text: &mut String, address: u16, word: u16) -> Result<(), AllocError>
     ensures text { OnOk result (Adds text.old text.new (line_text address word)) }
@@ -38,7 +36,6 @@ fn push_word_text(text: &mut String, address: u16, word: u16) -> Result<(), Allo
     }
 }
 
-/// Adds the words of a range, each on a line.
 #[tactic(auto, using(crate::proofs::RowLemmas::texts_below_none))]
 fn push_words(
     text: &mut String,
@@ -57,7 +54,6 @@ fn push_words(
     Ok(())
 }
 
-/// Adds the words of a range with their texts, each on a line.
 #[tactic(auto, using(crate::proofs::RowLemmas::texts_below_none))]
 fn push_texts(
     text: &mut String,

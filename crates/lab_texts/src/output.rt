@@ -9,7 +9,6 @@ use lab_sched::World;
 use std::alloc::AllocError;
 use std::fmt;
 
-/// Whether a byte is shown as it is.
 #[tactic(auto, unfolding(crate::specs::Texts::is_plain))]
 fn is_plain_byte(byte: u8) -> bool
     ensures value { result ≡ is_plain byte }
@@ -48,7 +47,6 @@ fn push_byte(text: &mut String, byte: u8) -> Result<(), AllocError>
     }
 }
 
-/// Adds bytes so that each can be printed.
 fn push_escaped(text: &mut String, bytes: &[u8]) -> Result<(), AllocError>
     ensures text { OnOk result (Adds text.old text.new (flat_map escape_of bytes.now)) }
 {
@@ -58,7 +56,6 @@ fn push_escaped(text: &mut String, bytes: &[u8]) -> Result<(), AllocError>
     Ok(())
 }
 
-/// Adds an output line.
 #[tactic(auto, unfolding(crate::specs::Texts::out_line))]
 fn push_line(text: &mut String, pid: usize, bytes: &[u8]) -> Result<(), AllocError>
     ensures text { OnOk result (Adds text.old text.new (out_line pid bytes.now)) }

@@ -43,7 +43,6 @@ pub fn push_object(text: &mut String, place: u8, name: Option<&Name>) -> Result<
     }
 }
 
-/// Adds the sizes of a queue.
 #[tactic(auto, unfolding(crate::specs::Objects::sizes_part))]
 fn push_sizes(text: &mut String, queue: &Queue) -> Result<(), AllocError>
     ensures text { OnOk result (Adds text.old text.new (sizes_part queue.now)) }
@@ -55,7 +54,6 @@ fn push_sizes(text: &mut String, queue: &Queue) -> Result<(), AllocError>
     }
 }
 
-/// Adds the line of a queue.
 fn push_queue(
     text: &mut String,
     place: u8,
@@ -69,7 +67,6 @@ fn push_queue(
     push_sizes(text, queue)
 }
 
-/// Adds words, each after a blank.
 fn push_words(text: &mut String, words: &[u16]) -> Result<(), AllocError>
     ensures text { OnOk result (Adds text.old text.new (flat_map word_part words.now)) }
 {
@@ -80,7 +77,6 @@ fn push_words(text: &mut String, words: &[u16]) -> Result<(), AllocError>
     Ok(())
 }
 
-/// Adds the line of a message.
 #[tactic(auto, unfolding(crate::specs::Objects::message_line))]
 fn push_message(text: &mut String, priority: u16, words: &[u16]) -> Result<(), AllocError>
     ensures text { OnOk result (Adds text.old text.new
@@ -105,7 +101,6 @@ fn push_messages(text: &mut String, queue: &Queue) -> Result<(), AllocError>
     Ok(())
 }
 
-/// Adds the queue in a place, if there is one, and its messages.
 fn push_place(text: &mut String, world: &World, place: u8) -> Result<(), AllocError>
     ensures text { OnOk result (Adds text.old text.new (queue_text place world.now)) }
 {

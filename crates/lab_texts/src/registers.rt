@@ -21,7 +21,6 @@ pub fn code_name(code: Cc) -> &'static str
     }
 }
 
-/// Adds a register and a blank.
 #[tactic(auto, unfolding(crate::specs::Texts::register_part))]
 fn push_register(text: &mut String, process: &Process, r: Reg) -> Result<(), AllocError>
     ensures text { OnOk result (Adds text.old text.new
@@ -34,7 +33,6 @@ fn push_register(text: &mut String, process: &Process, r: Reg) -> Result<(), All
     }
 }
 
-/// Adds R0 to R7, each with a blank.
 #[tactic(auto, using(crate::proofs::RowLemmas::texts_below_none, crate::proofs::RowLemmas::texts_below_more))]
 fn push_registers(text: &mut String, process: &Process) -> Result<(), AllocError>
     ensures text { OnOk result (Adds text.old text.new
@@ -46,7 +44,6 @@ fn push_registers(text: &mut String, process: &Process) -> Result<(), AllocError
     Ok(())
 }
 
-/// Adds the program counter and the condition code.
 #[tactic(auto, unfolding(crate::specs::Texts::counter_part))]
 fn push_counter(text: &mut String, process: &Process) -> Result<(), AllocError>
     ensures text { OnOk result (Adds text.old text.new
@@ -60,7 +57,6 @@ fn push_counter(text: &mut String, process: &Process) -> Result<(), AllocError>
     }
 }
 
-/// Adds the line of a process's registers.
 fn push_line(text: &mut String, process: &Process) -> Result<(), AllocError>
     ensures text { OnOk result (Adds text.old text.new
         (regs_line (machine_of (process_view process.now)))) }

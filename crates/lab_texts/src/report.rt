@@ -9,7 +9,6 @@ use crate::status::push_status;
 use lab_sched::{Verdict, World};
 use std::alloc::AllocError;
 
-/// The line of a verdict.
 fn line_of(verdict: Verdict) -> &'static str
     ensures text { result.now ≡ verdict_line verdict }
 {
@@ -27,7 +26,6 @@ pub fn push_verdict(text: &mut String, world: &World) -> Result<(), AllocError>
     text.push_str(line_of(world.verdict()))
 }
 
-/// Adds the status line and the output line of process `pid`.
 fn push_process(text: &mut String, world: &World, pid: usize) -> Result<(), AllocError>
     ensures text { OnOk result (Adds text.old text.new (process_report pid world.now)) }
 {
@@ -35,7 +33,6 @@ fn push_process(text: &mut String, world: &World, pid: usize) -> Result<(), Allo
     push_out(text, world, pid)
 }
 
-/// Adds these of each process.
 #[tactic(auto, using(crate::proofs::RowLemmas::texts_below_none))]
 fn push_processes(text: &mut String, world: &World) -> Result<(), AllocError>
     ensures text { OnOk result (Adds text.old text.new (process_reports world.now)) }

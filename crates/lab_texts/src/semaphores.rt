@@ -8,7 +8,6 @@ use ipc_kernel::OBJECT_PLACES;
 use lab_sched::World;
 use std::alloc::AllocError;
 
-/// Adds the line of the semaphore in a place, if there is one.
 fn push_place(text: &mut String, world: &World, place: u8) -> Result<(), AllocError>
     ensures text { OnOk result (Adds text.old text.new (semaphore_text place world.now)) }
 {

@@ -44,7 +44,6 @@ pub fn how_name(how: How) -> &'static str
     }
 }
 
-/// Where a process stands.
 #[derive(Drop)]
 struct State<'a>(&'a Process);
 
@@ -65,7 +64,6 @@ impl fmt::Display for State<'_> {
     }
 }
 
-/// Adds the status line of a process.
 #[tactic(auto, unfolding(crate::specs::Texts::status_line))]
 fn push_line(text: &mut String, pid: usize, process: &Process) -> Result<(), AllocError>
     ensures text { OnOk result
