@@ -1,5 +1,5 @@
 -- How a world stands.
-use Rattle.std.specs.Prelude.{◌≡◌, ℕ, Bool, true, false, not, ◌&&◌, if◌then◌else◌, Some, length, slice_get}
+use Rattle.std.specs.Prelude.{◌≡◌, ℕ, List, codes, Bool, true, false, not, ◌&&◌, if◌then◌else◌, Some, length, slice_get}
 use Rattle.std.specs.List.{list_all, list_any, range_with_len}
 use Rattle.lab_sched.specs.Worlds.{Process, Running, Waiting, Ended, StepEffect, nothing, local_step, kernel_step, WorldState, step_effect_in, IsEffective}
 use Rattle.lab_sched.specs.declared.verdict.Verdict.{Verdict}
@@ -40,6 +40,12 @@ pub record AreStuck (w : WorldState) : Type 0 where
   pub waits : (p : ℕ) × (s : Process) × (slice_get w.processes p ≡ Some s) × IsWaiting s
   pub none_runs : (p : ℕ) (s : Process) → slice_get w.processes p ≡ Some s → IsRunning s → ⊥
   pub none_moves : (p : ℕ) → IsEffective (step_effect_in w p) → ⊥
+
+-- the word of each verdict
+abbrev pub verdict_word : Verdict → List ℕ
+verdict_word verdict.Ended = codes "ended"
+verdict_word verdict.Stuck = codes "stuck"
+verdict_word verdict.Open = codes "open"
 
 -- what holds of a world with each verdict
 abbrev pub IsVerdict : WorldState → Verdict → Type 0

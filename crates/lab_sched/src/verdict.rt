@@ -1,7 +1,7 @@
 //! How a world stands.
 ghost use Rattle.std.specs.Prelude.{◌≡◌, ◌<◌, ℕ, length, true, false};
 ghost use Rattle.lab_sched.specs.Worlds.{step_effect_in, nothing, IsEffective};
-ghost use Rattle.lab_sched.specs.Verdicts.{IsVerdict, HaveEnded, HasNotEndedIn, verdict_of};
+ghost use Rattle.lab_sched.specs.Verdicts.{IsVerdict, HaveEnded, HasNotEndedIn, verdict_of, verdict_word};
 
 use crate::World;
 
@@ -14,6 +14,19 @@ pub enum Verdict {
     Stuck,
     /// Neither.
     Open,
+}
+
+impl Verdict {
+    /// The verdict's word, as reports have it.
+    pub fn word(self) -> &'static str
+        ensures word { result.now ≡ verdict_word self }
+    {
+        match self {
+            Self::Ended => "ended",
+            Self::Stuck => "stuck",
+            Self::Open => "open",
+        }
+    }
 }
 
 impl World {
