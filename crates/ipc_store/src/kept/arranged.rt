@@ -1,19 +1,21 @@
 //! Kernels that are kept after an open that makes an object, with their places in an order that
 //! doesn't depend on how they were made.
-ghost use Rattle.std.specs.Prelude.{◌≡◌, ◌<◌, ◌≤◌, ◌==◌, ℕ, IfOk, IfSome, IsTrue, OnOk, Some, length, slice_get, if◌then◌else◌};
+ghost use Rattle.std.specs.Prelude.{◌≡◌, ◌<◌, ◌≤◌, ◌==◌, ℕ, IfOk, IfSome, IsTrue, List, OnOk, Some, length, map, slice_get, slice_set, if◌then◌else◌};
 ghost use Rattle.ipc_kernel.specs.declared.place.Place.{Place as Object};
 ghost use Rattle.ipc_kernel.specs.declared.process.OpenTables.{OpenTables as Opened};
 ghost use Rattle.ipc_kernel.specs.Limits.{object_places};
 ghost use Rattle.ipc_kernel.specs.Kernel.{KernelState, IsSettled};
 ghost use Rattle.ipc_store.specs.Kept.{GrowsKept};
 ghost use Rattle.ipc_kernel.specs.Operands.{with_operand};
-ghost use Rattle.ipc_kernel.specs.Alike.{IsAlike};
+ghost use Rattle.ipc_kernel.specs.Processes.{process_at};
+ghost use Rattle.ipc_kernel.specs.Alike.{IsAlike, renamed_process};
 ghost use Rattle.ipc_store.specs.Private.Renamings.{Permutes, renamed_by};
 
 use super::Kernels;
 use super::changes::{number_at, with_number};
 use super::objects::Objects;
 use super::renames::Taken;
+use super::tables::Tables;
 use crate::arrangement::Arrangement;
 use crate::renaming::{Renaming, renamed_by};
 use ipc_kernel::OBJECT_PLACES;
@@ -58,14 +60,24 @@ fn are_moved(numbers: &[u32], at: usize, number: u32, moved: &[u32], renaming: &
     true
 }
 
-/// The numbers, where another one stands at one place, in the order of an arrangement.
+/// The numbers, where another one stands at one place, in the order of an arrangement, if each stands
+/// where its place is taken, and none stands behind the object places.
 fn moved(
     alloc: Global,
     numbers: &[u32],
     at: usize,
     number: u32,
     arrangement: &Arrangement,
-) -> Result<Vec<u32>, AllocError> {
+) -> Result<Option<Vec<u32>>, AllocError>
+    requires permutation { Permutes arrangement.now.renaming }
+    ensures place { IfOk result (λ found. IfSome found (λ _. at < object_places)) }
+    ensures few { IfOk result (λ found. IfSome found (λ _. length numbers.now ≤ object_places)) }
+    ensures few_moved { IfOk result (λ found. IfSome found
+        (λ moved. length moved.items ≤ object_places)) }
+    ensures moved { IfOk result (λ found. IfSome found (λ moved. (i : ℕ) → i < object_places
+        → slice_get moved.items (renamed_by arrangement.now.renaming.to i)
+        ≡ (if i == at then Some number else slice_get numbers.now i))) }
+{
     let mut moved = Vec::with_capacity(alloc, arrangement.count as usize)?;
     for place in 0..arrangement.count {
         let from = renamed_by(&arrangement.renaming.from, place);
@@ -73,7 +85,36 @@ fn moved(
             moved.push(number)?;
         }
     }
-    Ok(moved)
+    if !are_moved(numbers, at, number, moved.as_slice(), &arrangement.renaming) {
+        return Ok(None);
+    }
+    Ok(Some(moved))
+}
+
+impl Tables {
+    /// Keeps tables, which are given by their numbers, where another one stands at one place, as
+    /// `keep_renamed` does.
+    fn keep_changed(
+        &mut self,
+        alloc: Global,
+        numbers: &[u32],
+        change: (usize, u32),
+        to: &[u8],
+        taken: Taken,
+    ) -> Result<Option<Vec<u32>>, AllocError>
+        ensures grows { (i : ℕ) (x : Opened)
+            → slice_get self.old i ≡ Some x → slice_get self.new i ≡ Some x }
+        ensures renamed { IfOk result (λ found. IfSome found (λ kept. (us : List Opened)
+            × (map (slice_get self.new) kept.items ≡ map Some us)
+            × (us ≡ map (renamed_process (renamed_by to.now))
+            (map (process_at self.old) (slice_set numbers.now change.0 change.1))))) }
+    {
+        let Some(changed) = with_number(alloc, numbers, change.0, change.1)? else {
+            return Ok(None);
+        };
+        let kept = self.keep_renamed(alloc, changed.as_slice(), to, taken)?;
+        Ok(kept)
+    }
 }
 
 impl Objects {
@@ -138,23 +179,18 @@ impl Kernels {
         let Some(_) = self.tables.get(tables) else {
             return Ok(None);
         };
-        let Some(processes) = with_number(self.alloc, processes, pid, tables)? else {
+        let arrangement = self.objects.arrangement(objects, place, object);
+        let Some(moved) = moved(self.alloc, objects, place as usize, object, &arrangement)? else {
             return Ok(None);
         };
-        let arrangement = self.objects.arrangement(objects, place, object);
-        let renaming = &arrangement.renaming;
-        let moved = moved(self.alloc, objects, place as usize, object, &arrangement)?;
-        if !are_moved(objects, place as usize, object, moved.as_slice(), renaming) {
-            return Ok(None);
-        }
-        let to = &renaming.to;
+        let to = &arrangement.renaming.to;
         let taken = Taken {
             place,
             to: renamed_by(to, place),
         };
         let Some(tables) = self
             .tables
-            .keep_renamed(self.alloc, processes.as_slice(), to, taken)?
+            .keep_changed(self.alloc, processes, (pid, tables), to, taken)?
         else {
             return Ok(None);
         };

@@ -1,59 +1,50 @@
-use Rattle.std.proofs.Common.{◌≡◌, ◌≤◌, Some, length, map, slice_get, sym, subst, ◌∙◌}
+use Rattle.std.proofs.Common.{◌≡◌, ◌≤◌, Some, length, map, slice_get, set, refl, sym, subst}
 use Rattle.ipc_store.specs.Private.Renamings.{renamed_by}
 use Rattle.ipc_store.proofs.KeptLemmas.{rows_grow, kept_grows}
 use Rattle.ipc_store.proofs.ArrangedRows.{AreMoved, kernel_with_new, rows_with_new}
 use Rattle.ipc_store.proofs.kept.Kernels.keep_with_new.Goals as goal
 
 pub invariant_of-self : goal.invariant_of-self
-invariant_of-self c = rows_grow c.self.inside.objects c.self.inside.objects c.self.inside.tables c.keep_renamed.new.self c.self.inside.rows (λ i x e. e) c.keep_renamed.ensures.grows c.self.invariant
+invariant_of-self c = rows_grow c.self.inside.objects c.self.inside.objects c.self.inside.tables c.keep_changed.new.self c.self.inside.rows (λ i x e. e) c.keep_changed.ensures.grows c.self.invariant
 
 pub invariant_of-self-in_default-3 : goal.invariant_of-self-in_default-3
-invariant_of-self-in_default-3 c = rows_grow c.self.inside.objects c.self.inside.objects c.self.inside.tables c.keep_renamed.new.self c.self.inside.rows (λ i x e. e) c.keep_renamed.ensures.grows c.self.invariant
+invariant_of-self-in_default-3 c = rows_grow c.self.inside.objects c.self.inside.objects c.self.inside.tables c.keep_changed.new.self c.self.inside.rows (λ i x e. e) c.keep_changed.ensures.grows c.self.invariant
 
 pub returns-in_default-3-clause-grows : goal.returns-in_default-3-clause-grows
 returns-in_default-3-clause-grows c = rw (← c.self.view_is) (
-    kept_grows c.self.inside.objects c.self.inside.objects c.self.inside.tables c.keep_renamed.new.self c.self.inside.rows c.self.inside.rows (λ i x e. e) c.keep_renamed.ensures.grows (λ i x e. e) c.self.invariant)
+    kept_grows c.self.inside.objects c.self.inside.objects c.self.inside.tables c.keep_changed.new.self c.self.inside.rows c.self.inside.rows (λ i x e. e) c.keep_changed.ensures.grows (λ i x e. e) c.self.invariant)
 
 pub invariant_of-self-in_err-number : goal.invariant_of-self-in_err-number
 invariant_of-self-in_err-number c =
-    let to = renamed_by c.arrangement-arrangement.result.renaming.to in
     let kept = rw c.in-Some-3.is at c.in_ok-tables.ensures.renamed in
-    let same : c.as_slice.result.now ≡ c.as_slice-3.result.now = c.as_slice.ensures.value ∙ sym c.as_slice-3.ensures.value in
-    rows_with_new c.self.inside.objects c.self.inside.tables c.keep_renamed.new.self c.self.inside.rows c.keep.new.self c.in-Some.objects.now c.in-Some.processes.now c.as_slice-3.result.now c.as_slice-4.result.now
-    c.args.kernel c.args.place c.args.object to (renamed_by c.arrangement-arrangement.result.renaming.from) c.in-Some-get.field-0.now kept.0
-    c.keep_renamed.ensures.grows c.self.invariant c.in-Some.ensures.row (sym c.in-Some-get.ensures.object) c.arrangement-arrangement.ensures.permutation
-    (subst (λ v. AreMoved c.in-Some.objects.now c.args.place c.args.object v to) same (c.are_moved.ensures.moved c.if-not-are_moved.false))
-    (subst (λ v. length v ≤ 64) same (c.are_moved.ensures.few_moved c.if-not-are_moved.false))
-    (subst (λ v. map (slice_get c.keep_renamed.new.self) v ≡ map Some kept.0) (sym c.as_slice-4.ensures.value) kept.1) c.keep.ensures.only
+    rows_with_new c.self.inside.objects c.self.inside.tables c.keep_changed.new.self c.self.inside.rows c.keep.new.self c.in-Some.objects.now c.in-Some.processes.now c.as_slice.result.now c.as_slice-2.result.now
+    c.args.kernel c.args.place c.args.object (renamed_by c.arrangement-arrangement.result.renaming.to) (renamed_by c.arrangement-arrangement.result.renaming.from) c.in-Some-get.field-0.now kept.0
+    c.keep_changed.ensures.grows c.self.invariant c.in-Some.ensures.row (sym c.in-Some-get.ensures.object) c.arrangement-arrangement.ensures.permutation
+    (rw c.as_slice.ensures.value (rw c.in-Some-2.is at c.in_ok-moved.ensures.moved)) (rw c.as_slice.ensures.value (rw c.in-Some-2.is at c.in_ok-moved.ensures.few_moved))
+    (subst (λ v. map (slice_get c.keep_changed.new.self) v ≡ map Some kept.0) (sym c.as_slice-2.ensures.value) kept.1) c.keep.ensures.only
 
 pub invariant_of-self-2 : goal.invariant_of-self-2
 invariant_of-self-2 c =
-    let to = renamed_by c.arrangement-arrangement.result.renaming.to in
     let kept = rw c.in-Some-3.is at c.in_ok-tables.ensures.renamed in
-    let same : c.as_slice.result.now ≡ c.as_slice-3.result.now = c.as_slice.ensures.value ∙ sym c.as_slice-3.ensures.value in
-    rows_with_new c.self.inside.objects c.self.inside.tables c.keep_renamed.new.self c.self.inside.rows c.keep.new.self c.in-Some.objects.now c.in-Some.processes.now c.as_slice-3.result.now c.as_slice-4.result.now
-    c.args.kernel c.args.place c.args.object to (renamed_by c.arrangement-arrangement.result.renaming.from) c.in-Some-get.field-0.now kept.0
-    c.keep_renamed.ensures.grows c.self.invariant c.in-Some.ensures.row (sym c.in-Some-get.ensures.object) c.arrangement-arrangement.ensures.permutation
-    (subst (λ v. AreMoved c.in-Some.objects.now c.args.place c.args.object v to) same (c.are_moved.ensures.moved c.if-not-are_moved.false))
-    (subst (λ v. length v ≤ 64) same (c.are_moved.ensures.few_moved c.if-not-are_moved.false))
-    (subst (λ v. map (slice_get c.keep_renamed.new.self) v ≡ map Some kept.0) (sym c.as_slice-4.ensures.value) kept.1) c.keep.ensures.only
+    rows_with_new c.self.inside.objects c.self.inside.tables c.keep_changed.new.self c.self.inside.rows c.keep.new.self c.in-Some.objects.now c.in-Some.processes.now c.as_slice.result.now c.as_slice-2.result.now
+    c.args.kernel c.args.place c.args.object (renamed_by c.arrangement-arrangement.result.renaming.to) (renamed_by c.arrangement-arrangement.result.renaming.from) c.in-Some-get.field-0.now kept.0
+    c.keep_changed.ensures.grows c.self.invariant c.in-Some.ensures.row (sym c.in-Some-get.ensures.object) c.arrangement-arrangement.ensures.permutation
+    (rw c.as_slice.ensures.value (rw c.in-Some-2.is at c.in_ok-moved.ensures.moved)) (rw c.as_slice.ensures.value (rw c.in-Some-2.is at c.in_ok-moved.ensures.few_moved))
+    (subst (λ v. map (slice_get c.keep_changed.new.self) v ≡ map Some kept.0) (sym c.as_slice-2.ensures.value) kept.1) c.keep.ensures.only
 
 pub returns-clause-grows : goal.returns-clause-grows
 returns-clause-grows c = rw (← c.self.view_is) (
-    kept_grows c.self.inside.objects c.self.inside.objects c.self.inside.tables c.keep_renamed.new.self c.self.inside.rows c.keep.new.self (λ i x e. e) c.keep_renamed.ensures.grows c.keep.ensures.grows c.self.invariant)
+    kept_grows c.self.inside.objects c.self.inside.objects c.self.inside.tables c.keep_changed.new.self c.self.inside.rows c.keep.new.self (λ i x e. e) c.keep_changed.ensures.grows c.keep.ensures.grows c.self.invariant)
 
 pub returns-clause-alike : goal.returns-clause-alike
 returns-clause-alike c =
-    let to = renamed_by c.arrangement-arrangement.result.renaming.to in
     let kept = rw c.in-Some-3.is at c.in_ok-tables.ensures.renamed in
-    let same : c.as_slice.result.now ≡ c.as_slice-3.result.now = c.as_slice.ensures.value ∙ sym c.as_slice-3.ensures.value in
     λ k o t at_kernel at_object at_tables settled.
-    kernel_with_new c.self.inside.objects c.self.inside.tables c.keep_renamed.new.self c.self.inside.rows c.keep.new.self c.in-Some.objects.now c.in-Some.processes.now c.as_slice-2.result.now c.as_slice-3.result.now c.as_slice-4.result.now
+    kernel_with_new c.self.inside.objects c.self.inside.tables c.keep_changed.new.self c.self.inside.rows c.keep.new.self c.in-Some.objects.now c.in-Some.processes.now (set c.in-Some.processes.now c.args.pid c.args.tables) c.as_slice.result.now c.as_slice-2.result.now
     c.args.kernel c.in_ok-number.number c.args.place c.args.object c.args.pid c.args.tables c.arrangement-arrangement.result.renaming o t k kept.0
     c.in-Some.ensures.row (rw (← c.self.view_is) at at_kernel) (rw (← c.self.view_is) at at_object) (rw (← c.self.view_is) at at_tables)
-    (c.as_slice-2.ensures.value ∙ (rw c.in-Some-2.is at c.in_ok-processes.ensures.changed)) c.arrangement-arrangement.ensures.permutation
-    (subst (λ v. AreMoved c.in-Some.objects.now c.args.place c.args.object v to) same (c.are_moved.ensures.moved c.if-not-are_moved.false))
-    (c.are_moved.ensures.place c.if-not-are_moved.false) (c.are_moved.ensures.few c.if-not-are_moved.false)
-    (subst (λ v. length v ≤ 64) same (c.are_moved.ensures.few_moved c.if-not-are_moved.false))
-    (subst (λ v. map (slice_get c.keep_renamed.new.self) v ≡ map Some kept.0) (sym c.as_slice-4.ensures.value) kept.1) kept.2
+    refl c.arrangement-arrangement.ensures.permutation
+    (rw c.as_slice.ensures.value (rw c.in-Some-2.is at c.in_ok-moved.ensures.moved)) (rw c.in-Some-2.is at c.in_ok-moved.ensures.place) (rw c.in-Some-2.is at c.in_ok-moved.ensures.few)
+    (rw c.as_slice.ensures.value (rw c.in-Some-2.is at c.in_ok-moved.ensures.few_moved))
+    (subst (λ v. map (slice_get c.keep_changed.new.self) v ≡ map Some kept.0) (sym c.as_slice-2.ensures.value) kept.1) kept.2
     c.in_ok-number.ensures.kept settled
