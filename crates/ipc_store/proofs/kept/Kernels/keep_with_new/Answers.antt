@@ -1,7 +1,7 @@
-use Rattle.std.proofs.Common.{◌≡◌, ◌≤◌, Some, length, map, slice_get, set, refl, sym, subst}
+use Rattle.std.proofs.Common.{◌≡◌, Some, map, slice_get, set, refl, sym, subst}
 use Rattle.ipc_store.specs.Private.Renamings.{renamed_by}
 use Rattle.ipc_store.proofs.KeptLemmas.{rows_grow, kept_grows}
-use Rattle.ipc_store.proofs.ArrangedRows.{AreMoved, kernel_with_new, rows_with_new}
+use Rattle.ipc_store.proofs.ArrangedRows.{kernel_with_new, rows_with_new}
 use Rattle.ipc_store.proofs.kept.Kernels.keep_with_new.Goals as goal
 
 pub invariant_of-self : goal.invariant_of-self
