@@ -1,11 +1,11 @@
 //! Descriptors and slots.
-ghost use Rattle.std.specs.Prelude.{◌≡◌, ◌<◌, OnOk, length};
+ghost use Rattle.std.specs.Prelude.{◌≡◌, ◌<◌, OnOk, IfOk, string_bytes, length};
 ghost use Rattle.lab_texts.specs.Private.Added.{Adds};
 ghost use Rattle.lab_texts.specs.Objects.{access_text, mode_text, descriptor_line, slot_line, descriptor_lines, slot_lines, fds_text};
 
 use ipc_kernel::{Descriptor, OPEN_MAX, Slot};
 use lab_sched::World;
-use std::alloc::AllocError;
+use std::alloc::{AllocError, Global};
 
 /// What a descriptor is open for, as `rw`: 0 to receive, 1 to send, else both.
 pub fn access_name(access: u8) -> &'static str
@@ -35,10 +35,8 @@ fn push_descriptor(text: &mut String, mqd: u16, held: Option<Descriptor>) -> Res
     let place = held.place;
     let access = access_name(held.access);
     let mode = mode_name(held.nonblock);
-    match write!(text, "mq {mqd} {place} {access} {mode}\n") {
-        Ok(()) => Ok(()),
-        Err(error) => Err(error),
-    }
+    write!(text, "mq {mqd} {place} {access} {mode}\n")?;
+    Ok(())
 }
 
 #[tactic(auto, unfolding(crate::specs::Objects::slot_line))]
@@ -50,10 +48,8 @@ fn push_slot(text: &mut String, slot: u16, held: Option<Slot>) -> Result<(), All
     };
     let place = held.place;
     let opens = held.opens;
-    match write!(text, "sem {slot} {place} {opens}\n") {
-        Ok(()) => Ok(()),
-        Err(error) => Err(error),
-    }
+    write!(text, "sem {slot} {place} {opens}\n")?;
+    Ok(())
 }
 
 #[tactic(auto, using(crate::proofs::RowLemmas::texts_below_none))]
@@ -80,14 +76,15 @@ fn push_slots(text: &mut String, world: &World, pid: usize) -> Result<(), AllocE
     Ok(())
 }
 
-/// Adds the open descriptors and then the open slots of process `pid`, where it is there.
-pub fn push_fds(text: &mut String, world: &World, pid: usize) -> Result<(), AllocError>
-    ensures text { OnOk result (Adds text.old text.new (fds_text pid world.now)) }
+/// The open descriptors of process `pid`, and then its open slots.
+pub fn fds_text(alloc: Global, world: &World, pid: usize) -> Result<String, AllocError>
+    ensures text { IfOk result (λ s. string_bytes s ≡ fds_text pid world.now) }
 {
-    if pid < world.count() {
-        push_descriptors(text, world, pid)?;
-        push_slots(text, world, pid)
-    } else {
-        Ok(())
+    let mut text = String::new(alloc);
+    if pid >= world.count() {
+        return Ok(text);
     }
+    push_descriptors(&mut text, world, pid)?;
+    push_slots(&mut text, world, pid)?;
+    Ok(text)
 }

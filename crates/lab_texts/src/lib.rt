@@ -10,13 +10,13 @@ mod registers;
 mod report;
 mod semaphores;
 mod status;
-mod texts;
 
-pub use descriptors::access_name;
-pub use output::Escape;
-pub use registers::code_name;
-pub use status::how_name;
-pub use texts::{
-    dis_text, fds_text, mem_text, mqs_text, out_text, procs_text, profile_text, regs_text,
-    report_text, sems_text, status_text, verdict_text,
-};
+pub use descriptors::{access_name, fds_text};
+pub use memory::{dis_text, mem_text};
+pub use output::{Escape, out_text};
+pub use profile::profile_text;
+pub use queues::{NameText, mqs_text, push_message};
+pub use registers::{code_name, regs_text};
+pub use report::{report_text, verdict_text};
+pub use semaphores::sems_text;
+pub use status::{how_name, procs_text, status_text};

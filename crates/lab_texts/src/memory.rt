@@ -1,5 +1,5 @@
 //! Ranges of memory.
-ghost use Rattle.std.specs.Prelude.{◌≤◌, ◌+◌, OnOk};
+ghost use Rattle.std.specs.Prelude.{◌≡◌, ◌≤◌, ◌+◌, OnOk, IfOk, string_bytes};
 ghost use Rattle.lc3_table.specs.Text.{line_text};
 ghost use Rattle.lab_sched.specs.Held.{process_view};
 ghost use Rattle.lab_sched.specs.Worlds.{machine_of};
@@ -9,7 +9,7 @@ ghost use Rattle.lab_texts.specs.Texts.{word_line, memory_lines, mem_text, dis_t
 use lab_sched::{Process, World};
 use lc3_table::WordText;
 use lc3_word::Hex;
-use std::alloc::AllocError;
+use std::alloc::{AllocError, Global};
 
 #[tactic(auto, unfolding(crate::specs::Texts::word_line))]
 fn push_word(text: &mut String, address: u16, word: u16) -> Result<(), AllocError>
@@ -17,10 +17,8 @@ fn push_word(text: &mut String, address: u16, word: u16) -> Result<(), AllocErro
 {
     let place = Hex(address);
     let content = Hex(word);
-    match write!(text, "{place} {content}\n") {
-        Ok(()) => Ok(()),
-        Err(error) => Err(error),
-    }
+    write!(text, "{place} {content}\n")?;
+    Ok(())
 }
 
 #[tactic(auto, unfolding(lc3_table::specs::Text::line_text))]
@@ -30,10 +28,8 @@ fn push_word_text(text: &mut String, address: u16, word: u16) -> Result<(), Allo
     let place = Hex(address);
     let content = Hex(word);
     let shown = WordText(word);
-    match write!(text, "{place} {content} {shown}\n") {
-        Ok(()) => Ok(()),
-        Err(error) => Err(error),
-    }
+    write!(text, "{place} {content} {shown}\n")?;
+    Ok(())
 }
 
 #[tactic(auto, using(crate::proofs::RowLemmas::texts_below_none))]
@@ -72,36 +68,41 @@ fn push_texts(
     Ok(())
 }
 
-/// Adds the words of a range of process `pid`, where it is there.
-pub fn push_mem(
-    text: &mut String,
+/// The words of a range of memory of process `pid`, each on a line with its address, as
+/// `x3000 xE002`.
+pub fn mem_text(
+    alloc: Global,
     world: &World,
     pid: usize,
     address: u16,
     count: u32,
-) -> Result<(), AllocError>
+) -> Result<String, AllocError>
     requires range { address + count ≤ 65536 }
-    ensures text { OnOk result (Adds text.old text.new (mem_text pid address count world.now)) }
+    ensures text { IfOk result (λ s. string_bytes s ≡ mem_text pid address count world.now) }
 {
-    match world.process(pid) {
-        Some(process) => push_words(text, process, u32::from(address), count),
-        None => Ok(()),
-    }
+    let mut text = String::new(alloc);
+    let Some(process) = world.process(pid) else {
+        return Ok(text);
+    };
+    push_words(&mut text, process, u32::from(address), count)?;
+    Ok(text)
 }
 
-/// Adds the words of a range of process `pid` with their texts, where it is there.
-pub fn push_dis(
-    text: &mut String,
+/// The same with the text of each word, as `x3000 xE002 LEA R0,#2`.
+pub fn dis_text(
+    alloc: Global,
     world: &World,
     pid: usize,
     address: u16,
     count: u32,
-) -> Result<(), AllocError>
+) -> Result<String, AllocError>
     requires range { address + count ≤ 65536 }
-    ensures text { OnOk result (Adds text.old text.new (dis_text pid address count world.now)) }
+    ensures text { IfOk result (λ s. string_bytes s ≡ dis_text pid address count world.now) }
 {
-    match world.process(pid) {
-        Some(process) => push_texts(text, process, u32::from(address), count),
-        None => Ok(()),
-    }
+    let mut text = String::new(alloc);
+    let Some(process) = world.process(pid) else {
+        return Ok(text);
+    };
+    push_texts(&mut text, process, u32::from(address), count)?;
+    Ok(text)
 }

@@ -1,12 +1,12 @@
 //! What processes have written.
-ghost use Rattle.std.specs.Prelude.{◌≡◌, ◌<◌, Some, OnOk, IsTrue, flat_map};
+ghost use Rattle.std.specs.Prelude.{◌≡◌, ◌<◌, Some, OnOk, IfOk, IsTrue, string_bytes, flat_map};
 ghost use Rattle.lab_sched.specs.Held.{process_view};
 ghost use Rattle.lab_sched.specs.Worlds.{machine_of};
 ghost use Rattle.lab_texts.specs.Private.Added.{Adds};
 ghost use Rattle.lab_texts.specs.Texts.{is_plain, escape_text, escape_of, out_line, out_text};
 
 use lab_sched::World;
-use std::alloc::AllocError;
+use std::alloc::{AllocError, Global};
 use std::fmt;
 
 #[tactic(auto, unfolding(crate::specs::Texts::is_plain))]
@@ -68,12 +68,22 @@ fn push_line(text: &mut String, pid: usize, bytes: &[u8]) -> Result<(), AllocErr
     text.push_str("\n")
 }
 
-/// Adds the output line of process `pid`, where it is there.
-pub fn push_out(text: &mut String, world: &World, pid: usize) -> Result<(), AllocError>
+/// The line is added where the process is there.
+pub(crate) fn push_out(text: &mut String, world: &World, pid: usize) -> Result<(), AllocError>
     ensures text { OnOk result (Adds text.old text.new (out_text pid world.now)) }
 {
     match world.process(pid) {
         Some(process) => push_line(text, pid, process.machine().output()),
         None => Ok(()),
     }
+}
+
+/// What process `pid` has written, on one line; a byte that can't be printed, and a backslash, is
+/// written `\\x` and two digits.
+pub fn out_text(alloc: Global, world: &World, pid: usize) -> Result<String, AllocError>
+    ensures text { IfOk result (λ s. string_bytes s ≡ out_text pid world.now) }
+{
+    let mut text = String::new(alloc);
+    push_out(&mut text, world, pid)?;
+    Ok(text)
 }

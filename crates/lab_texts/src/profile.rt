@@ -1,18 +1,16 @@
 //! The profile of a world.
-ghost use Rattle.std.specs.Prelude.{OnOk};
-ghost use Rattle.lab_texts.specs.Private.Added.{Adds};
+ghost use Rattle.std.specs.Prelude.{◌≡◌, IfOk, string_bytes};
 ghost use Rattle.lab_texts.specs.Texts.{profile_text};
 
 use lab_sched::World;
-use std::alloc::AllocError;
+use std::alloc::{AllocError, Global};
 
-/// Adds the profile that the processes have.
-pub fn push_profile(text: &mut String, world: &World) -> Result<(), AllocError>
-    ensures text { OnOk result (Adds text.old text.new (profile_text world.now)) }
+/// The profile that the processes have, as `profile a`.
+pub fn profile_text(alloc: Global, world: &World) -> Result<String, AllocError>
+    ensures text { IfOk result (λ s. string_bytes s ≡ profile_text world.now) }
 {
+    let mut text = String::new(alloc);
     let profile = world.profile();
-    match write!(text, "profile {profile}\n") {
-        Ok(()) => Ok(()),
-        Err(error) => Err(error),
-    }
+    write!(text, "profile {profile}\n")?;
+    Ok(text)
 }

@@ -1,20 +1,20 @@
 //! Message queues and their messages.
-ghost use Rattle.std.specs.Prelude.{Some, OnOk, flat_map};
+ghost use Rattle.std.specs.Prelude.{◌≡◌, ◌++◌, Some, OnOk, IfOk, string_bytes, flat_map};
 ghost use Rattle.std.specs.Option.{option_copied};
 ghost use Rattle.lab_texts.specs.Private.Added.{Adds};
-ghost use Rattle.lab_texts.specs.Objects.{name_text, object_part, sizes_part, queue_line, word_part, message_line, queue_text, mqs_text};
+ghost use Rattle.lab_texts.specs.Objects.{name_text, object_part, sizes_part, word_part, message_line, queue_text, mqs_text};
 
 use ipc_kernel::OBJECT_PLACES;
 use ipc_names::Name;
 use ipc_objects::Queue;
 use lab_sched::World;
 use lc3_word::Hex;
-use std::alloc::AllocError;
+use std::alloc::{AllocError, Global};
 use std::fmt;
 
 /// The name of an object, or a dash once it is unlinked.
 #[derive(Drop)]
-struct NameText<'a>(Option<&'a Name>);
+pub struct NameText<'a>(pub Option<&'a Name>);
 
 impl fmt::Display for NameText<'_> {
     ghost output = { λ n. Some (name_text (option_copied n.0)) };
@@ -37,10 +37,8 @@ pub fn push_object(text: &mut String, place: u8, name: Option<&Name>) -> Result<
         (object_part place (option_copied name.entry))) }
 {
     let name = NameText(name);
-    match write!(text, "{place} {name} ") {
-        Ok(()) => Ok(()),
-        Err(error) => Err(error),
-    }
+    write!(text, "{place} {name} ")?;
+    Ok(())
 }
 
 #[tactic(auto, unfolding(crate::specs::Objects::sizes_part))]
@@ -48,23 +46,8 @@ fn push_sizes(text: &mut String, queue: &Queue) -> Result<(), AllocError>
     ensures text { OnOk result (Adds text.old text.new (sizes_part queue.now)) }
 {
     let (most, size, count) = queue.attr();
-    match write!(text, "{most} {size} {count}\n") {
-        Ok(()) => Ok(()),
-        Err(error) => Err(error),
-    }
-}
-
-fn push_queue(
-    text: &mut String,
-    place: u8,
-    name: Option<&Name>,
-    queue: &Queue,
-) -> Result<(), AllocError>
-    ensures text { OnOk result (Adds text.old text.new
-        (queue_line place (option_copied name.entry) queue.now)) }
-{
-    push_object(text, place, name)?;
-    push_sizes(text, queue)
+    write!(text, "{most} {size} {count}\n")?;
+    Ok(())
 }
 
 fn push_words(text: &mut String, words: &[u16]) -> Result<(), AllocError>
@@ -77,10 +60,11 @@ fn push_words(text: &mut String, words: &[u16]) -> Result<(), AllocError>
     Ok(())
 }
 
+/// Adds the priority and the words of a message, and a line feed.
 #[tactic(auto, unfolding(crate::specs::Objects::message_line))]
-fn push_message(text: &mut String, priority: u16, words: &[u16]) -> Result<(), AllocError>
-    ensures text { OnOk result (Adds text.old text.new
-        (message_line (record { priority = priority; words = words.now }))) }
+pub fn push_message(text: &mut String, priority: u16, words: &[u16]) -> Result<(), AllocError>
+    ensures text { OnOk result (string_bytes text.new ≡ string_bytes text.old
+        ++ message_line (record { priority = priority; words = words.now })) }
 {
     write!(text, " {priority}")?;
     push_words(text, words)?;
@@ -104,22 +88,30 @@ fn push_messages(text: &mut String, queue: &Queue) -> Result<(), AllocError>
 fn push_place(text: &mut String, world: &World, place: u8) -> Result<(), AllocError>
     ensures text { OnOk result (Adds text.old text.new (queue_text place world.now)) }
 {
-    match world.kernel().queue_at(place) {
-        Some((name, queue)) => {
-            push_queue(text, place, name, queue)?;
-            push_messages(text, queue)
-        }
-        None => Ok(()),
-    }
+    let Some((name, queue)) = world.kernel().queue_at(place) else {
+        return Ok(());
+    };
+    push_object(text, place, name)?;
+    push_sizes(text, queue)?;
+    push_messages(text, queue)
 }
 
-/// Adds the queues in order of place.
 #[tactic(auto, using(crate::proofs::RowLemmas::texts_below_none))]
-pub fn push_mqs(text: &mut String, world: &World) -> Result<(), AllocError>
+fn push_mqs(text: &mut String, world: &World) -> Result<(), AllocError>
     ensures text { OnOk result (Adds text.old text.new (mqs_text world.now)) }
 {
     for place in 0..OBJECT_PLACES as u8 {
         push_place(text, world, place)?;
     }
     Ok(())
+}
+
+/// The queues in order of place, each with its messages in the order in which they would be
+/// received.
+pub fn mqs_text(alloc: Global, world: &World) -> Result<String, AllocError>
+    ensures text { IfOk result (λ s. string_bytes s ≡ mqs_text world.now) }
+{
+    let mut text = String::new(alloc);
+    push_mqs(&mut text, world)?;
+    Ok(text)
 }

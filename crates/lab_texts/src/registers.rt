@@ -1,14 +1,14 @@
 //! Registers, program counter and condition code.
-ghost use Rattle.std.specs.Prelude.{◌≡◌, Some, OnOk};
+ghost use Rattle.std.specs.Prelude.{◌≡◌, OnOk, IfOk, string_bytes};
 ghost use Rattle.lab_sched.specs.Held.{process_view};
 ghost use Rattle.lab_sched.specs.Worlds.{machine_of};
 ghost use Rattle.lab_texts.specs.Rows.{texts_below};
 ghost use Rattle.lab_texts.specs.Private.Added.{Adds};
-ghost use Rattle.lab_texts.specs.Texts.{code_text, register_part, counter_part, regs_line, regs_text};
+ghost use Rattle.lab_texts.specs.Texts.{code_text, register_part, counter_part, regs_text};
 
 use lab_sched::{Process, World};
 use lc3_word::{Cc, Hex, Reg};
-use std::alloc::AllocError;
+use std::alloc::{AllocError, Global};
 
 /// A condition code by its letter, as `Z`.
 pub fn code_name(code: Cc) -> &'static str
@@ -27,10 +27,8 @@ fn push_register(text: &mut String, process: &Process, r: Reg) -> Result<(), All
         (register_part (machine_of (process_view process.now)) r)) }
 {
     let word = Hex(process.machine().reg(r));
-    match write!(text, "{r} {word} ") {
-        Ok(()) => Ok(()),
-        Err(error) => Err(error),
-    }
+    write!(text, "{r} {word} ")?;
+    Ok(())
 }
 
 #[tactic(auto, using(crate::proofs::RowLemmas::texts_below_none, crate::proofs::RowLemmas::texts_below_more))]
@@ -51,26 +49,19 @@ fn push_counter(text: &mut String, process: &Process) -> Result<(), AllocError>
 {
     let pc = Hex(process.machine().pc());
     let code = code_name(process.machine().cc());
-    match write!(text, "PC {pc} CC {code}\n") {
-        Ok(()) => Ok(()),
-        Err(error) => Err(error),
-    }
+    write!(text, "PC {pc} CC {code}\n")?;
+    Ok(())
 }
 
-fn push_line(text: &mut String, process: &Process) -> Result<(), AllocError>
-    ensures text { OnOk result (Adds text.old text.new
-        (regs_line (machine_of (process_view process.now)))) }
+/// The registers of process `pid`, its program counter and its condition code, on one line.
+pub fn regs_text(alloc: Global, world: &World, pid: usize) -> Result<String, AllocError>
+    ensures text { IfOk result (λ s. string_bytes s ≡ regs_text pid world.now) }
 {
-    push_registers(text, process)?;
-    push_counter(text, process)
-}
-
-/// Adds the registers of process `pid`, where it is there.
-pub fn push_regs(text: &mut String, world: &World, pid: usize) -> Result<(), AllocError>
-    ensures text { OnOk result (Adds text.old text.new (regs_text pid world.now)) }
-{
-    match world.process(pid) {
-        Some(process) => push_line(text, process),
-        None => Ok(()),
-    }
+    let mut text = String::new(alloc);
+    let Some(process) = world.process(pid) else {
+        return Ok(text);
+    };
+    push_registers(&mut text, process)?;
+    push_counter(&mut text, process)?;
+    Ok(text)
 }

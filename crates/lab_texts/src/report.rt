@@ -1,5 +1,5 @@
 //! Verdicts and reports.
-ghost use Rattle.std.specs.Prelude.{◌≡◌, OnOk};
+ghost use Rattle.std.specs.Prelude.{◌≡◌, OnOk, IfOk, string_bytes};
 ghost use Rattle.lab_texts.specs.Private.Added.{Adds};
 ghost use Rattle.lab_texts.specs.Verdicts.{verdict_line, verdict_text};
 ghost use Rattle.lab_texts.specs.Reports.{process_report, process_reports, report_text};
@@ -7,23 +7,14 @@ ghost use Rattle.lab_texts.specs.Reports.{process_report, process_reports, repor
 use crate::output::push_out;
 use crate::status::push_status;
 use lab_sched::{Verdict, World};
-use std::alloc::AllocError;
+use std::alloc::{AllocError, Global};
 
-fn line_of(verdict: Verdict) -> &'static str
-    ensures text { result.now ≡ verdict_line verdict }
+fn push_verdict(text: &mut String, verdict: Verdict) -> Result<(), AllocError>
+    ensures text { OnOk result (Adds text.old text.new (verdict_line verdict)) }
 {
-    match verdict {
-        Verdict::Ended => "verdict ended\n",
-        Verdict::Stuck => "verdict stuck\n",
-        Verdict::Open => "verdict open\n",
-    }
-}
-
-/// Adds the verdict on a world.
-pub fn push_verdict(text: &mut String, world: &World) -> Result<(), AllocError>
-    ensures text { OnOk result (Adds text.old text.new (verdict_text world.now)) }
-{
-    text.push_str(line_of(world.verdict()))
+    let word = verdict.word();
+    write!(text, "verdict {word}\n")?;
+    Ok(())
 }
 
 fn push_process(text: &mut String, world: &World, pid: usize) -> Result<(), AllocError>
@@ -43,11 +34,22 @@ fn push_processes(text: &mut String, world: &World) -> Result<(), AllocError>
     Ok(())
 }
 
-/// Adds the report on a world.
-#[tactic(auto, unfolding(crate::specs::Reports::report_text))]
-pub fn push_report(text: &mut String, world: &World) -> Result<(), AllocError>
-    ensures text { OnOk result (Adds text.old text.new (report_text world.now)) }
+/// The verdict line.
+pub fn verdict_text(alloc: Global, world: &World) -> Result<String, AllocError>
+    ensures text { IfOk result (λ s. string_bytes s ≡ verdict_text world.now) }
 {
-    push_processes(text, world)?;
-    push_verdict(text, world)
+    let mut text = String::new(alloc);
+    push_verdict(&mut text, world.verdict())?;
+    Ok(text)
+}
+
+/// The report: the status line and the output line of each process, and then the verdict line.
+#[tactic(auto, unfolding(crate::specs::Reports::report_text))]
+pub fn report_text(alloc: Global, world: &World) -> Result<String, AllocError>
+    ensures text { IfOk result (λ s. string_bytes s ≡ report_text world.now) }
+{
+    let mut text = String::new(alloc);
+    push_processes(&mut text, world)?;
+    push_verdict(&mut text, world.verdict())?;
+    Ok(text)
 }

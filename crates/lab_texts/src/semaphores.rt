@@ -1,12 +1,12 @@
 //! Semaphores and their values.
-ghost use Rattle.std.specs.Prelude.{OnOk};
+ghost use Rattle.std.specs.Prelude.{◌≡◌, OnOk, IfOk, string_bytes};
 ghost use Rattle.lab_texts.specs.Private.Added.{Adds};
 ghost use Rattle.lab_texts.specs.Objects.{semaphore_text, sems_text};
 
 use crate::queues::push_object;
 use ipc_kernel::OBJECT_PLACES;
 use lab_sched::World;
-use std::alloc::AllocError;
+use std::alloc::{AllocError, Global};
 
 fn push_place(text: &mut String, world: &World, place: u8) -> Result<(), AllocError>
     ensures text { OnOk result (Adds text.old text.new (semaphore_text place world.now)) }
@@ -15,19 +15,25 @@ fn push_place(text: &mut String, world: &World, place: u8) -> Result<(), AllocEr
         return Ok(());
     };
     push_object(text, place, name)?;
-    match write!(text, "{value}\n") {
-        Ok(()) => Ok(()),
-        Err(error) => Err(error),
-    }
+    write!(text, "{value}\n")?;
+    Ok(())
 }
 
-/// Adds the semaphores in order of place.
 #[tactic(auto, using(crate::proofs::RowLemmas::texts_below_none))]
-pub fn push_sems(text: &mut String, world: &World) -> Result<(), AllocError>
+fn push_sems(text: &mut String, world: &World) -> Result<(), AllocError>
     ensures text { OnOk result (Adds text.old text.new (sems_text world.now)) }
 {
     for place in 0..OBJECT_PLACES as u8 {
         push_place(text, world, place)?;
     }
     Ok(())
+}
+
+/// The semaphores in order of place.
+pub fn sems_text(alloc: Global, world: &World) -> Result<String, AllocError>
+    ensures text { IfOk result (λ s. string_bytes s ≡ sems_text world.now) }
+{
+    let mut text = String::new(alloc);
+    push_sems(&mut text, world)?;
+    Ok(text)
 }

@@ -1,15 +1,15 @@
 //! Status lines.
-ghost use Rattle.std.specs.Prelude.{◌≡◌, Some, OnOk};
+ghost use Rattle.std.specs.Prelude.{◌≡◌, Some, OnOk, IfOk, string_bytes};
 ghost use Rattle.lab_sched.specs.Held.{process_view};
 ghost use Rattle.lab_sched.specs.Worlds.{machine_of};
 ghost use Rattle.lab_texts.specs.Private.Added.{Adds};
-ghost use Rattle.lab_texts.specs.Texts.{how_text, place_text, state_text, status_line, status_text, procs_text};
+ghost use Rattle.lab_texts.specs.Texts.{how_text, place_text, state_text, status_text, procs_text};
 
 use lab_sched::{Process, World};
 use lc3_machine::How;
 use lc3_table::WordText;
 use lc3_word::{FIRST_DEVICE, Hex};
-use std::alloc::AllocError;
+use std::alloc::{AllocError, Global};
 use std::fmt;
 
 /// The word at the program counter, or a dash in the device register page.
@@ -64,35 +64,44 @@ impl fmt::Display for State<'_> {
     }
 }
 
+/// The line is added where the process is there.
 #[tactic(auto, unfolding(crate::specs::Texts::status_line))]
-fn push_line(text: &mut String, pid: usize, process: &Process) -> Result<(), AllocError>
-    ensures text { OnOk result
-        (Adds text.old text.new (status_line pid (process_view process.now))) }
-{
-    let state = State(process);
-    match write!(text, "{pid} {state}\n") {
-        Ok(()) => Ok(()),
-        Err(error) => Err(error),
-    }
-}
-
-/// Adds the status line of process `pid`, where it is there.
-pub fn push_status(text: &mut String, world: &World, pid: usize) -> Result<(), AllocError>
+pub(crate) fn push_status(text: &mut String, world: &World, pid: usize) -> Result<(), AllocError>
     ensures text { OnOk result (Adds text.old text.new (status_text pid world.now)) }
 {
-    match world.process(pid) {
-        Some(process) => push_line(text, pid, process),
-        None => Ok(()),
-    }
+    let Some(process) = world.process(pid) else {
+        return Ok(());
+    };
+    let state = State(process);
+    write!(text, "{pid} {state}\n")?;
+    Ok(())
 }
 
-/// Adds each status line.
+/// The status line of process `pid`, as `0 running x3000 NOP`. A process that isn't there has no
+/// line.
+pub fn status_text(alloc: Global, world: &World, pid: usize) -> Result<String, AllocError>
+    ensures text { IfOk result (λ s. string_bytes s ≡ status_text pid world.now) }
+{
+    let mut text = String::new(alloc);
+    push_status(&mut text, world, pid)?;
+    Ok(text)
+}
+
 #[tactic(auto, using(crate::proofs::RowLemmas::texts_below_none))]
-pub fn push_procs(text: &mut String, world: &World) -> Result<(), AllocError>
+fn push_procs(text: &mut String, world: &World) -> Result<(), AllocError>
     ensures text { OnOk result (Adds text.old text.new (procs_text world.now)) }
 {
     for pid in 0..world.count() {
         push_status(text, world, pid)?;
     }
     Ok(())
+}
+
+/// The status line of each process.
+pub fn procs_text(alloc: Global, world: &World) -> Result<String, AllocError>
+    ensures text { IfOk result (λ s. string_bytes s ≡ procs_text world.now) }
+{
+    let mut text = String::new(alloc);
+    push_procs(&mut text, world)?;
+    Ok(text)
 }
