@@ -15,7 +15,7 @@ use Rattle.lc3_asm.specs.Views.{seen_line}
 use Rattle.lc3_asm.specs.declared.line.Line.{Line as Read}
 use Rattle.lc3_asm.specs.declared.fault.LineFault.{LineFault}
 use Rattle.lc3_asm.proofs.PassLemmas.{pairs_after, pairs-counted}
-use Rattle.lc3_asm.proofs.DraftLemmas.{fits_from_test}
+use Rattle.lc3_asm.proofs.MoreLines.{fits_from_test}
 use Rattle.lc3_asm.proofs.Outcomes.{unless-ok}
 
 -- these lines without a fault
@@ -121,6 +121,34 @@ reads-as before (bytes ∷ rest) = by (λ l. reads-as (before ++ l ∷ []) rest)
         (if is_end (kept (sound before) bytes) then reading_with (sound before) bytes else reading_after (reading_with (sound before) bytes) rest)
     by more (Ok l) e = ended more l (is_end l) (is_end (kept (sound before) bytes)) (ap is_end (sym (kept-sound before bytes l e))) e
     by more (Err k) e = stays (is_end (kept (sound before) bytes)) (record { line = length before + 1; kind = k }) (faulty k e)
+
+-- the lines of a text without a fault of reading
+pub read_whole : (text : List ℕ) (r : Reading) (fs : List LineFault) → r ≡ reading text → fs ≡ r.found → length fs < 1 → lines_read text ≡ Ok r.read
+read_whole text r (f ∷ fs) e same h = absurd (omega (arith, h))
+read_whole text r [] e same h = by (lines_read text) (reads-as [] (lines text))
+  where
+    by : (read : Result (List (Line Operand)) At) → ReadsAs read (reading text) → read ≡ Ok r.read
+    by (Ok ls) k = ap (λ u. Ok u.read) (sym (e ∙ k))
+    by (Err k) m =
+        let found : first_found r ≡ Some (record { line = k.line; kind = k.kind }) = ap first_found e ∙ m in
+        let nothing : first_found r ≡ None = ap (λ fs. slice_get fs 0) (sym same) in
+        absurd (cc)
+
+-- the fault of one with some
+pub read_faulty : (text : List ℕ) (r : Reading) (fs : List LineFault) (d : LineFault) → r ≡ reading text → fs ≡ r.found → 0 < length fs
+    → lines_read text ≡ Err (record { line = (get_or fs 0 d).line; kind = (get_or fs 0 d).kind })
+read_faulty text r [] d e same h = absurd (omega (arith, h))
+read_faulty text r (f ∷ fs) d e same h = by (lines_read text) (reads-as [] (lines text))
+  where
+    first : first_found r ≡ Some f
+    first = ap (λ gs. slice_get gs 0) (sym same)
+
+    by : (read : Result (List (Line Operand)) At) → ReadsAs read (reading text) → read ≡ Err (record { line = f.line; kind = f.kind })
+    by (Ok ls) k = let nothing : first_found r ≡ None = ap first_found (e ∙ k) in absurd (cc)
+    by (Err k) m =
+        let found : first_found r ≡ Some (record { line = k.line; kind = k.kind }) = ap first_found e ∙ m in
+        let same_first : f ≡ record { line = k.line; kind = k.kind } = cc in
+        rw same_first refl
 
 -- the first error among results
 abbrev first_error : {A : Type 0} → Result A At → Option LineFault

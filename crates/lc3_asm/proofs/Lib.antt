@@ -1,4 +1,4 @@
-pub mod DraftLemmas
+pub mod MoreLines
 pub mod FaultLemmas
 pub mod FieldSteps
 pub mod FirstFaults

@@ -7,7 +7,7 @@ use Rattle.lc3_table.specs.declared.operation.Fault.{Fault}
 use Rattle.lc3_table.specs.declared.operation.Fault.TheVariants as fault
 use Rattle.lc3_asm.specs.Texts.{LineWords, Program, at_line, lines, is_origin, is_end, label_of, labels, line_after, lines_after, lines_read, words_of_lines, place_fault, is_duplicate, address_after, program_with_words, program_of, program_of_lines, program}
 use Rattle.lc3_asm.proofs.Outcomes.{then-ok, unless-ok, ok-same}
-use Rattle.lc3_asm.proofs.DraftLemmas.{fits_from_test}
+use Rattle.lc3_asm.proofs.MoreLines.{fits_from_test}
 use Rattle.lc3_asm.proofs.PassLemmas.{words_after, words-passed}
 use Rattle.lc3_word.specs.Segment.{first_device}
 

@@ -10,7 +10,7 @@ use Rattle.lc3_asm.specs.Texts.{origin, origin_named, is_origin, address_after, 
 use Rattle.lc3_asm.specs.Addresses.{addresses}
 use Rattle.lc3_asm.specs.Faults.{bare_line}
 use Rattle.lc3_asm.specs.Private.Readings.{AreTables}
-use Rattle.lc3_asm.proofs.DraftLemmas.{address-next, origin-append, origin-first, sizes-append, labels-append, addresses_after-append, or_false-right}
+use Rattle.lc3_asm.proofs.MoreLines.{address-next, origin-append, origin-first, sizes-append, labels-append, addresses_after-append, or_false-right}
 use Rattle.lc3_word.specs.Segment.{first_device}
 
 -- behind a `.ORIG` the origin stays

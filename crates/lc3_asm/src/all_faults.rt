@@ -1,16 +1,16 @@
 //! All the faults of a text.
 
-ghost use Rattle.std.specs.Prelude.{◌≡◌, ◌+◌, ◌∷◌, ◌++◌, [], Some, IfOk, slice_get, OnOk};
+ghost use Rattle.std.specs.Prelude.{◌≡◌, ◌+◌, ◌++◌, Some, IfOk, slice_get, OnOk};
 ghost use Rattle.lc3_asm.specs.Texts.{program, value, labels};
 ghost use Rattle.lc3_asm.specs.Views.{seen_line};
 ghost use Rattle.lc3_table.specs.Meaning.{words};
-ghost use Rattle.lc3_asm.specs.Faults.{reading, unless_unknown, fault_of, numbered, label_faults, faults_of, faults, refused_for};
+ghost use Rattle.lc3_asm.specs.Faults.{reading, unless_unknown, fault_of, label_faults, faults_of, faults, refused_for};
 
 use crate::encoding::line_words;
 use crate::fault::{LineError, LineFault};
 use crate::line::Line;
 use crate::passes::{first_line, line_count};
-use crate::reader::{Reader, has_faults};
+use crate::reader::{Reader, has_faults, push_numbered};
 use lc3_table::Fault;
 use std::alloc::{AllocError, Global};
 
@@ -39,7 +39,6 @@ fn unless_unknown(found: &[LineFault], kind: Fault) -> Option<Fault>
     }
 }
 
-/// The fault of the label that a line at this address names, where it has one.
 fn label_fault(
     alloc: Global,
     reader: &Reader,
@@ -56,21 +55,6 @@ fn label_fault(
     }
 }
 
-/// Appends a fault, where there is one, with the number of its line.
-fn push_numbered(
-    faults: &mut Vec<LineFault>,
-    line: usize,
-    fault: Option<Fault>,
-) -> Result<(), AllocError>
-    ensures added { OnOk result (faults.new.items ≡ faults.old.items ++ numbered line fault) }
-{
-    if let Some(kind) = fault {
-        faults.push(LineFault { line, kind })?;
-    }
-    Ok(())
-}
-
-/// Appends the faults of the labels that the lines name.
 fn push_label_faults(
     alloc: Global,
     reader: &Reader,
@@ -109,7 +93,6 @@ pub fn faults_of(
     Ok(found)
 }
 
-/// The faults of the lines of a text and of the labels that they name.
 fn faults_found(alloc: Global, source: &str) -> Result<Vec<LineFault>, AllocError>
     ensures all { IfOk result (λ found. found.items ≡ faults source.now) }
 {

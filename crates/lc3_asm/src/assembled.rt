@@ -78,7 +78,6 @@ impl Assembled {
     }
 }
 
-/// Appends the line of a word.
 #[tactic(auto, unfolding(crate::specs::Listings::word_line))]
 fn push_word(listing: &mut String, address: u16, word: u16, line: usize) -> Result<(), AllocError>
     ensures text { OnOk result (string_bytes listing.new
@@ -93,7 +92,6 @@ fn push_word(listing: &mut String, address: u16, word: u16, line: usize) -> Resu
     }
 }
 
-/// Appends the lines of the words of a row.
 fn push_words(
     listing: &mut String,
     address: u16,
@@ -111,7 +109,6 @@ fn push_words(
     Ok(())
 }
 
-/// Appends the lines of the words of all rows.
 fn push_rows(listing: &mut String, rows: &[Row], words: &[u16]) -> Result<(), AllocError>
     ensures text { OnOk result (string_bytes listing.new
         ≡ string_bytes listing.old ++ rows_text rows.now words.now) }

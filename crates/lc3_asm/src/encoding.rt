@@ -25,7 +25,6 @@ fn offset(low: i64, high: i64, address: u16, target: u16) -> Result<i64, Fault>
     }
 }
 
-/// What a label with this value stands for.
 fn label_number(form: Form, address: u16, target: u16) -> Result<i64, Fault>
     ensures value { result ≡ label_number form address target }
 {
@@ -36,7 +35,6 @@ fn label_number(form: Form, address: u16, target: u16) -> Result<i64, Fault>
     }
 }
 
-/// An operand of the line at this address, with what a label stands for in its place.
 fn resolved_field(
     symbols: &Symbols,
     address: u16,
@@ -60,7 +58,6 @@ fn resolved_field(
     }
 }
 
-/// The operands of the line at this address, with what the labels stand for in their places.
 fn resolved_fields(
     alloc: Global,
     symbols: &Symbols,
@@ -93,7 +90,6 @@ fn text_words(alloc: Global, characters: &[u8]) -> Result<Vec<u16>, AllocError>
     Ok(words)
 }
 
-/// The words of an operation with these operands and fields.
 fn words_of_fields(
     alloc: Global,
     operation: Operation,
@@ -115,7 +111,6 @@ fn words_of_fields(
     }
 }
 
-/// The words of a line at this address, with the labels' values.
 pub fn line_words(
     alloc: Global,
     symbols: &Symbols,

@@ -14,7 +14,6 @@ use crate::line::Line;
 use crate::symbols::Symbols;
 use std::alloc::{AllocError, Global};
 
-/// Adds the row of a line, if it has words.
 fn push_row(rows: &mut Vec<Row>, line: usize, address: u16, count: usize) -> Result<(), AllocError>
     ensures added { OnOk result (rows.new.items ≡ rows.old.items ++ row line address count) }
 {

@@ -7,7 +7,6 @@
 
 mod all_faults;
 mod assembled;
-mod draft;
 mod encoding;
 mod fault;
 pub mod laws;
@@ -15,6 +14,7 @@ mod layout;
 mod line;
 mod mark;
 mod passes;
+mod placed;
 mod reader;
 mod statement;
 mod symbols;

@@ -1,9 +1,9 @@
 //! A line of a source text.
 
-ghost use Rattle.std.specs.Prelude.{◌≡◌, option_map, string_bytes, map, ◌≤◌, ◌^◌, IfOk, None};
+ghost use Rattle.std.specs.Prelude.{◌≡◌, option_map, string_bytes, map, ◌≤◌, ◌^◌};
 ghost use Rattle.lc3_asm.specs.Views.{token_of, seen_line};
 ghost use Rattle.lc3_asm.specs.Private.Results.{Gives};
-ghost use Rattle.lc3_table.specs.Statements.{label_defined, begins_with_dot, operation_order, order_fault, with_operands, unless, Operates, line_of, line};
+ghost use Rattle.lc3_table.specs.Statements.{label_defined, begins_with_dot, operation_order, with_operands, unless, Operates, line_of, line};
 
 use crate::fault::LineError;
 use crate::statement::{Operand, all_operands, token_fault, token_operation, upper, without_colon};
@@ -27,14 +27,12 @@ pub enum Line {
     },
 }
 
-/// Whether a word is written as a directive.
 pub fn begins_with_dot(word: &[u8]) -> bool
     ensures value { result ≡ begins_with_dot word.now }
 {
     matches!(word, [b'.', ..])
 }
 
-/// The label that a token defines, in upper case.
 pub fn label_defined(alloc: Global, token: Token<'_>) -> Result<String, LineError>
     ensures exact { Gives string_bytes result (label_defined (token_of token.entry)) }
 {
@@ -52,7 +50,6 @@ pub fn label_defined(alloc: Global, token: Token<'_>) -> Result<String, LineErro
     }
 }
 
-/// What is wrong with the place of an operation, behind a `.ORIG` or before any.
 fn operation_order(started: bool, operation: Operation) -> Option<Fault>
     ensures value { result ≡ operation_order started operation }
 {
@@ -66,7 +63,6 @@ fn operation_order(started: bool, operation: Operation) -> Option<Fault>
     }
 }
 
-/// An operation with its operands, after this label or none.
 fn operates(
     alloc: Global,
     started: bool,
@@ -118,10 +114,8 @@ fn line_of(alloc: Global, started: bool, tokens: &[Token<'_>]) -> Result<Line, L
 }
 
 /// What a line says, where a `.ORIG` stands before it or not; or its first fault.
-#[tactic(auto, using(crate::proofs::LineLemmas::line_ordered))]
 pub fn read_line(alloc: Global, started: bool, bytes: &[u8]) -> Result<Line, LineError>
     ensures exact { Gives seen_line result (line started bytes.now) }
-    ensures ordered { IfOk result (λ l. order_fault started (seen_line l) ≡ None) }
 {
     let tokens = tokens(alloc, bytes)?;
     line_of(alloc, started, &tokens)

@@ -32,7 +32,6 @@ fn without_forms(number: usize) -> Faulty {
     Faulty { number, forms: &[] }
 }
 
-/// The token with this number, from 0, as a mark.
 fn mark_at(line: &[u8], faulty: Faulty) -> Option<Mark>
     ensures within { IfSome result
         (λ mark. (mark.start < mark.end) × (mark.end ≤ length line.now)) }
@@ -50,7 +49,6 @@ fn mark_at(line: &[u8], faulty: Faulty) -> Option<Mark>
     })
 }
 
-/// The number of the operation among the tokens of a line, which may stand behind a label.
 fn operation_number(tokens: &[Token<'_>]) -> usize {
     match tokens {
         [first, second, ..]
@@ -104,7 +102,6 @@ fn faulty_operand(alloc: Global, tokens: &[Token<'_>], kind: Fault) -> Result<Fa
     Ok(Faulty { number: at, forms })
 }
 
-/// The token of a line at which it has a fault of this kind.
 fn faulty_token(alloc: Global, tokens: &[Token<'_>], kind: Fault) -> Result<Faulty, AsmFault>
     ensures err { IfErr result (λ e. e ≡ AsmFault.NoMemory) }
 {

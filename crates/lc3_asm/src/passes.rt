@@ -5,15 +5,15 @@ ghost use Rattle.std.specs.List.{position_or_len};
 ghost use Rattle.lc3_asm.specs.Texts.{lines, lines_read, program_of, program, IsFault};
 ghost use Rattle.lc3_asm.specs.Views.{lines_if};
 
+use crate::all_faults::reading;
 use crate::assembled::Assembled;
-use crate::draft::Draft;
-use crate::fault::{AsmFault, LineError};
+use crate::fault::AsmFault;
 use crate::layout::layout;
+use crate::reader::Reader;
 use lc3_table::Fault;
 use lc3_word::Image;
 use std::alloc::Global;
 
-/// How many bytes stand before the first line feed.
 fn line_len(text: &[u8]) -> usize
     ensures count { result ≡ position_or_len (λ c. c == 10) text.now }
     ensures within { result ≤ length text.now }
@@ -35,24 +35,18 @@ pub fn first_line(text: &[u8]) -> (&[u8], Option<&[u8]>)
 }
 
 /// The lines up to `.END`, or the first faulty line.
-fn first_pass(alloc: Global, source: &str) -> Result<Draft, AsmFault>
-    ensures read { IfOk result (λ draft. lines_read source.now ≡ Ok draft) }
+fn first_pass(alloc: Global, source: &str) -> Result<Reader, AsmFault>
+    ensures read { IfOk result (λ reader. lines_read source.now ≡ Ok reader.read) }
     ensures refused { IfErr result (λ fault. IsFault fault (lines_read source.now)) }
 {
-    let mut draft = Draft::new(alloc);
-    let mut rest = Some(source.as_bytes());
-    while let Some(text) = rest {
-        let (line, after) = first_line(text);
-        let number = draft.len() + 1;
-        match draft.with_line(alloc, line) {
-            Ok((longer, true)) => return Ok(longer),
-            Ok((longer, false)) => draft = longer,
-            Err(LineError::Memory) => return Err(AsmFault::NoMemory),
-            Err(LineError::Fault(kind)) => return Err(AsmFault::At { line: number, kind }),
-        }
-        rest = after;
+    let reader = reading(alloc, source)?;
+    match reader.faults() {
+        [] => Ok(reader),
+        [first, ..] => Err(AsmFault::At {
+            line: first.line,
+            kind: first.kind,
+        }),
     }
-    Ok(draft)
 }
 
 /// How many lines a text has.
@@ -64,13 +58,13 @@ pub fn line_count(text: &[u8]) -> usize
 }
 
 /// The image, the symbols and the rows of lines without faults of the first pass.
-fn second_pass(alloc: Global, draft: Draft) -> Result<Assembled, AsmFault>
-    ensures accepted { IfOk result (λ assembled. program_of draft ≡ Ok assembled) }
-    ensures refused { IfErr result (λ fault. IsFault fault (program_of draft)) }
+fn second_pass(alloc: Global, reader: Reader) -> Result<Assembled, AsmFault>
+    ensures accepted { IfOk result (λ assembled. program_of reader.read ≡ Ok assembled) }
+    ensures refused { IfErr result (λ fault. IsFault fault (program_of reader.read)) }
 {
-    let (words, rows) = layout(alloc, draft.symbols(), draft.lines(), draft.places())?;
-    match Image::new(draft.origin(), words) {
-        Ok(image) => Ok(Assembled::new(image, draft.into_symbols(), rows)),
+    let (words, rows) = layout(alloc, reader.symbols(), reader.lines(), reader.places())?;
+    match Image::new(reader.origin(), words) {
+        Ok(image) => Ok(Assembled::new(image, reader.into_symbols(), rows)),
         Err(_) => unreachable!(),
     }
 }
@@ -86,9 +80,9 @@ pub fn assemble(alloc: Global, source: &str) -> Result<Assembled, AsmFault>
     ensures accepted { IfOk result (λ assembled. program source.now ≡ Ok assembled) }
     ensures refused { IfErr result (λ fault. IsFault fault (program source.now)) }
 {
-    let draft = first_pass(alloc, source)?;
-    if draft.started() {
-        second_pass(alloc, draft)
+    let reader = first_pass(alloc, source)?;
+    if reader.started() {
+        second_pass(alloc, reader)
     } else {
         Err(AsmFault::At {
             line: line_count(source.as_bytes()),

@@ -1,20 +1,21 @@
 //! The lines of a text with their faults: the reading goes on behind a faulty line.
 
-ghost use Rattle.std.specs.Prelude.{◌≡◌, ◌+◌, ◌≤◌, ◌<◌, ◌^◌, sum_by, List, [], ◌∷◌, ◌++◌, map, None, IfOk, IfNone, IfSome, length, nat_le, true, false, option_map, string_bytes, unwrap_or, ◌||◌, IsAscii};
+ghost use Rattle.std.specs.Prelude.{◌≡◌, ◌+◌, ◌≤◌, ◌<◌, sum_by, List, [], ◌∷◌, ◌++◌, map, None, IfOk, OnOk, IfNone, length, nat_le, true, false, option_map, string_bytes, unwrap_or, ◌||◌};
 ghost use Rattle.std.specs.List.{list_any};
 ghost use Rattle.lc3_word.specs.Segment.{first_device};
-ghost use Rattle.lc3_asm.specs.Texts.{is_origin, is_end, origin, origin_named, labels, address_after, place_fault, is_duplicate, label_of};
-ghost use Rattle.lc3_table.specs.Statements.{Line, Operand, option_or};
+ghost use Rattle.lc3_asm.specs.Texts.{is_origin, is_end, origin, labels, address_after, place_fault, is_duplicate, label_of};
+ghost use Rattle.lc3_table.specs.Statements.{Line, option_or};
 ghost use Rattle.lc3_table.specs.Meaning.{size};
 ghost use Rattle.lc3_asm.specs.Private.Results.{Gives};
 ghost use Rattle.lc3_asm.specs.Views.{seen_line, token_of};
 ghost use Rattle.lc3_asm.specs.Private.Readings.{AreTables};
 ghost use Rattle.lc3_asm.specs.Addresses.{addresses};
-ghost use Rattle.lc3_asm.specs.Faults.{Reading, has_faults, is_too_long, line_behind, told_once, outcome, printable_or_blank, operation_named, new_label, label_begun, bare_line, stand_in, fitted, kept, numbered, reading_with};
+ghost use Rattle.lc3_asm.specs.Faults.{Reading, has_faults, is_too_long, line_behind, told_once, outcome, printable_or_blank, operation_named, label_begun, bare_line, stand_in, fitted, kept, numbered, reading_with};
 ghost use Rattle.lc3_table.specs.Tokens.{tokens};
 
 use crate::fault::{LineError, LineFault};
 use crate::line::{Line, label_defined, read_line};
+use crate::placed::Placed;
 use crate::statement::token_operation;
 use crate::symbols::Symbols;
 use crate::token::{Token, tokens};
@@ -23,7 +24,6 @@ use lc3_word::FIRST_DEVICE;
 use std::alloc::{AllocError, Global};
 use std::marker::Model;
 
-/// Whether there is a fault.
 pub fn has_faults(faults: &[LineFault]) -> bool
     ensures value { result ≡ has_faults faults.now }
 {
@@ -33,7 +33,6 @@ pub fn has_faults(faults: &[LineFault]) -> bool
     }
 }
 
-/// Whether one of the faults is that of words that go beyond the first device register.
 fn has_too_long(faults: &[LineFault]) -> bool
     ensures value { result ≡ list_any (λ f. is_too_long f.kind) faults.now }
 {
@@ -57,7 +56,6 @@ fn line_behind(
     }
 }
 
-/// The byte, or a blank in the place of one that can't stand in a word.
 fn printable_or_blank(byte: u8) -> u8
     ensures value { result ≡ printable_or_blank byte }
 {
@@ -90,7 +88,6 @@ fn operation_named(tokens: &[Token<'_>]) -> Option<Operation>
     }
 }
 
-/// The first of two operations, if it is there.
 fn first_of(first: Option<Operation>, second: Option<Operation>) -> Option<Operation>
     ensures value { result ≡ option_or first second }
 {
@@ -100,7 +97,6 @@ fn first_of(first: Option<Operation>, second: Option<Operation>) -> Option<Opera
     }
 }
 
-/// A line of this label, or none, and this operation without operands, or none.
 fn bare_line(alloc: Global, label: Option<String>, operation: Option<Operation>) -> Line
     ensures value { seen_line result ≡ bare_line (option_map string_bytes label) operation }
 {
@@ -115,7 +111,6 @@ fn bare_line(alloc: Global, label: Option<String>, operation: Option<Operation>)
     }
 }
 
-/// The label of a line alone.
 fn label_alone(alloc: Global, line: Line) -> Line
     ensures value { seen_line result ≡ bare_line (label_of (seen_line line)) None }
 {
@@ -126,14 +121,23 @@ fn label_alone(alloc: Global, line: Line) -> Line
     }
 }
 
+pub fn push_numbered(
+    faults: &mut Vec<LineFault>,
+    line: usize,
+    fault: Option<Fault>,
+) -> Result<(), AllocError>
+    ensures added { OnOk result (faults.new.items ≡ faults.old.items ++ numbered line fault) }
+{
+    if let Some(kind) = fault {
+        faults.push(LineFault { line, kind })?;
+    }
+    Ok(())
+}
+
 /// The lines of a text that are read so far, those with a fault as what they count as, and the faults.
 pub struct Reader {
-    lines: Vec<Line>,
+    placed: Placed,
     faults: Vec<LineFault>,
-    /// The labels that the lines define.
-    symbols: Symbols,
-    /// The address of each line.
-    places: Vec<u16>,
     /// Whether a `.ORIG` was read.
     started: bool,
     /// The address that it names.
@@ -145,10 +149,8 @@ pub struct Reader {
 impl Drop for Reader {
     fn drop(self) {
         let Reader {
-            lines: _,
+            placed: _,
             faults: _,
-            symbols: _,
-            places: _,
             started: _,
             first: _,
             count: _,
@@ -159,10 +161,10 @@ impl Drop for Reader {
 impl Model for Reader {
     ghost Value = { Reading };
 
-    ghost view = { λ r. record { read = map seen_line r.lines.items; found = r.faults.items } };
+    ghost view = { λ r. record { read = map seen_line r.placed.lines.items; found = r.faults.items } };
 
-    ghost invariant = { λ r. AreTables r.symbols r.places.items r.started r.first r.count
-        (map seen_line r.lines.items) };
+    ghost invariant = { λ r. AreTables r.placed.symbols r.placed.places.items r.started r.first
+        r.count (map seen_line r.placed.lines.items) };
 }
 
 impl Reader {
@@ -171,17 +173,14 @@ impl Reader {
         ensures empty { result ≡ record { read = []; found = [] } }
     {
         Reader {
-            lines: Vec::new(alloc),
+            placed: Placed::new(alloc),
             faults: Vec::new(alloc),
-            symbols: Symbols::new(alloc),
-            places: Vec::new(alloc),
             started: false,
             first: 0,
             count: 0,
         }
     }
 
-    /// The address that the first `.ORIG` names, with this line.
     fn first_with(&self, line: &Line) -> u64
         ensures value { result ≡ origin (self.now.read ++ seen_line line.now ∷ []) }
     {
@@ -192,7 +191,6 @@ impl Reader {
         }
     }
 
-    /// Whether the words up to this line end where the device registers begin, or before.
     fn has_room(&self, line: &Line) -> bool
         ensures value { result
             ≡ nat_le (address_after (self.now.read ++ seen_line line.now ∷ [])) first_device }
@@ -210,7 +208,7 @@ impl Reader {
             (is_duplicate self.now.read (label_of (seen_line line.now)) ≡ false) }
     {
         if let Some(label) = line.label() {
-            if self.symbols.contains(label) {
+            if self.placed.symbols.contains(label) {
                 return Some(Fault::DuplicateLabel);
             }
         }
@@ -220,7 +218,6 @@ impl Reader {
         Some(Fault::TooLong)
     }
 
-    /// The next line, or its first fault.
     fn outcome(&self, alloc: Global, bytes: &[u8]) -> Result<Line, LineError>
         ensures exact { Gives seen_line result (outcome self.now bytes.now) }
         ensures new { IfOk result
@@ -242,7 +239,7 @@ impl Reader {
     {
         let [first, ..] = tokens else { return Ok(None) };
         match label_defined(alloc, *first) {
-            Ok(name) if self.symbols.contains(&name) => Ok(None),
+            Ok(name) if self.placed.symbols.contains(&name) => Ok(None),
             Ok(name) => Ok(Some(name)),
             Err(LineError::Memory) => Err(AllocError),
             Err(LineError::Fault(_)) => Ok(None),
@@ -270,7 +267,7 @@ impl Reader {
             ≡ true }
         ensures new { is_duplicate self.now.read (label_of (seen_line result)) ≡ false }
     {
-        let _ = &self.lines;
+        let _ = &self.placed;
         let has_room = self.has_room(&line);
         if has_room {
             line
@@ -291,31 +288,20 @@ impl Reader {
     {
         let first = self.first_with(&line);
         let Reader {
-            mut lines,
+            mut placed,
             mut faults,
-            mut symbols,
-            mut places,
             started,
             first: before,
             count,
         } = self;
-        let address = (before + count) as u16;
-        symbols.define_label(alloc, &line, address)?;
-        if let Some(kind) = fault {
-            faults.push(LineFault {
-                line: lines.len() + 1,
-                kind,
-            })?;
-        }
         let started = started || line.origin().is_some();
+        let address = (before + count) as u16;
         let count = count + line.size();
-        places.push(address)?;
-        lines.push(line)?;
+        placed.push(alloc, line, address)?;
+        push_numbered(&mut faults, placed.lines.len(), fault)?;
         Ok(Reader {
-            lines,
+            placed,
             faults,
-            symbols,
-            places,
             started,
             first,
             count,
@@ -342,23 +328,45 @@ impl Reader {
     pub fn lines(&self) -> &[Line]
         ensures lines { map seen_line result.now ≡ self.now.read }
     {
-        self.lines.as_slice()
+        self.placed.lines.as_slice()
     }
 
     /// The address of each line.
-    #[tactic(auto, using(crate::proofs::DraftLemmas::length_addresses))]
+    #[tactic(auto, using(crate::proofs::MoreLines::length_addresses))]
     pub fn places(&self) -> &[u16]
         ensures value { result.now ≡ addresses self.now.read }
         ensures count { length result.now ≡ length self.now.read }
     {
-        self.places.as_slice()
+        self.placed.places.as_slice()
     }
 
     /// The labels, with the addresses of their lines.
     pub fn symbols(&self) -> &Symbols
         ensures value { result.now ≡ labels self.now.read }
     {
-        &self.symbols
+        &self.placed.symbols
+    }
+
+    /// The labels, where the lines are no longer needed.
+    pub(crate) fn into_symbols(self) -> Symbols
+        ensures value { result ≡ labels self.read }
+    {
+        let Reader {
+            placed,
+            faults: _,
+            started: _,
+            first: _,
+            count: _,
+        } = self;
+        placed.into_symbols()
+    }
+
+    /// The address that `.ORIG` names.
+    pub(crate) fn origin(&self) -> u16
+        ensures value { result ≡ origin self.now.read }
+        ensures fits { origin self.now.read + sum_by size self.now.read ≤ first_device }
+    {
+        self.first as u16
     }
 
     /// Whether a `.ORIG` was read.

@@ -46,7 +46,6 @@ fn escape(byte: u8) -> Option<u8>
     }
 }
 
-/// Whether a string may hold the byte: x20 to x7E and tab.
 fn is_string_byte(byte: u8) -> bool
     ensures value { result ≡ is_string_byte byte }
 {
@@ -100,7 +99,6 @@ fn first_character(text: &[u8]) -> Option<(u8, &[u8])>
     }
 }
 
-/// Whether a string has no bad character and no bad escape.
 fn is_string(text: &[u8]) -> bool
     ensures value { result ≡ is_some (characters text.now) }
 {
@@ -114,7 +112,6 @@ fn is_string(text: &[u8]) -> bool
     true
 }
 
-/// The characters that a string writes.
 fn characters(alloc: Global, text: &[u8]) -> Result<Option<Vec<u8>>, AllocError>
     ensures value { IfOk result (λ read. option_map (λ v. v.items) read ≡ characters text.now) }
 {
@@ -130,14 +127,12 @@ fn characters(alloc: Global, text: &[u8]) -> Result<Option<Vec<u8>>, AllocError>
     Ok(Some(found))
 }
 
-/// Whether a word has characters of x21 to x7E alone.
 fn is_printable(word: &[u8]) -> bool
     ensures value { result ≡ list_all (λ c. nat_le 33 c && nat_le c 126) word.now }
 {
     word.iter().all(|byte| 33 <= *byte && *byte <= 126)
 }
 
-/// What is wrong with a token.
 pub fn fault_in(token: Token<'_>) -> Option<Fault>
     ensures value { result ≡ fault_in (token_of token.entry) }
 {
@@ -168,7 +163,6 @@ pub fn token_fault(tokens: &[Token<'_>]) -> Option<Fault>
     None
 }
 
-/// low ≤ number ≤ high
 fn is_between(low: i64, high: i64, number: i64) -> bool
     ensures value { result ≡ is_between low high number }
 {
@@ -186,7 +180,6 @@ fn is_in_field(low: i64, high: i64, number: i64) -> bool
     is_signed || is_unsigned
 }
 
-/// Whether a number may stand there.
 fn accepts(form: Form, number: i64) -> bool
     requires small { nat_abs number ≤ 1_000_000_000 }
     ensures value { result ≡ accepts form number }
@@ -216,7 +209,6 @@ fn number_or_label(alloc: Global, form: Form, word: &[u8]) -> Result<Operand, Li
     }
 }
 
-/// A word as an operand of this form.
 fn word_operand(alloc: Global, form: Form, word: &[u8]) -> Result<Operand, LineError>
     ensures exact { Gives seen_operand result
         (operand_by_register form word.now (register word.now)) }
@@ -229,7 +221,6 @@ fn word_operand(alloc: Global, form: Form, word: &[u8]) -> Result<Operand, LineE
     }
 }
 
-/// The token as an operand of this form.
 pub fn token_operand(alloc: Global, form: Form, token: Token<'_>) -> Result<Operand, LineError>
     ensures exact { Gives seen_operand result (operand form (token_of token.entry)) }
 {

@@ -57,14 +57,12 @@ impl Symbols {
         self.addresses.get(name).copied()
     }
 
-    /// Whether the label is there.
     pub(crate) fn contains(&self, name: &str) -> bool
         ensures value { result ≡ is_defined self.now name.now }
     {
         self.addresses.contains_key(name)
     }
 
-    /// Adds a label at the end.
     pub(crate) fn define(&mut self, name: String, address: u16) -> Result<(), AllocError>
         requires undefined { is_defined self.old (string_bytes name) ≡ false }
         ensures ok { OnOk result (self.new ≡ self.old ++ (string_bytes name, address) ∷ []) }
@@ -74,7 +72,6 @@ impl Symbols {
         Ok(())
     }
 
-    /// Adds the label of a line, where it has one.
     pub(crate) fn define_label(
         &mut self,
         alloc: Global,
@@ -115,7 +112,6 @@ fn push_lines(text: &mut String, addresses: &IndexMap<String, u16>) -> Result<()
     Ok(())
 }
 
-/// Appends the line of a label.
 #[tactic(auto, unfolding(crate::specs::Listings::symbol_line))]
 fn push_line(text: &mut String, name: &str, address: u16) -> Result<(), AllocError>
     ensures text { OnOk result (string_bytes text.new

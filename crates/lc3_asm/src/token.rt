@@ -21,7 +21,6 @@ pub enum Token<'a> {
 /// Blank, tab, comma, carriage return.
 const SEPARATORS: &[u8] = b" \t,\r";
 
-/// Whether a byte separates words.
 fn is_separator(byte: u8) -> bool
     ensures value { result ≡ is_separator byte }
 {
@@ -53,7 +52,6 @@ fn quoted(text: &[u8]) -> (Token<'_>, &[u8])
     (Token::Unclosed, &[])
 }
 
-/// How many bytes at the front are separators.
 fn separators_len(line: &[u8]) -> usize
     ensures count { result ≡ prefix_len is_separator line.now }
     ensures within { result ≤ length line.now }
@@ -61,7 +59,6 @@ fn separators_len(line: &[u8]) -> usize
     line.iter().take_while(|byte| is_separator(**byte)).count()
 }
 
-/// How many bytes at the front are a word's.
 fn word_len(line: &[u8]) -> usize
     ensures count { result ≡ prefix_len is_word_byte line.now }
     ensures within { result ≤ length line.now }

@@ -18,7 +18,6 @@ pub fn register(word: &[u8]) -> Option<Reg>
     }
 }
 
-/// Whether a word is this name, in either case.
 #[tactic(auto, unfolding(lc3_table::specs::Words::same_name))]
 fn is_name(name: &str, word: &[u8]) -> bool
     ensures value { result ≡ same_name name.now word.now }
@@ -26,7 +25,6 @@ fn is_name(name: &str, word: &[u8]) -> bool
     name.as_bytes().eq_ignore_ascii_case(word)
 }
 
-/// The operation that is shown by this name.
 fn operation_shown(word: &[u8]) -> Option<Operation>
     ensures value { result ≡ find (λ o. same_name (name o) word.now) operations }
 {
@@ -51,7 +49,6 @@ pub fn operation(word: &[u8]) -> Option<Operation>
     operation_shown(word)
 }
 
-/// A letter, a digit or `_`.
 #[tactic(auto, unfolding(lc3_table::specs::Words::is_label_byte))]
 fn is_label_byte(byte: u8) -> bool
     ensures value { result ≡ is_label_byte byte }
@@ -62,7 +59,6 @@ fn is_label_byte(byte: u8) -> bool
 /// The most characters that a label has.
 pub const LABEL_LENGTH: usize = 80;
 
-/// Whether the first character is a digit.
 #[tactic(auto, unfolding(lc3_table::specs::Words::begins_with_digit))]
 fn begins_with_digit(word: &[u8]) -> bool
     ensures value { result ≡ begins_with_digit word.now }
@@ -73,14 +69,12 @@ fn begins_with_digit(word: &[u8]) -> bool
     }
 }
 
-/// Letters, digits and `_` alone.
 fn is_label_bytes(word: &[u8]) -> bool
     ensures value { result ≡ list_all is_label_byte word.now }
 {
     word.iter().all(|byte| is_label_byte(*byte))
 }
 
-/// 1 to 80 letters, digits or `_`, no digit first.
 #[tactic(auto, unfolding(lc3_table::specs::Words::has_label_form))]
 fn has_label_form(word: &[u8]) -> bool
     ensures value { result ≡ has_label_form word.now }
@@ -89,7 +83,6 @@ fn has_label_form(word: &[u8]) -> bool
     fits && is_label_bytes(word) && !begins_with_digit(word)
 }
 
-/// Whether a word is a number, a register or an operation.
 #[tactic(auto, unfolding(lc3_table::specs::Words::is_taken))]
 fn is_taken(word: &[u8]) -> bool
     ensures value { result ≡ is_taken word.now }

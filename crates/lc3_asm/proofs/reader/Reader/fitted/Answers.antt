@@ -6,6 +6,6 @@ use Rattle.lc3_asm.proofs.reader.Reader.fitted.Goals as goal
 
 pub returns-else-has_room-clause-room : goal.returns-else-has_room-clause-room
 returns-else-has_room-clause-room c =
-    bare-room c.self.inside.symbols c.self.inside.places.items c.self.inside.started c.self.inside.first c.self.inside.count
-    (map seen_line c.self.inside.lines.items) c.args.self.now.read (seen_line c.label_alone.result) (label_of (seen_line c.args.line))
+    bare-room c.self.inside.placed.symbols c.self.inside.placed.places.items c.self.inside.started c.self.inside.first c.self.inside.count
+    (map seen_line c.self.inside.placed.lines.items) c.args.self.now.read (seen_line c.label_alone.result) (label_of (seen_line c.args.line))
     c.self.invariant (ap (λ r. r.read) c.self.view_is) c.label_alone.ensures.value
