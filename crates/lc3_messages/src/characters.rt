@@ -5,20 +5,17 @@ use std::fmt::Write;
 /// The most characters of a word that a text shows.
 const SHOWN: usize = 40;
 
-/// Whether a character has no picture: a control character, or one that tells how others are drawn.
-fn has_no_picture(character: char) -> bool {
-    matches!(
-        u32::from(character),
-        0..=8 | 10..=0x1F | 0x7F..=0x9F | 0x200B..=0x200F | 0x2028..=0x202E | 0x2060..=0x206F | 0xFEFF
-    )
-}
-
-/// The character, or `?` in the place of one without a picture.
+/// The character, or `?` in the place of a control character, or of one that tells how others are drawn.
 pub(crate) fn picture(character: char) -> char {
-    if has_no_picture(character) {
-        '?'
-    } else {
-        character
+    match u32::from(character) {
+        0..=8
+        | 10..=0x1F
+        | 0x7F..=0x9F
+        | 0x200B..=0x200F
+        | 0x2028..=0x202E
+        | 0x2060..=0x206F
+        | 0xFEFF => '?',
+        _ => character,
     }
 }
 
@@ -69,7 +66,6 @@ impl fmt::Display for Grouped {
     }
 }
 
-/// Whether a character is a quote of print.
 pub(crate) fn is_typographic_quote(character: char) -> bool {
     matches!(
         character,
@@ -77,7 +73,6 @@ pub(crate) fn is_typographic_quote(character: char) -> bool {
     )
 }
 
-/// Whether a character is a dash.
 pub(crate) fn is_dash(character: char) -> bool {
     matches!(character, '\u{2010}'..='\u{2015}' | '\u{2212}')
 }

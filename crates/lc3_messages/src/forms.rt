@@ -1,7 +1,6 @@
 //! What may stand as an operand, in words.
 use lc3_table::Form;
 
-/// What stands as an operand of this form.
 pub(crate) fn form_text(form: Form) -> &'static str {
     match form {
         Form::Register => "a register, R0 to R7",
@@ -15,9 +14,4 @@ pub(crate) fn form_text(form: Form) -> &'static str {
         Form::Value => "a label, or a number from -32,768 to 65,535",
         Form::Characters => "a string between two \"",
     }
-}
-
-/// Whether a number there is an offset.
-pub(crate) fn is_target(form: Form) -> bool {
-    matches!(form, Form::Target | Form::FarTarget)
 }

@@ -2,7 +2,7 @@
 use crate::parts::part_at;
 use crate::words::{label_word, upper};
 use indexmap::IndexMap;
-use lc3_asm::{LineFault, Reader, Token, is_label, token_operation, without_colon};
+use lc3_asm::{LineFault, Reader, is_label, printable, token_operation, without_colon};
 use lc3_table::{Fault, Operation};
 use std::alloc::{AllocError, Global};
 
@@ -27,7 +27,6 @@ impl Drop for Labels {
 }
 
 impl Labels {
-    /// The line that defines a label, written in upper case.
     pub fn definition(&self, name: &str) -> Option<usize> {
         self.definitions.get(name).copied()
     }
@@ -97,20 +96,6 @@ impl Labels {
     }
 }
 
-/// The bytes with a blank in the place of each that can't stand in a word.
-fn printable(alloc: Global, bytes: &[u8]) -> Result<Vec<u8>, AllocError> {
-    let mut found = Vec::new(alloc);
-    for byte in bytes {
-        found.push(if 33 <= *byte && *byte <= 126 {
-            *byte
-        } else {
-            b' '
-        })?;
-    }
-    Ok(found)
-}
-
-/// Whether the second token of a line names an operation or directive that may stand behind a label.
 fn behind_label_stands_operation(bytes: &[u8]) -> bool {
     let Some(second) = part_at(bytes, 1) else {
         return false;
@@ -130,7 +115,6 @@ fn label_front(word: &[u8]) -> &[u8] {
     word.get(..length).unwrap_or(&[])
 }
 
-/// The label of a line that defines one that an earlier line defines too.
 fn duplicate(alloc: Global, bytes: &[u8]) -> Result<Option<String>, AllocError> {
     match label_word(bytes) {
         Some(word) => Ok(Some(upper(alloc, without_colon(word))?)),
@@ -146,7 +130,6 @@ pub(crate) fn fault_at(faults: &[LineFault], line: usize) -> Option<Fault> {
     }
 }
 
-/// The labels of the lines that were read.
 fn labels_read(alloc: Global, lines: &[&str], reader: &Reader) -> Result<Labels, AllocError> {
     let mut labels = Labels {
         definitions: IndexMap::new(alloc),
@@ -172,7 +155,6 @@ fn labels_read(alloc: Global, lines: &[&str], reader: &Reader) -> Result<Labels,
     Ok(labels)
 }
 
-/// The labels of a text that was read so.
 pub(crate) fn labels_of(
     alloc: Global,
     lines: &[&str],

@@ -1,16 +1,11 @@
 //! The lines of a text.
 use std::alloc::{AllocError, Global};
 
-/// A line without the carriage return at its end.
-fn without_return(line: &str) -> &str {
-    line.strip_suffix('\r').unwrap_or(line)
-}
-
 /// The lines of a text, each without a carriage return at its end.
 pub(crate) fn lines_of(alloc: Global, text: &str) -> Result<Vec<&str>, AllocError> {
     let mut lines = Vec::new(alloc);
     for line in text.split('\n') {
-        lines.push(without_return(line))?;
+        lines.push(line.strip_suffix('\r').unwrap_or(line))?;
     }
     Ok(lines)
 }

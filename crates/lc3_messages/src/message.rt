@@ -74,7 +74,6 @@ fn span_within(line: &str, mark: Span) -> Option<Span>
     }
 }
 
-/// How many characters a line has in front of a place.
 fn characters_before(line: &str, place: usize) -> usize {
     line.get(..place).unwrap_or("").chars().count()
 }

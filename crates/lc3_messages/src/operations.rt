@@ -19,12 +19,6 @@ pub(crate) fn name_of(word: &str) -> &str {
         .unwrap_or(word)
 }
 
-/// The first character that can't stand in a label.
-fn other_character(name: &str) -> Option<char> {
-    name.chars().find(|character| !character.is_ascii_alphanumeric() && *character != '_')
-}
-
-/// What is said of a name whose first character begins no label, behind the name.
 fn first_character_text(name: &[u8]) -> Option<&'static str> {
     match name.first() {
         Some(b'/' | b'#' | b'*') => Some(" is no label; a comment begins with ;"),
@@ -33,13 +27,15 @@ fn first_character_text(name: &[u8]) -> Option<&'static str> {
     }
 }
 
-/// What is said of a name that has no form of a label.
 fn no_label(alloc: Global, name: &str) -> Result<String, AllocError> {
     if let Some(said) = first_character_text(name.as_bytes()) {
         return said_of(alloc, name, said);
     }
     let shown = Excerpt(name);
-    if let Some(character) = other_character(name) {
+    if let Some(character) = name
+        .chars()
+        .find(|it| !it.is_ascii_alphanumeric() && *it != '_')
+    {
         let character = picture(character);
         return format!(in alloc;
             "{shown} is no label; a label has letters, digits and _ alone, and no {character}"
@@ -64,7 +60,6 @@ fn other_use(name: &[u8]) -> Option<&'static str> {
     }
 }
 
-/// What is said of a name that can't be a label.
 fn label_text(alloc: Global, name: &str) -> Result<String, AllocError> {
     let bytes = name.as_bytes();
     if is_label(bytes) {
@@ -79,13 +74,11 @@ fn label_text(alloc: Global, name: &str) -> Result<String, AllocError> {
     }
 }
 
-/// What is said of a word that can't be the label of its line.
 pub(crate) fn bad_label(alloc: Global, place: Place<'_>) -> Result<Remark, AllocError> {
     let text = label_text(alloc, name_of(place.word()))?;
     Ok(place.remark(text))
 }
 
-/// What is said of a token of the line.
 fn remark_on(part: Part<'_>, text: String) -> Remark {
     Remark {
         mark: Some(Span {
@@ -96,7 +89,6 @@ fn remark_on(part: Part<'_>, text: String) -> Remark {
     }
 }
 
-/// What is said of a word that names no operation, where this one may have been meant.
 fn no_operation(
     alloc: Global,
     line: &str,
@@ -117,7 +109,6 @@ fn first_meant(alloc: Global, word: &str) -> Result<Option<&'static str>, AllocE
     operation_meant(alloc, word.as_bytes())
 }
 
-/// What is said where a word stands behind what may be a label, and neither names an operation.
 fn two_words(
     alloc: Global,
     source: &Source<'_>,
@@ -148,7 +139,6 @@ fn before_operand(operand: Token<'_>, has_colon: bool) -> Option<&'static str> {
     }
 }
 
-/// What is said where an operand stands behind what may be a label.
 fn operand_behind(
     alloc: Global,
     line: &str,
@@ -170,7 +160,6 @@ fn operand_behind(
     Ok(remark_on(second, text))
 }
 
-/// What is said of a line in which no operation stands where one has to.
 pub(crate) fn bad_operation(
     alloc: Global,
     source: &Source<'_>,

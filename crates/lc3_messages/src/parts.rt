@@ -1,6 +1,4 @@
 //! The tokens of a line with their places.
-ghost use Rattle.std.specs.Prelude.{◌≡◌, ◌<◌, ◌≤◌, IfSome, length};
-
 use lc3_asm::{Token, first_token, without_separators};
 
 /// A token of a line, and where it stands.
@@ -29,7 +27,6 @@ pub(crate) fn part_at(line: &[u8], number: usize) -> Option<Part<'_>> {
     })
 }
 
-/// How many tokens a line has.
 pub(crate) fn part_count(line: &[u8]) -> usize {
     let mut rest = line;
     let mut count = 0_usize;
@@ -40,7 +37,14 @@ pub(crate) fn part_count(line: &[u8]) -> usize {
     count
 }
 
-/// The text of a part of a line.
 pub(crate) fn text_of<'a>(line: &'a str, part: Part<'_>) -> &'a str {
     line.get(part.start..part.end).unwrap_or("")
+}
+
+/// The text of the token with this number, from 0.
+pub(crate) fn word_at(line: &str, number: usize) -> &str {
+    match part_at(line.as_bytes(), number) {
+        Some(part) => text_of(line, part),
+        None => "",
+    }
 }

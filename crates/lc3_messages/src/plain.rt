@@ -3,17 +3,10 @@ use crate::characters::{Number, is_dash, is_other_blank, is_typographic_quote};
 use crate::message::{Remark, Span};
 use std::alloc::{AllocError, Global};
 
-/// Whether a character may stand in a word.
-fn is_plain(character: char) -> bool {
-    let number = u32::from(character);
-    0x21 <= number && number <= 0x7E
-}
-
-/// The first character in a part of a line that can't stand in a word, and its place.
 fn bad_character(line: &str, mark: Span) -> Option<(usize, char)> {
     line.char_indices().find(|(i, character)| mark.start <= *i
         && *i < mark.end
-        && !is_plain(*character))
+        && !matches!(*character, '!'..='~'))
 }
 
 /// What is said of a character that can't stand in a word, before its number and behind it.
@@ -43,14 +36,6 @@ fn around_number(character: char, is_first: bool) -> (&'static str, &'static str
     }
 }
 
-/// What is said of a character that can't stand in a word.
-fn text_of(alloc: Global, character: char, is_first: bool) -> Result<String, AllocError> {
-    let number = Number(character);
-    let (before, behind) = around_number(character, is_first);
-    format!(in alloc; "{before}{number}{behind}")
-}
-
-/// What is said of a word with a character that can't stand in one.
 pub(crate) fn bad_token(
     alloc: Global,
     line: &str,
@@ -58,11 +43,13 @@ pub(crate) fn bad_token(
     word: Span,
 ) -> Result<Remark, AllocError> {
     let (at, character) = bad_character(line, word).unwrap_or((word.start, ' '));
+    let (before, behind) = around_number(character, number == 1 && at == 0);
+    let shown = Number(character);
     Ok(Remark {
         mark: Some(Span {
             start: at,
             end: at.saturating_add(character.len_utf8()),
         }),
-        text: text_of(alloc, character, number == 1 && at == 0)?,
+        text: format!(in alloc; "{before}{shown}{behind}")?,
     })
 }

@@ -7,29 +7,42 @@ use lc3_spelling::suggestion;
 use lc3_table::Form;
 use std::alloc::{AllocError, Global};
 
-/// What is said of a label that no line defines.
+/// What is said of a label that no line defines, and that may have been meant as one of these names.
+fn unknown_label(
+    alloc: Global,
+    names: &[&str],
+    name: &str,
+    word: &str,
+) -> Result<String, AllocError> {
+    let meant = suggestion(alloc, name, names)?;
+    let meant = meant.and_then(|place| names.get(place).copied());
+    let mean = did_you_mean(alloc, meant)?;
+    let shown = Excerpt(word);
+    format!(in alloc; "no line defines the label {shown}{mean}")
+}
+
+/// What is said of a label that no line before `.END` defines.
+fn undefined_text(alloc: Global, source: &Source<'_>, word: &str) -> Result<String, AllocError> {
+    let name = upper(alloc, word.as_bytes())?;
+    match source.labels.line_behind(&name) {
+        Some(line) => {
+            let shown = Excerpt(word);
+            format!(in alloc;
+                "no line before .END defines the label {shown}; line {line} behind it does"
+            )
+        }
+        None => unknown_label(alloc, source.names, &name, word),
+    }
+}
+
 pub(crate) fn undefined(
     alloc: Global,
     source: &Source<'_>,
     place: Place<'_>,
 ) -> Result<Remark, AllocError> {
-    let word = place.word();
-    let shown = Excerpt(word);
-    let name = upper(alloc, word.as_bytes())?;
-    if let Some(line) = source.labels.line_behind(&name) {
-        let text = format!(in alloc;
-            "no line before .END defines the label {shown}; line {line} behind it does"
-        )?;
-        return Ok(place.remark(text));
-    }
-    let meant = suggestion(alloc, &name, source.names)?;
-    let meant = meant.and_then(|place| source.names.get(place).copied());
-    let mean = did_you_mean(alloc, meant)?;
-    let text = format!(in alloc; "no line defines the label {shown}{mean}")?;
-    Ok(place.remark(text))
+    Ok(place.remark(undefined_text(alloc, source, place.word())?))
 }
 
-/// What is said of a label that is too far away for its field.
 pub(crate) fn offset_range(
     alloc: Global,
     source: &Source<'_>,

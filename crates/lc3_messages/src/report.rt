@@ -4,9 +4,10 @@ use crate::labels::labels_of;
 use crate::lines::{end_of, lines_of};
 use crate::message::{Kind, Message, Remark, Span, message_on};
 use crate::operations::name_of;
+use crate::parts::word_at;
 use crate::texts::{Source, line_at, remark};
 use crate::told::{Finding, What, findings};
-use crate::words::{bare_operation_meant, did_you_mean, operation_word};
+use crate::words::{bare_operation_meant, did_you_mean, operation_number};
 use lc3_asm::{Reader, faults_of, reading};
 use lc3_table::Profile;
 use lc3_warnings::{Kind as WarningKind, Warning, push_text};
@@ -49,7 +50,6 @@ fn push_marked(text: &mut String, line: &str, mark: Span) -> Result<(), AllocErr
     text.push('\n')
 }
 
-/// Adds a line as it is shown.
 fn push_shown(text: &mut String, line: &str) -> Result<(), AllocError> {
     for character in line.chars() {
         text.push(picture(character))?;
@@ -57,7 +57,6 @@ fn push_shown(text: &mut String, line: &str) -> Result<(), AllocError> {
     Ok(())
 }
 
-/// Adds so many `^`.
 fn push_carets(text: &mut String, count: usize) -> Result<(), AllocError> {
     for _ in 0..count {
         text.push('^')?;
@@ -65,7 +64,6 @@ fn push_carets(text: &mut String, count: usize) -> Result<(), AllocError> {
     Ok(())
 }
 
-/// Adds the lines of a message.
 fn push_message(
     text: &mut String,
     file: &str,
@@ -88,7 +86,6 @@ fn push_message(
     }
 }
 
-/// Adds a number of errors or of warnings.
 fn push_count(text: &mut String, count: usize, name: &str) -> Result<(), AllocError> {
     if count == 1 {
         write!(text, "1 {name}")
@@ -127,37 +124,32 @@ fn push_counts(
 /// The word that a warning about a line speaks of: the one that is marked, or the operation of another line.
 fn word_spoken_of<'a>(source: &Source<'a>, line: &'a str, warning: Warning) -> &'a str {
     match warning.kind {
-        WarningKind::LostReturn { writer } => operation_word(line_at(source, writer)),
+        WarningKind::LostReturn { writer } => {
+            let line = line_at(source, writer);
+            word_at(line, operation_number(line))
+        }
         _ => line.get(warning.start..warning.end).unwrap_or(""),
     }
 }
 
-/// What is said of a warning about a line.
-fn warning_remark<'a>(
-    alloc: Global,
-    source: &Source<'a>,
-    line: &'a str,
-    warning: Warning,
-) -> Result<Remark, AllocError> {
-    let word = word_spoken_of(source, line, warning);
+/// Adds the operation that a word was meant to name, if there is one.
+fn push_meant(alloc: Global, text: &mut String, word: &str) -> Result<(), AllocError> {
+    let meant = bare_operation_meant(alloc, word.as_bytes())?;
+    text.push_str(did_you_mean(alloc, meant)?.as_str())
+}
+
+/// What is said of a warning that speaks of this word.
+fn warning_text(alloc: Global, kind: WarningKind, word: &str) -> Result<String, AllocError> {
     let shown = Excerpt(name_of(word));
     let shown = format!(in alloc; "{shown}")?;
     let mut text = String::new(alloc);
-    push_text(&mut text, warning.kind, &shown)?;
-    if matches!(warning.kind, WarningKind::Misspelt) {
-        let meant = bare_operation_meant(alloc, word.as_bytes())?;
-        text.push_str(did_you_mean(alloc, meant)?.as_str())?;
+    push_text(&mut text, kind, &shown)?;
+    if matches!(kind, WarningKind::Misspelt) {
+        push_meant(alloc, &mut text, word)?;
     }
-    Ok(Remark {
-        mark: Some(Span {
-            start: warning.start,
-            end: warning.end,
-        }),
-        text,
-    })
+    Ok(text)
 }
 
-/// The message about a finding.
 fn message_of<'a>(
     alloc: Global,
     source: &Source<'a>,
@@ -170,14 +162,19 @@ fn message_of<'a>(
             Ok(message_on(line, finding.line, Kind::Fault(fault), remark))
         }
         What::Warning(warning) => {
-            let remark = warning_remark(alloc, source, line, warning)?;
+            let remark = Remark {
+                mark: Some(Span {
+                    start: warning.start,
+                    end: warning.end,
+                }),
+                text: warning_text(alloc, warning.kind, word_spoken_of(source, line, warning))?,
+            };
             let kind = Kind::Warning(warning.kind.name());
             Ok(message_on(line, finding.line, kind, remark))
         }
     }
 }
 
-/// Adds the messages about the first findings.
 fn push_messages(
     alloc: Global,
     text: &mut String,
@@ -193,7 +190,6 @@ fn push_messages(
     Ok(())
 }
 
-/// The messages about these findings in a source.
 fn report_of(
     alloc: Global,
     file: &str,
@@ -212,7 +208,6 @@ fn report_of(
     })
 }
 
-/// The messages about a source with this content.
 fn source_report(
     alloc: Global,
     file: &str,
@@ -225,7 +220,6 @@ fn source_report(
     report_of(alloc, file, source, &findings)
 }
 
-/// The messages about a text with these lines, which was read so.
 fn lines_report(
     alloc: Global,
     file: &str,
@@ -245,7 +239,6 @@ fn lines_report(
     source_report(alloc, file, content, &source, wish)
 }
 
-/// The messages about a text.
 fn text_report(
     alloc: Global,
     file: &str,
@@ -257,7 +250,6 @@ fn text_report(
     lines_report(alloc, file, content, &lines, &reader, wish)
 }
 
-/// What is said of bytes that are no UTF-8, the first of which is this one.
 fn no_utf8(alloc: Global, bytes: &[u8], first: Option<&u8>) -> Result<String, AllocError> {
     match (bytes, first) {
         ([0xFF, 0xFE, ..] | [0xFE, 0xFF, ..], _) | (_, None) => String::from_str(
@@ -270,7 +262,6 @@ fn no_utf8(alloc: Global, bytes: &[u8], first: Option<&u8>) -> Result<String, Al
     }
 }
 
-/// The message about bytes that are no UTF-8 from a place on.
 fn no_text(alloc: Global, bytes: &[u8], place: usize) -> Result<Message, AllocError> {
     let (front, rest) = bytes.split_at(place.min(bytes.len()));
     let (line, before) = end_of(std::str::from_utf8(front).unwrap_or(""));
@@ -283,7 +274,6 @@ fn no_text(alloc: Global, bytes: &[u8], place: usize) -> Result<Message, AllocEr
     })
 }
 
-/// The report on bytes that are no UTF-8 from a place on.
 fn no_text_report(
     alloc: Global,
     file: &str,

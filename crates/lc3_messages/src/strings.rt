@@ -3,19 +3,6 @@ use crate::characters::{Number, is_typographic_quote, picture};
 use crate::message::{Remark, Span};
 use std::alloc::{AllocError, Global};
 
-/// Whether a character may stand behind the backslash of an escape.
-fn is_escape(character: char) -> bool {
-    matches!(
-        character,
-        'n' | 't' | 'r' | 'a' | 'b' | 'f' | 'v' | 'e' | '0' | '"' | '\\'
-    )
-}
-
-/// Whether a character may stand in a string as itself.
-fn is_string_character(character: char) -> bool {
-    matches!(character, ' '..='~' | '\t')
-}
-
 /// What is bad in a string.
 #[derive(Clone, Copy)]
 enum Bad {
@@ -25,7 +12,6 @@ enum Bad {
 }
 
 impl Bad {
-    /// How many bytes it has in the string.
     fn length(self) -> usize {
         match self {
             Bad::Escape(character) => character.len_utf8().saturating_add(1),
@@ -34,19 +20,21 @@ impl Bad {
     }
 }
 
-/// The first bad thing in a text, and its place.
 fn first_bad(text: &str) -> Option<(usize, Bad)> {
     let mut backslash = None;
     for (i, character) in text.char_indices() {
         match backslash {
             Some(at) => {
-                if !is_escape(character) {
+                if !matches!(
+                    character,
+                    'n' | 't' | 'r' | 'a' | 'b' | 'f' | 'v' | 'e' | '0' | '"' | '\\'
+                ) {
                     return Some((at, Bad::Escape(character)));
                 }
                 backslash = None;
             }
             None if character == '\\' => backslash = Some(i),
-            None => if !is_string_character(character) {
+            None => if !matches!(character, ' '..='~' | '\t') {
                 return Some((i, Bad::Character(character)));
             },
         }
@@ -54,7 +42,6 @@ fn first_bad(text: &str) -> Option<(usize, Bad)> {
     None
 }
 
-/// Whether a string has a quote at its end.
 fn is_closed(text: &str) -> bool {
     let mut is_escaped = false;
     for character in text.chars().skip(1) {
@@ -69,7 +56,6 @@ fn is_closed(text: &str) -> bool {
     false
 }
 
-/// What is said of a string without an end.
 fn unclosed(alloc: Global, text: &str) -> Result<String, AllocError> {
     match text
         .chars()
@@ -83,7 +69,6 @@ fn unclosed(alloc: Global, text: &str) -> Result<String, AllocError> {
     }
 }
 
-/// What is said of what can't stand in a string.
 fn unfit(alloc: Global, bad: Bad) -> Result<String, AllocError> {
     match bad {
         Bad::Escape(character) => {
@@ -101,7 +86,6 @@ fn unfit(alloc: Global, bad: Bad) -> Result<String, AllocError> {
     }
 }
 
-/// What is said of a bad string.
 pub(crate) fn bad_string(alloc: Global, line: &str, string: Span) -> Result<Remark, AllocError> {
     let text = line.get(string.start..string.end).unwrap_or("");
     if !is_closed(text) {

@@ -35,12 +35,10 @@ pub(crate) struct Place<'a> {
 }
 
 impl<'a> Place<'a> {
-    /// The token with the fault.
     pub fn word(&self) -> &'a str {
         self.line.get(self.mark.start..self.mark.end).unwrap_or("")
     }
 
-    /// What is said of the token.
     pub fn remark(&self, text: String) -> Remark {
         Remark {
             mark: Some(self.mark),
@@ -48,13 +46,11 @@ impl<'a> Place<'a> {
         }
     }
 
-    /// What could stand there as an operand.
     pub fn form(&self) -> Form {
         self.forms.first().copied().unwrap_or(Form::Characters)
     }
 }
 
-/// Where the assembler has a fault of this kind in a line.
 fn mark_of(alloc: Global, line: &str, kind: Fault) -> Result<Option<Mark>, AllocError> {
     match fault_mark(alloc, line.as_bytes(), kind) {
         Ok(mark) => Ok(mark),
@@ -84,7 +80,6 @@ pub(crate) fn word_at_fault<'a>(
     }
 }
 
-/// What is said of a text without a statement.
 fn no_statement(alloc: Global) -> Result<Remark, AllocError> {
     Ok(Remark {
         mark: None,
@@ -95,7 +90,6 @@ fn no_statement(alloc: Global) -> Result<Remark, AllocError> {
     })
 }
 
-/// What is said of a label that an earlier line defines.
 fn duplicate_label(
     alloc: Global,
     source: &Source<'_>,
@@ -109,29 +103,21 @@ fn duplicate_label(
     Ok(place.remark(format!(in alloc; "line {line} defines the label {shown} already")?))
 }
 
-/// The line of the `.ORIG` that counts.
-fn origin_line(reader: &Reader) -> usize {
-    let place = reader
-        .lines()
-        .iter()
-        .position(|line| line.origin().is_some());
-    place.unwrap_or(0).saturating_add(1)
-}
-
-/// What is said of a token in this text.
 fn plainly(alloc: Global, place: Place<'_>, text: &str) -> Result<Remark, AllocError> {
     let text = String::from_str(alloc, text)?;
     Ok(place.remark(text))
 }
 
-/// What is said of a second `.ORIG`.
 fn second_origin(alloc: Global, reader: &Reader, place: Place<'_>) -> Result<Remark, AllocError> {
-    let line = origin_line(reader);
+    let origin = reader
+        .lines()
+        .iter()
+        .position(|line| line.origin().is_some());
+    let line = origin.unwrap_or(0).saturating_add(1);
     let text = format!(in alloc; "a source has one .ORIG, the one of line {line}")?;
     Ok(place.remark(text))
 }
 
-/// What is said of a fault of this kind in a line with tokens.
 fn remark_at(
     alloc: Global,
     source: &Source<'_>,

@@ -19,7 +19,6 @@ pub(crate) enum What {
 }
 
 impl What {
-    /// Whether the source is refused for it.
     pub fn is_error(self) -> bool
         ensures value { result ≡ is_error self }
     {
@@ -34,7 +33,6 @@ pub(crate) struct Finding {
     pub what: What,
 }
 
-/// Whether a fault is about a label that a line names, or defines again.
 fn names_a_label(kind: Fault) -> bool
     ensures value { result ≡ names_a_label kind }
 {
@@ -94,7 +92,6 @@ fn told_faults(
     Ok(told)
 }
 
-/// Adds faults as what is found.
 fn push_faults(found: &mut Vec<Finding>, faults: &[LineFault]) -> Result<(), AllocError>
     ensures added { OnOk result
         (found.new.items ≡ found.old.items ++ map finding_of faults.now) }
@@ -117,7 +114,6 @@ fn sort_by_line(found: &mut Vec<Finding>) -> Result<(), AllocError>
     Ok(())
 }
 
-/// Adds the warnings of a text that aren't left out.
 fn push_warnings(
     alloc: Global,
     content: &str,

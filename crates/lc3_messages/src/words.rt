@@ -1,12 +1,11 @@
 //! Words of a line.
 use crate::characters::Excerpt;
-use crate::parts::{part_at, text_of};
+use crate::parts::part_at;
 use lc3_asm::{Token, register, token_operation};
 use lc3_spelling::{BARE_OPERATIONS, OPERATIONS, shown, suggestion};
 use lc3_word::number_of;
 use std::alloc::{AllocError, Global};
 
-/// A word in upper case.
 pub(crate) fn upper(alloc: Global, word: &[u8]) -> Result<String, AllocError> {
     let mut name = String::new(alloc);
     for byte in word {
@@ -24,30 +23,22 @@ pub(crate) fn label_word(line: &[u8]) -> Option<&[u8]> {
     }
 }
 
-/// The operation of a line without a fault, as it is written: its first token, or the one behind its label.
-pub(crate) fn operation_word(line: &str) -> &str {
-    let bytes = line.as_bytes();
-    let number = match part_at(bytes, 0) {
+/// The number of the operation among the tokens of a line, which may stand behind a label.
+pub(crate) fn operation_number(line: &str) -> usize {
+    match part_at(line.as_bytes(), 0) {
         Some(first) => usize::from(token_operation(first.token).is_none()),
         None => 0,
-    };
-    match part_at(bytes, number) {
-        Some(part) => text_of(line, part),
-        None => "",
     }
 }
 
-/// Whether a word names an operation or directive.
 pub(crate) fn is_operation(word: &[u8]) -> bool {
     token_operation(Token::Word(word)).is_some()
 }
 
-/// Whether a word is a number.
 pub(crate) fn is_number(word: &[u8]) -> bool {
     number_of(word).is_some()
 }
 
-/// Whether a word is a register.
 pub(crate) fn is_register(word: &[u8]) -> bool {
     register(word).is_some()
 }
@@ -80,13 +71,11 @@ pub(crate) fn bare_operation_meant(
 /// What is said of an operation in the place of a label, behind its name.
 pub(crate) const NO_LABEL_BUT_OPERATION: &str = " is an operation, so it can't be a label";
 
-/// A text that begins with a word of the source.
 pub(crate) fn said_of(alloc: Global, word: &str, said: &str) -> Result<String, AllocError> {
     let shown = Excerpt(word);
     format!(in alloc; "{shown}{said}")
 }
 
-/// What a text ends with where a name was meant, and nothing else.
 pub(crate) fn did_you_mean(alloc: Global, name: Option<&str>) -> Result<String, AllocError> {
     match name {
         Some(name) => format!(in alloc; "; did you mean {name}?"),
