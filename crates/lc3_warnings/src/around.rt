@@ -17,7 +17,6 @@ pub struct Around {
     pub next: Option<Next>,
 }
 
-/// Whether execution begins at this line, and it is data.
 pub fn starts_in_data(around: Around) -> Option<Kind>
     ensures value { result ≡ starts_in_data around }
 {

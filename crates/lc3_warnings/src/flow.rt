@@ -25,7 +25,6 @@ pub struct Next {
     pub flow: Flow,
 }
 
-/// Whether a trap has this vector.
 pub fn is_known_trap(vector: i64) -> bool
     ensures value { result ≡ is_known_trap vector }
 {
@@ -35,7 +34,6 @@ pub fn is_known_trap(vector: i64) -> bool
     }
 }
 
-/// Where execution goes from a TRAP with this vector.
 fn trap_flow(vector: i64) -> Flow
     ensures value { result ≡ trap_flow vector }
 {
@@ -46,7 +44,6 @@ fn trap_flow(vector: i64) -> Flow
     }
 }
 
-/// Where execution goes from a TRAP with these operands.
 fn trap_flow_of(operands: &[Operand]) -> Flow
     ensures value { result ≡ trap_flow_of (map seen_operand operands.now) }
 {
@@ -56,7 +53,6 @@ fn trap_flow_of(operands: &[Operand]) -> Flow
     }
 }
 
-/// What an operation with these operands is to execution; `.ORIG` and `.END` have no words.
 fn operation_flow(operation: Operation, operands: &[Operand]) -> Option<Flow>
     ensures value { result ≡ operation_flow operation (map seen_operand operands.now) }
 {

@@ -17,14 +17,12 @@ use crate::warning::{Kind, Warning};
 use lc3_asm::Line;
 use std::alloc::{AllocError, Global};
 
-/// A warning that is told of accepted texts alone.
 fn if_accepted(accepted: bool, kind: Option<Kind>) -> Option<Kind>
     ensures value { result ≡ if_accepted accepted kind }
 {
     if accepted { kind } else { None }
 }
 
-/// Adds the warnings of a line that there are.
 fn push_kinds(
     found: &mut Vec<Warning>,
     number: usize,

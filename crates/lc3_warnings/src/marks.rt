@@ -12,7 +12,6 @@ pub struct Span {
     pub end: usize,
 }
 
-/// How many tokens stand behind the first of a line.
 fn count_behind_first(bytes: &[u8]) -> usize {
     let Some((_, after)) = first_token(bytes) else {
         return 0;
@@ -59,7 +58,6 @@ pub fn token_span(bytes: &[u8], number: usize) -> Span
     }
 }
 
-/// The word of a line that a warning is about.
 pub fn span_of(bytes: &[u8], line: &Line, kind: Kind) -> Span
     ensures order { result.start ≤ result.end }
     ensures within { result.end ≤ length bytes.now }

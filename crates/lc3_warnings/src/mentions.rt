@@ -1,6 +1,6 @@
 //! The labels that are words of faulty lines.
 
-ghost use Rattle.std.specs.Prelude.{◌≡◌, ℕ, List, [], ◌||◌, ◌-◌, map, get_or, OnOk, IfOk};
+ghost use Rattle.std.specs.Prelude.{◌≡◌, ℕ, List, ◌||◌, ◌-◌, map, OnOk, IfOk};
 ghost use Rattle.std.specs.List.{list_any};
 ghost use Rattle.lc3_asm.specs.Texts.{lines};
 ghost use Rattle.lc3_asm.specs.Views.{token_of};
@@ -12,14 +12,12 @@ use crate::names::Names;
 use lc3_asm::{LineFault, Token, first_token, is_label, printable, upper, without_colon};
 use std::alloc::{AllocError, Global};
 
-/// The lines of a text.
 fn lines_of(alloc: Global, text: &[u8]) -> Result<Vec<&[u8]>, AllocError>
     ensures lines { IfOk result (λ found. map (λ line. line.now) found.items ≡ lines text.now) }
 {
     text.split(|byte| *byte == b'\n').collect(alloc)
 }
 
-/// The line of a fault.
 fn faulty_line<'a>(lines: &[&'a [u8]], fault: LineFault) -> &'a [u8]
     ensures line { result.now ≡ faulty_line (map (λ line. line.now) lines.now) fault }
 {
@@ -45,7 +43,6 @@ fn add_token(names: &mut Names, alloc: Global, token: Token<'_>) -> Result<(), A
     names.insert(alloc, &name)
 }
 
-/// Adds the labels that are tokens of a line.
 fn add_tokens(names: &mut Names, alloc: Global, line: &[u8]) -> Result<(), AllocError>
     ensures added { OnOk result ((name : List ℕ) → is_among names.new name
         ≡ (is_among names.old name || list_any (is_mention name) (tokens line.now))) }
@@ -58,7 +55,6 @@ fn add_tokens(names: &mut Names, alloc: Global, line: &[u8]) -> Result<(), Alloc
     Ok(())
 }
 
-/// Adds the labels that are words of a faulty line.
 fn add_line(names: &mut Names, alloc: Global, line: &[u8]) -> Result<(), AllocError>
     ensures added { OnOk result ((name : List ℕ) → is_among names.new name
         ≡ (is_among names.old name || mentions name line.now)) }

@@ -14,7 +14,6 @@ use lc3_asm::{Line, Token, first_token};
 use lc3_spelling::{BARE_OPERATIONS, suggestion};
 use std::alloc::{AllocError, Global};
 
-/// Whether a name is spelled nearly like one of these.
 fn is_near_any(alloc: Global, name: &str, others: &[&str]) -> Result<bool, AllocError>
     ensures value { IfOk result (λ near.
         near ≡ list_any (λ other. is_some (near_edits name.now other.now)) others.now) }
@@ -32,7 +31,6 @@ fn is_near(alloc: Global, name: &str) -> Result<bool, AllocError>
     Ok(near)
 }
 
-/// Whether a line is a single word, without `:`.
 fn is_word_alone(bytes: &[u8]) -> bool
     ensures value { result ≡ is_word_alone (tokens bytes.now) }
 {

@@ -25,7 +25,6 @@ impl Model for Names {
 }
 
 impl Names {
-    /// No labels.
     pub fn new(alloc: Global) -> Self
         ensures empty { result ≡ [] }
     {
@@ -34,14 +33,12 @@ impl Names {
         }
     }
 
-    /// Whether the label is one of them.
     pub fn contains(&self, name: &str) -> bool
         ensures value { result ≡ is_among self.now name.now }
     {
         self.words.contains(name)
     }
 
-    /// Adds a label.
     pub fn insert(&mut self, alloc: Global, name: &str) -> Result<(), AllocError>
         ensures added { OnOk result ((word : List ℕ) →
             is_among self.new word ≡ (is_among self.old word || bytes_eq word name.now)) }
@@ -50,7 +47,6 @@ impl Names {
         Ok(())
     }
 
-    /// Adds the labels among operands.
     fn add_labels(&mut self, alloc: Global, operands: &[Operand]) -> Result<(), AllocError>
         ensures added { OnOk result ((name : List ℕ) → is_among self.new name
             ≡ (is_among self.old name || list_any (is_label name) (map seen_operand operands.now))) }
@@ -63,7 +59,6 @@ impl Names {
         Ok(())
     }
 
-    /// Adds the labels that a line names.
     fn add_line(&mut self, alloc: Global, line: &Line) -> Result<(), AllocError>
         ensures added { OnOk result ((name : List ℕ) →
             is_among self.new name ≡ (is_among self.old name || names_label name (seen_line line.now))) }
@@ -74,7 +69,6 @@ impl Names {
         }
     }
 
-    /// Adds the label that a line names, if it is a JSR.
     fn add_call(&mut self, alloc: Global, line: &Line) -> Result<(), AllocError>
         ensures added { OnOk result ((name : List ℕ) →
             is_among self.new name ≡ (is_among self.old name || calls_label name (seen_line line.now))) }
@@ -89,7 +83,6 @@ impl Names {
         }
     }
 
-    /// Whether a line defines one of them.
     pub fn has_label_of(&self, line: &Line) -> bool
         ensures value { result ≡ defines_one (is_among self.now) (seen_line line.now) }
     {
@@ -100,7 +93,6 @@ impl Names {
     }
 }
 
-/// The labels that lines name.
 pub fn named(alloc: Global, lines: &[Line]) -> Result<Names, AllocError>
     ensures all { IfOk result (λ names. is_among names ≡ named (map seen_line lines.now)) }
 {
@@ -111,7 +103,6 @@ pub fn named(alloc: Global, lines: &[Line]) -> Result<Names, AllocError>
     Ok(names)
 }
 
-/// The labels that JSRs name.
 pub fn called(alloc: Global, lines: &[Line]) -> Result<Names, AllocError>
     ensures all { IfOk result (λ names. is_among names ≡ called (map seen_line lines.now)) }
 {

@@ -11,7 +11,6 @@ use lc3_asm::{Line, Operand, Token, first_token};
 use lc3_table::{Form, Operation, low_word};
 use lc3_word::Off;
 
-/// Whether a number is written in hexadecimal or binary digits.
 #[tactic(auto, unfolding(crate::specs::Numbers::is_in_digits_of_bits))]
 fn is_in_digits_of_bits(word: &[u8]) -> bool
     ensures value { result ≡ is_in_digits_of_bits word.now }
@@ -58,7 +57,6 @@ fn wrapped<const B: u32>(word: &[u8], number: i64) -> Option<i16>
     }
 }
 
-/// The same in a field of this form.
 fn wrapped_in(form: Form, word: &[u8], number: i64) -> Option<i16>
     ensures value { result ≡ wrapped_in form word.now number }
 {
@@ -71,7 +69,6 @@ fn wrapped_in(form: Form, word: &[u8], number: i64) -> Option<i16>
     }
 }
 
-/// The number that an operand is.
 fn number_in(operand: &Operand) -> Option<i64>
     ensures value { result ≡ number_in (seen_operand operand.now) }
 {
@@ -81,7 +78,6 @@ fn number_in(operand: &Operand) -> Option<i64>
     }
 }
 
-/// The number among the operands.
 fn number_among(operands: &[Operand]) -> Option<i64>
     ensures value { result ≡ number_among (map seen_operand operands.now) }
 {
@@ -100,7 +96,6 @@ fn last_form(operation: Operation) -> Option<Form>
     operation.forms().last().copied()
 }
 
-/// The last word of a line.
 fn last_word(bytes: &[u8]) -> &[u8]
     ensures value { result.now ≡ last_word [] (tokens bytes.now) }
 {
@@ -115,7 +110,6 @@ fn last_word(bytes: &[u8]) -> &[u8]
     last
 }
 
-/// Whether this number, in a place of this form, means another one.
 fn wraps_as(form: Form, word: &[u8], number: i64) -> Option<Kind>
     ensures value { result ≡ wraps_as form word.now number }
 {
@@ -146,7 +140,6 @@ pub fn wraps(bytes: &[u8], line: &Line) -> Option<Kind>
     wraps_as(form, last_word(bytes), number)
 }
 
-/// Whether the line is a TRAP with a vector that no trap has.
 pub fn unknown_trap(line: &Line) -> Option<Kind>
     ensures value { result ≡ unknown_trap (seen_line line.now) }
 {

@@ -12,7 +12,6 @@ use crate::warning::Kind;
 use lc3_asm::{Line, Operand};
 use lc3_table::{Operation, Profile};
 
-/// Whether an operand is R7.
 fn is_r7(operand: &Operand) -> bool
     ensures value { result ≡ is_r7 (seen_operand operand.now) }
 {
@@ -22,7 +21,6 @@ fn is_r7(operand: &Operand) -> bool
     }
 }
 
-/// Whether R7 is among operands.
 fn any_r7(operands: &[Operand]) -> bool
     ensures value { result ≡ list_any is_r7 (map seen_operand operands.now) }
 {
@@ -34,7 +32,6 @@ fn any_r7(operands: &[Operand]) -> bool
     false
 }
 
-/// Whether a line has the operand R7.
 fn has_r7(line: &Line) -> bool
     ensures value { result ≡ has_r7 (seen_line line.now) }
 {
@@ -60,7 +57,6 @@ fn writes_r7(profile: Profile, operation: Operation) -> bool
     }
 }
 
-/// Whether a line does.
 fn line_writes_r7(profile: Profile, line: &Line) -> bool
     ensures value { result ≡ line_writes_r7 profile (seen_line line.now) }
 {
@@ -70,7 +66,6 @@ fn line_writes_r7(profile: Profile, line: &Line) -> bool
     }
 }
 
-/// Whether no subroutine goes on behind a line.
 fn ends_subroutine(line: &Line) -> bool
     ensures value { result ≡ ends_subroutine (seen_line line.now) }
 {
@@ -108,7 +103,6 @@ fn lost_in(profile: Profile, entries: &Names, line: &Line, above: &[Line]) -> Op
     writer
 }
 
-/// Whether a line is RET or JMP R7.
 fn is_return(line: &Line) -> bool
     ensures value { result ≡ is_return (seen_line line.now) }
 {

@@ -29,7 +29,6 @@ impl Kind {
     }
 }
 
-/// The numbers of a signed field, which stands as an operand of this form.
 fn field_text(form: Form) -> &'static str
     ensures text { result.now ≡ field_text form }
 {
@@ -80,7 +79,6 @@ impl fmt::Display for Shown {
     }
 }
 
-/// Adds that a word is taken as a number.
 #[tactic(auto, unfolding(crate::specs::Texts::taken_text))]
 fn push_taken(text: &mut String, word: &str, value: i16) -> Result<(), AllocError>
     ensures text { OnOk result (string_bytes text.new
@@ -93,7 +91,6 @@ fn push_taken(text: &mut String, word: &str, value: i16) -> Result<(), AllocErro
     }
 }
 
-/// Adds which numbers stand here.
 #[tactic(auto, unfolding(crate::specs::Texts::here_text))]
 fn push_here(text: &mut String, field: &str) -> Result<(), AllocError>
     ensures text { OnOk result (string_bytes text.new
@@ -105,7 +102,6 @@ fn push_here(text: &mut String, field: &str) -> Result<(), AllocError>
     }
 }
 
-/// Adds that a word is taken as a number, where these numbers stand.
 #[tactic(auto, unfolding(crate::specs::Texts::wraps_text))]
 fn push_wraps(text: &mut String, word: &str, value: i16, field: &str) -> Result<(), AllocError>
     ensures text { OnOk result (string_bytes text.new
@@ -115,7 +111,6 @@ fn push_wraps(text: &mut String, word: &str, value: i16, field: &str) -> Result<
     push_here(text, field)
 }
 
-/// Adds that a word is read as a label.
 #[tactic(auto, unfolding(crate::specs::Texts::misspelt_text))]
 fn push_misspelt(text: &mut String, word: &str) -> Result<(), AllocError>
     ensures text { OnOk result (string_bytes text.new
@@ -127,7 +122,6 @@ fn push_misspelt(text: &mut String, word: &str) -> Result<(), AllocError>
     }
 }
 
-/// Adds that no line names a label.
 #[tactic(auto, unfolding(crate::specs::Texts::unused_text))]
 fn push_unused(text: &mut String, label: &str) -> Result<(), AllocError>
     ensures text { OnOk result (string_bytes text.new
@@ -139,7 +133,6 @@ fn push_unused(text: &mut String, label: &str) -> Result<(), AllocError>
     }
 }
 
-/// Adds that an operation has written R7.
 #[tactic(auto, unfolding(crate::specs::Texts::lost_text))]
 fn push_lost(text: &mut String, operation: &str, line: usize) -> Result<(), AllocError>
     ensures text { OnOk result (string_bytes text.new
@@ -154,7 +147,6 @@ fn push_lost(text: &mut String, operation: &str, line: usize) -> Result<(), Allo
     }
 }
 
-/// Adds that execution goes on into the data of a line.
 fn push_into_data(text: &mut String, line: usize) -> Result<(), AllocError>
     ensures text { OnOk result (string_bytes text.new
         ≡ string_bytes text.old ++ into_data_text line) }
@@ -168,7 +160,6 @@ fn push_into_data(text: &mut String, line: usize) -> Result<(), AllocError>
     }
 }
 
-/// Adds that nothing behind the `.END` of a line is read.
 fn push_after_end(text: &mut String, line: usize) -> Result<(), AllocError>
     ensures text { OnOk result (string_bytes text.new
         ≡ string_bytes text.old ++ after_end_text line) }

@@ -13,7 +13,6 @@ use crate::warning::Kind;
 use lc3_asm::Line;
 use std::alloc::{AllocError, Global};
 
-/// Whether a label between such lines may be there for the reader.
 fn is_for_reader(before: Option<Flow>, behind: Option<Flow>) -> bool
     ensures value { result ≡ is_for_reader before behind }
 {
@@ -23,7 +22,6 @@ fn is_for_reader(before: Option<Flow>, behind: Option<Flow>) -> bool
     )
 }
 
-/// What the next line with words is to execution.
 fn flow_behind(next: Option<Next>) -> Option<Flow>
     ensures value { result ≡ flow_behind next }
 {
@@ -33,7 +31,6 @@ fn flow_behind(next: Option<Next>) -> Option<Flow>
     }
 }
 
-/// Whether the label of a line that stands so may be there for the reader.
 fn may_be_for_reader(around: Around) -> bool
     ensures value { result ≡ may_be_for_reader around }
 {

@@ -4,7 +4,7 @@ ghost use Rattle.std.specs.Prelude.{◌≡◌, ◌+◌, ◌++◌, [], map, drop,
 ghost use Rattle.lc3_table.specs.Statements.{option_or};
 ghost use Rattle.lc3_warnings.specs.Private.Settings.{seen_setting};
 ghost use Rattle.lc3_asm.specs.Texts.{lines};
-ghost use Rattle.lc3_asm.specs.Faults.{reading, faults, has_faults};
+ghost use Rattle.lc3_asm.specs.Faults.{reading, faults};
 ghost use Rattle.lc3_asm.specs.Views.{lines_if};
 ghost use Rattle.lc3_asm.specs.Views.{seen_line};
 ghost use Rattle.lc3_table.specs.Tokens.{tokens};
@@ -21,7 +21,6 @@ use lc3_asm::{Line, Reader, faults_of, first_line, first_token, line_count, read
 use lc3_table::Profile;
 use std::alloc::{AllocError, Global};
 
-/// This line, if it has words, or else the one before it.
 fn last_of(here: Option<Flow>, previous: Option<Flow>) -> Option<Flow>
     ensures value { result ≡ option_or here previous }
 {
@@ -77,7 +76,6 @@ fn push_lines<'a>(
     Ok(rest)
 }
 
-/// Whether a line has a token.
 fn has_token(bytes: &[u8]) -> bool
     ensures value { result ≡ has_token (tokens bytes.now) }
 {
@@ -124,7 +122,6 @@ fn push_after_end(
     Ok(())
 }
 
-/// Whether a text that was read so has no fault.
 fn is_accepted(alloc: Global, text: &str, reader: &Reader) -> Result<bool, AllocError>
     requires read { reader.now ≡ reading text.now }
     ensures value { IfOk result (λ accepted. accepted ≡ is_accepted text.now) }
@@ -150,7 +147,6 @@ fn warnings_under(
     Ok(found)
 }
 
-/// The warnings of a text that was read so.
 #[tactic(auto, using(crate::proofs::WalkLemmas::all_told))]
 fn warnings_of(
     alloc: Global,
