@@ -173,6 +173,25 @@ fn first_row(alloc: Global, kernel: u32, states: &[u32]) -> Result<Vec<u32>, All
 }
 
 impl Search {
+    /// The search of nothing yet, which is sparse or isn't.
+    fn over(store: Store, moves: Moves, firsts: Vec<u32>, sparse: bool) -> Search
+        requires store { IsStore store }
+        requires none { HasNone moves }
+        ensures sparse { result.sparse ≡ sparse }
+        ensures store { IsStore result.store }
+        ensures none { HasNone result.moves }
+        ensures open { result.complete ≡ false }
+    {
+        Search {
+            store,
+            moves,
+            firsts,
+            sparse,
+            complete: false,
+            refused: false,
+        }
+    }
+
     /// The search, which is sparse or isn't, before its first world.
     fn new(alloc: Global, processes: usize, sparse: bool) -> Result<Search, AllocError>
         ensures sparse { IfOk result (λ s. s.sparse ≡ sparse) }
@@ -180,14 +199,9 @@ impl Search {
         ensures none { IfOk result (λ s. HasNone s.moves) }
         ensures open { IfOk result (λ s. s.complete ≡ false) }
     {
-        Ok(Search {
-            store: Store::new(alloc, processes)?,
-            moves: Moves::new(alloc)?,
-            firsts: Vec::new(alloc),
-            sparse,
-            complete: false,
-            refused: false,
-        })
+        let moves = Moves::new(alloc)?;
+        let store = Store::new(alloc, processes)?;
+        Ok(Search::over(store, moves, Vec::new(alloc), sparse))
     }
 
     /// Keeps the first world, in which each process stands at its first call, if each comes there;

@@ -1,5 +1,5 @@
 //! What a search keeps.
-ghost use Rattle.std.specs.Prelude.{◌≡◌, false, IsTrue, IfOk, OnOk};
+ghost use Rattle.std.specs.Prelude.{◌≡◌, [], false, IsTrue, IfOk, OnOk};
 ghost use Rattle.ipc_kernel.specs.Kernel.{IsSettled};
 ghost use Rattle.lab_sched.specs.Held.{process_view};
 ghost use Rattle.lab_worlds.specs.Stepped.{IsReady};
@@ -55,21 +55,32 @@ pub struct Store {
 const ROW: usize = Index::ENTRY + Parents::ENTRY;
 
 impl Store {
-    /// Nothing, with room for worlds of so many processes.
-    pub fn new(alloc: Global, processes: usize) -> Result<Store, AllocError>
+    /// Nothing but these kernels and states, with room for worlds of so many processes.
+    fn over(
+        alloc: Global,
+        processes: usize,
+        kernels: Kernels,
+        states: States,
+    ) -> Result<Store, AllocError>
+        requires none { states.processes ≡ [] }
         ensures store { IfOk result (λ store. IsStore store) }
     {
-        let row_index = Index::new(alloc)?;
-        let kernels = Kernels::new(alloc)?;
-        let states = States::new(alloc)?;
         Ok(Store {
+            row_index: Index::new(alloc)?,
             kernels,
             states,
             rows: Rows::new(alloc, processes),
             parents: Parents::new(alloc),
             edges: Edges::new(alloc),
-            row_index,
         })
+    }
+
+    /// Nothing, with room for worlds of so many processes.
+    pub fn new(alloc: Global, processes: usize) -> Result<Store, AllocError>
+        ensures store { IfOk result (λ store. IsStore store) }
+    {
+        let kernels = Kernels::new(alloc)?;
+        Store::over(alloc, processes, kernels, States::new(alloc)?)
     }
 
     /// About how many bytes are taken by what is kept, and by moves.
