@@ -48,7 +48,7 @@ impl Visited {
         let Some(count) = self.store.width(at) else {
             return false;
         };
-        (0..count).all(|pid| self.store.goes_on(&self.moves, at, pid) == Some(false))
+        (0..count).all(|pid| self.store.goes_on(at, pid) == Some(false))
     }
 
     /// Whether the world of a row may be an end. In a search that isn't complete not each move was

@@ -8,7 +8,6 @@ ghost use Rattle.lab_worlds.specs.Calls.{Alongside};
 ghost use Rattle.lab_worlds.specs.Rounds.{IsRound, CanBeRepeated, AreEndless, AreBounded};
 ghost use Rattle.lab_worlds.specs.Fairness.{IsFairRound, AreFairlyEndless, AreFairlyBounded};
 ghost use Rattle.lab_states.specs.Rising.{AreRising};
-ghost use Rattle.lab_search.specs.Known.{AreKnown};
 ghost use Rattle.lab_search.specs.Stored.{IsStore};
 ghost use Rattle.lab_explore.specs.Private.RowEnds.{HaveRowEnds};
 ghost use Rattle.lab_explore.specs.Private.Judged.{UnseenIfNone};
@@ -114,7 +113,7 @@ impl Visited {
         fair: bool,
     ) -> Result<Rounds, ExploreFault>
         requires starts { AreStarts processes.now }
-        requires known { IsTrue self.now.complete → AreKnown self.now.store self.now.moves }
+        requires store { IsTrue self.now.complete → IsStore self.now.store }
         ensures round { IfOk result (λ found.
             IfSome found.round (λ r. IsRound (initial_world processes.now) r)) }
         ensures none { IfOk result (λ found.
@@ -145,7 +144,6 @@ impl Visited {
     ) -> Result<Exploration, ExploreFault>
         requires starts { AreStarts processes.now }
         requires store { IsTrue self.now.complete → IsStore self.now.store }
-        requires known { IsTrue self.now.complete → AreKnown self.now.store self.now.moves }
         ensures ends { IfOk result (λ found.
             AreEnds (initial_world processes.now) found.ends.items) }
         ensures all { IfOk result (λ found. IsTrue found.complete

@@ -7,7 +7,7 @@ ghost use Rattle.lab_worlds.specs.Calls.{AreAlike};
 ghost use Rattle.lab_worlds.specs.Fairness.{IsPass, IsFairRound};
 ghost use Rattle.lab_worlds.specs.Passing.{IsPassing, KeepsPassing};
 ghost use Rattle.lab_worlds.specs.Walked.{IsWalk, KeepsStart};
-ghost use Rattle.lab_search.specs.Known.{AreKnown};
+ghost use Rattle.lab_search.specs.Stored.{IsStore};
 ghost use Rattle.lab_explore.specs.Private.Ranked.{HaveRanks};
 
 use crate::tours::tour;
@@ -189,7 +189,7 @@ impl Visited {
 
     /// Whether the ranks by sets show that there is no fair round.
     fn shows_none(&self, alloc: Global, sets: &Sets) -> Result<bool, ExploreFault>
-        requires known { IsTrue self.now.complete → AreKnown self.now.store self.now.moves }
+        requires store { IsTrue self.now.complete → IsStore self.now.store }
         ensures ranks { IfOk result (λ shown. IsTrue shown → HaveRanks self.now.store) }
     {
         if !self.complete {
@@ -206,7 +206,7 @@ impl Visited {
         processes: &[Process],
     ) -> Result<Rounds, ExploreFault>
         requires starts { AreStarts processes.now }
-        requires known { IsTrue self.now.complete → AreKnown self.now.store self.now.moves }
+        requires store { IsTrue self.now.complete → IsStore self.now.store }
         ensures round { IfOk result (λ found.
             IfSome found.round (λ r. IsFairRound (initial_world processes.now) r)) }
         ensures none { IfOk result (λ found. IsTrue found.shown → found.round ≡ None

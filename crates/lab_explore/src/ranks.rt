@@ -1,7 +1,7 @@
 //! Ranks of rows that no edge raises, each with a process that could always go on there and never does.
 //! That they are such is checked, edge by edge and row by row.
 ghost use Rattle.std.specs.Prelude.{IsTrue};
-ghost use Rattle.lab_search.specs.Known.{AreKnown};
+ghost use Rattle.lab_search.specs.Stored.{IsStore};
 ghost use Rattle.lab_explore.specs.Private.Ranked.{IsKept, AreRanked};
 
 use crate::visited::Visited;
@@ -10,13 +10,13 @@ use lab_states::{are_falling, keeper_at, rank_at};
 impl Visited {
     /// Whether the process of the rank of a row, if it has one, goes on from the world of the row.
     fn is_kept(&self, ranks: &[u32], keepers: &[Option<u8>], at: usize) -> bool
-        requires known { AreKnown self.now.store self.now.moves }
+        requires store { IsStore self.now.store }
         ensures yes { IsTrue result → IsKept self.now.store ranks.now keepers.now at }
     {
         let Some(pid) = keeper_at(keepers, rank_at(ranks, at)) else {
             return true;
         };
-        let Some(goes) = self.store.goes_on(&self.moves, at, pid as u32) else {
+        let Some(goes) = self.store.goes_on(at, pid as u32) else {
             return false;
         };
         goes
@@ -25,7 +25,7 @@ impl Visited {
     /// Whether ranks are such that no edge raises them, and the process of each goes on from each row of
     /// it and has no edge between two of these.
     pub(crate) fn are_ranked(&self, ranks: &[u32], keepers: &[Option<u8>]) -> bool
-        requires known { AreKnown self.now.store self.now.moves }
+        requires store { IsStore self.now.store }
         ensures yes { IsTrue result → AreRanked self.now.store ranks.now keepers.now }
     {
         if !are_falling(ranks, keepers, &self.store.edges) {

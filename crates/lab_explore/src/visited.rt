@@ -1,23 +1,21 @@
 //! What a search visited.
 ghost use Rattle.std.specs.Prelude.{◌≡◌, All, IsTrue, false, map, IfOk};
 ghost use Rattle.lab_sched.specs.Held.{process_view, IsHeld};
-ghost use Rattle.lab_search.specs.Known.{AreKnown};
 ghost use Rattle.lab_search.specs.Sparse.{IsSearchedIn};
 ghost use Rattle.lab_search.specs.Stored.{IsStore};
 
 use ipc_kernel::Kernel;
 use lab_sched::Process;
-use lab_search::{Moves, Search, Store, search_all};
+use lab_search::{Search, Store, search_all};
 use lab_worlds::{ExploreFault, Limits, Observer};
 use std::alloc::Global;
 
-/// What a search found, of which is told what it shows: the worlds, the moves between them, the local
-/// steps of each process before them, and whether these are all, or in a sparse search as many as show
-/// every end. If they aren't, memory may have been refused.
+/// What a search found, of which is told what it shows: the worlds and the moves between them, the
+/// local steps of each process before them, and whether these are all, or in a sparse search as many as
+/// show every end. If they aren't, memory may have been refused.
 #[derive(Drop)]
 pub struct Visited {
     pub store: Store,
-    pub moves: Moves,
     pub firsts: Vec<u32>,
     pub sparse: bool,
     pub complete: bool,
@@ -27,7 +25,7 @@ pub struct Visited {
 impl Visited {
     /// About how many bytes it takes.
     pub(crate) fn size(&self) -> usize {
-        self.store.size(&self.moves)
+        self.store.size()
     }
 }
 
@@ -45,13 +43,11 @@ pub fn visit<O: Observer>(
     requires held { All IsHeld processes.now }
     ensures sparse { IfOk result (λ s. sparse ≡ false → s.sparse ≡ false) }
     ensures store { IfOk result (λ s. IsTrue s.complete → IsStore s.store) }
-    ensures known { IfOk result (λ s. IsTrue s.complete → AreKnown s.store s.moves) }
     ensures complete { IfOk result (λ s. IsTrue s.complete → IsSearchedIn s.sparse
         (record { processes = map process_view processes.now; kernel = kernel.now }) s.store) }
 {
     let Search {
         store,
-        moves,
         firsts,
         sparse,
         complete,
@@ -59,7 +55,6 @@ pub fn visit<O: Observer>(
     } = search_all(alloc, processes, kernel, limits, observer, sparse)?;
     Ok(Visited {
         store,
-        moves,
         firsts,
         sparse,
         complete,

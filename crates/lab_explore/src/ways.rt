@@ -13,7 +13,7 @@ impl Visited {
     /// have been made.
     pub(crate) fn steps_after(&self, at: u32, pid: u8) -> Result<u32, ExploreFault> {
         self.store
-            .known_steps(&self.moves, at as usize, pid as u32)
+            .known_steps(at as usize, pid as u32)
             .ok_or(ExploreFault::Unvouched)
     }
 

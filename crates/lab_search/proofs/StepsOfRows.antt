@@ -9,6 +9,8 @@ use Rattle.lab_sched.specs.Held.{process_view}
 use Rattle.lab_sched.specs.declared.process.Process.{Process as Kept}
 use Rattle.lab_sched.proofs.WorldLemmas.{after_effect}
 use Rattle.lab_states.specs.Rows.{Row}
+use Rattle.lab_search.specs.declared.known.Mover.{Mover}
+use Rattle.lab_search.specs.declared.rows.Change.{Change}
 use Rattle.lab_search.specs.declared.store.Store.{Store}
 use Rattle.lab_states.specs.declared.edges.Edge.{Edge}
 use Rattle.lab_search.specs.declared.store.Next.{Next}
@@ -17,7 +19,7 @@ use Rattle.lab_worlds.specs.Calls.{IsAtCall, IsAhead, Both, Alongside}
 use Rattle.lab_worlds.specs.Untried.{GoesOn, NoneGoesOn}
 use Rattle.lab_worlds.specs.Stepped.{IsReady, IsReached, AreReached}
 use Rattle.lab_search.specs.Stored.{IsState, IsRow, IsAt, LeadsTo, IsStore, IsExactly, IsNext, IsMove, IsNextAt, HasEdge, IsTried, IsExpanded}
-use Rattle.lab_search.specs.Private.Stored.{Grows, IsMoveFrom}
+use Rattle.lab_search.specs.Private.Stored.{Grows, IsMoveFrom, IsStep, changed}
 use Rattle.lab_worlds.proofs.Pushes.{alongside_set, get_pushed, all_at}
 use Rattle.lab_worlds.proofs.AfterLocalSteps.{same_some}
 use Rattle.lab_search.proofs.FirstWorlds.{at_unique}
@@ -50,29 +52,28 @@ pub own_advance : (t : Store) (r : Row) (w : WorldState) → IsStore t → IsRow
 own_advance t r w is row p = own_at t is (slice_get r.states p) (slice_get w.processes p) (row.states p)
 
 -- what a move says, for a world
-pub next_of : (t : Store) (i p kernel state : ℕ) (n : Next) → (r : Row) × (slice_get t.rows i ≡ Some r) × (r.kernel ≡ kernel) × (slice_get r.states p ≡ Some state) → IsMoveFrom t kernel p state n → IsNextAt t i p n
-next_of t i p kernel state n placed move w here =
+pub next_of : (t : Store) (i : ℕ) (m : Mover) (n : Next) → (r : Row) × (slice_get t.rows i ≡ Some r) × (r.kernel ≡ m.kernel) × (slice_get r.states m.pid ≡ Some m.state) → IsMoveFrom t m n → IsNextAt t i m.pid n
+next_of t i m n placed move w here =
     let row : here.0 ≡ placed.0 = same_some here.0 placed.0 (slice_get t.rows i) here.1 placed.1 in
     let is : IsRow t placed.0 w = subst (λ r. IsRow t r w) row here.2 in
-    let s = process_at t placed.0 w p state is placed.3 in
+    let s = process_at t placed.0 w m.pid m.state is placed.3 in
     (s.0, s.1, move w.kernel s.0 (subst (λ k. IsExactly t k w.kernel) placed.2 is.kernel) is.settled s.2)
 
 -- a move over a kernel and in a state that are kept is the move from there
-pub move_from : (t : Store) (kernel p state : ℕ) (n : Next) → IsMove t kernel p state n → IsMoveFrom t kernel p state n
-move_from t kernel p state n m k s at settled here =
-    let k-is : m.0 ≡ k = same_some m.0 k (slice_get t.kernels.kernels kernel) m.2 at in
-    let s-is : m.1 ≡ s = same_some m.1 s (option_map process_view (slice_get t.states.processes state)) m.3 here in
-    subst (λ j. IsNext t j p s n) k-is (subst (λ x. IsNext t m.0 p x n) s-is (m.4 (subst IsSettled (sym k-is) settled)))
+pub move_from : (t : Store) (m : Mover) (n : Next) → IsMove t m n → IsMoveFrom t m n
+move_from t m n h k s at settled here =
+    let k-is : h.0 ≡ k = same_some h.0 k (slice_get t.kernels.kernels m.kernel) h.2 at in
+    let s-is : h.1 ≡ s = same_some h.1 s (option_map process_view (slice_get t.states.processes m.state)) h.3 here in
+    subst (λ j. IsNext t j m.pid s n) k-is (subst (λ x. IsNext t h.0 m.pid x n) s-is (h.4 (subst IsSettled (sym k-is) settled)))
 
 -- what a process does next, where that is a step
-pub next_to : (t : Store) (i p kernel state taken : ℕ) (n : Next) → n ≡ To kernel state taken → IsNextAt t i p n → (k : ℕ) × IsNextAt t i p (To kernel state k)
+pub next_to : (t : Store) (i p kernel state taken : ℕ) (n : Next) → n ≡ To kernel state taken → IsNextAt t i p n → IsStep t (record { at = i; pid = p; kernel = kernel; state = state })
 next_to t i p kernel state taken n is next = (taken, subst (λ m. IsNextAt t i p m) is next)
 
 -- the move from a kernel and a state that are kept
-pub move_kept : (t : Store) (kernel p state : ℕ) (n : Next) (x : Kept) → (k : KernelState) × IsExactly t kernel k → slice_get t.states.processes state ≡ Some x → IsMoveFrom t kernel p state n
-    → IsMove t kernel p state n
-move_kept t kernel p state n x k is m =
-    let here : IsState t state (process_view x) = ap (option_map process_view) is in (k.0, process_view x, k.1, here, λ settled. m k.0 (process_view x) k.1 settled here)
+pub move_kept : (t : Store) (m : Mover) (n : Next) (x : Kept) → (k : KernelState) × IsExactly t m.kernel k → slice_get t.states.processes m.state ≡ Some x → IsMoveFrom t m n → IsMove t m n
+move_kept t m n x k is h =
+    let here : IsState t m.state (process_view x) = ap (option_map process_view) is in (k.0, process_view x, k.1, here, λ settled. h k.0 (process_view x) k.1 settled here)
 
 -- the world after a step, by its row
 pub moved : (t : Store) (r r' : Row) (w : WorldState) (p kernel state taken : ℕ) (s : Process) → IsStore t → IsRow t r w → slice_get w.processes p ≡ Some s
@@ -155,14 +156,20 @@ goes_on t w at p Limit here m some = let n = m w here in subst (λ o. GoesOn (st
 goes_on t w at p (To kernel state taken) here m some = let n = m w here in subst (λ o. GoesOn (step_effect w.kernel p o)) (sym n.1) n.2.4
 
 -- where a process goes on to the world of a row that is kept
-pub leads_after : (t u : Store) (at p kernel state taken j : ℕ) → IsStore t → Grows t u → IsNextAt t at p (To kernel state taken)
-    → (r : Row) × (slice_get t.rows at ≡ Some r) × (slice_get u.rows j ≡ Some (record { kernel = kernel; states = set r.states p state })) → LeadsTo u at p j
-leads_after t u at p kernel state taken j is g next after =
-    let w = all_at (λ r. (v : WorldState) × IsRow t r v) t.rows at after.0 is.rows after.1 in
-    let here : IsAt t at w.0 = (after.0, after.1, w.1) in
-    let row : Row = record { kernel = kernel; states = set after.0.states p state } in
-    let m = moved_at t w.0 at p kernel state taken (To kernel state taken) row is here next refl refl (after.0, after.1, refl) in
-    (w.0, m.0, at_grows t u at w.0 g here, (row, after.2, row_grows t u row m.0 g m.1), m.2, goes_on t w.0 at p (To kernel state taken) here next (λ none. absurd (cc)))
+pub leads_after : (t u : Store) (c : Change) (j : ℕ) → IsStore t → Grows t u → IsStep t c → (r : Row) × (slice_get t.rows c.at ≡ Some r) × (slice_get u.rows j ≡ Some (changed r c)) → LeadsTo u c.at c.pid j
+leads_after t u c j is g step after =
+    let w = all_at (λ r. (v : WorldState) × IsRow t r v) t.rows c.at after.0 is.rows after.1 in
+    let here : IsAt t c.at w.0 = (after.0, after.1, w.1) in
+    let next : Next = To c.kernel c.state step.0 in
+    let m = moved_at t w.0 c.at c.pid c.kernel c.state step.0 next (changed after.0 c) is here step.1 refl refl (after.0, after.1, refl) in
+    (w.0, m.0, at_grows t u c.at w.0 g here, (changed after.0 c, after.2, row_grows t u (changed after.0 c) m.0 g m.1), m.2, goes_on t w.0 c.at c.pid next here step.1 (λ none. absurd (cc)))
+
+-- the world of the row that is changed
+pub stands_after : (t : Store) (c : Change) (r : Row) → IsStore t → IsStep t c → slice_get t.rows c.at ≡ Some r → (w : WorldState) × IsRow t (changed r c) w
+stands_after t c r is step there =
+    let w = all_at (λ r. (v : WorldState) × IsRow t r v) t.rows c.at r is.rows there in
+    let m = moved_at t w.0 c.at c.pid c.kernel c.state step.0 (To c.kernel c.state step.0) (changed r c) is (r, there, w.1) step.1 refl refl (r, there, refl) in
+    (m.0, m.1)
 
 -- an edge leads where it says
 pub leads_by : (t : Store) (at p to : ℕ) (e : Edge) → e.from ≡ at → e.pid ≡ p → e.to ≡ to → LeadsTo t at p to → LeadsTo t e.from e.pid e.to

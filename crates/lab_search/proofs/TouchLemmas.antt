@@ -14,6 +14,7 @@ use Rattle.lab_sched.specs.Verdicts.{HasEnded}
 use Rattle.lab_sched.specs.declared.process.Process.{Process as Kept}
 use Rattle.lab_worlds.specs.Untried.{GoesOn}
 use Rattle.lab_sched.specs.Held.{process_view, step_of}
+use Rattle.lab_search.specs.declared.known.Mover.{Mover}
 use Rattle.lab_search.specs.declared.store.Store.{Store}
 use Rattle.lab_search.specs.declared.store.Next.{Next}
 use Rattle.lab_search.specs.declared.store.Next.TheVariants as next
@@ -21,10 +22,9 @@ use Rattle.lab_search.specs.declared.touches.Effect.{Effect}
 use Rattle.lab_search.specs.declared.touches.Effect.TheVariants.{Nothing, Limit, To}
 use Rattle.lab_search.specs.declared.touches.Touch.{Touch}
 use Rattle.lab_worlds.specs.Operands.{IsStepAlike}
-use Rattle.lab_search.specs.Stored.{IsState, IsExactly, IsNext}
+use Rattle.lab_search.specs.Stored.{IsState, IsExactly, IsNext, AreParts, IsEffect, IsTouched}
 use Rattle.lab_worlds.specs.Stepped.{IsReached}
-use Rattle.lab_search.specs.Private.Stored.{IsMoveFrom, Grows}
-use Rattle.lab_search.specs.Touched.{AreParts, IsEffect, IsTouched}
+use Rattle.lab_search.specs.Private.Stored.{IsMoveFrom, IsNextBy, Grows}
 use Rattle.lab_search.specs.Private.Touched.{HasTouch, IsOutcome}
 use Rattle.lab_worlds.proofs.AfterLocalSteps.{same_some}
 use Rattle.lab_search.proofs.Growths.{state_grows, state_kept}
@@ -119,16 +119,16 @@ touch_grows t u k p touch g h = record {
 }
 
 -- the move of a process by a step that was made for its call
-pub move_by_touch : (t u : Store) (kernel p state : ℕ) (n : Next) (touch : Touch) (e : Effect) (j : KernelState) → Grows t u → IsExactly t kernel j → touch.state ≡ state → HasTouch t j p touch → IsTouched t touch e
-    → ((k : KernelState) (s : Process) → IsExactly t kernel k → IsSettled k → IsEffect t k p s touch.place e → IsNext u k p s n) → IsMoveFrom u kernel p state n
-move_by_touch t u kernel p state n touch e j g exact same has h by k s at settled here =
-    let k-is : j ≡ k = same_some j k (slice_get u.kernels.kernels kernel) (g.kernels.kernels kernel j exact) at in
+pub move_by_touch : (t u : Store) (m : Mover) (n : Next) (touch : Touch) (e : Effect) (j : KernelState) → Grows t u → IsExactly t m.kernel j → touch.state ≡ m.state → HasTouch t j m.pid touch → IsTouched t touch e
+    → IsNextBy t u m touch.place e n → IsMoveFrom u m n
+move_by_touch t u m n touch e j g exact same has h by k s at settled here =
+    let k-is : j ≡ k = same_some j k (slice_get u.kernels.kernels m.kernel) (g.kernels.kernels m.kernel j exact) at in
     let state-is : IsState u touch.state s = subst (λ i. IsState u i s) (sym same) here in
     let s-is : h.0 ≡ s = same_some h.0 s (option_map process_view (slice_get u.states.processes touch.state)) (state_grows t u touch.state h.0 g h.4) state-is in
     let fixed : IsSettled j = subst IsSettled (sym k-is) settled in
-    let there = same_touch t j p touch h.0 h.1 h.2 h.3 h.4 h.5 h.6 has in
-    let next = by j h.0 exact fixed (h.7 j p fixed there.0 there.1) in
-    subst (λ x. IsNext u x p s n) k-is (subst (λ r. IsNext u j p r n) s-is next)
+    let there = same_touch t j m.pid touch h.0 h.1 h.2 h.3 h.4 h.5 h.6 has in
+    let next = by j h.0 exact fixed (h.7 j m.pid fixed there.0 there.1) in
+    subst (λ x. IsNext u x m.pid s n) k-is (subst (λ r. IsNext u j m.pid r n) s-is next)
 
 pub not_true : (b : Bool) → IsTrue (not b) → b ≡ false
 not_true true h = sym h
@@ -145,8 +145,8 @@ next_goes_on t k p s next.Nothing some h = absurd (some refl)
 next_goes_on t k p s next.Limit some h = h
 next_goes_on t k p s (next.To kernel state taken) some h = h.4
 
-pub move_goes_on : (t : Store) (kernel p state : ℕ) (n : Next) → (n ≡ next.Nothing → ⊥) → IsMoveFrom t kernel p state n → IsMoveFrom t kernel p state next.Limit
-move_goes_on t kernel p state n some h k s at settled here = next_goes_on t k p s n some (h k s at settled here)
+pub move_goes_on : (t : Store) (m : Mover) (n : Next) → (n ≡ next.Nothing → ⊥) → IsMoveFrom t m n → IsMoveFrom t m next.Limit
+move_goes_on t m n some h k s at settled here = next_goes_on t k m.pid s n some (h k s at settled here)
 
 -- a process that has ended does nothing, over whatever kernel
 ended_still : (k : KernelState) (p : ℕ) (s : Process) → HasEnded s → GoesOn (step_effect k p (Some s)) → ⊥
@@ -154,7 +154,7 @@ ended_still k p (Running m) ended goes = absurd ended
 ended_still k p (Waiting m c) ended goes = absurd ended
 ended_still k p (Ended e) ended goes = goes
 
-pub move_of_ended : (t : Store) (kernel p state : ℕ) → ((s : Kept) → slice_get t.states.processes state ≡ Some s → HasEnded (process_view s)) → IsMoveFrom t kernel p state next.Nothing
-move_of_ended t kernel p state ended k s at settled here =
-    let kept = state_kept t state s here in
-    ended_still k p s (subst HasEnded kept.2 (ended kept.0 kept.1))
+pub move_of_ended : (t : Store) (m : Mover) → ((s : Kept) → slice_get t.states.processes m.state ≡ Some s → HasEnded (process_view s)) → IsMoveFrom t m next.Nothing
+move_of_ended t m ended k s at settled here =
+    let kept = state_kept t m.state s here in
+    ended_still k m.pid s (subst HasEnded kept.2 (ended kept.0 kept.1))

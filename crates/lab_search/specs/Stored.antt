@@ -1,19 +1,30 @@
--- What a search keeps: kernels, states of processes, and worlds as places among these.
-use Rattle.std.specs.Prelude.{ℕ, ◌≡◌, ◌<◌, Some, All, length, slice_get}
+-- What a search keeps: kernels, states of processes, worlds as places among these, and the moves that it has made.
+use Rattle.std.specs.Prelude.{ℕ, ◌≡◌, ◌<◌, List, Some, All, length, slice_get}
 use Rattle.std.specs.Option.{option_map}
 use Rattle.ipc_kernel.specs.Kernel.{KernelState, IsSettled}
 use Rattle.ipc_kernel.specs.Alike.{IsAlike}
+use Rattle.ipc_kernel.specs.Operands.{HasOperand, operand_in, with_operand}
+use Rattle.ipc_kernel.specs.declared.call.Call.{Call}
+use Rattle.ipc_kernel.specs.declared.place.Place.{Place}
+use Rattle.ipc_kernel.specs.declared.process.OpenTables.{OpenTables}
 use Rattle.lab_sched.specs.Worlds.{Process, WorldState, step_effect, step_effect_in, step}
 use Rattle.lab_sched.specs.Held.{process_view, step_of}
+use Rattle.lab_conditions.specs.Conditions.{StandsAt}
 use Rattle.lab_worlds.specs.Calls.{AreAlike, Alongside}
 use Rattle.lab_worlds.specs.Closed.{HasAdvance}
 use Rattle.lab_worlds.specs.Untried.{GoesOn}
 use Rattle.lab_worlds.specs.Stepped.{IsReady, IsReached, AreReached}
 use Rattle.lab_states.specs.Rows.{Row}
 use Rattle.lab_states.specs.declared.edges.Edge.{Edge}
+use Rattle.lab_search.specs.declared.known.Move.{Move}
+use Rattle.lab_search.specs.declared.known.Mover.{Mover}
 use Rattle.lab_search.specs.declared.store.Store.{Store}
 use Rattle.lab_search.specs.declared.store.Next.{Next}
 use Rattle.lab_search.specs.declared.store.Next.TheVariants.{Nothing, Limit, To}
+use Rattle.lab_search.specs.declared.touches.Effect.{Effect}
+use Rattle.lab_search.specs.declared.touches.Effect.TheVariants as outcome
+use Rattle.lab_search.specs.declared.touches.Touch.{Touch}
+use Rattle.lab_search.specs.declared.touches.Touched.{Touched}
 
 -- the state at a place
 abbrev pub IsState : Store → ℕ → Process → Type 0
@@ -44,12 +55,6 @@ LeadsTo t i p j =
     (w : WorldState) × (v : WorldState) × IsAt t i w × IsAt t j v × AreReached (step w p) v
     × GoesOn (step_effect_in w p)
 
--- each row stands for a world, and each edge leads to where it says
-pub record IsStore (t : Store) : Type 0 where
-  pub states : All IsReady t.states.processes
-  pub rows : All (λ r. (w : WorldState) × IsRow t r w) t.rows
-  pub edges : All (λ (e : Edge). LeadsTo t e.from e.pid e.to) t.edges
-
 -- the kernel with this number is settled, and alike a kernel
 abbrev pub IsKernel : Store → ℕ → KernelState → Type 0
 IsKernel t i k = (j : KernelState) × IsExactly t i j × IsAlike k j × IsSettled j
@@ -63,12 +68,55 @@ IsNext t k p s (To kernel state taken) =
     × IsReached (step_of k p s).process u × GoesOn (step_effect k p (Some s))
 
 -- the same where the kernel, if it is settled, and the process are given by their places
-abbrev pub IsMove : Store → ℕ → ℕ → ℕ → Next → Type 0
-IsMove t kernel p state next =
-    (k : KernelState) × (s : Process) × IsExactly t kernel k × IsState t state s
-    × (IsSettled k → IsNext t k p s next)
+abbrev pub IsMove : Store → Mover → Next → Type 0
+IsMove t m next =
+    (k : KernelState) × (s : Process) × IsExactly t m.kernel k × IsState t m.state s
+    × (IsSettled k → IsNext t k m.pid s next)
 
--- the same of process p in the world of row number i
+-- each move is such a one
+abbrev pub AreMoves : Store → List Move → Type 0
+AreMoves t ms = All (λ (m : Move). IsMove t m.mover m.next) ms
+
+-- the tables and the object with these numbers
+abbrev pub AreParts : Store → ℕ → ℕ → OpenTables → Place → Type 0
+AreParts t tables object x o =
+    (slice_get t.kernels.tables tables ≡ Some x) × (slice_get t.kernels.objects object ≡ Some o)
+
+-- what a step of process p makes of its tables, of the object in a place, and of it then all its
+-- local steps; of the kernel nothing else is changed
+abbrev pub IsEffect : Store → KernelState → ℕ → Process → ℕ → Effect → Type 0
+IsEffect t k p s i outcome.Nothing = GoesOn (step_effect k p (Some s)) → ⊥
+IsEffect t k p s i outcome.Limit = GoesOn (step_effect k p (Some s))
+IsEffect t k p s i (outcome.To tables object state taken) =
+    (x : OpenTables) × (o : Place) × (u : Process) × AreParts t tables object x o × IsState t state u
+    × ((step_of k p s).kernel ≡ with_operand k p i o x) × IsReached (step_of k p s).process u
+    × GoesOn (step_effect k p (Some s))
+
+-- that comes of a step at the call, over whatever kernel in which it works on the object in the place
+abbrev pub IsTouched : Store → Touch → Effect → Type 0
+IsTouched t touch effect =
+    (s : Process) × (x : OpenTables) × (o : Place) × (c : Call) × IsState t touch.state s
+    × AreParts t touch.tables touch.object x o × StandsAt s c
+    × ((k : KernelState) (p : ℕ) → IsSettled k → HasOperand k p touch.place x o
+    → operand_in k x c ≡ Some touch.place → IsEffect t k p s touch.place effect)
+
+-- each step is such a one
+abbrev pub AreTouched : Store → List Touched → Type 0
+AreTouched t ts = All (λ (m : Touched). IsTouched t m.touch m.effect) ts
+
+-- the moves that were made are such, and so are the steps at calls that work on one object
+pub record AreKnown (t : Store) : Type 0 where
+  pub moves : AreMoves t t.moves.made.items
+  pub touches : AreTouched t t.moves.touches.made.items
+
+-- each row stands for a world, each edge leads to where it says, and the moves are those of the processes
+pub record IsStore (t : Store) : Type 0 where
+  pub states : All IsReady t.states.processes
+  pub rows : All (λ r. (w : WorldState) × IsRow t r w) t.rows
+  pub edges : All (λ (e : Edge). LeadsTo t e.from e.pid e.to) t.edges
+  pub known : AreKnown t
+
+-- what process p does next in the world of row number i
 abbrev pub IsNextAt : Store → ℕ → ℕ → Next → Type 0
 IsNextAt t i p next =
     (w : WorldState) → IsAt t i w

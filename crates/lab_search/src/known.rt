@@ -1,22 +1,28 @@
 //! The moves that a search has made.
-ghost use Rattle.std.specs.Prelude.{◌≡◌, ◌<◌, IfOk, IfSome, OnOk};
+ghost use Rattle.std.specs.Prelude.{◌≡◌, ◌<◌, [], IfSome, IsTrue, OnOk};
 ghost use Rattle.lab_search.specs.declared.store.Store.{Store as Kept};
-ghost use Rattle.lab_search.specs.Stored.{IsMove};
-ghost use Rattle.lab_search.specs.Known.{AreMoves, HasNone};
+ghost use Rattle.lab_search.specs.Stored.{IsMove, AreMoves};
 
 use crate::store::Next;
 use crate::touches::Touches;
+use ipc_store::Index;
 use lab_states::place_of as number_of;
 use std::alloc::{AllocError, Global};
 use std::mem::size_of;
 
-/// What process `pid` does next in this state, over this kernel; and the number of the move of the
-/// same kernel and process that was made before it, from 1, or 0.
+/// A process in a state, over a kernel.
 #[derive(Clone, Copy, Drop)]
-pub struct Move {
+pub struct Mover {
     pub kernel: u32,
     pub pid: u32,
     pub state: u32,
+}
+
+/// What a process does next; and the number of the move of the same kernel and process that was made
+/// before it, from 1, or 0.
+#[derive(Clone, Copy, Drop)]
+pub struct Move {
+    pub mover: Mover,
     pub older: u32,
     pub next: Next,
 }
@@ -35,12 +41,20 @@ pub struct Moves {
 /// How many of the newest moves stand beside each other for a kernel.
 const EACH: usize = 8;
 
-/// Where the number of the newest move of a process over a kernel stands. Where there are more than
-/// eight processes some share a place.
-fn newest_at(kernel: u32, pid: u32) -> usize {
-    (kernel as usize)
-        .saturating_mul(EACH)
-        .saturating_add(pid as usize)
+impl Mover {
+    fn is_same(self, other: Mover) -> bool
+        ensures same { IsTrue result → self ≡ other }
+    {
+        self.kernel == other.kernel && self.pid == other.pid && self.state == other.state
+    }
+
+    /// Where the number of the newest move over a kernel stands. Where there are more than eight
+    /// processes some share a place.
+    fn newest_at(self) -> usize {
+        (self.kernel as usize)
+            .saturating_mul(EACH)
+            .saturating_add(self.pid as usize)
+    }
 }
 
 impl Move {
@@ -56,34 +70,34 @@ impl Move {
 }
 
 impl Moves {
-    /// No move.
-    pub fn new(alloc: Global) -> Result<Moves, AllocError>
-        ensures none { IfOk result HasNone }
+    /// No move; what was made is found by an index of no number.
+    pub(crate) fn new(alloc: Global, index: Index) -> Moves
+        ensures moves { result.made.items ≡ [] }
+        ensures touches { result.touches.made.items ≡ [] }
     {
-        Ok(Moves {
+        Moves {
             made: Vec::new(alloc),
-            touches: Touches::new(alloc)?,
+            touches: Touches::new(alloc, index),
             newest: Vec::new(alloc),
-        })
+        }
     }
 
     /// The number of the newest move of a process over a kernel, or 0.
-    fn newest(&self, kernel: u32, pid: u32) -> u32 {
-        match self.newest.get(newest_at(kernel, pid)) {
+    fn newest(&self, mover: Mover) -> u32 {
+        match self.newest.get(mover.newest_at()) {
             Some(number) => *number,
             None => 0,
         }
     }
 
-    /// The move from these places, if it was made.
-    pub(crate) fn find(&self, kernel: u32, pid: u32, state: u32) -> Option<Next>
-        ensures known { (t : Kept) → AreMoves t self.now
-            → IfSome result (λ next. IsMove t kernel pid state next) }
+    pub(crate) fn find(&self, mover: Mover) -> Option<Next>
+        ensures known { (t : Kept) → AreMoves t self.now.made.items
+            → IfSome result (λ next. IsMove t mover next) }
     {
-        let mut number = self.newest(kernel, pid) as usize;
+        let mut number = self.newest(mover) as usize;
         while number > 0 {
             let made = self.made.get(number - 1)?;
-            if made.kernel == kernel && made.pid == pid && made.state == state {
+            if made.mover.is_same(mover) {
                 return Some(made.next);
             }
             number = made.before(number);
@@ -107,32 +121,19 @@ impl Moves {
         Ok(())
     }
 
-    /// Keeps a move.
-    pub(crate) fn keep(
-        &mut self,
-        kernel: u32,
-        pid: u32,
-        state: u32,
-        next: Next,
-    ) -> Result<(), AllocError>
+    pub(crate) fn keep(&mut self, mover: Mover, next: Next) -> Result<(), AllocError>
         ensures touches { OnOk result (self.new.touches ≡ self.old.touches) }
-        ensures known { OnOk result ((t : Kept) → AreMoves t self.old
-            → IsMove t kernel pid state next → AreMoves t self.new) }
+        ensures known { OnOk result ((t : Kept) → AreMoves t self.old.made.items
+            → IsMove t mover next → AreMoves t self.new.made.items) }
     {
-        let older = self.newest(kernel, pid);
-        self.put_next(newest_at(kernel, pid))?;
-        self.made.push(Move {
-            kernel,
-            pid,
-            state,
-            older,
-            next,
-        })?;
+        let older = self.newest(mover);
+        self.put_next(mover.newest_at())?;
+        self.made.push(Move { mover, older, next })?;
         Ok(())
     }
 
     /// About how many bytes they take.
-    pub fn size(&self) -> usize {
+    pub(crate) fn size(&self) -> usize {
         size_of::<Move>()
             .saturating_mul(self.made.len())
             .saturating_add(size_of::<u32>().saturating_mul(self.newest.len()))

@@ -12,7 +12,6 @@ mod store;
 mod touches;
 mod touching;
 
-pub use known::Moves;
 pub use moves::both;
 pub use search::{Search, search_all};
 pub use store::Store;

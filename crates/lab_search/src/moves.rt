@@ -1,16 +1,16 @@
 //! What each process does next.
-ghost use Rattle.std.specs.Prelude.{◌≡◌, ℕ, IsTrue, IfOk, IfSome, OnOk};
+ghost use Rattle.std.specs.Prelude.{◌≡◌, IsTrue, IfOk, IfSome, OnOk};
 ghost use Rattle.lab_sched.specs.Worlds.{WorldState};
-ghost use Rattle.lab_search.specs.declared.store.Next.TheVariants.{Limit, To};
-ghost use Rattle.lab_search.specs.Known.{AreKnown};
-ghost use Rattle.lab_search.specs.Stored.{IsStore, LeadsTo, HasEdge, IsNextAt, IsAt, IsTried, IsExpanded};
-ghost use Rattle.lab_search.specs.Private.Stored.{Grows};
+ghost use Rattle.lab_search.specs.declared.store.Next.TheVariants.{Limit};
+ghost use Rattle.lab_search.specs.Stored.{IsStore, AreKnown, LeadsTo, HasEdge, IsNextAt, IsAt, IsTried, IsExpanded};
+ghost use Rattle.lab_search.specs.Private.Stored.{IsLater, IsStep};
 
-use crate::known::Moves;
+use crate::known::Mover;
+use crate::rows::Change;
 use crate::store::{Next, Store};
 use lab_states::Edge;
 use lab_worlds::{ExploreFault, Limits};
-use std::alloc::{AllocError, Global};
+use std::alloc::AllocError;
 
 /// Whether both are so.
 pub fn both(first: bool, second: bool) -> bool
@@ -34,65 +34,54 @@ fn edge_of(from: usize, to: usize, pid: u32) -> Option<Edge>
 
 impl Store {
     /// Whether process `pid` goes on from the world of a row, if it is known.
-    pub fn goes_on(&self, moves: &Moves, at: usize, pid: u32) -> Option<bool>
-        ensures yes { AreKnown self.now moves.now → IfSome result (λ goes. IsTrue goes
+    pub fn goes_on(&self, at: usize, pid: u32) -> Option<bool>
+        ensures yes { AreKnown self.now → IfSome result (λ goes. IsTrue goes
             → IsNextAt self.now at pid Limit) }
     {
         let (kernel, state) = self.places(at, pid)?;
-        let goes = self.known_to_go_on(moves, kernel, pid, state)?;
+        let goes = self.known_to_go_on(Mover { kernel, pid, state })?;
         Some(goes)
     }
 
     /// How many local steps process `pid` takes after its step from the world of a row, as far as that
     /// is known.
-    pub fn known_steps(&self, moves: &Moves, at: usize, pid: u32) -> Option<u32> {
+    pub fn known_steps(&self, at: usize, pid: u32) -> Option<u32> {
         let (kernel, state) = self.places(at, pid)?;
-        if let Some(touch) = self.touch_at(kernel, pid, state) {
-            if let Some(effect) = moves.touches.find(touch) {
+        let mover = Mover { kernel, pid, state };
+        if let Some(touch) = self.touch_at(mover) {
+            if let Some(effect) = self.moves.touches.find(touch) {
                 return effect.steps();
             }
         }
-        match moves.find(kernel, pid, state)? {
+        match self.moves.find(mover)? {
             Next::To { taken, .. } => Some(taken),
             _ => None,
         }
     }
 
     /// What process `pid` does next in the world of a row.
-    pub(crate) fn next(
-        &mut self,
-        alloc: Global,
-        moves: &mut Moves,
-        at: usize,
-        pid: u32,
-        most: u32,
-    ) -> Result<Next, ExploreFault>
+    pub(crate) fn next(&mut self, at: usize, pid: u32, most: u32) -> Result<Next, ExploreFault>
         requires store { IsStore self.old }
-        requires known { AreKnown self.old moves.old }
-        ensures store { OnOk result (IsStore self.new) }
-        ensures known { OnOk result (AreKnown self.new moves.new) }
-        ensures grows { OnOk result (Grows self.old self.new) }
+        ensures later { OnOk result (IsLater self.old self.new) }
         ensures next { IfOk result (λ next. IsNextAt self.new at pid next) }
     {
         let Some((kernel, state)) = self.places(at, pid) else {
             return Err(ExploreFault::Unvouched);
         };
-        if let Some(next) = self.made_next(moves, kernel, pid, state) {
+        let mover = Mover { kernel, pid, state };
+        if let Some(next) = self.made_next(mover) {
             return Ok(next);
         }
-        let next = self.make_move(alloc, moves, kernel, pid, state, most)?;
+        let next = self.make_move(mover, most)?;
         Ok(next)
     }
-}
 
-impl Store {
     /// Keeps the edge to a row by a step of process `pid` from the world of another; with whether it
     /// is kept now.
     pub(crate) fn add_edge(&mut self, at: usize, pid: u32, to: usize) -> Result<bool, AllocError>
         requires store { IsStore self.old }
         requires leads { LeadsTo self.old at pid to }
-        ensures store { OnOk result (IsStore self.new) }
-        ensures grows { OnOk result (Grows self.old self.new) }
+        ensures later { OnOk result (IsLater self.old self.new) }
         ensures edge { IfOk result (λ kept. IsTrue kept → (w : WorldState)
             → IsAt self.old at w → (x : HasEdge self.new at w pid) × (x.1.to ≡ to)) }
     {
@@ -106,50 +95,38 @@ impl Store {
         Ok(true)
     }
 
-    /// Keeps the world to which process `pid` goes on from that of a row, to this kernel and this state
-    /// of it, if there are fewer than `most`; with the number of its row, if it is kept now.
+    /// Keeps the world to which a process goes on from that of a row, if there are fewer than `most`;
+    /// with the number of its row, if it is kept now.
     pub(crate) fn keep_after(
         &mut self,
-        at: usize,
-        pid: u32,
-        kernel: u32,
-        state: u32,
+        change: Change,
         most: u32,
     ) -> Result<Option<usize>, ExploreFault>
         requires store { IsStore self.old }
-        requires next { (taken : ℕ) × IsNextAt self.old at pid (To kernel state taken) }
-        ensures store { OnOk result (IsStore self.new) }
-        ensures grows { OnOk result (Grows self.old self.new) }
-        ensures row { IfOk result (λ kept. IfSome kept (LeadsTo self.new at pid)) }
+        requires step { IsStep self.old change }
+        ensures later { OnOk result (IsLater self.old self.new) }
+        ensures row { IfOk result (λ kept. IfSome kept (LeadsTo self.new change.at change.pid)) }
     {
-        if let Some(to) = self.find_after(at, pid, kernel, state) {
+        if let Some(to) = self.find_after(change) {
             return Ok(Some(to));
         }
-        let kept = self.keep_row_after(at, pid, kernel, state, most)?;
+        let kept = self.keep_row_after(change, most)?;
         Ok(kept)
     }
 
-    /// Keeps the world to which process `pid` goes on from that of a row, to this kernel and this state
-    /// of it, and the edge to that world, if there are fewer than `most`; with whether both are kept now.
-    fn keep_next(
-        &mut self,
-        at: usize,
-        pid: u32,
-        kernel: u32,
-        state: u32,
-        most: u32,
-    ) -> Result<bool, ExploreFault>
+    /// Keeps the world to which a process goes on from that of a row, and the edge to it, if there are
+    /// fewer than `most`; with whether both are kept now.
+    fn keep_next(&mut self, change: Change, most: u32) -> Result<bool, ExploreFault>
         requires store { IsStore self.old }
-        requires next { (taken : ℕ) × IsNextAt self.old at pid (To kernel state taken) }
-        ensures store { OnOk result (IsStore self.new) }
-        ensures grows { OnOk result (Grows self.old self.new) }
+        requires step { IsStep self.old change }
+        ensures later { OnOk result (IsLater self.old self.new) }
         ensures edge { IfOk result (λ kept. IsTrue kept → (w : WorldState)
-            → IsAt self.old at w → HasEdge self.new at w pid) }
+            → IsAt self.old change.at w → HasEdge self.new change.at w change.pid) }
     {
-        let Some(to) = self.keep_after(at, pid, kernel, state, most)? else {
+        let Some(to) = self.keep_after(change, most)? else {
             return Ok(false);
         };
-        let kept = self.add_edge(at, pid, to)?;
+        let kept = self.add_edge(change.at, change.pid, to)?;
         Ok(kept)
     }
 
@@ -158,8 +135,7 @@ impl Store {
     fn go_to(&mut self, at: usize, pid: u32, next: Next, most: u32) -> Result<bool, ExploreFault>
         requires store { IsStore self.old }
         requires next { IsNextAt self.old at pid next }
-        ensures store { OnOk result (IsStore self.new) }
-        ensures grows { OnOk result (Grows self.old self.new) }
+        ensures later { OnOk result (IsLater self.old self.new) }
         ensures tried { IfOk result (λ whole. IsTrue whole → (w : WorldState)
             → IsAt self.old at w → IsTried self.new at w pid) }
     {
@@ -167,7 +143,13 @@ impl Store {
             Next::Nothing => Ok(true),
             Next::Limit => Ok(false),
             Next::To { kernel, state, .. } => {
-                let kept = self.keep_next(at, pid, kernel, state, most)?;
+                let change = Change {
+                    at,
+                    pid,
+                    kernel,
+                    state,
+                };
+                let kept = self.keep_next(change, most)?;
                 Ok(kept)
             }
         }
@@ -175,40 +157,21 @@ impl Store {
 
     /// Tries process `pid` from the world of a row, and keeps the world where it comes; with
     /// whether that could be done.
-    pub(crate) fn try_process(
-        &mut self,
-        alloc: Global,
-        moves: &mut Moves,
-        at: usize,
-        pid: u32,
-        limits: Limits,
-    ) -> Result<bool, ExploreFault>
+    fn try_process(&mut self, at: usize, pid: u32, limits: Limits) -> Result<bool, ExploreFault>
         requires store { IsStore self.old }
-        requires known { AreKnown self.old moves.old }
-        ensures store { OnOk result (IsStore self.new) }
-        ensures known { OnOk result (AreKnown self.new moves.new) }
-        ensures grows { OnOk result (Grows self.old self.new) }
+        ensures later { OnOk result (IsLater self.old self.new) }
         ensures tried { IfOk result (λ whole. IsTrue whole → (w : WorldState)
             → IsAt self.old at w → IsTried self.new at w pid) }
     {
-        let next = self.next(alloc, moves, at, pid, limits.steps)?;
+        let next = self.next(at, pid, limits.steps)?;
         let tried = self.go_to(at, pid, next, limits.worlds)?;
         Ok(tried)
     }
 
     /// Tries each process from the world of a row; with whether that could be done.
-    pub(crate) fn expand(
-        &mut self,
-        alloc: Global,
-        moves: &mut Moves,
-        at: usize,
-        limits: Limits,
-    ) -> Result<bool, ExploreFault>
+    pub(crate) fn expand(&mut self, at: usize, limits: Limits) -> Result<bool, ExploreFault>
         requires store { IsStore self.old }
-        requires known { AreKnown self.old moves.old }
-        ensures store { OnOk result (IsStore self.new) }
-        ensures known { OnOk result (AreKnown self.new moves.new) }
-        ensures grows { OnOk result (Grows self.old self.new) }
+        ensures later { OnOk result (IsLater self.old self.new) }
         ensures expanded { IfOk result (λ whole. IsTrue whole → IsExpanded self.new at) }
     {
         let Some(count) = self.width(at) else {
@@ -216,7 +179,7 @@ impl Store {
         };
         let mut whole = true;
         for pid in 0..count {
-            let tried = self.try_process(alloc, moves, at, pid, limits)?;
+            let tried = self.try_process(at, pid, limits)?;
             whole = both(whole, tried);
         }
         Ok(whole)

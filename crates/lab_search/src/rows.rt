@@ -3,39 +3,49 @@ ghost use Rattle.std.specs.Prelude.{◌≡◌, Some, IsTrue, length, slice_get, 
 ghost use Rattle.lab_sched.specs.Worlds.{WorldState};
 ghost use Rattle.lab_states.specs.Rows.{Row, row_of};
 ghost use Rattle.lab_search.specs.Stored.{IsRow, IsAt, IsStore};
-ghost use Rattle.lab_search.specs.Private.Stored.{IsAfter, Grows};
+ghost use Rattle.lab_search.specs.Private.Stored.{changed, IsAfter, IsLater};
 
 use crate::store::Store;
 use ipc_store::are_with;
 use lab_states::{Parent, digest_after, digest_of, place_of};
 use std::alloc::AllocError;
 
+/// Another kernel, and another state of process `pid`, for the row at a place.
+#[derive(Clone, Copy, Drop)]
+pub struct Change {
+    pub at: usize,
+    pub pid: u32,
+    pub kernel: u32,
+    pub state: u32,
+}
+
 impl Store {
-    /// Whether the row with a number is the one at another place with this kernel and this state of
-    /// process `pid`.
-    fn is_after(&self, number: usize, states: &[u32], pid: u32, kernel: u32, state: u32) -> bool
-        ensures same { IsTrue result → slice_get self.now.rows number
-            ≡ Some (record { kernel = kernel; states = slice_set states.now pid state }) }
+    /// Whether the row with a number is the one with these states after a change.
+    fn is_after(&self, number: usize, states: &[u32], change: Change) -> bool
+        ensures same { IsTrue result → slice_get self.now.rows number ≡ Some (record {
+          kernel = change.kernel;
+          states = slice_set states.now change.pid change.state;
+        }) }
     {
         match self.rows.get(number) {
-            Some((first, others)) => {
-                first == kernel && are_with(others, states, pid as usize, state)
+            Some((kernel, others)) => {
+                kernel == change.kernel
+                    && are_with(others, states, change.pid as usize, change.state)
             }
             None => false,
         }
     }
 
-    /// The number of the row that the one at a place is with this kernel and this state of process
-    /// `pid`, if it is kept.
-    pub(crate) fn find_after(&self, at: usize, pid: u32, kernel: u32, state: u32) -> Option<usize>
-        ensures found { IfSome result (λ i. IsAfter self.now at pid kernel state i) }
+    /// The number of the row after a change, if it is kept.
+    pub(crate) fn find_after(&self, change: Change) -> Option<usize>
+        ensures found { IfSome result (IsAfter self.now change) }
     {
-        let (_, states) = self.rows.get(at)?;
-        let hash = digest_after(kernel, states, pid as usize, state);
+        let (_, states) = self.rows.get(change.at)?;
+        let hash = digest_after(change.kernel, states, change.pid as usize, change.state);
         let mut number = self.row_index.newest(hash);
         while number > 0 {
             let row = number - 1;
-            if self.is_after(row, states, pid, kernel, state) {
+            if self.is_after(row, states, change) {
                 return Some(row);
             }
             number = self.row_index.older(number);
@@ -47,8 +57,7 @@ impl Store {
     pub(crate) fn keep_first_row(&mut self, row: &[u32], most: u32) -> Result<bool, AllocError>
         requires store { IsStore self.old }
         requires row { (w : WorldState) × IsRow self.old (row_of row.now) w }
-        ensures store { OnOk result (IsStore self.new) }
-        ensures grows { OnOk result (Grows self.old self.new) }
+        ensures later { OnOk result (IsLater self.old self.new) }
         ensures kept { IfOk result (λ kept. IsTrue kept → (w : WorldState)
             → IsRow self.old (row_of row.now) w → IsAt self.new 0 w) }
     {
@@ -64,29 +73,30 @@ impl Store {
         Ok(true)
     }
 
-    /// Keeps the row that the one at a place is with this kernel and this state of process `pid`, if there
-    /// are fewer than `most`; with its number, if it is kept.
+    /// Keeps the row after a change, if there are fewer than `most`; with its number, if it is kept.
     pub(crate) fn keep_row_after(
         &mut self,
-        at: usize,
-        pid: u32,
-        kernel: u32,
-        state: u32,
+        change: Change,
         most: u32,
     ) -> Result<Option<usize>, AllocError>
         requires store { IsStore self.old }
-        requires row { (r : Row) → slice_get self.old.rows at ≡ Some r → (w : WorldState)
-            × IsRow self.old (record { kernel = kernel; states = slice_set r.states pid state }) w }
-        ensures store { OnOk result (IsStore self.new) }
-        ensures grows { OnOk result (Grows self.old self.new) }
+        requires row { (r : Row) → slice_get self.old.rows change.at ≡ Some r
+            → (w : WorldState) × IsRow self.old (changed r change) w }
+        ensures later { OnOk result (IsLater self.old self.new) }
         ensures kept { IfOk result (λ kept. IfSome kept (λ i. (r : Row)
-            × (slice_get self.old.rows at ≡ Some r) × (slice_get self.new.rows i ≡ Some
-            (record { kernel = kernel; states = slice_set r.states pid state })))) }
+            × (slice_get self.old.rows change.at ≡ Some r)
+            × (slice_get self.new.rows i ≡ Some (changed r change)))) }
     {
         let number = self.rows.len();
         if number >= most as usize {
             return Ok(None);
         }
+        let Change {
+            at,
+            pid,
+            kernel,
+            state,
+        } = change;
         let (Some(parent), Some((_, states))) = (Parent::of(at, pid), self.rows.get(at)) else {
             return Ok(None);
         };

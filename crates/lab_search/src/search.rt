@@ -4,13 +4,11 @@ ghost use Rattle.lab_sched.specs.Held.{process_view, IsHeld};
 ghost use Rattle.lab_worlds.specs.Closed.{HasAdvance};
 ghost use Rattle.lab_worlds.specs.Stepped.{IsReady};
 ghost use Rattle.lab_states.specs.Rows.{row_of};
-ghost use Rattle.lab_search.specs.Known.{AreKnown, HasNone};
 ghost use Rattle.lab_search.specs.Sparse.{AreTriedIn, IsSearchedIn};
 ghost use Rattle.lab_search.specs.Private.Sparse.{StatesKeepNames};
 ghost use Rattle.lab_search.specs.Stored.{IsState, IsAt, IsStore};
-ghost use Rattle.lab_search.specs.Private.Stored.{Grows, IsCome, IsBegun};
+ghost use Rattle.lab_search.specs.Private.Stored.{IsLater, IsCome, IsBegun};
 
-use crate::known::Moves;
 use crate::moves::both;
 use crate::store::Store;
 use ipc_kernel::Kernel;
@@ -32,13 +30,12 @@ pub struct Begun {
     pub firsts: Vec<u32>,
 }
 
-/// What a search found: the worlds, the moves between them, the local steps of each process before
+/// What a search found: the worlds and the moves between them, the local steps of each process before
 /// them, and whether these are all, or in a sparse search as many as show every end. If they aren't,
 /// memory may have been refused.
 #[derive(Drop)]
 pub struct Search {
     pub store: Store,
-    pub moves: Moves,
     pub firsts: Vec<u32>,
     pub sparse: bool,
     pub complete: bool,
@@ -50,12 +47,11 @@ const OFTEN: usize = 16;
 
 impl Store {
     /// Keeps the state of a process that stands at its call, if it does.
-    fn keep_ahead(&mut self, alloc: Global, ahead: Ahead) -> Result<Option<Come>, ExploreFault>
+    fn keep_ahead(&mut self, ahead: Ahead) -> Result<Option<Come>, ExploreFault>
         requires store { IsStore self.old }
         requires held { IsHeld ahead.process }
         requires at_call { IsTrue ahead.at_call → IsReady ahead.process }
-        ensures store { OnOk result (IsStore self.new) }
-        ensures grows { OnOk result (Grows self.old self.new) }
+        ensures later { OnOk result (IsLater self.old self.new) }
         ensures kept { IfOk result (λ come. IfSome come (λ x.
             IsTrue ahead.at_call × IsState self.new x.state (process_view ahead.process))) }
     {
@@ -68,48 +64,36 @@ impl Store {
             discard(process);
             return Ok(None);
         }
-        let state = self.keep_state(alloc, process)?;
+        let state = self.keep_state(process)?;
         Ok(Some(Come { state, taken }))
     }
 
     /// Keeps the state that a process comes to by all its local steps, if it may take so many.
-    fn keep_first(
-        &mut self,
-        alloc: Global,
-        process: &Process,
-        most: u32,
-    ) -> Result<Option<Come>, ExploreFault>
+    fn keep_first(&mut self, process: &Process, most: u32) -> Result<Option<Come>, ExploreFault>
         requires store { IsStore self.old }
         requires held { IsHeld process.now }
-        ensures store { OnOk result (IsStore self.new) }
-        ensures grows { OnOk result (Grows self.old self.new) }
+        ensures later { OnOk result (IsLater self.old self.new) }
         ensures come { IfOk result (λ come. IfSome come (λ x.
             IsCome self.new x.state (process_view process.now))) }
     {
-        let process = process.copy(alloc)?;
-        let ahead = advance(alloc, process, most)?;
-        let come = self.keep_ahead(alloc, ahead)?;
+        let process = process.copy(self.alloc)?;
+        let ahead = advance(self.alloc, process, most)?;
+        let come = self.keep_ahead(ahead)?;
         Ok(come)
     }
 
     /// Keeps the states that processes come to by all their local steps, if they may take so many.
-    fn begin(
-        &mut self,
-        alloc: Global,
-        processes: &[Process],
-        most: u32,
-    ) -> Result<Option<Begun>, ExploreFault>
+    fn begin(&mut self, processes: &[Process], most: u32) -> Result<Option<Begun>, ExploreFault>
         requires store { IsStore self.old }
         requires held { All IsHeld processes.now }
-        ensures store { OnOk result (IsStore self.new) }
-        ensures grows { OnOk result (Grows self.old self.new) }
+        ensures later { OnOk result (IsLater self.old self.new) }
         ensures begun { IfOk result (λ begun. IfSome begun (λ x.
             IsBegun self.new x.states.items (map process_view processes.now))) }
     {
-        let mut states = Vec::new(alloc);
-        let mut firsts = Vec::new(alloc);
+        let mut states = Vec::new(self.alloc);
+        let mut firsts = Vec::new(self.alloc);
         for process in processes {
-            let Some(come) = self.keep_first(alloc, process, most)? else {
+            let Some(come) = self.keep_first(process, most)? else {
                 return Ok(None);
             };
             states.push(come.state)?;
@@ -129,17 +113,12 @@ impl Store {
     /// could be done, and no process is about to take a name away where the search is sparse.
     fn expand_all<O: Observer>(
         &mut self,
-        alloc: Global,
-        moves: &mut Moves,
         limits: Limits,
         observer: &mut O,
         sparse: bool,
     ) -> Result<bool, ExploreFault>
         requires store { IsStore self.old }
-        requires known { AreKnown self.old moves.old }
-        ensures store { OnOk result (IsStore self.new) }
-        ensures known { OnOk result (AreKnown self.new moves.new) }
-        ensures grows { OnOk result (Grows self.old self.new) }
+        ensures later { OnOk result (IsLater self.old self.new) }
         ensures all { IfOk result (λ whole. IsTrue whole → AreTriedIn sparse self.new) }
         ensures names { IfOk result (λ whole. IsTrue whole → IsTrue sparse
             → StatesKeepNames self.new) }
@@ -150,11 +129,11 @@ impl Store {
             if at >= self.rows.len() {
                 return Ok(both(whole, self.keeps_names(sparse)));
             }
-            if !self.keeps_names(sparse) || at % OFTEN == 0 && self.size(moves) > limits.memory {
+            if !self.keeps_names(sparse) || at % OFTEN == 0 && self.size() > limits.memory {
                 return Ok(false);
             }
             observer.see(at, self.rows.len() - at);
-            let tried = self.expand_in(alloc, moves, at, limits, sparse)?;
+            let tried = self.expand_in(at, limits, sparse)?;
             whole = both(whole, tried);
         }
         let within = both(whole, self.rows.len() <= most);
@@ -173,106 +152,73 @@ fn first_row(alloc: Global, kernel: u32, states: &[u32]) -> Result<Vec<u32>, All
 }
 
 impl Search {
-    /// The search of nothing yet, which is sparse or isn't.
-    fn over(store: Store, moves: Moves, firsts: Vec<u32>, sparse: bool) -> Search
-        requires store { IsStore store }
-        requires none { HasNone moves }
-        ensures sparse { result.sparse ≡ sparse }
-        ensures store { IsStore result.store }
-        ensures none { HasNone result.moves }
-        ensures open { result.complete ≡ false }
-    {
-        Search {
-            store,
-            moves,
-            firsts,
-            sparse,
-            complete: false,
-            refused: false,
-        }
-    }
-
     /// The search, which is sparse or isn't, before its first world.
     fn new(alloc: Global, processes: usize, sparse: bool) -> Result<Search, AllocError>
         ensures sparse { IfOk result (λ s. s.sparse ≡ sparse) }
         ensures store { IfOk result (λ s. IsStore s.store) }
-        ensures none { IfOk result (λ s. HasNone s.moves) }
         ensures open { IfOk result (λ s. s.complete ≡ false) }
     {
-        let moves = Moves::new(alloc)?;
-        let store = Store::new(alloc, processes)?;
-        Ok(Search::over(store, moves, Vec::new(alloc), sparse))
+        Ok(Search {
+            store: Store::new(alloc, processes)?,
+            firsts: Vec::new(alloc),
+            sparse,
+            complete: false,
+            refused: false,
+        })
     }
 
     /// Keeps the first world, in which each process stands at its first call, if each comes there;
     /// with whether it is kept.
     fn begin(
         &mut self,
-        alloc: Global,
         processes: &[Process],
         kernel: &Kernel,
         limits: Limits,
     ) -> Result<bool, ExploreFault>
         requires store { IsStore self.old.store }
-        requires none { HasNone self.old.moves }
         requires open { self.old.complete ≡ false }
         requires held { All IsHeld processes.now }
         ensures store { OnOk result (IsStore self.new.store) }
-        ensures none { OnOk result (HasNone self.new.moves) }
         ensures open { OnOk result (self.new.complete ≡ false) }
         ensures sparse { OnOk result (self.new.sparse ≡ self.old.sparse) }
         ensures begins { IfOk result (λ kept. IsTrue kept → HasAdvance (IsAt self.new.store 0)
             (record { processes = map process_view processes.now; kernel = kernel.now })) }
     {
-        let kernel = self.store.keep_alike(alloc, kernel)?;
-        let Some(begun) = self.store.begin(alloc, processes, limits.steps)? else {
+        let kernel = self.store.keep_alike(kernel)?;
+        let Some(begun) = self.store.begin(processes, limits.steps)? else {
             return Ok(false);
         };
         let Begun { states, firsts } = begun;
         self.firsts = firsts;
-        let first = first_row(alloc, kernel, states.as_slice())?;
+        let first = first_row(self.store.alloc, kernel, states.as_slice())?;
         let kept = self.store.keep_first_row(first.as_slice(), limits.worlds)?;
         Ok(kept)
     }
 
     /// Tries what is to be tried from each world, as far as the limits and the memory allow.
-    fn go_on<O: Observer>(
-        &mut self,
-        alloc: Global,
-        limits: Limits,
-        observer: &mut O,
-    ) -> Result<(), ExploreFault>
+    fn go_on<O: Observer>(&mut self, limits: Limits, observer: &mut O) -> Result<(), ExploreFault>
         requires store { IsStore self.old.store }
-        requires none { HasNone self.old.moves }
         requires open { self.old.complete ≡ false }
-        ensures store { OnOk result (IsTrue self.new.complete → IsStore self.new.store) }
-        ensures known { OnOk result (IsTrue self.new.complete
-            → AreKnown self.new.store self.new.moves) }
-        ensures grows { OnOk result (IsTrue self.new.complete
-            → Grows self.old.store self.new.store) }
+        ensures later { OnOk result (IsTrue self.new.complete
+            → IsLater self.old.store self.new.store) }
         ensures sparse { OnOk result (self.new.sparse ≡ self.old.sparse) }
         ensures tried { OnOk result (IsTrue self.new.complete
             → AreTriedIn self.old.sparse self.new.store) }
         ensures names { OnOk result (IsTrue self.new.complete → IsTrue self.old.sparse
             → StatesKeepNames self.new.store) }
     {
-        let sparse = self.sparse;
-        let moves = &mut self.moves;
-        match self
-            .store
-            .expand_all(alloc, moves, limits, observer, sparse)
-        {
+        match self.store.expand_all(limits, observer, self.sparse) {
             Ok(true) => {
-                self.store.close(alloc);
+                self.store.close();
                 self.complete = true;
                 Ok(())
             }
             Ok(false) => {
-                self.store.close(alloc);
+                self.store.close();
                 Ok(())
             }
             Err(ExploreFault::NoMemory) => {
-                self.store.close(alloc);
+                self.store.close();
                 self.refused = true;
                 Ok(())
             }
@@ -284,29 +230,25 @@ impl Search {
     /// allow.
     fn fill<O: Observer>(
         &mut self,
-        alloc: Global,
         processes: &[Process],
         kernel: &Kernel,
         limits: Limits,
         observer: &mut O,
     ) -> Result<(), ExploreFault>
         requires store { IsStore self.old.store }
-        requires none { HasNone self.old.moves }
         requires open { self.old.complete ≡ false }
         requires held { All IsHeld processes.now }
         ensures store { OnOk result (IsTrue self.new.complete → IsStore self.new.store) }
-        ensures known { OnOk result (IsTrue self.new.complete
-            → AreKnown self.new.store self.new.moves) }
         ensures sparse { OnOk result (self.new.sparse ≡ self.old.sparse) }
         ensures complete { OnOk result (IsTrue self.new.complete → IsSearchedIn self.old.sparse
             (record { processes = map process_view processes.now; kernel = kernel.now })
             self.new.store) }
     {
-        let kept = self.begin(alloc, processes, kernel, limits)?;
+        let kept = self.begin(processes, kernel, limits)?;
         if !kept {
             return Ok(());
         }
-        self.go_on(alloc, limits, observer)?;
+        self.go_on(limits, observer)?;
         Ok(())
     }
 }
@@ -324,12 +266,11 @@ fn search_in<O: Observer>(
     requires held { All IsHeld processes.now }
     ensures sparse { IfOk result (λ s. s.sparse ≡ sparse) }
     ensures store { IfOk result (λ s. IsTrue s.complete → IsStore s.store) }
-    ensures known { IfOk result (λ s. IsTrue s.complete → AreKnown s.store s.moves) }
     ensures complete { IfOk result (λ s. IsTrue s.complete → IsSearchedIn sparse
         (record { processes = map process_view processes.now; kernel = kernel.now }) s.store) }
 {
     let mut search = Search::new(alloc, processes.len(), sparse)?;
-    match search.fill(alloc, processes, kernel, limits, observer) {
+    match search.fill(processes, kernel, limits, observer) {
         Ok(()) => Ok(search),
         Err(fault) => {
             discard(search);
@@ -351,7 +292,6 @@ pub fn search_all<O: Observer>(
     requires held { All IsHeld processes.now }
     ensures sparse { IfOk result (λ s. sparse ≡ false → s.sparse ≡ false) }
     ensures store { IfOk result (λ s. IsTrue s.complete → IsStore s.store) }
-    ensures known { IfOk result (λ s. IsTrue s.complete → AreKnown s.store s.moves) }
     ensures complete { IfOk result (λ s. IsTrue s.complete → IsSearchedIn s.sparse
         (record { processes = map process_view processes.now; kernel = kernel.now }) s.store) }
 {

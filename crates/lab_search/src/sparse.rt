@@ -4,17 +4,15 @@ ghost use Rattle.std.specs.Prelude.{ℕ, ◌≡◌, ◌<◌, true, Some, IsTrue,
 ghost use Rattle.lab_sched.specs.Worlds.{Process as Seen, WorldState, step_effect_in};
 ghost use Rattle.lab_worlds.specs.Independent.{IsIndependent};
 ghost use Rattle.lab_states.specs.Rows.{Row};
-ghost use Rattle.lab_search.specs.Known.{AreKnown};
 ghost use Rattle.lab_search.specs.Sparse.{IsTriedAlone, IsTriedIn};
 ghost use Rattle.lab_search.specs.Stored.{IsExactly, IsState, IsAt, IsStore, HasEdge};
-ghost use Rattle.lab_search.specs.Private.Stored.{Grows};
+ghost use Rattle.lab_search.specs.Private.Stored.{IsLater};
 
-use crate::known::Moves;
+use crate::rows::Change;
 use crate::store::{Next, Store};
 use ipc_kernel::Call;
 use lab_states::place_of;
 use lab_worlds::{ExploreFault, Limits};
-use std::alloc::Global;
 
 impl Store {
     /// Whether the step of a process in a state over a kernel, which are kept, depends on no other's.
@@ -62,27 +60,23 @@ impl Store {
 
     /// Tries process `pid` from the world of a row, and keeps the edge where it leads to a later row; with
     /// whether it is kept now.
-    fn try_alone(
-        &mut self,
-        alloc: Global,
-        moves: &mut Moves,
-        at: usize,
-        pid: u32,
-        limits: Limits,
-    ) -> Result<bool, ExploreFault>
+    fn try_alone(&mut self, at: usize, pid: u32, limits: Limits) -> Result<bool, ExploreFault>
         requires store { IsStore self.old }
-        requires known { AreKnown self.old moves.old }
-        ensures store { OnOk result (IsStore self.new) }
-        ensures known { OnOk result (AreKnown self.new moves.new) }
-        ensures grows { OnOk result (Grows self.old self.new) }
+        ensures later { OnOk result (IsLater self.old self.new) }
         ensures edge { IfOk result (λ kept. IsTrue kept → (w : WorldState)
             → IsAt self.old at w → (x : HasEdge self.new at w pid) × (at < x.1.to)) }
     {
-        let next = self.next(alloc, moves, at, pid, limits.steps)?;
+        let next = self.next(at, pid, limits.steps)?;
         let Next::To { kernel, state, .. } = next else {
             return Ok(false);
         };
-        let Some(to) = self.keep_after(at, pid, kernel, state, limits.worlds)? else {
+        let change = Change {
+            at,
+            pid,
+            kernel,
+            state,
+        };
+        let Some(to) = self.keep_after(change, limits.worlds)? else {
             return Ok(false);
         };
         if to <= at {
@@ -94,48 +88,30 @@ impl Store {
 
     /// Tries a process alone from the world of a row of which the step depends on no other's, if there is
     /// one, and keeps the edge where it leads to a later row; with whether it is kept now.
-    fn try_independent(
-        &mut self,
-        alloc: Global,
-        moves: &mut Moves,
-        at: usize,
-        limits: Limits,
-    ) -> Result<bool, ExploreFault>
+    fn try_independent(&mut self, at: usize, limits: Limits) -> Result<bool, ExploreFault>
         requires store { IsStore self.old }
-        requires known { AreKnown self.old moves.old }
-        ensures store { OnOk result (IsStore self.new) }
-        ensures known { OnOk result (AreKnown self.new moves.new) }
-        ensures grows { OnOk result (Grows self.old self.new) }
+        ensures later { OnOk result (IsLater self.old self.new) }
         ensures alone { IfOk result (λ kept. IsTrue kept → IsTriedAlone self.new at) }
     {
         let Some(pid) = self.independent_process(at) else {
             return Ok(false);
         };
-        let kept = self.try_alone(alloc, moves, at, pid, limits)?;
+        let kept = self.try_alone(at, pid, limits)?;
         Ok(kept)
     }
 
     /// Tries a process alone from the world of a row of which the step depends on no other's, where it
     /// leads to a later row, and else each process; with whether that could be done.
-    pub(crate) fn expand_sparsely(
-        &mut self,
-        alloc: Global,
-        moves: &mut Moves,
-        at: usize,
-        limits: Limits,
-    ) -> Result<bool, ExploreFault>
+    fn expand_sparsely(&mut self, at: usize, limits: Limits) -> Result<bool, ExploreFault>
         requires store { IsStore self.old }
-        requires known { AreKnown self.old moves.old }
-        ensures store { OnOk result (IsStore self.new) }
-        ensures known { OnOk result (AreKnown self.new moves.new) }
-        ensures grows { OnOk result (Grows self.old self.new) }
+        ensures later { OnOk result (IsLater self.old self.new) }
         ensures tried { IfOk result (λ whole. IsTrue whole → IsTriedIn true self.new at) }
     {
-        let alone = self.try_independent(alloc, moves, at, limits)?;
+        let alone = self.try_independent(at, limits)?;
         if alone {
             return Ok(true);
         }
-        let expanded = self.expand(alloc, moves, at, limits)?;
+        let expanded = self.expand(at, limits)?;
         Ok(expanded)
     }
 
@@ -143,24 +119,19 @@ impl Store {
     /// whether that could be done.
     pub(crate) fn expand_in(
         &mut self,
-        alloc: Global,
-        moves: &mut Moves,
         at: usize,
         limits: Limits,
         sparse: bool,
     ) -> Result<bool, ExploreFault>
         requires store { IsStore self.old }
-        requires known { AreKnown self.old moves.old }
-        ensures store { OnOk result (IsStore self.new) }
-        ensures known { OnOk result (AreKnown self.new moves.new) }
-        ensures grows { OnOk result (Grows self.old self.new) }
+        ensures later { OnOk result (IsLater self.old self.new) }
         ensures tried { IfOk result (λ whole. IsTrue whole → IsTriedIn sparse self.new at) }
     {
         if sparse {
-            let tried = self.expand_sparsely(alloc, moves, at, limits)?;
+            let tried = self.expand_sparsely(at, limits)?;
             return Ok(tried);
         }
-        let expanded = self.expand(alloc, moves, at, limits)?;
+        let expanded = self.expand(at, limits)?;
         Ok(expanded)
     }
 }

@@ -1,8 +1,8 @@
 //! The steps at calls that work on one object that a search has made.
-ghost use Rattle.std.specs.Prelude.{◌≡◌, [], false, IfOk, IfSome, IsTrue, OnOk};
+ghost use Rattle.std.specs.Prelude.{◌≡◌, [], false, IfSome, IsTrue, OnOk};
 ghost use Rattle.lab_search.specs.declared.store.Store.{Store as Kept};
 ghost use Rattle.lab_search.specs.declared.touches.Effect.TheVariants.{Nothing};
-ghost use Rattle.lab_search.specs.Touched.{IsTouched, AreTouched};
+ghost use Rattle.lab_search.specs.Stored.{IsTouched, AreTouched};
 
 use ipc_store::Index;
 use lab_states::digest_of;
@@ -50,7 +50,6 @@ pub struct Touches {
 }
 
 impl Touch {
-    /// Whether two calls are the same.
     fn is_same(self, other: Touch) -> bool
         ensures same { IsTrue result → self ≡ other }
     {
@@ -60,14 +59,12 @@ impl Touch {
             && self.place == other.place
     }
 
-    /// A digest of the call.
     fn digest(self) -> u64 {
         digest_of(&[self.state, self.tables, self.object])
     }
 }
 
 impl Effect {
-    /// Whether it is nothing.
     pub(crate) fn is_nothing(self) -> bool
         ensures no { result ≡ false → self ≡ Nothing → ⊥ }
     {
@@ -84,19 +81,18 @@ impl Effect {
 }
 
 impl Touches {
-    /// No step.
-    pub fn new(alloc: Global) -> Result<Touches, AllocError>
-        ensures none { IfOk result (λ touches. touches.made.items ≡ []) }
+    /// No step; what was made is found by an index of no number.
+    pub(crate) fn new(alloc: Global, index: Index) -> Touches
+        ensures none { result.made.items ≡ [] }
     {
-        Ok(Touches {
+        Touches {
             made: Vec::new(alloc),
-            index: Index::new(alloc)?,
-        })
+            index,
+        }
     }
 
-    /// What comes of a step at a call, if it was made.
     pub(crate) fn find(&self, touch: Touch) -> Option<Effect>
-        ensures known { (t : Kept) → AreTouched t self.now
+        ensures known { (t : Kept) → AreTouched t self.now.made.items
             → IfSome result (λ effect. IsTouched t touch effect) }
     {
         let mut number = self.index.newest(touch.digest());
@@ -112,10 +108,9 @@ impl Touches {
         None
     }
 
-    /// Keeps what comes of a step at a call.
     pub(crate) fn keep(&mut self, touch: Touch, effect: Effect) -> Result<(), AllocError>
-        ensures known { OnOk result ((t : Kept) → AreTouched t self.old
-            → IsTouched t touch effect → AreTouched t self.new) }
+        ensures known { OnOk result ((t : Kept) → AreTouched t self.old.made.items
+            → IsTouched t touch effect → AreTouched t self.new.made.items) }
     {
         self.index.add(touch.digest())?;
         self.made.push(Touched { touch, effect })?;
@@ -123,7 +118,7 @@ impl Touches {
     }
 
     /// About how many bytes they take.
-    pub fn size(&self) -> usize {
+    pub(crate) fn size(&self) -> usize {
         size_of::<Touched>()
             .saturating_add(Index::ENTRY)
             .saturating_mul(self.made.len())

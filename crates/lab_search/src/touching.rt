@@ -1,31 +1,28 @@
 //! Steps at calls that work on one object, made once for what they touch.
 ghost use Rattle.std.specs.Prelude.{◌≡◌, IsTrue, IfOk, IfSome, OnOk};
-ghost use Rattle.ipc_kernel.specs.Kernel.{KernelState, IsSettled};
-ghost use Rattle.lab_sched.specs.Worlds.{Process as Seen};
+ghost use Rattle.ipc_kernel.specs.Kernel.{KernelState};
 ghost use Rattle.lab_search.specs.declared.store.Next.TheVariants.{Limit};
-ghost use Rattle.lab_search.specs.Known.{AreKnown};
-ghost use Rattle.lab_search.specs.Stored.{IsExactly, IsStore, IsNext};
-ghost use Rattle.lab_search.specs.Private.Stored.{Grows, IsMoveFrom};
+ghost use Rattle.lab_search.specs.Stored.{IsExactly, IsStore, AreKnown};
+ghost use Rattle.lab_search.specs.Private.Stored.{IsLater, IsMoveFrom, IsNextBy};
 ghost use Rattle.lab_search.specs.Private.Touched.{HasTouch};
-ghost use Rattle.lab_search.specs.Touched.{IsEffect, AreTouched};
 
-use crate::known::Moves;
+use crate::known::Mover;
 use crate::store::{Next, Store};
-use crate::touches::{Effect, Touch, Touches};
+use crate::touches::{Effect, Touch};
 use std::alloc::AllocError;
 
 impl Store {
-    /// The call that works on one object at which process `pid` stands in a state and over a kernel
-    /// that are kept, if it stands at such a call.
-    pub(crate) fn touch_at(&self, kernel: u32, pid: u32, state: u32) -> Option<Touch>
-        ensures state { IfSome result (λ touch. touch.state ≡ state) }
+    /// The call that works on one object at which a process stands, if it stands at such a call.
+    pub(crate) fn touch_at(&self, mover: Mover) -> Option<Touch>
+        ensures state { IfSome result (λ touch. touch.state ≡ mover.state) }
         ensures operand { IfSome result (λ touch. (k : KernelState)
-            → IsExactly self.now kernel k → HasTouch self.now k pid touch) }
+            → IsExactly self.now mover.kernel k → HasTouch self.now k mover.pid touch) }
     {
+        let state = mover.state;
         let call = self.states.call(state)?;
-        let tables = self.kernels.tables_at(kernel, pid as usize)?;
-        let place = self.kernels.operand(kernel, tables, call)?;
-        let object = self.kernels.object_at(kernel, place)?;
+        let tables = self.kernels.tables_at(mover.kernel, mover.pid as usize)?;
+        let place = self.kernels.operand(mover.kernel, tables, call)?;
+        let object = self.kernels.object_at(mover.kernel, place)?;
         Some(Touch {
             state,
             tables,
@@ -34,12 +31,10 @@ impl Store {
         })
     }
 
-    /// What process `pid` does next by the effect of its call on the object in a place, if the kernel
+    /// What a process does next by the effect of its call on the object in a place, if the kernel
     /// after it is kept.
-    fn next_by(&self, kernel: u32, pid: u32, place: u8, effect: Effect) -> Option<Next>
-        ensures next { IfSome result (λ next. (k : KernelState) (s : Seen)
-            → IsExactly self.now kernel k → IsSettled k
-            → IsEffect self.now k pid s place effect → IsNext self.now k pid s next) }
+    fn next_by(&self, mover: Mover, place: u8, effect: Effect) -> Option<Next>
+        ensures next { IfSome result (IsNextBy self.now self.now mover place effect) }
     {
         match effect {
             Effect::Nothing => Some(Next::Nothing),
@@ -52,7 +47,7 @@ impl Store {
             } => {
                 let kernel = self
                     .kernels
-                    .find_with(kernel, pid as usize, place, object, tables)?;
+                    .find_with(mover.kernel, mover.pid as usize, place, object, tables)?;
                 Some(Next::To {
                     kernel,
                     state,
@@ -65,43 +60,37 @@ impl Store {
     /// The same, where the kernel after it is kept if it wasn't and the call makes no object.
     fn keep_next_in(
         &mut self,
-        kernel: u32,
-        pid: u32,
+        mover: Mover,
         place: u8,
         effect: Effect,
     ) -> Result<Option<Next>, AllocError>
         requires store { IsStore self.old }
-        ensures store { OnOk result (IsStore self.new) }
-        ensures grows { OnOk result (Grows self.old self.new) }
-        ensures next { IfOk result (λ found. IfSome found (λ next. (k : KernelState) (s : Seen)
-            → IsExactly self.old kernel k → IsSettled k
-            → IsEffect self.old k pid s place effect → IsNext self.new k pid s next)) }
+        ensures later { OnOk result (IsLater self.old self.new) }
+        ensures next { IfOk result (λ found.
+            IfSome found (IsNextBy self.old self.new mover place effect)) }
     {
-        if let Some(next) = self.next_by(kernel, pid, place, effect) {
+        if let Some(next) = self.next_by(mover, place, effect) {
             return Ok(Some(next));
         }
         if let Effect::To { tables, object, .. } = effect {
             self.kernels
-                .keep_with(kernel, pid as usize, place, object, tables)?;
+                .keep_with(mover.kernel, mover.pid as usize, place, object, tables)?;
         }
-        Ok(self.next_by(kernel, pid, place, effect))
+        Ok(self.next_by(mover, place, effect))
     }
 
-    /// What process `pid` does next by the effect of its call that makes an object in a place, where a
+    /// What a process does next by the effect of its call that makes an object in a place, where a
     /// kernel that is alike the one after it is kept if it wasn't.
     fn keep_next_made(
         &mut self,
-        kernel: u32,
-        pid: u32,
+        mover: Mover,
         place: u8,
         effect: Effect,
     ) -> Result<Option<Next>, AllocError>
         requires store { IsStore self.old }
-        ensures store { OnOk result (IsStore self.new) }
-        ensures grows { OnOk result (Grows self.old self.new) }
-        ensures next { IfOk result (λ found. IfSome found (λ next. (k : KernelState) (s : Seen)
-            → IsExactly self.old kernel k → IsSettled k
-            → IsEffect self.old k pid s place effect → IsNext self.new k pid s next)) }
+        ensures later { OnOk result (IsLater self.old self.new) }
+        ensures next { IfOk result (λ found.
+            IfSome found (IsNextBy self.old self.new mover place effect)) }
     {
         let Effect::To {
             tables,
@@ -112,13 +101,13 @@ impl Store {
         else {
             return Ok(None);
         };
-        if self.kernels.object_at(kernel, place) == Some(object) {
+        if self.kernels.object_at(mover.kernel, place) == Some(object) {
             return Ok(None);
         }
-        let pid = pid as usize;
+        let pid = mover.pid as usize;
         let kept = self
             .kernels
-            .keep_with_new(kernel, pid, place, object, tables)?;
+            .keep_with_new(mover.kernel, pid, place, object, tables)?;
         let Some(kernel) = kept else {
             return Ok(None);
         };
@@ -129,68 +118,56 @@ impl Store {
         }))
     }
 
-    /// What process `pid` does next by the effect of its call on what a place holds, where the kernel
+    /// What a process does next by the effect of its call on what a place holds, where the kernel
     /// after it, or one that is alike, is kept if it wasn't.
     pub(crate) fn keep_next_by(
         &mut self,
-        kernel: u32,
-        pid: u32,
+        mover: Mover,
         place: u8,
         effect: Effect,
     ) -> Result<Option<Next>, AllocError>
         requires store { IsStore self.old }
-        ensures store { OnOk result (IsStore self.new) }
-        ensures grows { OnOk result (Grows self.old self.new) }
-        ensures next { IfOk result (λ found. IfSome found (λ next. (k : KernelState) (s : Seen)
-            → IsExactly self.old kernel k → IsSettled k
-            → IsEffect self.old k pid s place effect → IsNext self.new k pid s next)) }
+        ensures later { OnOk result (IsLater self.old self.new) }
+        ensures next { IfOk result (λ found.
+            IfSome found (IsNextBy self.old self.new mover place effect)) }
     {
-        if let Some(next) = self.keep_next_in(kernel, pid, place, effect)? {
+        if let Some(next) = self.keep_next_in(mover, place, effect)? {
             return Ok(Some(next));
         }
-        let next = self.keep_next_made(kernel, pid, place, effect)?;
+        let next = self.keep_next_made(mover, place, effect)?;
         Ok(next)
     }
 
-    /// What process `pid` does next in a state and over a kernel that are kept, if it has ended or this
-    /// move was made.
-    pub(crate) fn made_next(&self, moves: &Moves, kernel: u32, pid: u32, state: u32) -> Option<Next>
-        ensures next { AreKnown self.now moves.now
-            → IfSome result (λ next. IsMoveFrom self.now kernel pid state next) }
+    /// What a process does next, if it has ended or this move was made.
+    pub(crate) fn made_next(&self, mover: Mover) -> Option<Next>
+        ensures next { AreKnown self.now → IfSome result (IsMoveFrom self.now mover) }
     {
-        if self.states.has_ended(state) {
+        if self.states.has_ended(mover.state) {
             return Some(Next::Nothing);
         }
-        let next = moves.find(kernel, pid, state)?;
+        let next = self.moves.find(mover)?;
         Some(next)
     }
 
-    /// Whether process `pid` goes on in a state and over a kernel that are kept, if it stands at a call
-    /// that works on one object, whose step was made.
-    fn touch_goes_on(&self, touches: &Touches, kernel: u32, pid: u32, state: u32) -> Option<bool>
-        ensures yes { AreTouched self.now touches.now → IfSome result (λ goes. IsTrue goes
-            → IsMoveFrom self.now kernel pid state Limit) }
+    /// Whether a process goes on, if it stands at a call that works on one object, whose step was made.
+    fn touch_goes_on(&self, mover: Mover) -> Option<bool>
+        ensures yes { AreKnown self.now
+            → IfSome result (λ goes. IsTrue goes → IsMoveFrom self.now mover Limit) }
     {
-        let touch = self.touch_at(kernel, pid, state)?;
-        let effect = touches.find(touch)?;
+        let touch = self.touch_at(mover)?;
+        let effect = self.moves.touches.find(touch)?;
         Some(!effect.is_nothing())
     }
 
-    /// Whether process `pid` goes on in a state and over a kernel that are kept, if it is known.
-    pub(crate) fn known_to_go_on(
-        &self,
-        moves: &Moves,
-        kernel: u32,
-        pid: u32,
-        state: u32,
-    ) -> Option<bool>
-        ensures yes { AreKnown self.now moves.now → IfSome result (λ goes. IsTrue goes
-            → IsMoveFrom self.now kernel pid state Limit) }
+    /// Whether a process goes on, if it is known.
+    pub(crate) fn known_to_go_on(&self, mover: Mover) -> Option<bool>
+        ensures yes { AreKnown self.now
+            → IfSome result (λ goes. IsTrue goes → IsMoveFrom self.now mover Limit) }
     {
-        if let Some(goes) = self.touch_goes_on(&moves.touches, kernel, pid, state) {
+        if let Some(goes) = self.touch_goes_on(mover) {
             return Some(goes);
         }
-        let next = self.made_next(moves, kernel, pid, state)?;
+        let next = self.made_next(mover)?;
         Some(!next.is_nothing())
     }
 }

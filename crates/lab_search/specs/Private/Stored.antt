@@ -8,19 +8,30 @@ use Rattle.lab_worlds.specs.Calls.{IsAhead, Alongside}
 use Rattle.lab_worlds.specs.Private.Kept.{Keeps}
 use Rattle.lab_worlds.specs.Stepped.{IsStepped}
 use Rattle.lab_states.specs.Rows.{Row}
+use Rattle.lab_search.specs.declared.known.Mover.{Mover}
+use Rattle.lab_search.specs.declared.rows.Change.{Change}
 use Rattle.lab_search.specs.declared.store.Store.{Store}
 use Rattle.lab_search.specs.declared.store.Next.{Next}
-use Rattle.lab_search.specs.Stored.{IsState, IsExactly, IsNext}
+use Rattle.lab_search.specs.declared.store.Next.TheVariants.{To}
+use Rattle.lab_search.specs.declared.touches.Effect.{Effect}
+use Rattle.lab_search.specs.Stored.{IsState, IsExactly, IsNext, IsNextAt, IsEffect, IsStore}
 
 -- the output with this number
 abbrev pub output_at : Store → ℕ → List ℕ
 output_at t n = get_or t.states.outputs n []
 
--- row number j is row number i with this kernel and this state of process p
-abbrev pub IsAfter : Store → ℕ → ℕ → ℕ → ℕ → ℕ → Type 0
-IsAfter t i p kernel state j =
-    (r : Row) × (slice_get t.rows i ≡ Some r)
-    × (slice_get t.rows j ≡ Some (record { kernel = kernel; states = slice_set r.states p state }))
+-- the row after a change
+abbrev pub changed : Row → Change → Row
+changed r c = record { kernel = c.kernel; states = slice_set r.states c.pid c.state }
+
+-- row number j is that of the row at its place
+abbrev pub IsAfter : Store → Change → ℕ → Type 0
+IsAfter t c j =
+    (r : Row) × (slice_get t.rows c.at ≡ Some r) × (slice_get t.rows j ≡ Some (changed r c))
+
+-- the process goes on so from the world of the row at its place
+abbrev pub IsStep : Store → Change → Type 0
+IsStep t c = (taken : ℕ) × IsNextAt t c.at c.pid (To c.kernel c.state taken)
 
 -- nothing is lost
 pub record Grows (t u : Store) : Type 0 where
@@ -29,13 +40,24 @@ pub record Grows (t u : Store) : Type 0 where
   pub rows : Keeps t.rows u.rows
   pub edges : Keeps t.edges u.edges
 
--- the same of whatever settled kernel, and whatever process, have these places
-abbrev pub IsMoveFrom : Store → ℕ → ℕ → ℕ → Next → Type 0
-IsMoveFrom t kernel p state next =
-    (k : KernelState) (s : Process) → IsExactly t kernel k → IsSettled k → IsState t state s
-    → IsNext t k p s next
+-- the second is a store, which has what the first has
+pub record IsLater (t u : Store) : Type 0 where
+  pub grows : Grows t u
+  pub store : IsStore u
 
--- the same where the kernel is given by its place
+-- what whatever settled kernel, and whatever process, have these places do next
+abbrev pub IsMoveFrom : Store → Mover → Next → Type 0
+IsMoveFrom t m next =
+    (k : KernelState) (s : Process) → IsExactly t m.kernel k → IsSettled k → IsState t m.state s
+    → IsNext t k m.pid s next
+
+-- what comes of an effect on the object in a place is what the process does next, as a later store has it
+abbrev pub IsNextBy : Store → Store → Mover → ℕ → Effect → Next → Type 0
+IsNextBy t u m i effect next =
+    (k : KernelState) (s : Process) → IsExactly t m.kernel k → IsSettled k
+    → IsEffect t k m.pid s i effect → IsNext u k m.pid s next
+
+-- what comes of a step where the kernel is given by its place
 abbrev pub IsKeptStep : Store → ℕ → ℕ → Process → Tried → Type 0
 IsKeptStep t kernel p s tried =
     (k : KernelState) × IsExactly t kernel k × IsSettled k × IsStepped k p s tried

@@ -14,8 +14,7 @@ use Rattle.lab_search.specs.declared.store.Store.{Store}
 use Rattle.lab_search.specs.declared.touches.Effect.{Effect}
 use Rattle.lab_search.specs.declared.touches.Effect.TheVariants.{Nothing, Limit, To}
 use Rattle.lab_search.specs.declared.touches.Touch.{Touch}
-use Rattle.lab_search.specs.Stored.{IsState}
-use Rattle.lab_search.specs.Touched.{AreParts}
+use Rattle.lab_search.specs.Stored.{IsState, AreParts}
 
 -- over this kernel process p has the tables of a call, which works on the object in the place
 pub record HasTouch (t : Store) (k : KernelState) (p : ℕ) (touch : Touch) : Type 0 where

@@ -19,7 +19,7 @@ visit-requires g c = record { held = starts_held c.processes-processes.result.it
 pub report-requires : goal.report-requires
 report-requires g c = (
   record { shared = c.type_bounds.sync-R.shared },
-  (subst AreStarts (sym c.deref-2.ensures.value) c.processes-processes.ensures.starts, (c.in_ok-visited.ensures.store, c.in_ok-visited.ensures.known)),
+  (subst AreStarts (sym c.deref-2.ensures.value) c.processes-processes.ensures.starts, c.in_ok-visited.ensures.store),
 )
 
 pub returns-in-Ok : goal.returns-in-Ok

@@ -12,5 +12,5 @@ returns c = record {
       let t = c.args.self.now.store in
       let found : Some c.in-Some.pid ≡ Some p = c.in-Some.ensures.keeper ∙ ap (keeper_of c.args.keepers.now) c.rank_at.ensures.rank ∙ keeper in
       let same : c.in-Some.pid ≡ p = cc in
-      subst (λ q. GoesOn (step_effect_in w q)) same (goes_on t w c.args.at c.in-Some.pid Limit here (c.in-Some-goes_on.ensures.yes c.requires.known is) (λ e. cc));
+      subst (λ q. GoesOn (step_effect_in w q)) same (goes_on t w c.args.at c.in-Some.pid Limit here (c.in-Some-goes_on.ensures.yes c.requires.store.known is) (λ e. cc));
 }

@@ -6,6 +6,6 @@ use Rattle.lab_search.proofs.known.Moves.keep.Goals as goal
 
 pub returns-clause-known : goal.returns-clause-known
 returns-clause-known c = λ t known move.
-    let all = All (λ (m : Move). IsMove t m.kernel m.pid m.state m.next) in
+    let all = All (λ (m : Move). IsMove t m.mover m.next) in
     let old = subst all (sym (ap (λ v. v.items) c.put_next.ensures.made)) known in
-    subst all (sym c.in_ok-push.ensures.items) (All-push (λ (m : Move). IsMove t m.kernel m.pid m.state m.next) c.put_next.new.self.made.items _ old move)
+    subst all (sym c.in_ok-push.ensures.items) (All-push (λ (m : Move). IsMove t m.mover m.next) c.put_next.new.self.made.items _ old move)

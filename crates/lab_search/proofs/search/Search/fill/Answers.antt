@@ -13,4 +13,7 @@ returns-clause-complete g c is =
     let u = c.go_on.new.self.store in
     let start : WorldState = record { processes = map process_view c.args.processes.now; kernel = c.args.kernel.now } in
     subst (λ b. IsSearchedIn b start u) c.in_ok-kept.ensures.sparse
-    (searched_in c.begin.new.self.sparse start u (first.0, at_grows t u 0 first.0 (c.in_ok-go_on.ensures.grows is) first.1, first.2) (c.in_ok-go_on.ensures.tried is) (c.in_ok-go_on.ensures.names is))
+    (searched_in c.begin.new.self.sparse start u (first.0, at_grows t u 0 first.0 (c.in_ok-go_on.ensures.later is).grows first.1, first.2) (c.in_ok-go_on.ensures.tried is) (c.in_ok-go_on.ensures.names is))
+
+pub returns-clause-store : goal.returns-clause-store
+returns-clause-store g c is = (c.in_ok-go_on.ensures.later is).store

@@ -13,7 +13,7 @@ returns-clause-edge c is w here =
     let e = c.in-Some.edge in
     let pushed = c.in_ok-pushed.ensures.pushed c.if-not-pushed.false in
     let leads = leads_by t c.args.at c.args.pid c.args.to e c.in-Some.ensures.from c.in-Some.ensures.pid c.in-Some.ensures.to c.requires.leads in
-    let g = (edges_pushed t _ e c.requires.store leads pushed refl refl refl).0 in
+    let g = (edges_pushed t _ e c.requires.store leads pushed refl refl refl refl).grows in
     let same = at_unique t c.args.at c.requires.leads.0 w c.requires.leads.2 here in
     let v = c.requires.leads.1 in
     let made =
@@ -21,18 +21,10 @@ returns-clause-edge c is w here =
     (subst (λ x. AreReached (step x c.args.pid) v) same c.requires.leads.4) in
     (made.0, made.1 ∙ c.in-Some.ensures.to)
 
-pub returns-clause-store : goal.returns-clause-store
-returns-clause-store c =
+pub returns-clause-later : goal.returns-clause-later
+returns-clause-later c =
     let leads = leads_by c.args.self.now c.args.at c.args.pid c.args.to c.in-Some.edge c.in-Some.ensures.from c.in-Some.ensures.pid c.in-Some.ensures.to c.requires.leads in
-    (edges_pushed c.args.self.now _ c.in-Some.edge c.requires.store leads (c.in_ok-pushed.ensures.pushed c.if-not-pushed.false) refl refl refl).1
+    edges_pushed c.args.self.now _ c.in-Some.edge c.requires.store leads (c.in_ok-pushed.ensures.pushed c.if-not-pushed.false) refl refl refl refl
 
-pub returns-clause-grows : goal.returns-clause-grows
-returns-clause-grows c =
-    let leads = leads_by c.args.self.now c.args.at c.args.pid c.args.to c.in-Some.edge c.in-Some.ensures.from c.in-Some.ensures.pid c.in-Some.ensures.to c.requires.leads in
-    (edges_pushed c.args.self.now _ c.in-Some.edge c.requires.store leads (c.in_ok-pushed.ensures.pushed c.if-not-pushed.false) refl refl refl).0
-
-pub returns-then-not-pushed-clause-store : goal.returns-then-not-pushed-clause-store
-returns-then-not-pushed-clause-store c = (rows_same c.args.self.now _ c.requires.store refl refl refl (c.in_ok-pushed.ensures.same c.if-not-pushed.true)).1
-
-pub returns-then-not-pushed-clause-grows : goal.returns-then-not-pushed-clause-grows
-returns-then-not-pushed-clause-grows c = (rows_same c.args.self.now _ c.requires.store refl refl refl (c.in_ok-pushed.ensures.same c.if-not-pushed.true)).0
+pub returns-then-not-pushed-clause-later : goal.returns-then-not-pushed-clause-later
+returns-then-not-pushed-clause-later c = rows_same c.args.self.now _ c.requires.store refl refl refl (c.in_ok-pushed.ensures.same c.if-not-pushed.true) refl

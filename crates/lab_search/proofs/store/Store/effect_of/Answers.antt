@@ -1,6 +1,12 @@
-use Rattle.lab_search.proofs.Growths.{touches_grow}
+use Rattle.std.proofs.Common.{refl}
+use Rattle.lab_search.proofs.Growths.{later_more, moves_kept}
 use Rattle.lab_search.proofs.store.Store.effect_of.Goals as goal
 
-pub returns-clause-touches : goal.returns-clause-touches
-returns-clause-touches c =
-    c.in_ok-keep.ensures.known c.make_effect.new.self (touches_grow c.args.self.now c.make_effect.new.self c.args.touches.now c.in_ok-effect.ensures.grows c.requires.touches) c.in_ok-effect.ensures.touched
+pub returns-clause-later : goal.returns-clause-later
+returns-clause-later c =
+    let t = c.make_effect.new.self in
+    let s = c.in_ok-effect.ensures.later.store in
+    later_more c.args.self.now t _ c.in_ok-effect.ensures.later (moves_kept t _ s refl refl refl refl s.known.moves (c.in_ok-keep.ensures.known t s.known.touches c.in_ok-effect.ensures.touched))
+
+pub returns-clause-touched : goal.returns-clause-touched
+returns-clause-touched c = c.in_ok-effect.ensures.touched

@@ -1,14 +1,11 @@
 use Rattle.std.proofs.Common.{ℕ, ◌<◌, IsTrue}
 use Rattle.lab_sched.specs.Worlds.{WorldState}
-use Rattle.lab_search.specs.Known.{AreKnown}
-use Rattle.lab_search.specs.Stored.{IsStore, IsAt, IsTried}
-use Rattle.lab_search.specs.Private.Stored.{Grows}
+use Rattle.lab_search.specs.Stored.{IsAt, IsTried}
+use Rattle.lab_search.specs.Private.Stored.{IsLater}
 use Rattle.lab_search.proofs.store.Store.expand.Given as goal
 
 abbrev pub invariant-loop-pid : goal.invariant-loop-pid
 invariant-loop-pid l = record {
-  store : IsStore l.self;
-  known : AreKnown l.self l.moves;
-  grows : Grows l.fn.self l.self;
+  later : IsLater l.fn.self l.self;
   tried : IsTrue l.whole → (w : WorldState) → IsAt l.fn.self l.at w → (p : ℕ) → p < l.pid → IsTried l.self l.at w p;
 }

@@ -1,5 +1,5 @@
 use Rattle.std.proofs.Common.{inl, inr}
-use Rattle.lab_search.proofs.Growths.{grows_more}
+use Rattle.lab_search.proofs.Growths.{later_more}
 use Rattle.lab_search.proofs.store.Store.expand_sparsely.Goals as goal
 
 pub returns-then-alone-clause-tried : goal.returns-then-alone-clause-tried
@@ -8,5 +8,5 @@ returns-then-alone-clause-tried c is = inr (c.in_ok-alone.ensures.alone c.if-alo
 pub returns-clause-tried : goal.returns-clause-tried
 returns-clause-tried c is = inl (c.in_ok-expanded.ensures.expanded is)
 
-pub returns-clause-grows : goal.returns-clause-grows
-returns-clause-grows c = grows_more c.args.self.now c.try_independent.new.self c.expand.new.self c.in_ok-alone.ensures.grows c.in_ok-expanded.ensures.grows
+pub returns-clause-later : goal.returns-clause-later
+returns-clause-later c = later_more c.args.self.now c.try_independent.new.self c.expand.new.self c.in_ok-alone.ensures.later c.in_ok-expanded.ensures.later

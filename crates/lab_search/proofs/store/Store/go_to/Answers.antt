@@ -1,8 +1,8 @@
 use Rattle.lab_search.proofs.StepsOfRows.{next_to, stays}
 use Rattle.lab_search.proofs.store.Store.go_to.Goals as goal
 
-pub keep_next-requires-clause-next : goal.keep_next-requires-clause-next
-keep_next-requires-clause-next c = next_to c.args.self.now c.args.at c.args.pid c.in-To.kernel c.in-To.state _ c.args.next c.in-To.is c.requires.next
+pub keep_next-requires-clause-step : goal.keep_next-requires-clause-step
+keep_next-requires-clause-step c = next_to c.args.self.now c.args.at c.args.pid c.in-To.kernel c.in-To.state _ c.args.next c.in-To.is c.requires.next
 
 pub returns-in_ok-kept-in-To-clause-tried : goal.returns-in_ok-kept-in-To-clause-tried
 returns-in_ok-kept-in-To-clause-tried c is w here effective = c.in_ok-kept-in-To.ensures.edge is w here

@@ -3,12 +3,7 @@ use Rattle.lab_states.specs.Shorts.{whole_of}
 use Rattle.lab_search.proofs.Growths.{states_kept}
 use Rattle.lab_search.proofs.store.Store.keep_behind.Goals as goal
 
-pub returns-clause-store : goal.returns-clause-store
-returns-clause-store c =
+pub returns-clause-later : goal.returns-clause-later
+returns-clause-later c =
     let t = c.args.self.now in
-    (states_kept t _ (whole_of t.states.outputs c.args.short) c.requires.store c.requires.ready c.in_ok-place.ensures.kept refl refl refl).1
-
-pub returns-clause-grows : goal.returns-clause-grows
-returns-clause-grows c =
-    let t = c.args.self.now in
-    (states_kept t _ (whole_of t.states.outputs c.args.short) c.requires.store c.requires.ready c.in_ok-place.ensures.kept refl refl refl).0
+    states_kept t _ (whole_of t.states.outputs c.args.short) c.requires.store c.requires.ready c.in_ok-place.ensures.kept refl refl refl refl

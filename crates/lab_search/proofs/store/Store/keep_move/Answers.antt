@@ -1,16 +1,17 @@
-use Rattle.std.proofs.Common.{sym, subst}
-use Rattle.lab_search.specs.Touched.{AreTouched}
+use Rattle.std.proofs.Common.{refl, sym, subst}
+use Rattle.lab_search.specs.declared.touches.Touches.{Touches}
+use Rattle.lab_search.specs.Stored.{AreTouched}
+use Rattle.lab_search.proofs.Growths.{moves_kept}
 use Rattle.lab_search.proofs.StepsOfRows.{move_kept}
 use Rattle.lab_search.proofs.store.Store.keep_move.Goals as goal
 
 pub returns : goal.returns
 returns c = record {
-  known =
+  later =
       let t = c.args.self.now in
       let here = c.in-Some.ensures.state in
-      record {
-        moves = c.in_ok-keep.ensures.known t c.requires.known.moves
-            (move_kept t c.args.kernel c.args.pid c.args.state c.args.next here.0 c.requires.kernel here.1 c.requires.next);
-        touches = subst (λ ts. AreTouched t ts) (sym c.in_ok-keep.ensures.touches) c.requires.known.touches;
-      };
+      let move = move_kept t c.args.mover c.args.next here.0 c.requires.kernel here.1 c.requires.next in
+      moves_kept t _ c.requires.store refl refl refl refl (c.in_ok-keep.ensures.known t c.requires.store.known.moves move)
+      (subst (λ (ts : Touches). AreTouched t ts.made.items) (sym c.in_ok-keep.ensures.touches) c.requires.store.known.touches);
+  next = c.requires.next;
 }

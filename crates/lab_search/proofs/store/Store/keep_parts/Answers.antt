@@ -3,16 +3,16 @@ use Rattle.ipc_kernel.specs.Operands.{HasOperand}
 use Rattle.lab_sched.specs.Held.{process_view}
 use Rattle.lab_states.specs.Shorts.{kept_behind}
 use Rattle.lab_search.specs.Private.Stored.{output_at}
-use Rattle.lab_search.proofs.Growths.{grows_more, state_grows}
+use Rattle.lab_search.proofs.Growths.{later_more, state_grows}
 use Rattle.lab_search.proofs.StepsBehind.{ready_behind, stepped_behind}
 use Rattle.lab_search.proofs.store.Store.keep_parts.Goals as goal
 
 pub keep_behind-requires-clause-ready : goal.keep_behind-requires-clause-ready
 keep_behind-requires-clause-ready c = ready_behind c.args.made.process (output_at c.args.self.now c.args.before) c.requires.ready
 
-pub returns-in-Some-object_at-clause-grows : goal.returns-in-Some-object_at-clause-grows
-returns-in-Some-object_at-clause-grows c =
-    grows_more c.args.self.now c.keep_behind.new.self c.keep_kernel-number.new.self c.in-Ok.ensures.grows c.in_ok-kernel-in-Ok.ensures.grows
+pub returns-in-Some-object_at-clause-later : goal.returns-in-Some-object_at-clause-later
+returns-in-Some-object_at-clause-later c =
+    later_more c.args.self.now c.keep_behind.new.self c.keep_kernel-number.new.self c.in-Ok.ensures.later c.in_ok-kernel-in-Ok.ensures.later
 
 pub returns-in-Some-object_at-clause-effect : goal.returns-in-Some-object_at-clause-effect
 returns-in-Some-object_at-clause-effect c k s h =
@@ -28,7 +28,7 @@ returns-in-Some-object_at-clause-effect c k s h =
       q.0,
       u,
       (x.1, q.1),
-      state_grows c.keep_behind.new.self c.keep_kernel-number.new.self c.in-Ok.state u c.in_ok-kernel-in-Ok.ensures.grows c.in-Ok.ensures.state,
+      state_grows c.keep_behind.new.self c.keep_kernel-number.new.self c.in-Ok.state u c.in_ok-kernel-in-Ok.ensures.later.grows c.in-Ok.ensures.state,
       subst (λ j. HasOperand j c.args.pid c.args.place x.0 q.0) made.0 has,
       made.2,
       made.3,

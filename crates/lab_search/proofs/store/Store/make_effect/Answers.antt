@@ -20,8 +20,8 @@ returns-in-Ok-Still-clause-touched c =
     let o = output_at t short.before in
     let here = state_behind t c.args.touch.state short c.in-Some.ensures.whole in
     let h = c.in-Ok-Still.ensures.tried in
-    let still = subst (λ x. IsStepped h.0 c.args.pid s x) c.in-Ok-Still.field-0-is h.3 in
-    touched_made t t h.0 c.args.pid (behind o s) c.args.touch effect.Nothing (grows_same t) h.2 here (c.requires.operand h.0 h.1) (λ goes. still (went_behind h.0 c.args.pid s o goes))
+    let still = subst (λ x. IsStepped h.0 c.args.mover.pid s x) c.in-Ok-Still.field-0-is h.3 in
+    touched_made t t h.0 c.args.mover.pid (behind o s) c.args.touch effect.Nothing (grows_same t) h.2 here (c.requires.operand h.0 h.1) (λ goes. still (went_behind h.0 c.args.mover.pid s o goes))
 
 pub returns-in-Ok-Runs-clause-touched : goal.returns-in-Ok-Runs-clause-touched
 returns-in-Ok-Runs-clause-touched c =
@@ -31,8 +31,8 @@ returns-in-Ok-Runs-clause-touched c =
     let o = output_at t short.before in
     let here = state_behind t c.args.touch.state short c.in-Some.ensures.whole in
     let h = c.in-Ok-Runs.ensures.tried in
-    let runs = subst (λ x. IsStepped h.0 c.args.pid s x) c.in-Ok-Runs.field-0-is h.3 in
-    touched_made t t h.0 c.args.pid (behind o s) c.args.touch effect.Limit (grows_same t) h.2 here (c.requires.operand h.0 h.1) (goes_behind h.0 c.args.pid s o runs)
+    let runs = subst (λ x. IsStepped h.0 c.args.mover.pid s x) c.in-Ok-Runs.field-0-is h.3 in
+    touched_made t t h.0 c.args.mover.pid (behind o s) c.args.touch effect.Limit (grows_same t) h.2 here (c.requires.operand h.0 h.1) (goes_behind h.0 c.args.mover.pid s o runs)
 
 pub returns-in_ok-effect-in-Ok-Came-clause-touched : goal.returns-in_ok-effect-in-Ok-Came-clause-touched
 returns-in_ok-effect-in-Ok-Came-clause-touched c =
@@ -42,6 +42,6 @@ returns-in_ok-effect-in-Ok-Came-clause-touched c =
     let o = output_at t short.before in
     let here = state_behind t c.args.touch.state short c.in-Some.ensures.whole in
     let h = c.in-Ok-Came.ensures.tried in
-    let stepped = subst (λ x. IsStepped h.0 c.args.pid s x) c.in-Ok-Came.field-0-is h.3 in
-    touched_made t c.keep_parts.new.self h.0 c.args.pid (behind o s) c.args.touch c.in_ok-effect-in-Ok-Came.effect c.in_ok-effect-in-Ok-Came.ensures.grows h.2 here
+    let stepped = subst (λ x. IsStepped h.0 c.args.mover.pid s x) c.in-Ok-Came.field-0-is h.3 in
+    touched_made t c.keep_parts.new.self h.0 c.args.mover.pid (behind o s) c.args.touch c.in_ok-effect-in-Ok-Came.effect c.in_ok-effect-in-Ok-Came.ensures.later.grows h.2 here
     (c.requires.operand h.0 h.1) (c.in_ok-effect-in-Ok-Came.ensures.effect h.0 s stepped)

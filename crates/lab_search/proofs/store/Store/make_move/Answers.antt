@@ -1,25 +1,20 @@
-use Rattle.std.proofs.Common.{sym, subst}
-use Rattle.lab_search.specs.Touched.{AreTouched}
-use Rattle.lab_search.proofs.Growths.{moves_grow, touches_grow}
+use Rattle.std.proofs.Common.{refl, sym, subst}
+use Rattle.lab_search.specs.declared.touches.Touches.{Touches}
+use Rattle.lab_search.specs.Stored.{AreTouched}
+use Rattle.lab_search.proofs.Growths.{later_more, moves_kept}
+use Rattle.lab_search.proofs.StepsOfRows.{move_from}
 use Rattle.lab_search.proofs.store.Store.make_move.Goals as goal
 
-pub keep_move-requires-clause-known : goal.keep_move-requires-clause-known
-keep_move-requires-clause-known c = record {
-  moves = moves_grow c.args.self.now c.make_touched.new.self c.args.moves.now c.in_ok-next.ensures.grows c.requires.known.moves;
-  touches = c.in_ok-next.ensures.touches;
-}
-
 pub keep_move-requires-clause-kernel : goal.keep_move-requires-clause-kernel
-keep_move-requires-clause-kernel c = let k = c.requires.kernel in (k.0, c.in_ok-next.ensures.grows.kernels.kernels c.args.kernel k.0 k.1)
+keep_move-requires-clause-kernel c = let k = c.requires.kernel in (k.0, c.in_ok-next.ensures.later.grows.kernels.kernels c.args.mover.kernel k.0 k.1)
 
-pub returns-clause-known : goal.returns-clause-known
-returns-clause-known c =
-    let t = c.args.self.now in
-    let u = c.make_touched.new.self in
-    let v = c.make_next.new.self in
-    let moved = moves_grow u v c.args.moves.now c.in_ok-next-2.ensures.grows (moves_grow t u c.args.moves.now c.in_ok-next.ensures.grows c.requires.known.moves) in
-    let touched = touches_grow u v c.make_touched.new.touches c.in_ok-next-2.ensures.grows c.in_ok-next.ensures.touches in
-    record {
-      moves = c.in_ok-keep.ensures.known v moved c.in_ok-next-2.ensures.next;
-      touches = subst (λ ts. AreTouched v ts) (sym c.in_ok-keep.ensures.touches) touched;
-    }
+pub returns-clause-later : goal.returns-clause-later
+returns-clause-later c =
+    let t = c.make_next.new.self in
+    let s = c.in_ok-next-2.ensures.later.store in
+    later_more c.args.self.now t _ (later_more c.args.self.now c.make_touched.new.self t c.in_ok-next.ensures.later c.in_ok-next-2.ensures.later)
+    (moves_kept t _ s refl refl refl refl (c.in_ok-keep.ensures.known t s.known.moves c.in_ok-next-2.ensures.next)
+    (subst (λ (ts : Touches). AreTouched t ts.made.items) (sym c.in_ok-keep.ensures.touches) s.known.touches))
+
+pub returns-clause-next : goal.returns-clause-next
+returns-clause-next c = move_from c.make_next.new.self c.args.mover c.in_ok-next-2.next c.in_ok-next-2.ensures.next

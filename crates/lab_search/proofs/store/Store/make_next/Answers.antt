@@ -8,7 +8,7 @@ use Rattle.lab_search.proofs.StepsBehind.{goes_behind, held_apart, state_behind,
 use Rattle.lab_search.proofs.store.Store.make_next.Goals as goal
 
 pub try_next-requires : goal.try_next-requires
-try_next-requires c = record { held = held_apart c.args.self.now c.args.state c.in-Some.short.now c.requires.store c.in-Some.ensures.whole }
+try_next-requires c = record { held = held_apart c.args.self.now c.args.mover.state c.in-Some.short.now c.requires.store c.in-Some.ensures.whole }
 
 pub returns-in-Ok-Still-clause-next : goal.returns-in-Ok-Still-clause-next
 returns-in-Ok-Still-clause-next c =
@@ -17,8 +17,8 @@ returns-in-Ok-Still-clause-next c =
     let s = process_view short.process in
     let o = output_at t short.before in
     let h = c.in-Ok-Still.ensures.tried in
-    let still = subst (λ x. IsStepped h.0 c.args.pid s x) c.in-Ok-Still.field-0-is h.3 in
-    (h.0, behind o s, h.1, state_behind t c.args.state short c.in-Some.ensures.whole, λ settled goes. still (went_behind h.0 c.args.pid s o goes))
+    let still = subst (λ x. IsStepped h.0 c.args.mover.pid s x) c.in-Ok-Still.field-0-is h.3 in
+    (h.0, behind o s, h.1, state_behind t c.args.mover.state short c.in-Some.ensures.whole, λ settled goes. still (went_behind h.0 c.args.mover.pid s o goes))
 
 pub returns-in-Ok-Runs-clause-next : goal.returns-in-Ok-Runs-clause-next
 returns-in-Ok-Runs-clause-next c =
@@ -27,8 +27,8 @@ returns-in-Ok-Runs-clause-next c =
     let s = process_view short.process in
     let o = output_at t short.before in
     let h = c.in-Ok-Runs.ensures.tried in
-    let runs = subst (λ x. IsStepped h.0 c.args.pid s x) c.in-Ok-Runs.field-0-is h.3 in
-    (h.0, behind o s, h.1, state_behind t c.args.state short c.in-Some.ensures.whole, λ settled. goes_behind h.0 c.args.pid s o runs)
+    let runs = subst (λ x. IsStepped h.0 c.args.mover.pid s x) c.in-Ok-Runs.field-0-is h.3 in
+    (h.0, behind o s, h.1, state_behind t c.args.mover.state short c.in-Some.ensures.whole, λ settled. goes_behind h.0 c.args.mover.pid s o runs)
 
 pub returns-in_ok-next-in-Ok-Came-clause-next : goal.returns-in_ok-next-in-Ok-Came-clause-next
 returns-in_ok-next-in-Ok-Came-clause-next c =
@@ -37,11 +37,11 @@ returns-in_ok-next-in-Ok-Came-clause-next c =
     let s = process_view short.process in
     let o = output_at t short.before in
     let h = c.in-Ok-Came.ensures.tried in
-    let stepped = subst (λ x. IsStepped h.0 c.args.pid s x) c.in-Ok-Came.field-0-is h.3 in
-    let g = c.in_ok-next-in-Ok-Came.ensures.grows in (
+    let stepped = subst (λ x. IsStepped h.0 c.args.mover.pid s x) c.in-Ok-Came.field-0-is h.3 in
+    let g = c.in_ok-next-in-Ok-Came.ensures.later.grows in (
       h.0,
       behind o s,
-      g.kernels.kernels c.args.kernel h.0 h.1,
-      state_grows t c.keep_made.new.self c.args.state (behind o s) g (state_behind t c.args.state short c.in-Some.ensures.whole),
-      λ settled. c.in_ok-next-in-Ok-Came.ensures.next h.0 c.args.pid s stepped,
+      g.kernels.kernels c.args.mover.kernel h.0 h.1,
+      state_grows t c.keep_made.new.self c.args.mover.state (behind o s) g (state_behind t c.args.mover.state short c.in-Some.ensures.whole),
+      λ settled. c.in_ok-next-in-Ok-Came.ensures.next h.0 c.args.mover.pid s stepped,
     )

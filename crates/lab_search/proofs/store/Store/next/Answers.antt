@@ -15,5 +15,5 @@ make_move-requires-clause-kernel c =
 pub returns-clause-next : goal.returns-clause-next
 returns-clause-next c =
     let placed = c.in-Some.ensures.places in
-    next_of c.make_move.new.self c.args.at c.args.pid c.in-Some.kernel c.in-Some.state c.in_ok-next.next
-    (placed.0, c.in_ok-next.ensures.grows.rows c.args.at placed.0 placed.1, placed.2, placed.3) c.in_ok-next.ensures.next
+    next_of c.make_move.new.self c.args.at (record { kernel = c.in-Some.kernel; pid = c.args.pid; state = c.in-Some.state }) c.in_ok-next.next
+    (placed.0, c.in_ok-next.ensures.later.grows.rows c.args.at placed.0 placed.1, placed.2, placed.3) c.in_ok-next.ensures.next

@@ -6,6 +6,6 @@ pub returns-in_ok-kernel-in-To : goal.returns-in_ok-kernel-in-To
 returns-in_ok-kernel-in-To c = record {
   next = λ k s at settled effect.
       let t = c.args.self.now in
-      next_by_effect t t k c.args.pid s c.args.place c.in_ok-kernel-in-To.kernel c.in-To.tables c.in-To.object c.in-To.state c.in-To.taken (grows_same t) settled (rw c.in-To.is at effect)
+      next_by_effect t t k c.args.mover.pid s c.args.place c.in_ok-kernel-in-To.kernel c.in-To.tables c.in-To.object c.in-To.state c.in-To.taken (grows_same t) settled (rw c.in-To.is at effect)
       (λ o x object tables. c.in_ok-kernel-in-To.ensures.kept k o x at object tables);
 }

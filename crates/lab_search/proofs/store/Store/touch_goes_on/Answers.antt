@@ -7,8 +7,9 @@ pub returns : goal.returns
 returns c = record {
   yes = λ known is k s at settled here.
       let t = c.args.self.now in
+      let m = c.args.mover in
       let touch = c.in_ok-touch.touch in
       let effect = c.in_ok-effect.effect in
-      move_by_touch t t c.args.kernel c.args.pid c.args.state Limit touch effect k (grows_same t) at c.in_ok-touch.ensures.state
-      (c.in_ok-touch.ensures.operand k at) (c.in_ok-effect.ensures.known t known) (λ j u exact fixed made. effect_goes_on t j c.args.pid u touch.place effect (c.is_nothing.ensures.no (not_true c.is_nothing.result is)) made) k s at settled here;
+      move_by_touch t t m Limit touch effect k (grows_same t) at c.in_ok-touch.ensures.state (c.in_ok-touch.ensures.operand k at) (c.in_ok-effect.ensures.known t known.touches)
+      (λ j u exact fixed made. effect_goes_on t j m.pid u touch.place effect (c.is_nothing.ensures.no (not_true c.is_nothing.result is)) made) k s at settled here;
 }

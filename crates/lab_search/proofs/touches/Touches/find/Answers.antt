@@ -1,6 +1,6 @@
 use Rattle.std.proofs.Common.{All, refl, ◌-◌, sym, subst}
 use Rattle.lab_search.specs.declared.touches.Touched.{Touched}
-use Rattle.lab_search.specs.Touched.{IsTouched}
+use Rattle.lab_search.specs.Stored.{IsTouched}
 use Rattle.lab_search.proofs.touches.Touches.find.Goals as goal
 
 pub returns-then-is_same : goal.returns-then-is_same

@@ -1,7 +1,7 @@
 use Rattle.std.proofs.Common.{All, sym, subst}
 use Rattle.std.proofs.lemmas.List.Elements.{All-push}
 use Rattle.lab_search.specs.declared.touches.Touched.{Touched}
-use Rattle.lab_search.specs.Touched.{IsTouched}
+use Rattle.lab_search.specs.Stored.{IsTouched}
 use Rattle.lab_search.proofs.touches.Touches.keep.Goals as goal
 
 pub returns : goal.returns
