@@ -70,7 +70,6 @@ impl Move {
 }
 
 impl Moves {
-    /// No move; what was made is found by an index of no number.
     pub(crate) fn new(alloc: Global, index: Index) -> Moves
         ensures moves { result.made.items ≡ [] }
         ensures touches { result.touches.made.items ≡ [] }
@@ -82,7 +81,6 @@ impl Moves {
         }
     }
 
-    /// The number of the newest move of a process over a kernel, or 0.
     fn newest(&self, mover: Mover) -> u32 {
         match self.newest.get(mover.newest_at()) {
             Some(number) => *number,

@@ -22,7 +22,6 @@ use std::alloc::AllocError;
 const RETURNS: usize = 4;
 
 impl Store {
-    /// What comes of a step of a process, over a kernel that is kept.
     fn try_next(&self, mover: Mover, process: &Process, most: u32) -> Result<Tried, ExploreFault>
         requires held { IsHeld process.now }
         ensures tried { IfOk result (λ tried.
@@ -73,7 +72,6 @@ impl Store {
         }
     }
 
-    /// What a process does next in a state and over a kernel that are kept.
     fn make_next(&mut self, mover: Mover, most: u32) -> Result<Next, ExploreFault>
         requires store { IsStore self.old }
         ensures later { OnOk result (IsLater self.old self.new) }
@@ -141,7 +139,6 @@ impl Store {
         }
     }
 
-    /// What comes of a step of a process at its call that works on one object.
     fn make_effect(&mut self, mover: Mover, touch: Touch, most: u32) -> Result<Effect, ExploreFault>
         requires store { IsStore self.old }
         requires operand { (k : KernelState) → IsExactly self.old mover.kernel k
@@ -164,7 +161,8 @@ impl Store {
         }
     }
 
-    /// The same, which is made if it wasn't made before.
+    /// What comes of a step of a process at its call that works on one object. It is made if it wasn't
+    /// made before.
     fn effect_of(&mut self, mover: Mover, touch: Touch, most: u32) -> Result<Effect, ExploreFault>
         requires store { IsStore self.old }
         requires operand { (k : KernelState) → IsExactly self.old mover.kernel k

@@ -59,7 +59,6 @@ impl Store {
         }
     }
 
-    /// What process `pid` does next in the world of a row.
     pub(crate) fn next(&mut self, at: usize, pid: u32, most: u32) -> Result<Next, ExploreFault>
         requires store { IsStore self.old }
         ensures later { OnOk result (IsLater self.old self.new) }

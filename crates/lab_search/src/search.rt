@@ -141,7 +141,6 @@ impl Store {
     }
 }
 
-/// The numbers of a row.
 fn first_row(alloc: Global, kernel: u32, states: &[u32]) -> Result<Vec<u32>, AllocError>
     ensures kernel { IfOk result (λ row. (row_of row.items).kernel ≡ kernel) }
     ensures states { IfOk result (λ row. (row_of row.items).states ≡ states.now) }
@@ -152,7 +151,6 @@ fn first_row(alloc: Global, kernel: u32, states: &[u32]) -> Result<Vec<u32>, All
 }
 
 impl Search {
-    /// The search, which is sparse or isn't, before its first world.
     fn new(alloc: Global, processes: usize, sparse: bool) -> Result<Search, AllocError>
         ensures sparse { IfOk result (λ s. s.sparse ≡ sparse) }
         ensures store { IfOk result (λ s. IsStore s.store) }

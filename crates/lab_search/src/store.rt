@@ -28,7 +28,6 @@ pub enum Next {
 }
 
 impl Next {
-    /// Whether it is nothing.
     pub(crate) fn is_nothing(self) -> bool
         ensures yes { IsTrue result → self ≡ Nothing }
         ensures no { result ≡ false → self ≡ Nothing → ⊥ }

@@ -81,7 +81,6 @@ impl Effect {
 }
 
 impl Touches {
-    /// No step; what was made is found by an index of no number.
     pub(crate) fn new(alloc: Global, index: Index) -> Touches
         ensures none { result.made.items ≡ [] }
     {
