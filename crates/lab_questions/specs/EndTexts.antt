@@ -1,6 +1,7 @@
 -- The lines of ends, of a round, and the last one.
 use Rattle.std.specs.Prelude.{ℕ, ◌+◌, ◌≡◌, Bool, true, false, not, Option, Some, None, List, [], ◌∷◌, ◌++◌, codes, filter, bytes_eq, slice_get}
 use Rattle.std.specs.Fmt.{decimal}
+use Rattle.std.specs.Option.{option_and_then}
 use Rattle.lab_sched.specs.declared.schedule.block.Block.{Block}
 use Rattle.lab_sched.specs.ScheduleTexts.{schedule_text}
 use Rattle.lab_worlds.specs.declared.ends.End.{End}
@@ -29,6 +30,10 @@ IsAt ends i e = slice_get ends i ≡ Some e
 -- these numbers are those of the ends that are told, in order
 abbrev pub AreTold : Show → List End → List ℕ → Type 0
 AreTold show ends numbers = Alongside (IsAt ends) numbers (told_ends show ends)
+
+-- of ends of which those with these numbers are told: the one that is told behind so many others, if there is one
+abbrev pub told_end : List End → List ℕ → ℕ → Option End
+told_end ends numbers before = option_and_then (slice_get ends) (slice_get numbers before)
 
 -- the line of a schedule
 unfoldable pub schedule_line : List Block → List ℕ

@@ -1,6 +1,7 @@
 //! Answers on what was found.
 ghost use Rattle.std.specs.Prelude.{◌≡◌, None, map, string_bytes, All, IfOk, IfSome};
-ghost use Rattle.lab_questions.specs.EndTexts.{AreTold};
+ghost use Rattle.std.specs.Option.{option_copied};
+ghost use Rattle.lab_questions.specs.EndTexts.{AreTold, told_end};
 ghost use Rattle.lab_questions.specs.Judgments.{IsAnswer};
 ghost use Rattle.lab_questions.specs.Programs.{Passes, IsFailure};
 ghost use Rattle.lab_questions.specs.Texts.{answers_text};
@@ -48,7 +49,10 @@ pub(crate) struct Said {
 
 impl Answers {
     /// The end that is told behind so many others.
-    pub fn end(&self, before: usize) -> Option<&End> {
+    pub fn end(&self, before: usize) -> Option<&End>
+        ensures end { option_copied result ≡ told_end self.now.exploration.ends.items
+            self.now.told.items before }
+    {
         self.exploration.ends.get(*self.told.get(before)?)
     }
 }
