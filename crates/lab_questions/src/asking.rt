@@ -13,9 +13,8 @@ ghost use Rattle.lab_questions.specs.Programs.{TellEveryEnd, AlwaysMeet, ComeTo,
 ghost use Rattle.lab_questions.specs.Texts.{schedule_at, answers_text};
 
 use crate::answers::said_of;
-use crate::presence::{unopened_in, watch};
+use crate::finding::find;
 use crate::{Answers, Asked};
-use lab_explore::explore;
 use lab_sched::Fresh;
 use lab_worlds::{ExploreFault, Limits, Observer, Workers};
 use std::alloc::Global;
@@ -105,26 +104,21 @@ pub fn ask<O: Observer, R: Threads + Sync>(
         a.answers.items) }
 {
     let mut asked = asked;
-    let count = asked.never.len();
-    let objects = watch(alloc, &mut asked.never)?;
-    let mut exploration = explore(
+    let found = find(
         alloc,
         fresh,
         limits,
-        &asked.never,
+        &mut asked.never,
         asked.fair,
         observer,
         workers,
     )?;
-    asked.never.truncate(count);
-    let complete = exploration.complete;
-    let unopened = unopened_in(alloc, complete, objects, &mut exploration.reached, count)?;
-    let said = said_of(alloc, &asked, &exploration, false)?;
+    let said = said_of(alloc, &asked, &found.exploration, false)?;
     Ok(Answers {
         asked,
-        exploration,
+        exploration: found.exploration,
         answers: said.answers,
-        unopened,
+        unopened: found.unopened,
         text: said.text,
         told: said.told,
         failure: said.failure,

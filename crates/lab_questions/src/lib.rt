@@ -6,6 +6,7 @@ mod answers;
 mod asked;
 mod asking;
 mod failure;
+mod finding;
 mod json;
 mod judging;
 pub mod laws;
