@@ -6,31 +6,49 @@ use crate::{Answers, Show};
 use lab_sched::{Process, Verdict, World};
 use lab_texts::how_name;
 use lab_worlds::End;
+use lc3_machine::{How, Machine};
 use lc3_table::WordText;
 use lc3_word::{FIRST_DEVICE, Hex};
 use std::alloc::{AllocError, Global};
 use std::fmt::Write;
 
-/// Adds the status of a process, its program counter, and how it ended or else what stands there.
-fn push_standing(text: &mut String, process: &Process) -> Result<(), AllocError> {
+/// Adds the status of a process, and its program counter.
+fn push_status(text: &mut String, process: &Process) -> Result<(), AllocError> {
     let status = match process {
         Process::Running(_) => "running",
         Process::Waiting(_, _) => "waiting",
         Process::Ended(_) => "ended",
     };
-    let pc = process.machine().pc();
-    let place = Hex(pc);
+    let place = Hex(process.machine().pc());
     write!(text, "\"status\":\"{status}\",\"pc\":\"{place}\",")?;
-    if let Process::Ended(ended) = process {
-        let how = how_name(ended.how());
-        write!(text, "\"how\":\"{how}\",")?;
-    } else if pc >= FIRST_DEVICE {
-        text.push_str("\"text\":\"-\",")?;
-    } else {
-        let word = WordText(process.machine().word(pc));
-        write!(text, "\"text\":\"{word}\",")?;
-    }
     Ok(())
+}
+
+/// Adds how a process ended.
+fn push_how(text: &mut String, how: How) -> Result<(), AllocError> {
+    let how = how_name(how);
+    write!(text, "\"how\":\"{how}\",")?;
+    Ok(())
+}
+
+/// Adds what stands at the program counter, or a dash at a device.
+fn push_next(text: &mut String, machine: &Machine) -> Result<(), AllocError> {
+    let pc = machine.pc();
+    if pc >= FIRST_DEVICE {
+        return text.push_str("\"text\":\"-\",");
+    }
+    let word = WordText(machine.word(pc));
+    write!(text, "\"text\":\"{word}\",")?;
+    Ok(())
+}
+
+/// Adds the status of a process, its program counter, and how it ended or else what stands there.
+fn push_standing(text: &mut String, process: &Process) -> Result<(), AllocError> {
+    push_status(text, process)?;
+    match process {
+        Process::Ended(ended) => push_how(text, ended.how()),
+        Process::Running(_) | Process::Waiting(_, _) => push_next(text, process.machine()),
+    }
 }
 
 /// Adds the processes of a world, or what they have written alone, with commas between them.
