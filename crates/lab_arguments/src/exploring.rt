@@ -1,9 +1,9 @@
 //! The command `explore`, and what its words ask for.
-ghost use Rattle.std.specs.Prelude.{◌≡◌, ℕ, List, None, Some, IfOk, codes};
+ghost use Rattle.std.specs.Prelude.{◌≡◌, ℕ, List, None, Some, false, IfOk, codes};
 ghost use Rattle.clap.specs.Words.{first_value, found_of, one_text};
 ghost use Rattle.lab_arguments.specs.Private.Options.{IsNumber};
 ghost use Rattle.lab_arguments.specs.Private.Requirements.{nothing, words_of, AreRequired};
-ghost use Rattle.lab_arguments.specs.Private.Showing.{report, AreShown};
+ghost use Rattle.lab_arguments.specs.Private.Showing.{AreShown};
 ghost use Rattle.lab_arguments.specs.declared.question.Choice.TheVariants.{End};
 
 use crate::misuse::Misuse;
@@ -11,8 +11,8 @@ use crate::options::{limit_of, number_of, setup_of, values_of};
 use crate::question::{Choice, Question};
 use crate::request::{Refusal, Request};
 use crate::requirements::{Requirements, requirements_of};
-use crate::showing::{Show, show_of};
-use crate::walks::{walks_of, worlds_of};
+use crate::showing::show_of;
+use crate::walks::{seed_of, worlds_of};
 use crate::{MOST_LOCAL_STEPS, MOST_MEMORY, MOST_WORLDS};
 use clap::ArgMatches;
 use std::alloc::{AllocError, Global};
@@ -34,19 +34,20 @@ fn required_of<'a>(alloc: Global, words: &ArgMatches<'a>) -> Result<Requirements
     }
 }
 
-/// What is told of each end, as the words say.
-fn shown_of<'a>(alloc: Global, words: &ArgMatches<'a>) -> Result<Show, Refusal>
-    ensures report { IfOk result (λ show.
-        first_value (found_of words.now) (codes "show") ≡ None → show ≡ report) }
-    ensures shown { IfOk result (λ show. (text : List ℕ)
+/// Whether `--show` has the words `out` and `left`.
+fn shown_of<'a>(alloc: Global, words: &ArgMatches<'a>) -> Result<(bool, bool), Refusal>
+    ensures report { IfOk result (λ shown.
+        first_value (found_of words.now) (codes "show") ≡ None
+        → (shown.0 ≡ false) × (shown.1 ≡ false)) }
+    ensures shown { IfOk result (λ shown. (text : List ℕ)
         → first_value (found_of words.now) (codes "show") ≡ Some text
-        → AreShown (words_of text) show) }
+        → AreShown (words_of text) shown.0 shown.1) }
 {
     let Some(text) = words.get_str("show") else {
-        return Ok(Show::REPORT);
+        return Ok((false, false));
     };
     match show_of(alloc, text)? {
-        Some(show) => Ok(show),
+        Some(shown) => Ok(shown),
         None => Err(Misuse::NoShow(text).refusal(alloc)),
     }
 }
@@ -81,6 +82,16 @@ fn question_of<'a>(alloc: Global, words: &ArgMatches<'a>) -> Result<Question<'a>
     ensures threads { IfOk result (λ q. (text : List ℕ) (n : ℕ)
         → one_text (found_of words.now) (codes "threads") ≡ Some text
         → IsNumber text n → q.threads ≡ Some n) }
+    ensures no_walks { IfOk result (λ q.
+        one_text (found_of words.now) (codes "random") ≡ None → q.random ≡ None) }
+    ensures walks { IfOk result (λ q. (text : List ℕ) (n : ℕ)
+        → one_text (found_of words.now) (codes "random") ≡ Some text
+        → IsNumber text n → q.random ≡ Some n) }
+    ensures seed { IfOk result (λ q. (text : List ℕ) (n : ℕ)
+        → one_text (found_of words.now) (codes "seed") ≡ Some text
+        → IsNumber text n → q.seed ≡ n) }
+    ensures usual_seed { IfOk result (λ q.
+        one_text (found_of words.now) (codes "seed") ≡ None → q.seed ≡ 1) }
     ensures schedule { IfOk result (λ q. (text : List ℕ) (n : ℕ)
         → one_text (found_of words.now) (codes "schedule") ≡ Some text
         → IsNumber text n → q.schedule ≡ Some (End n)) }
@@ -90,14 +101,15 @@ fn question_of<'a>(alloc: Global, words: &ArgMatches<'a>) -> Result<Question<'a>
         → first_value (found_of words.now) (codes "require") ≡ Some text
         → AreRequired (words_of text) q.required) }
     ensures report { IfOk result (λ q.
-        first_value (found_of words.now) (codes "show") ≡ None → q.show ≡ report) }
+        first_value (found_of words.now) (codes "show") ≡ None
+        → (q.out ≡ false) × (q.left ≡ false)) }
     ensures shown { IfOk result (λ q. (text : List ℕ)
         → first_value (found_of words.now) (codes "show") ≡ Some text
-        → AreShown (words_of text) q.show) }
+        → AreShown (words_of text) q.out q.left) }
 {
     let required = required_of(alloc, words)?;
-    let show = shown_of(alloc, words)?;
-    let random = walks_of(words);
+    let (out, left) = shown_of(alloc, words)?;
+    let random = number_of(words, "random");
     let schedule = choice_of(alloc, words)?;
     Ok(Question {
         worlds: worlds_of(words, random),
@@ -108,9 +120,11 @@ fn question_of<'a>(alloc: Global, words: &ArgMatches<'a>) -> Result<Question<'a>
         waiters: values_of(alloc, words, "may-wait")?,
         never: values_of(alloc, words, "never")?,
         fair: words.get_flag("fair"),
-        show,
+        out,
+        left,
         first: words.get_flag("first"),
         random,
+        seed: seed_of(words),
         schedule,
         json: words.get_flag("json"),
     })

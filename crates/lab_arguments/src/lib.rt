@@ -16,11 +16,10 @@ mod table;
 mod walks;
 
 pub use parser::read_words;
-pub use question::{Choice, Question, Walks};
+pub use question::{Choice, Question};
 pub use request::{Page, Refusal, Request, Setup};
 pub use requirements::{Requirements, Rest};
 pub use rows::{CommandRow, ProgramRow, Row, Takes};
-pub use showing::Show;
 pub use shown::Shown;
 
 /// The most steps of each process that can be asked for.

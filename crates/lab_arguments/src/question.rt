@@ -1,6 +1,5 @@
 //! What is asked of an exploration.
 use crate::requirements::Requirements;
-use crate::showing::Show;
 
 /// What is asked of an exploration.
 pub struct Question<'a> {
@@ -20,12 +19,16 @@ pub struct Question<'a> {
     pub never: Vec<&'a str>,
     /// Whether only rounds that are fair are told.
     pub fair: bool,
-    /// What is told of each end.
-    pub show: Show,
+    /// Whether what the processes have written, and the verdict, are told of an end in place of the report.
+    pub out: bool,
+    /// Whether the messages that are left in queues are told of an end, too.
+    pub left: bool,
     /// Whether the search ends where something is found that isn't as it has to be.
     pub first: bool,
-    /// The walks that are taken in place of every interleaving.
-    pub random: Option<Walks>,
+    /// How many walks are taken in place of every interleaving, if walks are.
+    pub random: Option<u32>,
+    /// The number that the random numbers of walks begin with.
+    pub seed: u32,
     /// Which schedule is printed alone.
     pub schedule: Option<Choice>,
     /// Whether the answers are printed as JSON.
@@ -43,22 +46,15 @@ impl Drop for Question<'_> {
             waiters: _,
             never: _,
             fair: _,
-            show: _,
+            out: _,
+            left: _,
             first: _,
             random: _,
+            seed: _,
             schedule: _,
             json: _,
         } = self;
     }
-}
-
-/// Walks by random numbers.
-#[derive(Clone, Copy)]
-pub struct Walks {
-    /// How many there are.
-    pub count: u32,
-    /// The number that the random numbers begin with.
-    pub seed: u32,
 }
 
 /// A schedule of an exploration.
@@ -82,7 +78,8 @@ impl Question<'_> {
             || !self.waiters.is_empty()
             || !self.never.is_empty()
             || self.fair
-            || self.show.is_chosen()
+            || self.out
+            || self.left
             || self.first
             || self.random.is_some()
             || self.json

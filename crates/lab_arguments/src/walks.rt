@@ -1,10 +1,9 @@
 //! The options of walks, and what the words give them.
-ghost use Rattle.std.specs.Prelude.{◌≡◌, ℕ, List, None, Some, IfSome, codes};
+ghost use Rattle.std.specs.Prelude.{◌≡◌, ℕ, List, None, Some, codes};
 ghost use Rattle.clap.specs.Words.{found_of, one_text};
-ghost use Rattle.lab_arguments.specs.Private.Options.{IsNumber, IsCount, usual_worlds};
+ghost use Rattle.lab_arguments.specs.Private.Options.{IsNumber, usual_worlds};
 
 use crate::options::number_of;
-use crate::question::Walks;
 use clap::ArgMatches;
 
 /// The seed of walks where the words give none.
@@ -16,27 +15,18 @@ const USUAL_WORLDS: u32 = 100_000;
 /// The most worlds of a walk where the words don't say.
 const USUAL_WORLDS_OF_A_WALK: u32 = 10_000;
 
-/// The walks that the words ask for, if they ask for some.
-pub(crate) fn walks_of(words: &ArgMatches<'_>) -> Option<Walks>
-    ensures none { one_text (found_of words.now) (codes "random") ≡ None → result ≡ None }
-    ensures count { (text : List ℕ) (n : ℕ)
-        → one_text (found_of words.now) (codes "random") ≡ Some text
-        → IsNumber text n → IsCount n result }
-    ensures seed { (text : List ℕ) (n : ℕ)
+/// The number that the random numbers of walks begin with, as the words say.
+pub(crate) fn seed_of(words: &ArgMatches<'_>) -> u32
+    ensures usual { one_text (found_of words.now) (codes "seed") ≡ None → result ≡ 1 }
+    ensures given { (text : List ℕ) (n : ℕ)
         → one_text (found_of words.now) (codes "seed") ≡ Some text
-        → IsNumber text n → IfSome result (λ walks. walks.seed ≡ n) }
-    ensures usual_seed { one_text (found_of words.now) (codes "seed") ≡ None
-        → IfSome result (λ walks. walks.seed ≡ 1) }
+        → IsNumber text n → result ≡ n }
 {
-    let seed = number_of(words, "seed").unwrap_or(USUAL_SEED);
-    match number_of(words, "random") {
-        Some(count) => Some(Walks { count, seed }),
-        None => None,
-    }
+    number_of(words, "seed").unwrap_or(USUAL_SEED)
 }
 
-/// The most worlds to visit where the words don't say.
-fn usual_worlds(random: Option<Walks>) -> u32
+/// The most worlds to visit where the words don't say, or those of a walk, if so many are taken.
+fn usual_worlds(random: Option<u32>) -> u32
     ensures worlds { result ≡ usual_worlds random }
 {
     match random {
@@ -46,7 +36,7 @@ fn usual_worlds(random: Option<Walks>) -> u32
 }
 
 /// The most worlds to visit, or those of a walk, as the words say.
-pub(crate) fn worlds_of(words: &ArgMatches<'_>, random: Option<Walks>) -> u32
+pub(crate) fn worlds_of(words: &ArgMatches<'_>, random: Option<u32>) -> u32
     ensures usual { one_text (found_of words.now) (codes "worlds") ≡ None
         → result ≡ usual_worlds random }
     ensures given { (text : List ℕ) (n : ℕ)

@@ -31,9 +31,9 @@ pub fn inquiry_of(question: &Question<'_>) -> Inquiry {
                 steps: question.steps,
                 memory: (question.memory as usize).saturating_mul(MEGABYTE),
             },
-            walks: question.random.map(|walks| Walks {
-                count: walks.count,
-                seed: walks.seed,
+            walks: question.random.map(|count| Walks {
+                count,
+                seed: question.seed,
             }),
             is_stage: false,
         },
@@ -55,8 +55,8 @@ pub fn asked_of<'a>(
         never: nevers_of(alloc, question.never.as_slice(), count)?,
         fair: question.fair,
         show: Show {
-            out: question.show.out,
-            left: question.show.left,
+            out: question.out,
+            left: question.left,
         },
         plain: !question.asks_more(),
     })
