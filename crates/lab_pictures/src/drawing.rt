@@ -30,7 +30,6 @@ fn node_of(walk: Walk, end: Option<End>) -> Node
     Node { world, calls, end }
 }
 
-/// The arrow of an edge.
 fn arrow_of(edge: &Edge) -> Arrow
     ensures arrow { result ≡ arrow_of edge.now }
 {
@@ -113,7 +112,6 @@ fn node(
     }
 }
 
-/// The nodes of the rows, of these depths.
 fn nodes(
     visited: &Visited,
     alloc: Global,
@@ -134,7 +132,6 @@ fn nodes(
     Ok(nodes)
 }
 
-/// The arrows of the edges.
 fn arrows(visited: &Visited, alloc: Global) -> Result<Vec<Arrow>, ExploreFault>
     ensures arrows { IfOk result (λ arrows.
         arrows.items ≡ map arrow_of visited.now.store.edges) }
@@ -151,7 +148,6 @@ fn arrows(visited: &Visited, alloc: Global) -> Result<Vec<Arrow>, ExploreFault>
     Ok(arrows)
 }
 
-/// The picture of all rows.
 fn whole_picture(
     visited: &Visited,
     alloc: Global,

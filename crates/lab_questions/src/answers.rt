@@ -57,7 +57,6 @@ impl Answers {
     }
 }
 
-/// The answer on each word.
 fn answers_on(
     alloc: Global,
     words: &[Word],

@@ -34,7 +34,6 @@ fn unmet_word(answers: &[Answer]) -> Option<Word>
     None
 }
 
-/// Whether there is a schedule.
 pub(crate) fn has_schedule(schedule: &Option<Schedule>) -> bool
     ensures no { result ≡ false → schedule.now ≡ None }
     ensures yes { IsTrue result → (s : List Block) × (schedule.now ≡ Some s) }
@@ -56,7 +55,6 @@ fn first_reached(reached: &[Option<Schedule>]) -> Option<usize>
     None
 }
 
-/// Whether a word asks that each run comes to rest.
 fn asks_rest(word: Word) -> bool
     ensures asks { IsTrue result ↔ AsksRest word }
 {

@@ -113,7 +113,6 @@ fn put_in_order(texts: &mut Vec<String>) -> Result<(), AllocError>
     texts.sort()
 }
 
-/// Adds texts, one behind the other.
 fn push_all(text: &mut String, texts: &[String]) -> Result<(), AllocError>
     ensures text { OnOk result (string_bytes text.new
         ≡ string_bytes text.old ++ flat_map (λ lines. lines) (map string_bytes texts.now)) }

@@ -7,7 +7,6 @@ use lab_worlds::Round;
 use std::alloc::{AllocError, Global};
 use std::fmt::Write;
 
-/// Adds the line of a schedule.
 #[tactic(auto, unfolding(crate::specs::EndTexts::schedule_line))]
 pub(crate) fn push_schedule(
     alloc: Global,

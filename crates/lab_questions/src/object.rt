@@ -41,7 +41,6 @@ fn object_in(part: &Part) -> Result<Option<Object>, AllocError>
     }
 }
 
-/// Adds the object that a part of a condition names, if it names one.
 fn push_object(objects: &mut Vec<Object>, part: &Part) -> Result<(), AllocError>
     ensures objects { OnOk result
         (objects.new.items ≡ objects.old.items ++ objects_in part.now) }
@@ -63,7 +62,6 @@ fn push_objects(objects: &mut Vec<Object>, parts: &[Part]) -> Result<(), AllocEr
     Ok(())
 }
 
-/// Adds the objects that a condition names.
 fn push_named(objects: &mut Vec<Object>, condition: &Never) -> Result<(), AllocError>
     ensures objects { OnOk result
         (objects.new.items ≡ objects.old.items ++ objects_of condition.now) }

@@ -56,7 +56,6 @@ fn push_fault(
     push_schedule_at(alloc, text, ends, number)
 }
 
-/// Adds the lines of an answer.
 fn push_answer(
     alloc: Global,
     text: &mut String,
@@ -73,7 +72,6 @@ fn push_answer(
     }
 }
 
-/// Adds the lines of answers.
 fn push_answers(
     alloc: Global,
     text: &mut String,

@@ -18,7 +18,6 @@ pub(crate) struct Told {
     pub numbers: Vec<usize>,
 }
 
-/// Whether a text is among others.
 fn is_among(text: &str, texts: &[String]) -> bool
     ensures value { result
         ≡ list_any (λ other. bytes_eq other text.now) (map string_bytes texts.now) }

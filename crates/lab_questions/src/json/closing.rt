@@ -65,7 +65,6 @@ fn holds_name(judged: bool, failure: Option<Failure>) -> &'static str
     }
 }
 
-/// Adds the member for the objects that nobody opens.
 #[tactic(auto, unfolding(crate::specs::Members::unopened_member))]
 fn push_unopened(alloc: Global, text: &mut String, objects: &[Object]) -> Result<(), AllocError>
     ensures text { OnOk result
@@ -93,7 +92,6 @@ fn push_endless(
     push_round(alloc, text, round)
 }
 
-/// Adds the member for whether all is as it has to be.
 #[tactic(auto, unfolding(crate::specs::Members::holds_member))]
 fn push_holds(text: &mut String, judged: bool, failure: Option<Failure>) -> Result<(), AllocError>
     ensures text { OnOk result

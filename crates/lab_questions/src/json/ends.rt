@@ -24,7 +24,6 @@ fn push_status(text: &mut String, process: &Process) -> Result<(), AllocError> {
     Ok(())
 }
 
-/// Adds how a process ended.
 fn push_how(text: &mut String, how: How) -> Result<(), AllocError> {
     let how = how_name(how);
     write!(text, "\"how\":\"{how}\",")?;
@@ -83,7 +82,6 @@ fn push_rest(
     text.push_str("],")
 }
 
-/// Adds end number `number`.
 fn push_end(
     alloc: Global,
     text: &mut String,

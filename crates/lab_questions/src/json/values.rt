@@ -22,7 +22,6 @@ impl fmt::Display for Number {
     }
 }
 
-/// Adds a character by its number.
 fn push_number(text: &mut String, character: u8) -> Result<(), AllocError>
     ensures text { OnOk result
         (string_bytes text.new ≡ string_bytes text.old ++ number_json character) }
@@ -74,7 +73,6 @@ pub(crate) fn push_text(text: &mut String, characters: &[u8]) -> Result<(), Allo
     text.push_str("\"")
 }
 
-/// Adds the text of a schedule.
 pub(crate) fn push_schedule(
     alloc: Global,
     text: &mut String,
@@ -87,7 +85,6 @@ pub(crate) fn push_schedule(
     push_text(text, steps.as_bytes())
 }
 
-/// A truth, in a word.
 pub(crate) fn truth_name(truth: bool) -> &'static str
     ensures text { result.now ≡ truth_json truth }
 {
