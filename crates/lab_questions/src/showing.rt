@@ -2,7 +2,7 @@
 ghost use Rattle.std.specs.Prelude.{◌≡◌, ◌⊎◌, ℕ, List, None, Some, All, Any, IfOk, IfSome, length, slice_get, string_bytes, ◌++◌, codes};
 ghost use Rattle.lab_sched.specs.ScheduleTexts.{schedule_text};
 ghost use Rattle.lab_sched.specs.declared.schedule.block.Block.{Block};
-ghost use Rattle.lab_questions.specs.declared.failure.Failure.TheVariants.{Not, Reached, Endless};
+ghost use Rattle.lab_questions.specs.declared.failure.Failure.TheVariants.{Not, Reached, Endless, Incomplete};
 ghost use Rattle.lab_questions.specs.declared.asked.Word.{Word};
 ghost use Rattle.lab_questions.specs.Texts.{IsBeyond, IsTooLong, ShowsFault, ShowsReached, ShowsRound};
 
@@ -108,6 +108,9 @@ impl Answers {
             → slice_get self.now.exploration.reached.items i ≡ Some (Some s) → ⊥) }
         ensures too_long { IfOk result (λ shown. self.now.failure ≡ Some Endless
             → shown ≡ None → IfSome self.now.exploration.round (λ r. IsTooLong r)) }
+        ensures nothing { IfOk result (λ shown. self.now.failure ≡ None → shown ≡ None) }
+        ensures incomplete { IfOk result (λ shown.
+            self.now.failure ≡ Some Incomplete → shown ≡ None) }
     {
         let found = &self.exploration;
         match self.failure {
