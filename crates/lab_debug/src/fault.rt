@@ -9,16 +9,16 @@ use thiserror::Error;
 #[derive(Clone, Copy, Debug, PartialEq, Eq, Error)]
 pub enum SessionFault {
     /// The input failed.
-    #[error("the input cannot be read")]
+    #[error("cannot read")]
     Read,
     /// The output failed.
-    #[error("the output cannot be written")]
+    #[error("cannot write")]
     Write,
     /// There is a line past the 1,000,000th.
-    #[error("there are too many lines")]
+    #[error("TooManyLines")]
     TooManyLines,
     /// A line has more than 65,536 bytes before its line feed.
-    #[error("a line is too long")]
+    #[error("LineTooLong")]
     LineTooLong,
     /// Memory was refused.
     #[error("out of memory")]

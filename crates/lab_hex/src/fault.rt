@@ -9,22 +9,22 @@ use thiserror::Error;
 #[derive(Clone, Copy, Debug, PartialEq, Eq, Error)]
 pub enum CliFault {
     /// The text has no word.
-    #[error("there is no word")]
+    #[error("Empty")]
     Empty,
     /// The word with this number, from 1 on, isn't one to four hexadecimal digits after an optional `x`.
-    #[error("word {at} is not hexadecimal")]
+    #[error("word {at}: BadWord")]
     BadWord { at: usize },
     /// The words would reach the device register page, which begins at xFE00.
-    #[error("the words reach the device registers")]
+    #[error("TooLong")]
     TooLong,
     /// The input has more than 4,000,000 bytes.
-    #[error("the input is too large")]
+    #[error("too large")]
     TooLarge,
     /// The input failed.
-    #[error("the input cannot be read")]
+    #[error("cannot read")]
     Read,
     /// The output failed.
-    #[error("the output cannot be written")]
+    #[error("cannot write")]
     Write,
     /// There is no memory for the run.
     #[error("out of memory")]

@@ -9,10 +9,10 @@ use thiserror::Error;
 #[derive(Clone, Copy, Debug, PartialEq, Eq, Error)]
 pub enum PageFault {
     /// After so many steps the schedule names a process that isn't there. No step was taken.
-    #[error("after {done} steps there is no such process")]
+    #[error("after {done} steps: NoProcess")]
     NoProcess { done: u64 },
     /// The data are longer than a page may hold.
-    #[error("the page is too large")]
+    #[error("too large")]
     TooLarge,
     /// Memory was refused.
     #[error("out of memory")]

@@ -9,10 +9,10 @@ use thiserror::Error;
 #[derive(Clone, Copy, Debug, PartialEq, Eq, Error)]
 pub enum TraceFault {
     /// After so many steps the schedule names a process that isn't there. Nothing was written.
-    #[error("after {done} steps there is no such process")]
+    #[error("after {done} steps: NoProcess")]
     NoProcess { done: u64 },
     /// The output failed. A beginning of the text was written.
-    #[error("the output cannot be written")]
+    #[error("cannot write")]
     Write,
     /// Memory was refused. A beginning of the text was written.
     #[error("out of memory")]

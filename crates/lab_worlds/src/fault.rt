@@ -12,7 +12,7 @@ pub enum ExploreFault {
     #[error("out of memory")]
     NoMemory,
     /// The steps to an end that was found don't lead there.
-    #[error("an end couldn't be reached again")]
+    #[error("Unvouched")]
     Unvouched,
 }
 

@@ -10,19 +10,19 @@ use thiserror::Error;
 #[derive(Clone, Copy, Debug, PartialEq, Eq, Error)]
 pub enum ObjFault {
     /// The file has less than the two bytes of an origin.
-    #[error("there is no origin")]
+    #[error("Empty")]
     Empty,
     /// The file ends within a word.
-    #[error("the file ends within a word")]
+    #[error("OddLength")]
     OddLength,
     /// The words would reach the device register page (`FIRST_DEVICE`).
-    #[error("the words reach the device registers")]
+    #[error("TooLong")]
     TooLong,
     /// There is no memory for the words.
     #[error("out of memory")]
     NoMemory,
     /// The output failed.
-    #[error("the output cannot be written")]
+    #[error("cannot write")]
     Write,
 }
 

@@ -11,6 +11,7 @@ use super::{StepFault, World};
 use crate::Schedule;
 use crate::stepping::{local_steps, move_on};
 use lc3_machine::Progress;
+use std::fmt;
 
 /// How many steps of a process in a row are taken before who looks on is told of them.
 const STEPS_AT_ONCE: u32 = 10_000_000;
@@ -37,6 +38,15 @@ impl Watch for Unwatched {
 pub struct RunStop {
     pub done: u64,
     pub fault: StepFault,
+}
+
+impl fmt::Display for RunStop {
+    fn fmt<W: fmt::Write>(&self, f: &mut fmt::Formatter<W>) -> fmt::Result {
+        match self.fault {
+            StepFault::NoProcess => write!(f, "after {} steps: NoProcess", self.done),
+            StepFault::NoMemory => f.write_str("out of memory"),
+        }
+    }
 }
 
 /// How many steps were done by one: a step without effect stands for all of `most`.
