@@ -5,7 +5,7 @@ use crate::complaint::{At, Complaint};
 use crate::inquiry::{Inquiry, asked_of, inquiry_of, refuse_question};
 use crate::job::Job;
 use crate::programs::{laboratory, read_programs};
-use crate::progress::{Progress, WalkCount, WorldCount};
+use crate::progress::{Progress, SearchCount, WALKS, WORLDS};
 use crate::stages::{has_more, stages_of};
 use crate::telling::tell_ends;
 use lab_arguments::{Question, Setup};
@@ -136,7 +136,7 @@ fn take_walks<T, P: Progress>(
     walks: Walks,
     asked: Asked,
 ) -> Result<Answers, ExploreFault> {
-    let mut count = WalkCount::new(job.alloc, job.progress);
+    let mut count = SearchCount::new(job.alloc, job.progress, WALKS);
     let outcome = ask_walks(job.alloc, fresh, limits, walks, asked, &mut count);
     count.clear();
     outcome
@@ -162,7 +162,7 @@ fn visit_all<T: Threads + Sync, P: Progress>(
     inquiry: &Inquiry,
     asked: Asked,
 ) -> Result<Answers, ExploreFault> {
-    let mut count = WorldCount::new(job.alloc, job.progress);
+    let mut count = SearchCount::new(job.alloc, job.progress, WORLDS);
     let workers = Workers::new(job.rt, thread_count(job.rt, inquiry.threads));
     let outcome = ask(
         job.alloc,

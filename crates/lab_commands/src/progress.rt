@@ -11,12 +11,6 @@ const STEPS: u64 = 50_000_000;
 /// How many calls lie between two times that `run` shows how far it is.
 const CALLS: u64 = 1_000_000;
 
-/// How many worlds lie between two times that `explore` shows how far it is.
-const WORLDS: usize = 50_000;
-
-/// How many walks lie between two times that `explore` shows how far it is.
-const WALKS: usize = 10_000;
-
 /// Where a command shows how far it is.
 pub trait Progress: Sync {
     /// Whether anybody looks at it.
@@ -73,78 +67,67 @@ impl<P: Progress> Watch for StepCount<'_, P> {
     }
 }
 
-/// Shows how many worlds were visited, and how many wait to be.
-#[derive(Drop)]
-pub struct WorldCount<'a, P> {
-    alloc: Global,
-    progress: &'a P,
-    visited: usize,
+/// What a search counts.
+#[derive(Clone, Copy)]
+pub struct Counted {
+    /// How many lie between two times that `explore` shows how far it is.
+    every: usize,
+    done: &'static str,
+    left: &'static str,
 }
 
-impl<'a, P: Progress> WorldCount<'a, P> {
-    /// No world was visited.
-    pub fn new(alloc: Global, progress: &'a P) -> WorldCount<'a, P> {
-        WorldCount {
+pub const WORLDS: Counted = Counted {
+    every: 50_000,
+    done: "worlds visited",
+    left: "waiting",
+};
+
+pub const WALKS: Counted = Counted {
+    every: 10_000,
+    done: "walks taken",
+    left: "left",
+};
+
+/// Shows how many worlds were visited, or walks taken, and how many are left.
+#[derive(Drop)]
+pub struct SearchCount<'a, P> {
+    alloc: Global,
+    progress: &'a P,
+    counted: Counted,
+    done: usize,
+}
+
+impl<'a, P: Progress> SearchCount<'a, P> {
+    /// None is done.
+    pub fn new(alloc: Global, progress: &'a P, counted: Counted) -> SearchCount<'a, P> {
+        SearchCount {
             alloc,
             progress,
-            visited: 0,
+            counted,
+            done: 0,
         }
     }
 
     /// Shows nothing any more.
     pub fn clear(&self) {
-        if self.visited >= WORLDS && self.progress.is_shown() {
+        if self.done >= self.counted.every && self.progress.is_shown() {
             self.progress.show("");
         }
     }
 }
 
-impl<P: Progress> Observer for WorldCount<'_, P> {
-    fn see(&mut self, visited: usize, waiting: usize) {
-        self.visited = visited;
-        if visited == 0 || visited % WORLDS != 0 || !self.progress.is_shown() {
+impl<P: Progress> Observer for SearchCount<'_, P> {
+    fn see(&mut self, done: usize, left: usize) {
+        self.done = done;
+        let counted = self.counted;
+        if done == 0 || done.checked_rem(counted.every) != Some(0) || !self.progress.is_shown() {
             return;
         }
-        let text = format!(in self.alloc; "lc3lab: {visited} worlds visited, {waiting} waiting");
+        let text = format!(in self.alloc;
+            "lc3lab: {done} {}, {left} {}",
+            counted.done, counted.left
+        );
         if let Ok(text) = text {
-            self.progress.show(&text);
-        }
-    }
-}
-
-/// Shows how many walks were taken.
-#[derive(Drop)]
-pub struct WalkCount<'a, P> {
-    alloc: Global,
-    progress: &'a P,
-    taken: usize,
-}
-
-impl<'a, P: Progress> WalkCount<'a, P> {
-    /// No walk was taken.
-    pub fn new(alloc: Global, progress: &'a P) -> WalkCount<'a, P> {
-        WalkCount {
-            alloc,
-            progress,
-            taken: 0,
-        }
-    }
-
-    /// Shows nothing any more.
-    pub fn clear(&self) {
-        if self.taken >= WALKS && self.progress.is_shown() {
-            self.progress.show("");
-        }
-    }
-}
-
-impl<P: Progress> Observer for WalkCount<'_, P> {
-    fn see(&mut self, taken: usize, left: usize) {
-        self.taken = taken;
-        if taken == 0 || taken % WALKS != 0 || !self.progress.is_shown() {
-            return;
-        }
-        if let Ok(text) = format!(in self.alloc; "lc3lab: {taken} walks taken, {left} left") {
             self.progress.show(&text);
         }
     }
