@@ -1,20 +1,21 @@
 //! The command `asm`.
-use crate::check::messages;
-use crate::complaint::{At, Complaint, Reason};
+use crate::check::messages_if;
+use crate::complaint::{At, Complaint, Misuse, Reason};
 use crate::files::{is_same_file, read_file, write_object, write_text};
 use crate::job::Job;
 use crate::progress::Progress;
 use lab_io::Output;
-use lc3_asm::{Assembled, assemble, listing};
-use lc3_messages::{Report, Wish};
+use lc3_asm::{AsmFault, Assembled, assemble, listing};
 use lc3_table::Profile;
 use std::alloc::Global;
 use std::io::Write;
 use std::rt::Files;
 
-/// What is printed beside the object file.
+/// What is assembled, and what is printed beside the object file.
 #[derive(Clone, Copy)]
-pub struct Sheet {
+pub struct Assembly<'a> {
+    pub source: &'a str,
+    pub object: &'a str,
     /// The listing of an accepted source.
     pub list: bool,
     /// All messages about the source. They are also printed where somebody looks at the progress.
@@ -23,57 +24,38 @@ pub struct Sheet {
     pub profile: Profile,
 }
 
-/// The messages about a source, where they are wanted and memory allows them.
-fn wanted_messages<T, P: Progress>(
-    job: &Job<'_, T, P>,
-    source: &str,
+/// What the bytes of a source are assembled to.
+pub fn assemble_bytes<'a>(
+    alloc: Global,
+    source: &'a str,
     bytes: &[u8],
-    sheet: Sheet,
-) -> Option<Report> {
-    if !sheet.explain && !job.progress.is_shown() {
-        return None;
-    }
-    let wish = Wish {
-        profile: sheet.profile,
-        allowed: &[],
+) -> Result<Assembled, Complaint<'a>> {
+    let Ok(text) = str::from_utf8(bytes) else {
+        return Err(Reason::NotUtf8.at(source));
     };
-    messages(job.alloc, source, bytes, wish).ok()
-}
-
-/// What a source is assembled to, or why it isn't.
-pub fn assemble_bytes(alloc: Global, bytes: &[u8]) -> Result<Assembled, Reason> {
-    match std::str::from_utf8(bytes) {
-        Ok(text) => Ok(assemble(alloc, text)?),
-        Err(_) => Err(Reason::NotUtf8),
-    }
-}
-
-/// The complaint about a source that is refused, with the messages about it, if there are any.
-pub fn refusal<'a>(source: &'a str, reason: Reason, report: Option<Report>) -> Complaint<'a> {
-    let complaint = reason.at(source);
-    match (reason, report) {
-        (Reason::Line { .. } | Reason::NotUtf8, Some(report)) => complaint.explained(report.text),
-        _ => complaint,
+    match assemble(alloc, text) {
+        Err(AsmFault::NoMemory) => Err(Reason::NoMemory.at(source)),
+        outcome => outcome.at(alloc, source),
     }
 }
 
 /// What a source is assembled to. The messages about it are written where they are wanted, before anything else is.
 fn accepted<'a, T: Files, E: Write, P: Progress>(
     job: &Job<'_, T, P>,
-    source: &'a str,
-    sheet: Sheet,
+    assembly: Assembly<'a>,
     errors: &mut Output<E>,
 ) -> Result<Assembled, Complaint<'a>> {
-    let bytes = read_file(job.rt, job.alloc, source).at(source)?;
-    let report = wanted_messages(job, source, &bytes, sheet);
-    match assemble_bytes(job.alloc, &bytes) {
+    let source = assembly.source;
+    let bytes = read_file(job.rt, job.alloc, source).at(job.alloc, source)?;
+    let report = messages_if(job, source, &bytes, assembly.profile, assembly.explain);
+    match assemble_bytes(job.alloc, source, &bytes) {
         Ok(assembled) => {
             if let Some(report) = report {
                 let _ = errors.write_all(report.text.as_bytes());
             }
             Ok(assembled)
         }
-        Err(reason) => Err(refusal(source, reason, report)),
+        Err(complaint) => Err(complaint.explained(report)),
     }
 }
 
@@ -81,30 +63,26 @@ fn accepted<'a, T: Files, E: Write, P: Progress>(
 /// first, where they are wanted. The object file is made only once the source was accepted; it can't be the source itself.
 pub fn assemble_file<'a, T: Files, W: Write, E: Write, P: Progress>(
     job: &Job<'_, T, P>,
-    source: &'a str,
-    object: &'a str,
-    sheet: Sheet,
+    assembly: Assembly<'a>,
     output: &mut Output<W>,
     errors: &mut Output<E>,
 ) -> Result<(), Complaint<'a>> {
-    if is_same_file(job.rt, source, object) {
-        return Err(Reason::SameFile.at(object));
+    if is_same_file(job.rt, assembly.source, assembly.object) {
+        return Err(Misuse::SameFile.of(assembly.object));
     }
-    let assembled = accepted(job, source, sheet, errors)?;
-    write_assembled(job, object, &assembled, sheet.list, output)
+    let assembled = accepted(job, assembly, errors)?;
+    write_assembled(job, assembly, &assembled, output)
 }
 
-/// Writes an object file, and then the listing where it is asked for.
 fn write_assembled<'a, T: Files, W: Write, P>(
     job: &Job<'_, T, P>,
-    object: &'a str,
+    assembly: Assembly<'a>,
     assembled: &Assembled,
-    list: bool,
     output: &mut Output<W>,
 ) -> Result<(), Complaint<'a>> {
-    write_object(job.rt, object, assembled.image()).at(object)?;
-    if !list {
+    write_object(job.rt, assembly.object, assembled.image()).at(job.alloc, assembly.object)?;
+    if !assembly.list {
         return Ok(());
     }
-    write_text(&listing(job.alloc, assembled).at("run")?, output)
+    write_text(&listing(job.alloc, assembled)?, output)
 }

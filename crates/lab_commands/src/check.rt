@@ -1,53 +1,60 @@
 //! The command `check`: all messages about sources.
-use crate::complaint::{At, Complaint};
+use crate::complaint::{At, Complaint, Reason};
 use crate::files::read_file;
+use crate::job::Job;
+use crate::progress::Progress;
 use lab_arguments::Shown;
 use lab_io::Output;
 use lc3_messages::{Report, Wish, report_on};
+use lc3_table::Profile;
 use std::alloc::{AllocError, Global};
 use std::io::Write;
 use std::rt::Files;
 
-/// The messages about the bytes of a source with this name.
-pub fn messages(
-    alloc: Global,
-    name: &str,
-    bytes: &[u8],
-    wish: Wish<'_>,
-) -> Result<Report, AllocError> {
+fn messages(alloc: Global, name: &str, bytes: &[u8], wish: Wish<'_>) -> Result<Report, AllocError> {
     let file = Shown(name);
     let file = format!(in alloc; "{file}")?;
     report_on(alloc, &file, bytes, wish)
 }
 
+/// All messages about a source, where they are wanted or somebody looks at the progress, and memory allows them.
+pub fn messages_if<T, P: Progress>(
+    job: &Job<'_, T, P>,
+    source: &str,
+    bytes: &[u8],
+    profile: Profile,
+    wanted: bool,
+) -> Option<Report> {
+    if !wanted && !job.progress.is_shown() {
+        return None;
+    }
+    let wish = Wish {
+        profile,
+        allowed: &[],
+    };
+    messages(job.alloc, source, bytes, wish).ok()
+}
+
 /// Writes the messages about a source, and answers whether it passes: it has no fault, and where `strict` no warning either.
-fn check_source<'a, T: Files, E: Write>(
-    rt: &T,
-    alloc: Global,
+fn check_source<'a, T: Files, E: Write, P>(
+    job: &Job<'_, T, P>,
     source: &'a str,
     wish: Wish<'_>,
     strict: bool,
     errors: &mut Output<E>,
 ) -> Result<bool, Complaint<'a>> {
-    let bytes = read_file(rt, alloc, source).at(source)?;
-    let report = messages(alloc, source, &bytes, wish).at(source)?;
+    let bytes = read_file(job.rt, job.alloc, source).at(job.alloc, source)?;
+    let Ok(report) = messages(job.alloc, source, &bytes, wish) else {
+        return Err(Reason::NoMemory.at(source));
+    };
     let _ = errors.write_all(report.text.as_bytes());
     Ok(report.errors == 0 && (report.warnings == 0 || !strict))
 }
 
-/// Writes a complaint on one line.
-fn write_complaint<E: Write>(alloc: Global, complaint: &Complaint<'_>, errors: &mut Output<E>) {
-    let _ = match format!(in alloc; "{complaint}\n") {
-        Ok(line) => errors.write_all(line.as_bytes()),
-        Err(_) => errors.write_all(b"lc3lab: run: out of memory\n"),
-    };
-}
-
 /// Writes the messages about each source in turn, and answers whether all pass. One that can't be read doesn't pass, and the
 /// next one is taken all the same.
-pub fn check_sources<T: Files, E: Write>(
-    rt: &T,
-    alloc: Global,
+pub fn check_sources<T: Files, E: Write, P>(
+    job: &Job<'_, T, P>,
     sources: &[&str],
     wish: Wish<'_>,
     strict: bool,
@@ -55,10 +62,10 @@ pub fn check_sources<T: Files, E: Write>(
 ) -> bool {
     let mut all_pass = true;
     for source in sources {
-        match check_source(rt, alloc, source, wish, strict, errors) {
+        match check_source(job, source, wish, strict, errors) {
             Ok(passes) => all_pass = all_pass && passes,
             Err(complaint) => {
-                write_complaint(alloc, &complaint, errors);
+                complaint.write(job.alloc, errors);
                 all_pass = false;
             }
         }

@@ -1,7 +1,7 @@
 //! The command `debug`.
 ghost use Rattle.std.specs.Prelude.{◌≡◌, false};
 
-use crate::complaint::{At, Complaint};
+use crate::complaint::{At, Complaint, Reason};
 use crate::job::Job;
 use crate::programs::{Programs, fault_of, read_programs};
 use crate::progress::Progress;
@@ -36,8 +36,12 @@ fn session_on(
     help: &'static str,
     profile: Profile,
 ) -> Result<Session, Complaint<'static>> {
-    let listings = listings_of(alloc, given.sources).at("session")?;
-    Session::new(alloc, given.programs, listings, help, profile).map_err(fault_of)
+    let Ok(listings) = listings_of(alloc, given.sources) else {
+        return Err(Reason::NoMemory.at("session"));
+    };
+    Session::new(alloc, given.programs, listings, help, profile).map_err(|fault| fault_of(
+        alloc, fault,
+    ))
 }
 
 /// Reads the files of the programs, makes their laboratory, and carries out the commands that come from the input.
@@ -52,6 +56,6 @@ pub fn debug_programs<'a, T: Files, R: Read, W: Write, P: Progress>(
 {
     let given = read_programs(job, setup.programs.as_slice())?;
     let start = session_on(job.alloc, given, job.texts.help, setup.profile)?;
-    session(job.alloc, start, input, output).at("session")?;
+    session(job.alloc, start, input, output).at(job.alloc, "session")?;
     Ok(())
 }

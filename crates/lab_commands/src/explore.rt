@@ -77,28 +77,13 @@ fn find_early<'a, T: Threads + Sync, P: Progress>(
     question: &Question<'a>,
     inquiry: &Inquiry,
 ) -> Result<Option<Search>, Complaint<'a>> {
-    for stage in &stages_of(job.alloc, inquiry).at("run")? {
-        if let Some(search) = last_search(job, programs, profile, question, *stage)? {
+    for stage in &stages_of(job.alloc, inquiry)? {
+        let search = searched(job, programs, profile, question, *stage)?;
+        if !has_more(&search) {
             return Ok(Some(search));
         }
     }
     Ok(None)
-}
-
-/// The search of a stage, unless one that goes further has something to find.
-fn last_search<'a, T: Threads + Sync, P: Progress>(
-    job: &Job<'_, T, P>,
-    programs: &[Program],
-    profile: Profile,
-    question: &Question<'a>,
-    stage: Inquiry,
-) -> Result<Option<Search>, Complaint<'a>> {
-    let search = searched(job, programs, profile, question, stage)?;
-    if has_more(&search) {
-        Ok(None)
-    } else {
-        Ok(Some(search))
-    }
 }
 
 /// Visits every interleaving of programs, as far as an inquiry goes, or takes its walks, and judges what a question asks.
@@ -111,7 +96,7 @@ fn searched<'a, T: Threads + Sync, P: Progress>(
 ) -> Result<Search, Complaint<'a>> {
     let asked = asked_of(job.alloc, question, programs.len())?;
     let fresh = laboratory(job.alloc, programs, profile)?;
-    let answers = explore(job, fresh, &inquiry, asked).at("run")?;
+    let answers = explore(job, fresh, &inquiry, asked).at(job.alloc, "run")?;
     Ok(Search { inquiry, answers })
 }
 

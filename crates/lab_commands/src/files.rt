@@ -1,8 +1,8 @@
 //! Files that are read or written whole.
-use crate::complaint::{Complaint, Reason};
-use lab_hex::read_whole;
+use crate::complaint::{At, Complaint, Reason};
+use lab_hex::{CliFault, read_whole};
 use lab_io::{Input, Output};
-use lc3_obj::write_image;
+use lc3_obj::{ObjFault, write_image};
 use lc3_word::Image;
 use std::alloc::Global;
 use std::fs::File;
@@ -20,26 +20,30 @@ pub fn is_same_file<T: Files>(rt: &T, one: &str, other: &str) -> bool {
 }
 
 /// The text of a source file, which is UTF-8 of at most 4,000,000 bytes.
-pub fn read_source<T: Files>(rt: &T, alloc: Global, name: &str) -> Result<String, Reason> {
-    let bytes = read_file(rt, alloc, name)?;
-    String::from_utf8(bytes).map_err(|_| Reason::NotUtf8)
+pub fn read_source<'a, T: Files>(
+    rt: &T,
+    alloc: Global,
+    name: &'a str,
+) -> Result<String, Complaint<'a>> {
+    let bytes = read_file(rt, alloc, name).at(alloc, name)?;
+    String::from_utf8(bytes).map_err(|_| Reason::NotUtf8.at(name))
 }
 
 /// The bytes of a file, at most 4,000,000: a file with more is refused as too large.
-pub fn read_file<T: Files>(rt: &T, alloc: Global, name: &str) -> Result<Vec<u8>, Reason> {
+pub fn read_file<T: Files>(rt: &T, alloc: Global, name: &str) -> Result<Vec<u8>, CliFault> {
     match fs::open(rt, name) {
-        Ok(file) => Ok(read_whole(alloc, &mut Input::new(file))?),
-        Err(error) if error.kind() == ErrorKind::OutOfMemory => Err(Reason::NoMemory),
-        Err(_) => Err(Reason::CannotRead),
+        Ok(file) => read_whole(alloc, &mut Input::new(file)),
+        Err(error) if error.kind() == ErrorKind::OutOfMemory => Err(CliFault::NoMemory),
+        Err(_) => Err(CliFault::Read),
     }
 }
 
 /// Makes the object file of an image; an older file of that name is replaced.
-pub fn write_object<T: Files>(rt: &T, name: &str, image: &Image) -> Result<(), Reason> {
+pub fn write_object<T: Files>(rt: &T, name: &str, image: &Image) -> Result<(), ObjFault> {
     match fs::create(rt, name) {
-        Ok(file) => Ok(write_image(image, &mut Output::new(file))?),
-        Err(error) if error.kind() == ErrorKind::OutOfMemory => Err(Reason::NoMemory),
-        Err(_) => Err(Reason::CannotWrite),
+        Ok(file) => write_image(image, &mut Output::new(file)),
+        Err(error) if error.kind() == ErrorKind::OutOfMemory => Err(ObjFault::NoMemory),
+        Err(_) => Err(ObjFault::Write),
     }
 }
 
@@ -50,7 +54,7 @@ pub fn write_whole<T: Files>(
     alloc: Global,
     name: &str,
     bytes: &[u8],
-) -> Result<(), Reason> {
+) -> Result<(), CliFault> {
     if fs::metadata(rt, name).is_ok_and(|found| !found.is_file()) {
         return write_bytes(
             fs::create(rt, name).map_err(|error| not_made(&error))?,
@@ -62,7 +66,7 @@ pub fn write_whole<T: Files>(
         rt,
         beside.as_str(),
         name,
-    ).map_err(|_| Reason::CannotWrite));
+    ).map_err(|_| CliFault::Write));
     if written.is_err() {
         let _ = fs::remove_file(rt, beside.as_str());
     }
@@ -71,34 +75,35 @@ pub fn write_whole<T: Files>(
 
 /// A new file beside one of this name, and its own name: `NAME.part1`, or with the next number that no file has. So it isn't
 /// that of another call, nor one that a call left when it was killed.
-fn create_beside<T: Files>(rt: &T, alloc: Global, name: &str) -> Result<(T::File, String), Reason> {
+fn create_beside<T: Files>(
+    rt: &T,
+    alloc: Global,
+    name: &str,
+) -> Result<(T::File, String), CliFault> {
     for number in 1..u32::MAX {
-        let Ok(beside) = format!(in alloc; "{name}.part{number}") else {
-            return Err(Reason::NoMemory);
-        };
+        let beside = format!(in alloc; "{name}.part{number}")?;
         match File::create_new(rt, beside.as_str()) {
             Ok(file) => return Ok((file, beside)),
             Err(error) if error.kind() == ErrorKind::AlreadyExists => {}
             Err(error) => return Err(not_made(&error)),
         }
     }
-    Err(Reason::CannotWrite)
+    Err(CliFault::Write)
 }
 
 /// Why a file couldn't be made.
-fn not_made(error: &io::Error) -> Reason {
+fn not_made(error: &io::Error) -> CliFault {
     if error.kind() == ErrorKind::OutOfMemory {
-        Reason::NoMemory
+        CliFault::NoMemory
     } else {
-        Reason::CannotWrite
+        CliFault::Write
     }
 }
 
-/// Writes bytes to a file.
-fn write_bytes<W: Write + Drop>(file: W, bytes: &[u8]) -> Result<(), Reason> {
+fn write_bytes<W: Write + Drop>(file: W, bytes: &[u8]) -> Result<(), CliFault> {
     Output::new(file)
         .write_all(bytes)
-        .map_err(|_| Reason::CannotWrite)
+        .map_err(|_| CliFault::Write)
 }
 
 /// Writes a text to the output of the program.

@@ -1,5 +1,5 @@
 //! What is asked of an exploration, read from words.
-use crate::complaint::{At, Complaint, Reason};
+use crate::complaint::{Complaint, Misuse, Reason};
 use lab_arguments::{Choice, Question, Requirements, Rest};
 use lab_conditions::{Condition, Never, Part, ReadFault, State};
 use lab_questions::{Asked, Reach, Show, Waiter, Word};
@@ -7,7 +7,6 @@ use lab_worlds::{Limits, Walks};
 use lc3_word::unsigned;
 use std::alloc::{AllocError, Global};
 
-/// How many bytes a megabyte has.
 const MEGABYTE: usize = 1_048_576;
 
 /// How far an exploration goes, and how what it finds is told.
@@ -50,7 +49,7 @@ pub fn asked_of<'a>(
     count: usize,
 ) -> Result<Asked, Complaint<'a>> {
     Ok(Asked {
-        words: words_of(alloc, question.required).at("run")?,
+        words: words_of(alloc, question.required)?,
         waiters: waiters_of(alloc, question.waiters.as_slice(), count)?,
         never: nevers_of(alloc, question.never.as_slice(), count)?,
         fair: question.fair,
@@ -90,7 +89,6 @@ fn words_of(alloc: Global, required: Requirements) -> Result<Vec<Word>, AllocErr
     Ok(words)
 }
 
-/// The processes that may wait, of so many.
 fn waiters_of<'a>(
     alloc: Global,
     words: &[&'a str],
@@ -98,20 +96,20 @@ fn waiters_of<'a>(
 ) -> Result<Vec<Waiter>, Complaint<'a>> {
     let mut waiters = Vec::new(alloc);
     for word in words {
-        waiters.push(waiter_of(alloc, word, count)?).at("run")?;
+        waiters.push(waiter_of(alloc, word, count)?)?;
     }
     Ok(waiters)
 }
 
 /// The process that may wait, of so many.
 fn waiter_of<'a>(alloc: Global, word: &'a str, count: usize) -> Result<Waiter, Complaint<'a>> {
-    let Some(waiter) = read_waiter(alloc, word).at("run")? else {
-        return Err(Reason::NoWaiter.at(word));
+    let Some(waiter) = read_waiter(alloc, word)? else {
+        return Err(Misuse::NoWaiter.of(word));
     };
     if waiter.process < count {
         Ok(waiter)
     } else {
-        Err(Reason::NoSuchWaiter.at(word))
+        Err(Misuse::NoSuchWaiter.of(word))
     }
 }
 
@@ -123,7 +121,7 @@ fn nevers_of<'a>(
 ) -> Result<Vec<Never>, Complaint<'a>> {
     let mut nevers = Vec::new(alloc);
     for word in words {
-        nevers.push(never_of(alloc, word, count)?).at("run")?;
+        nevers.push(never_of(alloc, word, count)?)?;
     }
     Ok(nevers)
 }
@@ -131,18 +129,12 @@ fn nevers_of<'a>(
 /// What must never be so, as a word writes it, of so many processes.
 fn never_of<'a>(alloc: Global, word: &'a str, count: usize) -> Result<Never, Complaint<'a>> {
     match Never::read(alloc, word) {
-        Ok(never) if names_only(&never, count) => Ok(never),
-        Ok(_) => Err(Reason::NoSuchProcess.at(word)),
-        Err(ReadFault::NoCondition) => Err(Reason::NoCondition.at(word)),
+        Ok(Never::Holds(ref condition)) if !condition.names_only(count) => {
+            Err(Misuse::NoSuchProcess.of(word))
+        }
+        Ok(never) => Ok(never),
+        Err(ReadFault::NoCondition) => Err(Misuse::NoCondition.of(word)),
         Err(ReadFault::NoMemory) => Err(Reason::NoMemory.at("run")),
-    }
-}
-
-/// Whether what must never be so names no process but those of a run of so many.
-fn names_only(never: &Never, count: usize) -> bool {
-    match never {
-        Never::Holds(condition) => condition.names_only(count),
-        Never::Lost => true,
     }
 }
 

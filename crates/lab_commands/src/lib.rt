@@ -17,13 +17,13 @@ mod stages;
 mod step;
 mod telling;
 
-pub use asm::{Sheet, assemble_file};
+pub use asm::{Assembly, assemble_file};
 pub use check::check_sources;
-pub use complaint::{At, Complaint, Reason};
+pub use complaint::{At, Complaint, Misuse, Reason};
 pub use debug::debug_programs;
 pub use dis::disassemble_file;
 pub use explore::{Search, explore_programs, find_ends};
-pub use files::{is_same_file, read_source, write_text, write_whole};
+pub use files::{is_same_file, read_file, read_source, write_text, write_whole};
 pub use inquiry::{Inquiry, refuse_question};
 pub use job::{Job, Texts};
 pub use programs::{Programs, files_of, laboratory, read_programs};

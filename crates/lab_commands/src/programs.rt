@@ -1,6 +1,6 @@
 //! The programs of a laboratory, as the command line names them.
-use crate::asm::{assemble_bytes, refusal};
-use crate::check::messages;
+use crate::asm::assemble_bytes;
+use crate::check::messages_if;
 use crate::complaint::{At, Complaint, Reason};
 use crate::files::read_file;
 use crate::job::Job;
@@ -8,11 +8,10 @@ use crate::progress::Progress;
 use lab_arguments::{Setup, Shown};
 use lab_sched::{Fresh, FreshFault, Program};
 use lab_sources::Source;
-use lc3_messages::{Report, Wish};
 use lc3_obj::read_image;
 use lc3_table::Profile;
 use lc3_word::Image;
-use std::alloc::{AllocError, Global};
+use std::alloc::Global;
 use std::rt::Files;
 
 /// The programs of a laboratory, and of each its source, where it was given as one.
@@ -21,23 +20,6 @@ pub struct Programs {
     pub programs: Vec<Program>,
     /// As many as programs.
     pub sources: Vec<Option<Source>>,
-}
-
-impl Programs {
-    /// No program.
-    fn new(alloc: Global) -> Programs {
-        Programs {
-            programs: Vec::new(alloc),
-            sources: Vec::new(alloc),
-        }
-    }
-
-    /// Adds a program, and its source, where it was given as one.
-    fn add(&mut self, program: Program, source: Option<Source>) -> Result<(), AllocError> {
-        self.programs.push(program)?;
-        self.sources.push(source)?;
-        Ok(())
-    }
 }
 
 /// The program file that a word names, and the file of its console input, where there is one. The word is `FILE` or
@@ -55,10 +37,14 @@ pub fn read_programs<'a, T: Files, P: Progress>(
     job: &Job<'_, T, P>,
     words: &[&'a str],
 ) -> Result<Programs, Complaint<'a>> {
-    let mut given = Programs::new(job.alloc);
+    let mut given = Programs {
+        programs: Vec::new(job.alloc),
+        sources: Vec::new(job.alloc),
+    };
     for word in words {
         let (program, source) = read_program(job, word)?;
-        given.add(program, source).at("run")?;
+        given.programs.push(program)?;
+        given.sources.push(source)?;
     }
     Ok(given)
 }
@@ -81,7 +67,7 @@ fn read_input<'a, T: Files>(
     file: Option<&'a str>,
 ) -> Result<Vec<u8>, Complaint<'a>> {
     match file {
-        Some(file) => read_file(rt, alloc, file).at(file),
+        Some(file) => read_file(rt, alloc, file).at(alloc, file),
         None => Ok(Vec::new(alloc)),
     }
 }
@@ -91,71 +77,47 @@ pub fn read_image_file<'a, T: Files, P: Progress>(
     job: &Job<'_, T, P>,
     file: &'a str,
 ) -> Result<(Image, Option<Source>), Complaint<'a>> {
-    if is_source(file) {
-        let source = read_assembled(job, file)?;
-        return Ok((source.image(job.alloc).at(file)?, Some(source)));
+    let is_source = matches!(
+        file.as_bytes(),
+        [.., b'.', b'a' | b'A', b's' | b'S', b'm' | b'M']
+    );
+    if !is_source {
+        return Ok((read_object(job, file)?, None));
     }
-    Ok((read_object(job, file)?, None))
+    let source = read_assembled(job, file)?;
+    match source.image(job.alloc) {
+        Ok(image) => Ok((image, Some(source))),
+        Err(_) => Err(Reason::NoMemory.at(file)),
+    }
 }
 
-/// The image in an object file.
 fn read_object<'a, T: Files, P: Progress>(
     job: &Job<'_, T, P>,
     file: &'a str,
 ) -> Result<Image, Complaint<'a>> {
-    let bytes = read_file(job.rt, job.alloc, file).at(file)?;
+    let bytes = read_file(job.rt, job.alloc, file).at(job.alloc, file)?;
     if is_text(bytes.as_slice()) {
         tell_text(job, file);
     }
-    read_image(job.alloc, bytes.as_slice()).at(file)
+    read_image(job.alloc, bytes.as_slice()).at(job.alloc, file)
 }
 
-/// Whether a file is a source, by its name.
-fn is_source(file: &str) -> bool {
-    matches!(
-        file.as_bytes(),
-        [.., b'.', b'a' | b'A', b's' | b'S', b'm' | b'M']
-    )
-}
-
-/// The source in a file. Where it is refused, and somebody looks, the messages about it follow.
+/// The source in a file. Where it is refused, and somebody looks, the messages about it follow: those of every machine, since
+/// what differs is told of accepted sources alone.
 fn read_assembled<'a, T: Files, P: Progress>(
     job: &Job<'_, T, P>,
     file: &'a str,
 ) -> Result<Source, Complaint<'a>> {
-    let bytes = read_file(job.rt, job.alloc, file).at(file)?;
-    match assemble_bytes(job.alloc, &bytes) {
-        Ok(assembled) => Ok(Source {
-            text: text_of(bytes).at(file)?,
-            assembled,
-        }),
-        Err(reason) => {
-            let report = refused_messages(job, file, &bytes);
-            Err(refusal(file, reason, report))
+    let bytes = read_file(job.rt, job.alloc, file).at(job.alloc, file)?;
+    match assemble_bytes(job.alloc, file, &bytes) {
+        Ok(assembled) => match String::from_utf8(bytes) {
+            Ok(text) => Ok(Source { text, assembled }),
+            Err(_) => Err(Reason::NotUtf8.at(file)),
+        },
+        Err(complaint) => {
+            Err(complaint.explained(messages_if(job, file, &bytes, Profile::A, false)))
         }
     }
-}
-
-/// The text that bytes are.
-fn text_of(bytes: Vec<u8>) -> Result<String, Reason> {
-    String::from_utf8(bytes).map_err(|_| Reason::NotUtf8)
-}
-
-/// The messages about a source that is refused, where somebody looks and memory allows them. They are those of every
-/// machine, since what differs is told of accepted sources alone.
-fn refused_messages<T, P: Progress>(
-    job: &Job<'_, T, P>,
-    file: &str,
-    bytes: &[u8],
-) -> Option<Report> {
-    if !job.progress.is_shown() {
-        return None;
-    }
-    let wish = Wish {
-        profile: Profile::A,
-        allowed: &[],
-    };
-    messages(job.alloc, file, bytes, wish).ok()
 }
 
 /// Whether these are the bytes of a text rather than of an object file.
@@ -185,7 +147,7 @@ pub fn laboratory(
     programs: &[Program],
     profile: Profile,
 ) -> Result<Fresh, Complaint<'static>> {
-    Fresh::new(alloc, programs, profile).map_err(fault_of)
+    Fresh::new(alloc, programs, profile).map_err(|fault| fault_of(alloc, fault))
 }
 
 /// The laboratory of the programs in files, before its first step.
@@ -198,9 +160,9 @@ pub fn read_laboratory<'a, T: Files, P: Progress>(
 }
 
 /// What is said where there is no laboratory of some programs.
-pub fn fault_of(fault: FreshFault) -> Complaint<'static> {
+pub fn fault_of(alloc: Global, fault: FreshFault) -> Complaint<'static> {
     match fault {
-        FreshFault::Count => Reason::Count.at("programs"),
+        FreshFault::Count => Complaint::new(alloc, "programs", fault),
         FreshFault::NoMemory => Reason::NoMemory.at("run"),
     }
 }

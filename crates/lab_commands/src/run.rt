@@ -53,7 +53,7 @@ pub fn run_fresh<T: Threads + Wait + Clock + Sync, P: Progress>(
         None => report_of(job, fresh, limit, &NoGate),
         Some(seed) => report_of(job, fresh, limit, &PausingGate::new(job.rt, seed)),
     };
-    outcome.at("run")
+    outcome.at(job.alloc, "run")
 }
 
 /// Writes the report on a run, and a line with its schedule.
@@ -64,7 +64,7 @@ pub fn tell_run<W: Write>(
 ) -> Result<(), Complaint<'static>>
     requires output_healthy { output.old.failed ≡ false }
 {
-    write_text(&text_of(alloc, report).at("run")?, output)
+    write_text(&text_of(alloc, report)?, output)
 }
 
 /// The report on a run through this gate, which shows meanwhile how many calls were made.

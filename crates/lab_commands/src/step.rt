@@ -39,11 +39,10 @@ fn report_in<'a, T: Files, R: Read, P: Progress>(
     requires input_healthy { input.old.failed ≡ false }
 {
     let given = read_programs(job, setup.programs.as_slice())?;
-    let schedule = read_schedule(job.alloc, input).at("schedule")?;
+    let schedule = read_schedule(job.alloc, input)?;
     report_on(job, given.programs.as_slice(), setup.profile, &schedule)
 }
 
-/// The report on programs after the steps of a schedule.
 fn report_on<T, P: Progress>(
     job: &Job<'_, T, P>,
     programs: &[Program],
@@ -51,8 +50,8 @@ fn report_on<T, P: Progress>(
     schedule: &Schedule,
 ) -> Result<String, Complaint<'static>> {
     let mut world = World::from(laboratory(job.alloc, programs, profile)?);
-    run(job, &mut world, schedule).at("run")?;
-    report_text(job.alloc, &world).at("run")
+    run(job, &mut world, schedule).at(job.alloc, "run")?;
+    Ok(report_text(job.alloc, &world)?)
 }
 
 /// Takes the steps of a schedule, and shows meanwhile how many are done.
@@ -68,12 +67,15 @@ fn run<T, P: Progress>(
 }
 
 /// The schedule that a whole input writes.
-pub fn read_schedule<R: Read>(alloc: Global, input: &mut Input<R>) -> Result<Schedule, Reason>
+pub fn read_schedule<R: Read>(
+    alloc: Global,
+    input: &mut Input<R>,
+) -> Result<Schedule, Complaint<'static>>
     requires input_healthy { input.old.failed ≡ false }
 {
-    let bytes = read_whole(alloc, input)?;
+    let bytes = read_whole(alloc, input).at(alloc, "schedule")?;
     let Ok(text) = str::from_utf8(bytes.as_slice()) else {
-        return Err(Reason::NotUtf8);
+        return Err(Reason::NotUtf8.at("schedule"));
     };
-    Ok(Schedule::read(alloc, text)?)
+    Schedule::read(alloc, text).at(alloc, "schedule")
 }

@@ -1,17 +1,15 @@
 //! What `explore` writes of answers, and what it complains of.
 ghost use Rattle.std.specs.Prelude.{◌≡◌, false};
 
-use crate::complaint::{At, Complaint, Reason};
+use crate::complaint::{Complaint, Reason};
 use crate::explore::Search;
 use crate::files::write_text;
 use crate::inquiry::Inquiry;
 use crate::job::Job;
 use crate::progress::Progress;
 use lab_arguments::Choice;
-use lab_conditions::Never;
 use lab_io::Output;
 use lab_questions::{Answers, Failure, Object, Word, answers_json};
-use lab_sched::Verdict;
 use std::alloc::{AllocError, Global};
 use std::io::Write;
 
@@ -30,7 +28,7 @@ pub fn tell_ends<T, W: Write, P: Progress>(
         Some(Choice::Bad) => write_bad(job.alloc, found, output)?,
         None => write_answers(job.alloc, found, &search.inquiry, output)?,
     }
-    tell_unopened(job, &found.unopened).at("run")?;
+    tell_unopened(job, &found.unopened)?;
     complain(job.alloc, found)
 }
 
@@ -45,7 +43,7 @@ fn write_schedule<W: Write>(
         None if found.exploration.refused => Ok(()),
         None => Err(Reason::NoEnd.at("explore")),
         Some(end) => {
-            write_text(&end.schedule.text(alloc).at("run")?, output)?;
+            write_text(&end.schedule.text(alloc)?, output)?;
             write_text("\n", output)
         }
     }
@@ -69,7 +67,7 @@ fn write_bad<W: Write>(
     found: &Answers,
     output: &mut Output<W>,
 ) -> Result<(), Complaint<'static>> {
-    let Some(schedule) = found.bad_schedule(alloc).at("run")? else {
+    let Some(schedule) = found.bad_schedule(alloc)? else {
         return Ok(());
     };
     write_text(&schedule, output)?;
@@ -86,32 +84,16 @@ fn write_answers<W: Write>(
     if !inquiry.json {
         return write_text(&found.text, output);
     }
-    let json = answers_json(alloc, found, inquiry.reach).at("run")?;
+    let json = answers_json(alloc, found, inquiry.reach)?;
     write_text(&json, output)
 }
 
-/// The complaint that what must never be so was reached, by its number.
-fn reached(alloc: Global, conditions: &[Never], number: usize) -> Complaint<'static> {
-    let complaint = Reason::Reached.at("explore");
-    let Some(condition) = conditions.get(number) else {
-        return complaint;
-    };
-    match format!(in alloc; "{condition}") {
-        Ok(text) => complaint.about(text),
-        Err(_) => Reason::NoMemory.at("run"),
-    }
-}
-
-/// The complaint that an end isn't as a word requires; of an end alone, its verdict.
+/// That an end isn't as a word requires; of an end alone, its verdict.
 fn unmet(word: Word, plain: bool) -> Reason {
     match word {
-        Word::Ended if plain => Reason::Stands {
-            verdict: Verdict::Stuck,
-        },
-        Word::Stuck if plain => Reason::Stands {
-            verdict: Verdict::Ended,
-        },
-        _ => Reason::Not { word },
+        Word::Ended if plain => Reason::Stuck,
+        Word::Stuck if plain => Reason::Ended,
+        _ => Reason::Not(word),
     }
 }
 
@@ -121,7 +103,12 @@ fn complain(alloc: Global, found: &Answers) -> Result<(), Complaint<'static>> {
     let judges = found.asked.judges();
     match found.failure {
         Some(Failure::Not(word)) => Err(unmet(word, found.asked.plain).at("explore")),
-        Some(Failure::Reached(number)) => Err(reached(alloc, &found.asked.never, number)),
+        Some(Failure::Reached(number)) => Err(match found.asked.never.get(number) {
+            Some(condition) => {
+                Complaint::new(alloc, "explore", format_args!("reached {condition}"))
+            }
+            None => Reason::Reached.at("explore"),
+        }),
         Some(Failure::Endless) => Err(Reason::Endless.at("explore")),
         Some(Failure::Incomplete) if refused => Err(Reason::NoMemory.at("run")),
         Some(Failure::Incomplete) if judges => Err(Reason::Incomplete.at("explore")),
