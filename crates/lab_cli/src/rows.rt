@@ -79,7 +79,6 @@ const GIVEN: &str =
 /// The page of a run.
 const PAGE: &str = "Also writes FILE, a page that shows the run step by step in a browser";
 
-/// The options of `asm`.
 const ASM: &[Row] = &[
     Row {
         name: "SOURCE",
@@ -108,7 +107,6 @@ const ASM: &[Row] = &[
     },
 ];
 
-/// Those of `check`.
 const CHECK: &[Row] = &[
     Row {
         name: "SOURCE",
@@ -132,14 +130,12 @@ const CHECK: &[Row] = &[
     },
 ];
 
-/// Those of `dis`.
 const DIS: &[Row] = &[Row {
     name: "OBJECT",
     takes: Takes::Place,
     help: "The object file or the source to read",
 }];
 
-/// Those of `step` and `debug`.
 const PROGRAMS: &[Row] = &[
     Row {
         name: "PROGRAM",
@@ -153,7 +149,6 @@ const PROGRAMS: &[Row] = &[
     },
 ];
 
-/// Those of `trace`.
 const TRACE: &[Row] = &[
     Row {
         name: "PROGRAM",
@@ -177,7 +172,6 @@ const TRACE: &[Row] = &[
     },
 ];
 
-/// Those of `run`.
 const RUN: &[Row] = &[
     Row {
         name: "PROGRAM",
@@ -206,7 +200,6 @@ const RUN: &[Row] = &[
     },
 ];
 
-/// Those of `explore`.
 const EXPLORE: &[Row] = &[
     Row {
         name: "PROGRAM",
