@@ -11,7 +11,6 @@ use ipc_kernel::Kernel;
 use lab_sched::Process;
 use std::alloc::{AllocError, Global};
 
-/// How many of some processes over a kernel stand so.
 fn how_many(
     alloc: Global,
     state: State,
@@ -30,7 +29,6 @@ fn how_many(
     Ok(count)
 }
 
-/// Whether one of some processes over a kernel is there and stands so.
 fn is_one_so(
     alloc: Global,
     pid: usize,
@@ -49,7 +47,6 @@ fn is_one_so(
 }
 
 impl State {
-    /// Whether it depends on the kernel whether a process stands so.
     fn needs_kernel(self) -> bool
         ensures value { result ≡ needs_kernel self }
     {
@@ -87,7 +84,6 @@ impl Part {
         }
     }
 
-    /// Whether the part names no process but those below `count`.
     fn names_only(&self, count: usize) -> bool
         ensures only { IsTrue result ↔ NamesOnly count self.now }
     {
@@ -97,7 +93,6 @@ impl Part {
         }
     }
 
-    /// Whether it depends on the kernel whether the part holds.
     fn needs_kernel(&self) -> bool
         ensures value { result ≡ part_needs_kernel self.now }
     {
@@ -108,7 +103,6 @@ impl Part {
     }
 }
 
-/// Whether it depends on the kernel whether one of some parts holds.
 fn need_kernel(parts: &[Part]) -> bool
     ensures value { result ≡ list_any part_needs_kernel parts.now }
 {

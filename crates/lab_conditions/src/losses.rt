@@ -11,7 +11,6 @@ use ipc_kernel::{Call, Kernel, OBJECT_PLACES};
 use lab_sched::Process;
 use std::alloc::{AllocError, Global};
 
-/// How many messages are in the queue in a place.
 fn messages_at(kernel: &Kernel, place: u8) -> usize
     ensures count { result ≡ messages_at (place_at kernel.now.places place) }
     ensures few { result < 2 ^ 16 }
@@ -34,7 +33,6 @@ pub fn messages_in(kernel: &Kernel) -> usize
     count
 }
 
-/// Whether a call receives a message.
 fn is_receive(call: &Call) -> bool
     ensures value { result ≡ is_receive call.now }
 {

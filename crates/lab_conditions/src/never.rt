@@ -29,7 +29,6 @@ impl fmt::Display for Never {
     }
 }
 
-/// Whether the words are `lost` alone.
 fn are_lost(words: &[&str]) -> bool
     ensures value { result ≡ are_lost (map (λ word. word.now) words.now) }
 {

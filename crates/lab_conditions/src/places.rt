@@ -20,7 +20,6 @@ impl Relation {
     }
 }
 
-/// Whether a place has the semaphore of a name, with a value that stands so to a number.
 fn is_semaphore_in(kernel: &Kernel, place: u8, name: &Name, relation: Relation, value: u16) -> bool
     requires within { place < object_places }
     ensures is { IsTrue result ↔ IsSemaphoreIn kernel.now place name.now relation value }
@@ -33,8 +32,6 @@ fn is_semaphore_in(kernel: &Kernel, place: u8, name: &Name, relation: Relation, 
     }
 }
 
-/// Whether a place has the queue of a name, with so many messages that their number stands so to
-/// another.
 fn is_queue_in(kernel: &Kernel, place: u8, name: &Name, relation: Relation, value: u16) -> bool
     requires within { place < object_places }
     ensures is { IsTrue result ↔ IsQueueIn kernel.now place name.now relation value }
@@ -47,7 +44,6 @@ fn is_queue_in(kernel: &Kernel, place: u8, name: &Name, relation: Relation, valu
     }
 }
 
-/// Whether there is a semaphore of a name whose value stands so to a number.
 pub(crate) fn has_semaphore(kernel: &Kernel, name: &Name, relation: Relation, value: u16) -> bool
     ensures has { IsTrue result ↔ ((i : ℕ) × IsSemaphoreIn kernel.now i name.now relation value) }
 {
@@ -59,7 +55,6 @@ pub(crate) fn has_semaphore(kernel: &Kernel, name: &Name, relation: Relation, va
     false
 }
 
-/// Whether there is a queue of a name with so many messages that their number stands so to another.
 pub(crate) fn has_queue(kernel: &Kernel, name: &Name, relation: Relation, value: u16) -> bool
     ensures has { IsTrue result ↔ ((i : ℕ) × IsQueueIn kernel.now i name.now relation value) }
 {

@@ -41,7 +41,6 @@ impl<T: Drop> From<AllocFailed<T>> for ReadFault {
     }
 }
 
-/// The parts that words write, where each list of words is to write one.
 fn read_parts(alloc: Global, pieces: &[&[&str]]) -> Result<Option<Vec<Part>>, AllocError>
     ensures value { IfOk result (λ parts. option_map (λ v. v.items) parts
         ≡ parts_in (map (λ piece. map (λ word. word.now) piece.now) pieces.now)) }

@@ -37,7 +37,6 @@ pub fn call_of(alloc: Global, process: &Process) -> Result<Option<Call>, AllocEr
     }
 }
 
-/// Whether a call of process `pid` must wait.
 #[tactic(auto, using(crate::proofs::PastProcesses::none_waits))]
 fn must_wait(kernel: &Kernel, pid: usize, call: &Call) -> bool
     ensures value { result ≡ must_wait kernel.now pid call.now }
@@ -45,7 +44,6 @@ fn must_wait(kernel: &Kernel, pid: usize, call: &Call) -> bool
     pid < kernel.count() && !kernel.can_go(pid, call)
 }
 
-/// Whether process `pid` stands at a call that must wait.
 fn is_blocked(
     alloc: Global,
     kernel: &Kernel,
@@ -65,7 +63,6 @@ fn is_blocked(
     }
 }
 
-/// Whether a process has ended, and not by HALT.
 fn has_crashed(process: &Process) -> bool
     ensures value { result ≡ has_crashed (process_view process.now) }
 {
@@ -75,14 +72,12 @@ fn has_crashed(process: &Process) -> bool
     }
 }
 
-/// Whether a process has ended.
 fn has_ended(process: &Process) -> bool
     ensures value { result ≡ is_ended (process_view process.now) }
 {
     matches!(process, Process::Ended(_))
 }
 
-/// Whether a process is about to make a call, or waits.
 fn is_at_call(alloc: Global, process: &Process) -> Result<bool, AllocError>
     ensures value { IfOk result
         (λ at_call. at_call ≡ is_some (call_of (process_view process.now))) }
@@ -94,7 +89,6 @@ fn is_at_call(alloc: Global, process: &Process) -> Result<bool, AllocError>
     }
 }
 
-/// Whether a process stands at a call, with its program counter from one address to another.
 fn stands_from(alloc: Global, first: u16, last: u16, process: &Process) -> Result<bool, AllocError>
     ensures value { IfOk result
         (λ stands. stands ≡ stands_from first last (process_view process.now)) }

@@ -18,7 +18,6 @@ pub(crate) fn number_in(word: &str) -> Option<u16>
     }
 }
 
-/// The number of a process.
 #[tactic(auto, unfolding(crate::specs::Written::process_in))]
 pub(crate) fn process_in(word: &str) -> Option<usize>
     ensures value { result ≡ process_in word.now }
@@ -51,7 +50,6 @@ fn address_in(word: &[u8]) -> Option<u16>
     hexadecimal_in(digits)
 }
 
-/// From one address to another, the first not above the second.
 fn from_to(first: u16, last: u16) -> Option<State>
     ensures value { result ≡ from_to first last }
 {
@@ -62,7 +60,6 @@ fn from_to(first: u16, last: u16) -> Option<State>
     }
 }
 
-/// Where the first `-` of a word stands.
 fn dash(word: &[u8]) -> Option<usize>
     ensures place { result ≡ position is_dash word.now }
     ensures within { IfSome result (λ i. i < length word.now) }

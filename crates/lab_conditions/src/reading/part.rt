@@ -28,7 +28,6 @@ fn relation_in(word: &str) -> Option<Relation>
     None
 }
 
-/// The name that a word is, if it has the form of one.
 fn name_in(alloc: Global, word: &str) -> Result<Option<Name>, AllocError>
     ensures name { IfOk result (λ name. name ≡ name_of (name_read word.now)) }
 {
@@ -42,7 +41,6 @@ fn name_in(alloc: Global, word: &str) -> Result<Option<Name>, AllocError>
     }
 }
 
-/// A name, and how a number is to stand to another.
 #[derive(Drop)]
 struct Compared {
     name: Name,
@@ -108,7 +106,6 @@ fn read_state<'a, 'b>(words: &'a [&'b str]) -> Option<Front<'a, 'b>>
     None
 }
 
-/// A state of one process, with nothing behind it.
 fn read_state_of(process: usize, words: &[&str]) -> Option<Part>
     ensures value { result
         ≡ option_and_then (state_of process) (state_in (map (λ word. word.now) words.now)) }
@@ -140,7 +137,6 @@ fn read_state_of_some(words: &[&str]) -> Option<Part>
     }
 }
 
-/// A part that is about a semaphore.
 fn read_semaphore(alloc: Global, words: &[&str]) -> Result<Option<Part>, AllocError>
     ensures value { IfOk result (λ part. part ≡ option_map (λ x. Semaphore x.0 x.1 x.2)
         (compared_in (map (λ word. word.now) words.now))) }
@@ -162,7 +158,6 @@ fn read_semaphore(alloc: Global, words: &[&str]) -> Result<Option<Part>, AllocEr
     }))
 }
 
-/// A part that is about a queue.
 fn read_queue(alloc: Global, words: &[&str]) -> Result<Option<Part>, AllocError>
     ensures value { IfOk result (λ part. part ≡ option_map (λ x. Queue x.0 x.1 x.2)
         (compared_in (map (λ word. word.now) words.now))) }
@@ -184,7 +179,6 @@ fn read_queue(alloc: Global, words: &[&str]) -> Result<Option<Part>, AllocError>
     }))
 }
 
-/// A part that is about processes.
 fn read_processes(words: &[&str]) -> Option<Part>
     ensures value { result ≡ processes_in (map (λ word. word.now) words.now) }
 {
@@ -195,7 +189,6 @@ fn read_processes(words: &[&str]) -> Option<Part>
     }
 }
 
-/// The part that words write, if they write one.
 #[tactic(auto, unfolding(crate::specs::Written::part_in))]
 pub(crate) fn read_part(alloc: Global, words: &[&str]) -> Result<Option<Part>, AllocError>
     ensures value { IfOk result (λ part. part ≡ part_in (map (λ word. word.now) words.now)) }

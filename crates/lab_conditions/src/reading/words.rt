@@ -6,7 +6,6 @@ ghost use Rattle.lab_conditions.specs.Written.{words, is_word, spaced};
 use std::alloc::{AllocError, Global};
 use std::fmt::Write;
 
-/// The words of a text, between blanks.
 pub(crate) fn words_of(alloc: Global, text: &str) -> Result<Vec<&str>, AllocError>
     ensures words { IfOk result (λ found. map (λ word. word.now) found.items ≡ words text.now) }
 {
@@ -15,7 +14,6 @@ pub(crate) fn words_of(alloc: Global, text: &str) -> Result<Vec<&str>, AllocErro
         .collect(alloc)
 }
 
-/// Whether a word is this one.
 #[tactic(auto, unfolding(crate::specs::Written::is_word))]
 pub(crate) fn is_word(name: &str, word: &str) -> bool
     ensures value { result ≡ is_word name.now word.now }
@@ -23,7 +21,6 @@ pub(crate) fn is_word(name: &str, word: &str) -> bool
     name == word
 }
 
-/// The words, with one blank between each two.
 pub(crate) fn spaced(alloc: Global, words: &[&str]) -> Result<String, AllocError>
     ensures text { IfOk result (λ text.
         string_bytes text ≡ spaced (map (λ word. word.now) words.now)) }
