@@ -20,7 +20,6 @@ pub fn copy_before_wait(alloc: Global, process: &Process) -> Result<Process, All
     })
 }
 
-/// Whether a process is the same in two worlds.
 fn is_same_in(world: &World, other: &World, pid: usize) -> bool
     ensures same { IsTrue result
         → slice_get other.now.processes pid ≡ slice_get world.now.processes pid }

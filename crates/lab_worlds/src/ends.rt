@@ -41,7 +41,6 @@ impl End {
     }
 }
 
-/// Whether a world that stands so isn't at rest.
 fn is_open(verdict: Verdict) -> bool
     ensures closed { result ≡ false → verdict ≡ Open → ⊥ }
 {

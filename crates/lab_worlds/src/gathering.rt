@@ -39,7 +39,6 @@ impl Gathering {
         }
     }
 
-    /// Whether the world of a walk with this digest is that of an end.
     fn is_known(&self, wanderer: &Wanderer, digest: u64) -> bool {
         for (at, known) in self.digests.iter().enumerate() {
             if *known == digest {
@@ -53,7 +52,6 @@ impl Gathering {
         false
     }
 
-    /// Adds the end to which a walk came, if it isn't known.
     fn add(
         &mut self,
         alloc: Global,
@@ -74,7 +72,6 @@ impl Gathering {
         self.keep(end)
     }
 
-    /// Keeps an end.
     fn keep(&mut self, end: End) -> Result<(), ExploreFault>
         ensures ends { (start : WorldState) → IsEnd start end
             → AreEnds start self.old.ends.items → AreEnds start self.new.ends.items }
@@ -84,7 +81,6 @@ impl Gathering {
         Ok(())
     }
 
-    /// Takes one walk.
     fn take(
         &mut self,
         alloc: Global,

@@ -20,7 +20,6 @@ pub struct Pass {
     pub served: Vec<bool>,
 }
 
-/// Writes down that a process is served.
 fn mark(served: &mut Vec<bool>, pid: usize) -> Result<(), ExploreFault>
     ensures within { OnOk result (pid < length served.old.items) }
     ensures served { OnOk result (served.new.items ≡ slice_set served.old.items pid true) }
@@ -32,7 +31,6 @@ fn mark(served: &mut Vec<bool>, pid: usize) -> Result<(), ExploreFault>
     Ok(())
 }
 
-/// Whether each process is served.
 fn are_served(served: &[bool]) -> bool
     ensures yes { IsTrue result → All (λ b. b ≡ true) served.now }
 {
@@ -44,7 +42,6 @@ fn are_served(served: &[bool]) -> bool
     true
 }
 
-/// That none of so many processes is served.
 fn none_served(alloc: Global, count: usize) -> Result<Vec<bool>, AllocError>
     ensures none { IfOk result (λ served. served.items ≡ replicate count false) }
 {
@@ -78,7 +75,6 @@ impl Pass {
         Ok(())
     }
 
-    /// Takes so many steps, each of which must be effective.
     fn take_on(&mut self, pid: usize, count: u32) -> Result<(), ExploreFault>
         ensures passing { OnOk result (KeepsPassing self.old self.new) }
     {
@@ -97,7 +93,6 @@ impl Pass {
         Ok(())
     }
 
-    /// Goes along a part of a tour.
     fn go_leg(&mut self, leg: Leg) -> Result<(), ExploreFault>
         ensures passing { OnOk result (KeepsPassing self.old self.new) }
     {
@@ -110,7 +105,6 @@ impl Pass {
         }
     }
 
-    /// Goes along parts of a tour.
     fn go_legs(&mut self, legs: &[Leg]) -> Result<(), ExploreFault>
         ensures passing { OnOk result (KeepsPassing self.old self.new) }
     {

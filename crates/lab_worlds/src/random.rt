@@ -24,7 +24,6 @@ pub struct Walks {
 }
 
 impl Walk {
-    /// Takes the steps of a schedule, each of which must be effective.
     fn go_along(&mut self, schedule: &Schedule) -> Result<(), ExploreFault>
         ensures walk { OnOk result (KeepsStart self.old self.new) }
     {
@@ -35,7 +34,6 @@ impl Walk {
     }
 }
 
-/// The end to which the steps of a schedule lead.
 pub(crate) fn end_along(
     alloc: Global,
     processes: &[Process],
@@ -91,7 +89,6 @@ pub fn walk_randomly<O: Observer>(
 }
 
 impl Gathering {
-    /// What the walks found, and whether memory was refused.
     fn found(self, alloc: Global, refused: bool) -> Exploration
         ensures ends { result.ends ≡ self.ends }
         ensures open { result.complete ≡ false }

@@ -39,7 +39,6 @@ pub enum Tried {
 /// ends let go of large values.
 pub fn discard<T: Drop>(_value: T) {}
 
-/// The process at its call, with its kernel, if it came there.
 fn made_of(kernel: Kernel, ahead: Ahead) -> Option<Made>
     requires held { IsHeld ahead.process }
     requires few { ahead.taken < 2 ^ 32 }
@@ -83,7 +82,6 @@ fn run_on(
     }
 }
 
-/// What came of a step, where the process then made its local steps.
 fn tried_of(made: Option<Made>) -> Tried
     ensures stepped { (k : KernelState) (p : ℕ) (s : Seen)
         → IsRun (step_of k p s).kernel (step_of k p s).process made
@@ -95,7 +93,6 @@ fn tried_of(made: Option<Made>) -> Tried
     }
 }
 
-/// Whether a process goes on by a step that was told so.
 fn goes_on(stepped: Stepped) -> bool
     ensures yes { IsTrue result → (q : Option Request) (t : StepEffect)
         → stepped ≡ stepped_of q t → GoesOn t }
@@ -108,7 +105,6 @@ fn goes_on(stepped: Stepped) -> bool
     )
 }
 
-/// Takes a step of a process, and its local steps after it.
 fn step_on(
     alloc: Global,
     mut kernel: Kernel,

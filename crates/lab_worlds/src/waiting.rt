@@ -29,7 +29,6 @@ pub fn none_waits(world: &World) -> bool
     true
 }
 
-/// 1 where a process waits, and 0 where it doesn't.
 fn waiting_at(world: &World, pid: usize) -> u32
     ensures few { result ≤ 1 }
     ensures next { count_by is_waiting (take (pid + 1) world.now.processes)
@@ -41,7 +40,6 @@ fn waiting_at(world: &World, pid: usize) -> u32
     if waits(process) { 1 } else { 0 }
 }
 
-/// How many processes of a world wait.
 pub(crate) fn count_waiting(world: &World) -> u32
     ensures count { result ≡ waiting world.now }
 {

@@ -25,7 +25,6 @@ pub struct Walk {
     pub calls: u32,
 }
 
-/// Copies of processes.
 pub(crate) fn copies(alloc: Global, processes: &[Process]) -> Result<Vec<Process>, AllocError>
     ensures copies { IfOk result (λ v. v.items ≡ processes.now) }
 {
@@ -37,7 +36,6 @@ pub(crate) fn copies(alloc: Global, processes: &[Process]) -> Result<Vec<Process
     Ok(copies)
 }
 
-/// The world of processes before their first steps.
 fn world_of(alloc: Global, processes: &[Process]) -> Result<World, ExploreFault>
     requires starts { AreStarts processes.now }
     ensures world { IfOk result (λ w. w ≡ initial_world processes.now) }
@@ -52,7 +50,6 @@ fn world_of(alloc: Global, processes: &[Process]) -> Result<World, ExploreFault>
     }
 }
 
-/// Whether a step that was told so is effective.
 fn changes(stepped: &Stepped) -> bool
     ensures effective { IsTrue result → stepped.now ≡ Same → ⊥ }
     ensures same { result ≡ false → stepped.now ≡ Same }
@@ -60,7 +57,6 @@ fn changes(stepped: &Stepped) -> bool
     !matches!(stepped, Stepped::Same)
 }
 
-/// How many calls a step is that was told so.
 fn calls_of(stepped: &Stepped) -> u32
     ensures count { (p : ℕ) (q : Option Request) (t : StepEffect) → stepped.now ≡ stepped_of q t
         → result ≡ length (entry_of p t) }
@@ -116,8 +112,6 @@ impl Walk {
         Ok(())
     }
 
-    /// Whether process `pid` is about to receive a message, or waits for one. Where it isn't there, it
-    /// isn't.
     fn is_receiving(&self, alloc: Global, pid: usize) -> Result<bool, AllocError>
         ensures no { IfOk result (λ receiving. receiving ≡ false
             → receives (step_effect_in self.now.world pid) ≡ false) }
@@ -196,7 +190,6 @@ impl Walk {
         Ok(())
     }
 
-    /// Whether a process has ended.
     fn has_ended(&self, pid: usize) -> bool {
         matches!(self.world.process(pid), Some(Process::Ended(_)))
     }

@@ -23,7 +23,6 @@ pub struct Wanderer {
     pub schedule: Schedule,
 }
 
-/// Whether the step of process `pid` is effective.
 fn has_step(process: &Process, kernel: &Kernel, pid: usize) -> bool {
     match process {
         Process::Running(_) => true,
@@ -85,7 +84,6 @@ impl Wanderer {
         Ok(true)
     }
 
-    /// The processes whose steps are effective, in the order of their numbers.
     fn movable(&self, alloc: Global) -> Result<Vec<usize>, AllocError> {
         let mut movable = Vec::new(alloc);
         for (pid, process) in self.processes.iter().enumerate() {
@@ -96,7 +94,6 @@ impl Wanderer {
         Ok(movable)
     }
 
-    /// Adds steps of a process to those of the walk.
     fn note(&mut self, pid: usize, count: u32) -> Result<(), ExploreFault>
         ensures processes { self.new.processes ≡ self.old.processes }
         ensures kernel { self.new.kernel ≡ self.old.kernel }
