@@ -46,7 +46,6 @@ impl Model for Book {
     ghost invariant = { λ b. BookInvariant b.kernel b.history.items b.waiting.items };
 }
 
-/// The call that waits after this answer.
 fn pending_call(call: Call, answer: &Answer) -> Option<Call>
     ensures pending { result ≡ still call answer.now }
 {
@@ -76,14 +75,12 @@ pub(crate) fn clone_of(call: &Call) -> Result<Call, AllocError>
     call.clone()
 }
 
-/// Lets a process wait for a call, or for none.
 fn set_pending(waiting: &mut Option<Call>, pending: Option<Call>)
     ensures pending { waiting.new ≡ pending }
 {
     *waiting = pending;
 }
 
-/// What a kernel answers to a call, the entry of the call, and the call that waits after it.
 #[derive(Drop)]
 struct Answered {
     answer: Answer,
@@ -171,7 +168,6 @@ impl Book {
         self.waiting[pid].as_ref()
     }
 
-    /// Whether a process waits for a call.
     fn is_waiting(&self, pid: usize) -> bool
         requires process { pid < self.now.count }
         ensures waits { is_some (waits self.now.history pid) ≡ result }

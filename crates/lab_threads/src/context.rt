@@ -7,7 +7,6 @@ use ipc_kernel::Call;
 use std::alloc::Global;
 use std::sync::Wait;
 
-/// Where a worker makes the calls of its process, and the gate that it passes before.
 #[derive(Drop)]
 pub(crate) struct WorkerContext<'s, G> {
     pub monitor: &'s Monitor,

@@ -8,7 +8,6 @@ use crate::worker_result::WorkerResult;
 use lab_sched::{Entry, MOST_STEPS, Schedule, TracedCall};
 use std::alloc::{AllocError, Global};
 
-/// Whether a call of a trace is the entry's, with its answer.
 fn is_entry(told: &TracedCall, entry: &Entry) -> bool
     ensures call { IsTrue result → told.now.call ≡ entry.now.call }
     ensures answer { IsTrue result → told.now.answer ≡ entry.now.answer }

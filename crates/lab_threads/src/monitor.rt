@@ -29,7 +29,6 @@ pub(crate) struct Monitor {
     start: CommonStart,
 }
 
-/// What comes of a call.
 #[derive(Drop)]
 pub(crate) enum CallOutcome {
     /// The call doesn't fit the book.
@@ -45,7 +44,6 @@ pub(crate) enum CallOutcome {
 }
 
 impl SharedState {
-    /// Tries a call.
     fn try_call(&mut self, pid: usize, call: &Call) -> CallOutcome
         ensures outcome { IsCallOutcome call.now false result }
     {
@@ -59,7 +57,6 @@ impl SharedState {
         }
     }
 
-    /// Whether a worker waits for a call that couldn't go when it was last looked at.
     fn is_blocked(&self, pid: usize) -> bool {
         match self.blocked.get(pid) {
             Some(blocked) => *blocked,
@@ -67,7 +64,6 @@ impl SharedState {
         }
     }
 
-    /// Counts a worker as one that waits.
     fn begin_wait(&mut self, pid: usize) {
         if let Some(blocked) = self.blocked.get_mut(pid) {
             *blocked = true;
@@ -89,19 +85,16 @@ impl SharedState {
         true
     }
 
-    /// Counts a worker as one that has stopped.
     fn stop(&mut self) {
         self.active = self.active.saturating_sub(1);
     }
 
-    /// Whether a worker that waits may still be woken.
     fn can_be_woken(&self) -> bool {
         self.active > 0
     }
 }
 
 impl Monitor {
-    /// A monitor with this book, where no worker has stopped or waits.
     pub(crate) fn new(alloc: Global, book: Book) -> Result<Monitor, AllocError> {
         let count = book.count();
         let mut wakeups = Vec::with_capacity(alloc, count)?;
@@ -210,14 +203,12 @@ impl Monitor {
         }
     }
 
-    /// Wakes all workers.
     fn wake_all(&self) {
         for wakeup in &self.wakeups {
             wakeup.notify_one();
         }
     }
 
-    /// Returns when all workers are there.
     pub(crate) fn meet<R: Wait>(&self, rt: &R) {
         self.start.meet(rt);
     }

@@ -47,7 +47,6 @@ impl Drop for Report {
     }
 }
 
-/// The steps that each worker has left.
 fn lefts(alloc: Global, workers: &[WorkerResult]) -> Result<Vec<u32>, AllocError>
     ensures left { IfOk result (λ v. v.items ≡ map (λ k. k.left) workers.now) }
 {
@@ -58,7 +57,6 @@ fn lefts(alloc: Global, workers: &[WorkerResult]) -> Result<Vec<u32>, AllocError
     Ok(left)
 }
 
-/// The process of each worker, where it stopped.
 fn ends(alloc: Global, workers: Vec<WorkerResult>) -> Result<Vec<Process>, AllocError>
     ensures processes { IfOk result (λ v. v.items ≡ map (λ k. k.process) workers.items) }
 {
@@ -68,7 +66,6 @@ fn ends(alloc: Global, workers: Vec<WorkerResult>) -> Result<Vec<Process>, Alloc
         .collect(alloc)
 }
 
-/// Whether a schedule has room for all steps that are left.
 fn has_room(schedule: &Schedule, left: &[u32]) -> bool
     ensures room { result ≡ true → total_of schedule.now + sum left.now ≤ most_steps }
 {
@@ -82,12 +79,10 @@ fn has_room(schedule: &Schedule, left: &[u32]) -> bool
     true
 }
 
-/// Whether each worker's calls fitted the book.
 fn all_fit(workers: &[WorkerResult]) -> bool {
     workers.iter().all(|worker| worker.fits)
 }
 
-/// Merges the traces along the history; with the steps that each worker has left.
 fn merge_workers(
     alloc: Global,
     workers: &[WorkerResult],
@@ -139,7 +134,6 @@ fn report_from(
     })
 }
 
-/// Merges the traces along the history, and goes on from there until all is finished.
 fn report_of_workers(
     alloc: Global,
     workers: Vec<WorkerResult>,
@@ -169,7 +163,6 @@ fn report_of_workers(
     report_from(world, schedule, history, left)
 }
 
-/// Runs processes on threads over an empty kernel.
 fn run_starts<R: Threads + Wait + Sync, G: Gate>(
     rt: &R,
     alloc: Global,

@@ -51,14 +51,12 @@ fn spawn_all<'s, E, R: Threads + Wait + Sync, G: Gate>(
     Ok(handles)
 }
 
-/// Tells that so many workers couldn't be started.
 fn stop_missing<R: Wait>(rt: &R, monitor: &Monitor, count: usize) {
     for _ in 0..count {
         monitor.stop_missing(rt);
     }
 }
 
-/// What the workers bring back, each of which keeps its promise.
 fn worker_results<R: Threads>(
     rt: &R,
     handles: Vec<PromisedHandle<WorkerResult, WorkerPromise>>,
@@ -72,7 +70,6 @@ fn worker_results<R: Threads>(
     }
 }
 
-/// Runs a worker for each process, and joins them all.
 pub(crate) fn run_workers<R: Threads + Wait + Sync, G: Gate>(
     rt: &R,
     alloc: Global,

@@ -19,7 +19,6 @@ pub(crate) struct CommonStart {
 }
 
 impl CommonStart {
-    /// The start of so many workers, none of which is there.
     pub(crate) fn new(count: usize) -> CommonStart {
         CommonStart {
             count: count as u64,
@@ -44,7 +43,6 @@ impl CommonStart {
         }
     }
 
-    /// Sleeps until all workers are there.
     fn gather<R: Wait>(&self, rt: &R) {
         for _ in rt.forever() {
             let there = self.there.load(Ordering::SeqCst);

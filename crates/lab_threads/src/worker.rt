@@ -23,7 +23,6 @@ use lc3_machine::{How, Progress, Want};
 use std::alloc::Global;
 use std::sync::Wait;
 
-/// Whether a worker goes on.
 #[derive(Clone, Copy, PartialEq, Eq)]
 enum Continuation {
     /// It does, as far as its process can.
@@ -76,7 +75,6 @@ fn advance<R: Wait, G: Gate>(
     }
 }
 
-/// Ends a process.
 fn step_end<R: Wait, G: Gate>(
     rt: &R,
     context: &WorkerContext<'_, G>,
@@ -106,7 +104,6 @@ fn step_end<R: Wait, G: Gate>(
     }
 }
 
-/// The step of a process that stands before a trap of the kernel.
 fn step_trap<R: Wait, G: Gate>(
     rt: &R,
     context: &WorkerContext<'_, G>,
@@ -135,7 +132,6 @@ fn step_trap<R: Wait, G: Gate>(
     }
 }
 
-/// Whether a worker goes on whose process waits: where the book still fits its call.
 fn after_wait(fits: bool) -> Continuation {
     if fits {
         Continuation::GoesOn

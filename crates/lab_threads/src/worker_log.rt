@@ -34,7 +34,6 @@ impl WorkerLog {
         self.trace.after == 0
     }
 
-    /// Writes down so many local steps.
     pub(crate) fn add_local(&mut self, count: u32)
         requires left { count ≤ self.old.left }
         requires few { allowance self.old < 2 ^ 32 }
@@ -45,7 +44,6 @@ impl WorkerLog {
         self.left -= count;
     }
 
-    /// Writes down a call with its answer.
     pub(crate) fn add_call(&mut self, call: Call, answer: Answer)
         requires left { 0 < self.old.left }
         requires room { vec_len self.old.trace.calls < vec_capacity self.old.trace.calls }
