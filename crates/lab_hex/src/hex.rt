@@ -23,7 +23,6 @@ pub fn read_text(alloc: Global, text: &[u8]) -> Result<Image, CliFault>
     to_image(alloc, numbers.as_slice())
 }
 
-/// The numbers of the words, or the first that is none.
 fn read_numbers(alloc: Global, words: &[&[u8]]) -> Result<Vec<u16>, CliFault>
     ensures ok { IfOk result
         (λ numbers. numbers_of (map (λ word. word.now) words.now) ≡ Ok numbers.items) }
@@ -40,7 +39,6 @@ fn read_numbers(alloc: Global, words: &[&[u8]]) -> Result<Vec<u16>, CliFault>
     Ok(numbers)
 }
 
-/// The number that one to four hexadecimal digits write.
 #[tactic(auto, using(crate::proofs::HexLemmas::short_number))]
 fn short_number(digits: &[u8]) -> Option<u16>
     requires short { length digits.now ≤ 4 }
@@ -61,7 +59,6 @@ fn read_number(word: &[u8]) -> Option<u16>
     short_number(digits)
 }
 
-/// What stands after an optional `x`.
 fn after_mark(word: &[u8]) -> &[u8]
     ensures value { result.now ≡ digits_of word.now }
 {

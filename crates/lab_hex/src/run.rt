@@ -16,10 +16,8 @@ use lc3_word::Image;
 use std::alloc::Global;
 use std::io::{Read, Write};
 
-/// The number of steps.
 const STEPS: u32 = 100_000;
 
-/// The world of an image by itself after 100,000 steps, as process 0 of profile a.
 fn run_alone(alloc: Global, image: Image) -> Result<World, CliFault>
     ensures world { IfOk result (λ world. world ≡ world_after 100000 image) }
     ensures err { IfErr result (λ fault. fault ≡ CliFault.NoMemory) }
@@ -40,7 +38,6 @@ fn run_alone(alloc: Global, image: Image) -> Result<World, CliFault>
     }
 }
 
-/// The report on the run of the image that a text of hexadecimal words says.
 #[tactic(auto, using(crate::proofs::RunLemmas::fault_of_text))]
 fn report_on(alloc: Global, text: &[u8]) -> Result<String, CliFault>
     ensures report { IfOk result
