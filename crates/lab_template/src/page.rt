@@ -13,7 +13,6 @@ const DATA: &str = r##"<script type="application/json" id="data">
 const DATA_END: &str = r##"
 </script>"##;
 
-/// Adds a part of the page.
 fn push_part(bytes: &mut Vec<u8>, part: &str) -> Result<(), AllocError>
     ensures bytes { OnOk result (bytes.new.items ≡ bytes.old.items ++ part.now) }
 {
@@ -21,7 +20,6 @@ fn push_part(bytes: &mut Vec<u8>, part: &str) -> Result<(), AllocError>
     Ok(())
 }
 
-/// Adds parts of the page, one behind the other.
 fn push_parts(bytes: &mut Vec<u8>, parts: &[&str]) -> Result<(), AllocError>
     ensures bytes { OnOk result (bytes.new.items
         ≡ bytes.old.items ++ flat_map (λ part. part.now) parts.now) }
@@ -32,7 +30,6 @@ fn push_parts(bytes: &mut Vec<u8>, parts: &[&str]) -> Result<(), AllocError>
     Ok(())
 }
 
-/// Adds the data, as JSON in which each `<` is escaped.
 #[tactic(auto, unfolding(crate::specs::Pages::data_block))]
 fn push_data(bytes: &mut Vec<u8>, json: &[u8]) -> Result<(), AllocError>
     ensures bytes { OnOk result (bytes.new.items
@@ -44,7 +41,6 @@ fn push_data(bytes: &mut Vec<u8>, json: &[u8]) -> Result<(), AllocError>
     Ok(())
 }
 
-/// Adds a limit that the scripts name so.
 #[tactic(auto, unfolding(crate::specs::Pages::limit))]
 fn push_limit(bytes: &mut Vec<u8>, name: &str, most: usize) -> Result<(), AllocError>
     ensures bytes { OnOk result (bytes.new.items ≡ bytes.old.items ++ limit name.now most) }
@@ -53,7 +49,6 @@ fn push_limit(bytes: &mut Vec<u8>, name: &str, most: usize) -> Result<(), AllocE
     push_part(bytes, &text)
 }
 
-/// Adds the limits that the scripts name.
 #[tactic(auto, unfolding(crate::specs::Pages::limit_script))]
 fn push_limit_script(bytes: &mut Vec<u8>) -> Result<(), AllocError>
     ensures bytes { OnOk result (bytes.new.items ≡ bytes.old.items ++ limit_script) }

@@ -7,7 +7,6 @@ use std::alloc::{AllocError, Global};
 /// What stands for a `<` in JSON; it can only be in a string there.
 const LESS_THAN: &[u8] = b"\\u003C";
 
-/// Adds a byte of JSON.
 #[tactic(auto, unfolding(crate::specs::Pages::safe_byte))]
 fn push_byte(bytes: &mut Vec<u8>, byte: u8) -> Result<(), AllocError>
     ensures bytes { OnOk result (bytes.new.items ≡ bytes.old.items ++ safe_byte byte) }
