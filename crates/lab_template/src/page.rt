@@ -13,19 +13,12 @@ const DATA: &str = r##"<script type="application/json" id="data">
 const DATA_END: &str = r##"
 </script>"##;
 
-fn push_part(bytes: &mut Vec<u8>, part: &str) -> Result<(), AllocError>
-    ensures bytes { OnOk result (bytes.new.items ≡ bytes.old.items ++ part.now) }
-{
-    bytes.extend_from_slice(part.as_bytes())?;
-    Ok(())
-}
-
 fn push_parts(bytes: &mut Vec<u8>, parts: &[&str]) -> Result<(), AllocError>
     ensures bytes { OnOk result (bytes.new.items
         ≡ bytes.old.items ++ flat_map (λ part. part.now) parts.now) }
 {
     for part in parts {
-        push_part(bytes, part)?;
+        bytes.extend_from_slice(part.as_bytes())?;
     }
     Ok(())
 }
@@ -35,10 +28,9 @@ fn push_data(bytes: &mut Vec<u8>, json: &[u8]) -> Result<(), AllocError>
     ensures bytes { OnOk result (bytes.new.items
         ≡ bytes.old.items ++ data_block (safe json.now)) }
 {
-    push_part(bytes, DATA)?;
+    bytes.extend_from_slice(DATA.as_bytes())?;
     push_safe(bytes, json)?;
-    push_part(bytes, DATA_END)?;
-    Ok(())
+    bytes.extend_from_slice(DATA_END.as_bytes())
 }
 
 #[tactic(auto, unfolding(crate::specs::Pages::limit))]
@@ -46,7 +38,7 @@ fn push_limit(bytes: &mut Vec<u8>, name: &str, most: usize) -> Result<(), AllocE
     ensures bytes { OnOk result (bytes.new.items ≡ bytes.old.items ++ limit name.now most) }
 {
     let text = format!(in *bytes.allocator(); "const {name} = {most};")?;
-    push_part(bytes, &text)
+    bytes.extend_from_slice(text.as_bytes())
 }
 
 #[tactic(auto, unfolding(crate::specs::Pages::limit_script))]
@@ -55,8 +47,7 @@ fn push_limit_script(bytes: &mut Vec<u8>) -> Result<(), AllocError>
 {
     push_limit(bytes, "MOST_WHOLE", MOST_WHOLE as usize)?;
     push_limit(bytes, "MOST_ENDS", MOST_ENDS)?;
-    push_limit(bytes, "MOST_END_BYTES", MOST_END_BYTES)?;
-    Ok(())
+    push_limit(bytes, "MOST_END_BYTES", MOST_END_BYTES)
 }
 
 /// The page with these data, as JSON, by a template.
