@@ -94,16 +94,9 @@ impl Gathering {
             → AreEnds (initial_world processes.now) self.new.ends.items }
     {
         let mut wanderer = Wanderer::new(alloc, processes)?;
-        match self.lead(alloc, processes, limits, dice, &mut wanderer) {
-            Ok(()) => {
-                discard(wanderer);
-                Ok(())
-            }
-            Err(fault) => {
-                discard(wanderer);
-                Err(fault)
-            }
-        }
+        let led = self.lead(alloc, processes, limits, dice, &mut wanderer);
+        discard(wanderer);
+        led
     }
 
     /// Leads a walk to its end, and adds that, if it comes there.

@@ -44,10 +44,7 @@ pub(crate) fn end_along(
 {
     let mut walk = Walk::start(alloc, processes)?;
     match walk.go_along(schedule) {
-        Ok(()) => {
-            let end = end_of(walk)?;
-            Ok(end)
-        }
+        Ok(()) => end_of(walk),
         Err(fault) => {
             discard(walk);
             Err(fault)

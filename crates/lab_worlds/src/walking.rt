@@ -171,13 +171,11 @@ impl Walk {
         ensures walk { OnOk result (KeepsStart self.old self.new) }
     {
         if call.late {
-            put_off(local, call)?;
-            return Ok(());
+            return put_off(local, call);
         }
         let before = exchange(local, call.pid, call.taken)?;
         self.go_on(call.pid, before)?;
-        self.go(call.pid)?;
-        Ok(())
+        self.go(call.pid)
     }
 
     /// Takes the steps that are left of each process.
