@@ -72,23 +72,6 @@ fn has_crashed(process: &Process) -> bool
     }
 }
 
-fn has_ended(process: &Process) -> bool
-    ensures value { result ≡ is_ended (process_view process.now) }
-{
-    matches!(process, Process::Ended(_))
-}
-
-fn is_at_call(alloc: Global, process: &Process) -> Result<bool, AllocError>
-    ensures value { IfOk result
-        (λ at_call. at_call ≡ is_some (call_of (process_view process.now))) }
-{
-    match process {
-        Process::Running(running) => Ok(call_next(alloc, running)?.is_some()),
-        Process::Waiting(_, _) => Ok(true),
-        Process::Ended(_) => Ok(false),
-    }
-}
-
 fn stands_from(alloc: Global, first: u16, last: u16, process: &Process) -> Result<bool, AllocError>
     ensures value { IfOk result
         (λ stands. stands ≡ stands_from first last (process_view process.now)) }
@@ -97,7 +80,7 @@ fn stands_from(alloc: Global, first: u16, last: u16, process: &Process) -> Resul
     if pc < first || last < pc {
         return Ok(false);
     }
-    is_at_call(alloc, process)
+    Ok(call_of(alloc, process)?.is_some())
 }
 
 impl State {
@@ -114,7 +97,7 @@ impl State {
     {
         match self {
             State::Blocked => is_blocked(alloc, kernel, pid, process),
-            State::Ended => Ok(has_ended(process)),
+            State::Ended => Ok(matches!(process, Process::Ended(_))),
             State::Crashed => Ok(has_crashed(process)),
             State::At { first, last } => stands_from(alloc, first, last, process),
         }
