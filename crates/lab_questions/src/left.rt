@@ -2,42 +2,19 @@
 ghost use Rattle.std.specs.Prelude.{◌≡◌, ◌++◌, [], ◌∷◌, OnOk, IfOk, filter, flat_map, map, string_bytes};
 ghost use Rattle.std.specs.Option.{option_copied};
 ghost use Rattle.ipc_kernel.specs.Places.{place_at};
-ghost use Rattle.lab_texts.specs.Objects.{name_text, word_part};
 ghost use Rattle.lab_questions.specs.Left.{left_line, left_lines, is_text, left_texts, left_text};
 ghost use Rattle.lab_questions.specs.Orders.{in_order};
 
 use ipc_kernel::{Kernel, OBJECT_PLACES};
 use ipc_names::Name;
 use ipc_objects::Queue;
-use lc3_word::Hex;
+use lab_texts::{NameText, push_message};
 use std::alloc::{AllocError, Global};
 use std::fmt::Write;
 
-/// The name of a queue, or a dash where it has none.
-fn name_of(name: Option<&Name>) -> &str
-    ensures name { result.now ≡ name_text (option_copied name.entry) }
-{
-    match name {
-        Some(name) => name.text(),
-        None => "-",
-    }
-}
-
-/// Adds words, each after a blank.
-fn push_words(text: &mut String, words: &[u16]) -> Result<(), AllocError>
-    ensures text { OnOk result (string_bytes text.new
-        ≡ string_bytes text.old ++ flat_map word_part words.now) }
-{
-    for word in words {
-        let word = Hex(*word);
-        write!(text, " {word}")?;
-    }
-    Ok(())
-}
-
 /// Adds the line of a message in a queue of this name, or of none.
-#[tactic(auto, unfolding(crate::specs::Left::left_line, lab_texts::specs::Objects::message_line))]
-fn push_message(
+#[tactic(auto, unfolding(crate::specs::Left::left_line))]
+fn push_left_message(
     text: &mut String,
     name: Option<&Name>,
     priority: u16,
@@ -46,10 +23,9 @@ fn push_message(
     ensures text { OnOk result (string_bytes text.new ≡ string_bytes text.old
         ++ left_line (option_copied name.entry) (record { priority = priority; words = words.now })) }
 {
-    let name = name_of(name);
-    write!(text, "left {name} {priority}")?;
-    push_words(text, words)?;
-    text.push_str("\n")
+    let name = NameText(name);
+    write!(text, "left {name}")?;
+    push_message(text, priority, words)
 }
 
 /// Adds the lines of the messages in a queue of this name, or of none, in the order in which they would
@@ -63,7 +39,7 @@ fn push_messages(text: &mut String, name: Option<&Name>, queue: &Queue) -> Resul
         let Some((priority, words)) = queue.entry(i as usize) else {
             return Ok(());
         };
-        push_message(text, name, priority, words)?;
+        push_left_message(text, name, priority, words)?;
     }
     Ok(())
 }

@@ -3,7 +3,7 @@
 use crate::json::left::push_left;
 use crate::json::values::{push_comma, push_schedule, push_text};
 use crate::{Answers, Show};
-use lab_sched::{Process, Verdict, World};
+use lab_sched::{Process, World};
 use lab_texts::how_name;
 use lab_worlds::End;
 use lc3_machine::{How, Machine};
@@ -91,11 +91,7 @@ fn push_end(
 ) -> Result<(), AllocError> {
     write!(text, "{{\"end\":{number},\"processes\":[")?;
     push_processes(text, &end.world, show.out)?;
-    let verdict = match end.verdict {
-        Verdict::Ended => "ended",
-        Verdict::Stuck => "stuck",
-        Verdict::Open => "open",
-    };
+    let verdict = end.verdict.word();
     write!(text, "],\"verdict\":\"{verdict}\",")?;
     push_rest(alloc, text, &end.world, show.left)?;
     text.push_str("\"schedule\":")?;

@@ -10,5 +10,5 @@ loop-i-preserved c =
     let line = left_line (option_copied c.args.name) in
     let message : Message = record { priority = c.in-Some.priority; words = c.in-Some.words.now } in
     let at = sym (rw c.in-Some.is at c.entry.ensures.message) in
-    c.in_ok-push_message.ensures.text ∙ ap (λ bytes. bytes ++ line message) c.loop-i.invariant
+    c.in_ok-push_left_message.ensures.text ∙ ap (λ bytes. bytes ++ line message) c.loop-i.invariant
     ∙ flat_map-next line (string_bytes c.args.text.now) messages c.loop-i.i message at
