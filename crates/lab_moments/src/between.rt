@@ -37,7 +37,6 @@ impl Model for Between {
     ghost view = { λ b. b.counts.items };
 }
 
-/// The steps of process `pid`, where there are any.
 fn count_value(alloc: Global, pid: usize, count: StepCount) -> Result<Option<Value>, AllocError>
     ensures value { IfOk result (λ v. option_to_list (option_map view v) ≡ count_data pid count) }
 {
@@ -58,7 +57,6 @@ impl Between {
         })
     }
 
-    /// The steps of process `pid`.
     fn of(&self, pid: usize) -> StepCount
         ensures count { result ≡ count_of self.now pid }
     {
@@ -77,7 +75,6 @@ impl Between {
         }
     }
 
-    /// No step of any process.
     fn clear(&mut self)
         ensures none { self.new ≡ none_between (length self.old) }
     {

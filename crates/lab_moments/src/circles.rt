@@ -55,7 +55,6 @@ fn blockers(alloc: Global, world: &World, holds: &[Hold]) -> Result<Vec<Option<u
     Ok(blockers)
 }
 
-/// The process that has taken what process `pid` waits for.
 fn blocker(blockers: &[Option<usize>], pid: usize) -> Option<usize>
     ensures blocker { result ≡ blocker blockers.now pid }
 {
@@ -78,7 +77,6 @@ fn followed(alloc: Global, blockers: &[Option<usize>], pid: usize) -> Result<Vec
     Ok(followed)
 }
 
-/// Processes as numbers.
 fn numbers(alloc: Global, first: usize, others: &[usize]) -> Result<Value, AllocError>
     ensures value { IfOk result (λ v. view v ≡ naturals (first ∷ others.now)) }
 {
@@ -90,7 +88,6 @@ fn numbers(alloc: Global, first: usize, others: &[usize]) -> Result<Value, Alloc
     Ok(Value::Array(values))
 }
 
-/// Where process `pid` stands among others.
 fn position_of(processes: &[usize], pid: usize) -> Option<usize>
     ensures position { result ≡ position (λ q. q == pid) processes.now }
     ensures within { IfSome result (λ i. i < length processes.now) }
@@ -98,7 +95,6 @@ fn position_of(processes: &[usize], pid: usize) -> Option<usize>
     processes.iter().position(|process| *process == pid)
 }
 
-/// Whether one of these processes has a lesser number than process `pid`.
 fn any_below(processes: &[usize], pid: usize) -> bool
     ensures value { result ≡ list_any (λ q. nat_lt q pid) processes.now }
 {

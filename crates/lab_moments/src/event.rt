@@ -21,7 +21,6 @@ use lab_trace::{
 use serde_json::{Value, json};
 use std::alloc::{AllocError, Global};
 
-/// What became of a call.
 fn outcome_value(alloc: Global, outcome: &Outcome) -> Result<Value, AllocError>
     ensures value { IfOk result (λ v. view v ≡ outcome_data outcome.now) }
 {
@@ -70,7 +69,6 @@ fn sender(origin: Option<Origin>) -> Option<u32>
     }
 }
 
-/// The text of what became of a call.
 fn answer_text(alloc: Global, outcome: &Outcome) -> Result<String, AllocError>
     ensures text { IfOk result (λ s. string_bytes s ≡ outcome_text outcome.now) }
 {
@@ -79,7 +77,6 @@ fn answer_text(alloc: Global, outcome: &Outcome) -> Result<String, AllocError>
     Ok(answer)
 }
 
-/// A call.
 #[tactic(auto, unfolding(crate::specs::Events::called_data))]
 fn called_value(alloc: Global, call: &Called) -> Result<Value, AllocError>
     ensures value { IfOk result (λ v. view v ≡ called_data call.now) }
@@ -99,7 +96,6 @@ fn called_value(alloc: Global, call: &Called) -> Result<Value, AllocError>
     ])
 }
 
-/// What a process did.
 fn act_value(alloc: Global, act: &Act) -> Result<Value, AllocError>
     ensures value { IfOk result (λ v. view v ≡ act_data act.now) }
 {

@@ -36,14 +36,12 @@ pub fn answered(act: &Act) -> Option<(Service, u8)>
     }
 }
 
-/// Whether a unit is of the semaphore in a place, and process `pid` has taken it.
 fn is_hold_of(hold: &Hold, place: u8, pid: usize) -> bool
     ensures value { result ≡ is_hold_of place pid hold.now }
 {
     hold.place == place && hold.pid == pid
 }
 
-/// The last unit that process `pid` took of the semaphore in a place.
 fn last_hold(holds: &[Hold], place: u8, pid: usize) -> Option<Hold>
     ensures hold { result ≡ find (is_hold_of place pid) holds.now }
 {
@@ -117,14 +115,12 @@ fn over(
     Ok(over)
 }
 
-/// Lets go of the units that don't stay taken.
 fn drop_over(holds: &mut Vec<Hold>, kernel: &Kernel, given: Option<Hold>)
     ensures kept { holds.new.items ≡ filter (is_kept kernel.now given) holds.old.items }
 {
     holds.retain(|hold| is_kept(kernel, given, *hold));
 }
 
-/// A unit.
 fn hold_value(alloc: Global, hold: &Hold) -> Result<Value, AllocError>
     ensures value { IfOk result (λ v. view v ≡ hold_data hold.now) }
 {

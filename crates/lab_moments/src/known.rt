@@ -63,7 +63,6 @@ fn known_of(was: Option<Known>, kernel: &Kernel, place: u8) -> Option<Known>
     Some(known_with(was, name.is_some(), value))
 }
 
-/// The level with which an object was made.
 fn made_with(known: Option<Known>) -> u16
     ensures level { result ≡ made_with known }
 {
@@ -107,7 +106,6 @@ impl KnownObjects {
         })
     }
 
-    /// What is known of the object in a place.
     fn at(&self, place: u8) -> Option<Known>
         ensures known { result ≡ known_at self.now place }
     {

@@ -12,7 +12,6 @@ use lab_trace::{Event, Form, Tally, Told};
 use serde_json::{Value, json};
 use std::alloc::{AllocError, Global};
 
-/// The moment after step `number` of process `pid`, which is only counted.
 #[tactic(auto, unfolding(crate::specs::Moments::counted_moment))]
 fn counted_moment(
     alloc: Global,
@@ -25,7 +24,6 @@ fn counted_moment(
     json!(in alloc; [number, pid, state_in(alloc, world, pid)?])
 }
 
-/// The moment after step `number` of process `pid`, which has a line, by what was kept of the steps before it.
 #[tactic(auto, unfolding(crate::specs::Moments::shown_moment))]
 fn shown_moment(
     alloc: Global,

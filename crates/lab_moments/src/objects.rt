@@ -51,7 +51,6 @@ pub fn awaited_at(world: &World, pid: usize) -> Option<(Service, u8)>
     awaited(world.kernel(), pid, world.process(pid)?)
 }
 
-/// Process `pid`, where it waits for the object in a place.
 fn waiter(world: &World, place: u8, pid: usize) -> Option<Value>
     requires process { pid < length world.now.processes }
     ensures waiter { option_to_list (option_map view result)
@@ -63,7 +62,6 @@ fn waiter(world: &World, place: u8, pid: usize) -> Option<Value>
     }
 }
 
-/// The processes that wait for the object in a place.
 #[tactic(auto, using(crate::proofs::ValueLemmas::all_below_none))]
 fn waiters(alloc: Global, world: &World, place: u8) -> Result<Vec<Value>, AllocError>
     ensures waiters { IfOk result (λ v. map view v.items ≡ waiters world.now place) }
@@ -137,7 +135,6 @@ fn semaphore_value(
     ])
 }
 
-/// Where the messages in the queue in a place come from.
 fn origins_in(alloc: Global, tally: &Tally, place: u8) -> Result<Vec<Origin>, AllocError>
     ensures origins { IfOk result (λ v. v.items ≡ filter (is_in place) tally.now.origins) }
 {
@@ -150,7 +147,6 @@ fn origins_in(alloc: Global, tally: &Tally, place: u8) -> Result<Vec<Origin>, Al
     Ok(origins)
 }
 
-/// Where a message comes from.
 fn origin_value(alloc: Global, origin: Option<&Origin>) -> Result<Value, AllocError>
     ensures value { IfOk result (λ v. view v
         ≡ or_null (option_map origin_data (option_copied origin.entry))) }
@@ -161,7 +157,6 @@ fn origin_value(alloc: Global, origin: Option<&Origin>) -> Result<Value, AllocEr
     }
 }
 
-/// A message.
 #[tactic(auto, unfolding(crate::specs::Objects::message_data))]
 fn message_value(
     alloc: Global,
@@ -209,7 +204,6 @@ fn messages(alloc: Global, queue: &Queue, origins: &[Origin]) -> Result<Vec<Valu
     Ok(messages)
 }
 
-/// The queue in a place.
 #[tactic(auto, unfolding(crate::specs::Objects::queue_data))]
 fn queue_value(
     alloc: Global,

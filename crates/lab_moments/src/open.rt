@@ -13,7 +13,6 @@ use lab_texts::access_name;
 use serde_json::{Value, json};
 use std::alloc::{AllocError, Global};
 
-/// A descriptor, where it is open.
 fn descriptor_value(
     alloc: Global,
     number: u16,
@@ -30,7 +29,6 @@ fn descriptor_value(
     Ok(Some(json!(in alloc; ["mq", number, place, access, nonblock])?))
 }
 
-/// A slot, where it is open.
 fn slot_value(alloc: Global, number: u16, held: Option<Slot>) -> Result<Option<Value>, AllocError>
     ensures value { IfOk result (λ v. option_map view v ≡ option_map (slot_data number) held) }
 {
@@ -41,7 +39,6 @@ fn slot_value(alloc: Global, number: u16, held: Option<Slot>) -> Result<Option<V
     Ok(Some(json!(in alloc; ["sem", number, place, opens])?))
 }
 
-/// Adds the open descriptors of process `pid`.
 #[tactic(auto, using(crate::proofs::ValueLemmas::all_below_behind))]
 fn push_descriptors(values: &mut Vec<Value>, world: &World, pid: usize) -> Result<(), AllocError>
     requires process { pid < length world.now.processes }
@@ -57,7 +54,6 @@ fn push_descriptors(values: &mut Vec<Value>, world: &World, pid: usize) -> Resul
     Ok(())
 }
 
-/// Adds the open slots of process `pid`.
 #[tactic(auto, using(crate::proofs::ValueLemmas::all_below_behind))]
 fn push_slots(values: &mut Vec<Value>, world: &World, pid: usize) -> Result<(), AllocError>
     requires process { pid < length world.now.processes }

@@ -39,7 +39,6 @@ impl Model for Past {
     } };
 }
 
-/// The message that a process received by what it did.
 fn received_by(act: &Act) -> Option<Origin>
     ensures origin { result ≡ received_by act.now }
 {
@@ -49,14 +48,12 @@ fn received_by(act: &Act) -> Option<Origin>
     }
 }
 
-/// Takes out the message that was sent in a step.
 fn remove(unreceived: &mut Vec<u32>, sent: u32)
     ensures left { unreceived.new.items ≡ filter (λ m. not (m == sent)) unreceived.old.items }
 {
     unreceived.retain(|step| *step != sent);
 }
 
-/// Takes out a message that was received.
 fn receive(unreceived: &mut Vec<u32>, origin: Option<Origin>)
     ensures left { unreceived.new.items ≡ unreceived_without origin unreceived.old.items }
 {
@@ -89,7 +86,6 @@ impl Past {
         })
     }
 
-    /// Keeps what process `pid` did in step `number`, by the world and the tally after it.
     fn keep_act(
         &mut self,
         world: &World,

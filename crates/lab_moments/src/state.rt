@@ -53,7 +53,6 @@ fn words_from(
     Ok(words)
 }
 
-/// A register of a process, by its number.
 fn register(process: &Process, number: u16) -> u16
     requires number { number < 8 }
     ensures word { result ≡ reg (machine_of (process_view process.now)) number }
@@ -61,7 +60,6 @@ fn register(process: &Process, number: u16) -> u16
     process.machine().reg(Reg::of_low_bits(number))
 }
 
-/// R0 to R7 of a process.
 #[tactic(auto, using(crate::proofs::ValueLemmas::all_below_none))]
 fn registers(alloc: Global, process: &Process) -> Result<Vec<Value>, AllocError>
     ensures registers { IfOk result (λ v. map view v.items

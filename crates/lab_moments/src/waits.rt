@@ -29,7 +29,6 @@ fn other_at(kernel: &Kernel, pid: usize, place: u8, service: Service, other: usi
     }
 }
 
-/// The other processes that could serve a call of process `pid`.
 #[tactic(auto, using(crate::proofs::ValueLemmas::all_below_none))]
 fn others(
     alloc: Global,

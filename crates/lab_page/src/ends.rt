@@ -72,7 +72,6 @@ impl Model for EndList {
     ghost invariant = { λ l. (length l.json.items ≤ most_end_bytes) × (l.count ≤ most_ends) };
 }
 
-/// The JSON of an end to which so many calls lead.
 #[tactic(auto, unfolding(crate::specs::Private::Json::end_json))]
 fn end_json(alloc: Global, calls: u32, run: &[u8]) -> Result<Vec<u8>, AllocError>
     ensures json { IfOk result (λ v. v.items ≡ end_json calls run.now) }

@@ -89,7 +89,6 @@ fn stand_text(
     Ok(text)
 }
 
-/// That a process has ended, or goes on, or waits.
 fn state_text(process: &Process, goes: bool) -> &'static str
     ensures text { result.now ≡ state_text goes (process_view process.now) }
 {
@@ -148,7 +147,6 @@ fn standing_at(
     }
 }
 
-/// Where the processes of the world with a number stand.
 #[tactic(auto, using(lab_moments::proofs::ValueLemmas::all_below_none))]
 fn standings(
     alloc: Global,

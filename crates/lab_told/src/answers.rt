@@ -16,7 +16,6 @@ pub enum Outcome {
     Replied(Reply),
 }
 
-/// The error that a result tells, if it does.
 #[tactic(auto, unfolding(crate::specs::Answers::error_in))]
 fn error_in(word: u16) -> Option<Errno>
     ensures error { result ≡ error_in word }
@@ -37,7 +36,6 @@ fn error_in(word: u16) -> Option<Errno>
     }
 }
 
-/// The error that a reply tells, if it does.
 fn error_of(reply: &Reply) -> Option<Errno>
     ensures error { result ≡ error_of reply.now }
 {

@@ -35,7 +35,6 @@ fn push_sizes_at(text: &mut String, process: &Process, at: u16) -> Result<(), Al
     )
 }
 
-/// Adds the arguments of mq_open.
 #[tactic(auto, unfolding(crate::specs::Calls::mq_open_arguments))]
 fn push_mq_open(alloc: Global, text: &mut String, process: &Process) -> Result<(), AllocError>
     ensures text { OnOk result (string_bytes text.new ≡ string_bytes text.old
@@ -52,7 +51,6 @@ fn push_mq_open(alloc: Global, text: &mut String, process: &Process) -> Result<(
     push_sizes_at(text, process, register(process, 2))
 }
 
-/// Adds the arguments of sem_open.
 #[tactic(auto, unfolding(crate::specs::Calls::sem_open_arguments))]
 fn push_sem_open(alloc: Global, text: &mut String, process: &Process) -> Result<(), AllocError>
     ensures text { OnOk result (string_bytes text.new ≡ string_bytes text.old
@@ -137,7 +135,6 @@ fn push_further(
     }
 }
 
-/// Adds the arguments of a call of process `pid`.
 fn push_arguments(
     alloc: Global,
     text: &mut String,

@@ -67,7 +67,6 @@ fn asking_of(
     })
 }
 
-/// Process `pid` before its step.
 fn observed_of(
     alloc: Global,
     kernel: &Kernel,

@@ -5,7 +5,6 @@ ghost use Rattle.lab_told.specs.Attributes.{flags_field, most_field, size_field,
 use crate::flags::push_flag_word;
 use std::alloc::AllocError;
 
-/// Adds mq_flags.
 #[tactic(auto, unfolding(crate::specs::Attributes::flags_field))]
 fn push_flags_field(text: &mut String, word: u16) -> Result<(), AllocError>
     ensures text { OnOk result (string_bytes text.new ≡ string_bytes text.old ++ flags_field word) }
@@ -14,7 +13,6 @@ fn push_flags_field(text: &mut String, word: u16) -> Result<(), AllocError>
     push_flag_word(text, word)
 }
 
-/// Adds mq_maxmsg.
 #[tactic(auto, unfolding(crate::specs::Attributes::most_field))]
 fn push_most(text: &mut String, number: u16) -> Result<(), AllocError>
     ensures text { OnOk result (string_bytes text.new ≡ string_bytes text.old
@@ -24,7 +22,6 @@ fn push_most(text: &mut String, number: u16) -> Result<(), AllocError>
     Ok(())
 }
 
-/// Adds mq_msgsize.
 #[tactic(auto, unfolding(crate::specs::Attributes::size_field))]
 fn push_size(text: &mut String, number: u16) -> Result<(), AllocError>
     ensures text { OnOk result (string_bytes text.new ≡ string_bytes text.old
@@ -34,7 +31,6 @@ fn push_size(text: &mut String, number: u16) -> Result<(), AllocError>
     Ok(())
 }
 
-/// Adds mq_curmsgs.
 #[tactic(auto, unfolding(crate::specs::Attributes::count_field))]
 fn push_count(text: &mut String, number: u16) -> Result<(), AllocError>
     ensures text { OnOk result (string_bytes text.new ≡ string_bytes text.old

@@ -53,7 +53,6 @@ fn push_named(text: &mut String, place: u8, name: Option<&Name>) -> Result<(), A
     Ok(())
 }
 
-/// Adds the object in a place.
 fn push_object(text: &mut String, kernel: &Kernel, place: u8) -> Result<(), AllocError>
     ensures text { OnOk result (string_bytes text.new ≡ string_bytes text.old
         ++ object_text place (place_at kernel.now.places place)) }

@@ -39,7 +39,6 @@ fn push_words(text: &mut String, words: &[u16]) -> Result<(), AllocError>
     push_further(text, rest)
 }
 
-/// Whether a word is a character that can be printed.
 #[tactic(auto, unfolding(crate::specs::Words::is_printable))]
 fn is_printable(word: u16) -> bool
     ensures value { result ≡ is_printable word }
@@ -58,7 +57,6 @@ fn push_glyph(text: &mut String, word: u16) -> Result<(), AllocError>
     }
 }
 
-/// Adds the characters of words.
 fn push_each_glyph(text: &mut String, words: &[u16]) -> Result<(), AllocError>
     ensures text { OnOk result (string_bytes text.new ≡ string_bytes text.old
         ++ flat_map glyph words.now) }
@@ -69,7 +67,6 @@ fn push_each_glyph(text: &mut String, words: &[u16]) -> Result<(), AllocError>
     Ok(())
 }
 
-/// Whether a word among these can be printed.
 fn any_printable(words: &[u16]) -> bool
     ensures value { result ≡ list_any is_printable words.now }
 {
@@ -97,7 +94,6 @@ fn push_more(text: &mut String, more: bool) -> Result<(), AllocError>
     if more { text.push_str(" ...") } else { Ok(()) }
 }
 
-/// Adds the words of a message that are shown.
 #[tactic(auto, unfolding(crate::specs::Words::shown_text))]
 fn push_shown(text: &mut String, shown: &[u16], more: bool) -> Result<(), AllocError>
     ensures text { OnOk result (string_bytes text.new ≡ string_bytes text.old

@@ -22,7 +22,6 @@ fn can_do(held: Option<Descriptor>, place: u8, other: u8) -> bool
     }
 }
 
-/// Whether a slot refers to a place.
 fn refers(held: Option<Slot>, place: u8) -> bool
     ensures value { result ≡ slot_refers place held }
 {
@@ -45,7 +44,6 @@ fn has_queue(kernel: &Kernel, pid: usize, place: u8, other: u8) -> bool
     found
 }
 
-/// Whether process `pid` has a semaphore open.
 #[tactic(auto, using(crate::proofs::BelowLemmas::any_below_none, crate::proofs::BelowLemmas::any_below_more))]
 fn has_semaphore(kernel: &Kernel, pid: usize, place: u8) -> bool
     requires process { pid < length kernel.now.processes }

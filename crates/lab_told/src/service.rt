@@ -9,7 +9,6 @@ use lab_sched::Process;
 use lc3_table::{Instr, decode};
 use lc3_word::FIRST_DEVICE;
 
-/// The call that an instruction makes.
 fn service_of(instruction: Option<Instr>) -> Option<Service>
     ensures service { result ≡ service_of instruction }
 {

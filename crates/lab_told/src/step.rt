@@ -12,7 +12,6 @@ use crate::told::{Told, told_by};
 use lab_sched::{Stepped, World};
 use std::alloc::{AllocError, Global};
 
-/// Whether a step has an effect.
 fn has_effect(stepped: &Stepped) -> bool
     ensures value { result ≡ has_effect stepped.now }
 {

@@ -143,7 +143,6 @@ impl Tally {
         self.units.keep(kernel, pid, act)
     }
 
-    /// Keeps a counted step of process `pid`.
     fn keep_counted(&mut self, pid: usize)
         requires account { pid < length self.old.accounts }
         requires room { (account_of self.old pid).local < most_units }

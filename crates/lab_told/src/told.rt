@@ -80,7 +80,6 @@ pub enum Told {
     Shown(Event),
 }
 
-/// The place of the object that an open opened, by the kernel after it.
 fn opened_place(kernel: &Kernel, pid: usize, service: Service, outcome: &Outcome) -> Option<u8>
     requires process { pid < length kernel.now.processes }
     ensures place { result ≡ opened_place kernel.now pid service outcome.now }
@@ -91,7 +90,6 @@ fn opened_place(kernel: &Kernel, pid: usize, service: Service, outcome: &Outcome
     }
 }
 
-/// The place of the object of a call, by that before it and the kernel after it.
 fn place_by(
     kernel: &Kernel,
     pid: usize,
@@ -109,7 +107,6 @@ fn place_by(
     }
 }
 
-/// The level of the object in this place after a call, where it is told.
 fn level_by(kernel: &Kernel, service: Service, place: Option<u8>) -> Option<Level>
     ensures level { result ≡ level_by kernel.now service place }
 {
@@ -187,7 +184,6 @@ fn new_output(written: usize, after: &Process) -> &[u8]
     &output[written.min(output.len())..]
 }
 
-/// Bytes of output, where there are any.
 fn wrote(alloc: Global, bytes: &[u8]) -> Result<Option<Act>, AllocError>
     ensures act { IfOk result (λ a. a ≡ wrote bytes.now) }
 {

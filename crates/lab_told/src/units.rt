@@ -40,14 +40,12 @@ impl Model for Units {
     ghost view = { λ u. u.list.items };
 }
 
-/// Whether a count is that of process `pid` for the semaphore in a place.
 fn is_of(count: &UnitCount, place: u8, pid: usize) -> bool
     ensures value { result ≡ is_of place pid count.now }
 {
     count.place == place && count.pid == pid
 }
 
-/// Where the count of process `pid` for the semaphore in a place stands.
 fn index_of(counts: &[UnitCount], place: u8, pid: usize) -> Option<usize>
     ensures value { result ≡ position (is_of place pid) counts.now }
     ensures within { IfSome result (λ i. i < length counts.now) }
@@ -55,7 +53,6 @@ fn index_of(counts: &[UnitCount], place: u8, pid: usize) -> Option<usize>
     counts.iter().position(|count| is_of(count, place, pid))
 }
 
-/// The count of process `pid` for the semaphore in a place, where there is one.
 fn found(counts: &[UnitCount], place: u8, pid: usize) -> Option<UnitCount>
     ensures value { result ≡ find (is_of place pid) counts.now }
 {
@@ -65,7 +62,6 @@ fn found(counts: &[UnitCount], place: u8, pid: usize) -> Option<UnitCount>
         .find(|count| is_of(count, place, pid))
 }
 
-/// Whether the semaphore of a count is there.
 fn is_there(kernel: &Kernel, count: UnitCount) -> bool
     ensures value { result ≡ is_there kernel.now count }
 {
@@ -141,7 +137,6 @@ impl Units {
         }
     }
 
-    /// Counts a unit that process `pid` took of the semaphore in a place.
     fn keep_taken(&mut self, pid: usize, place: Option<u8>) -> Result<(), AllocError>
         requires room { HasRoom pid self.old }
         ensures kept { OnOk result (self.new ≡ units_after_wait pid place self.old) }
@@ -158,7 +153,6 @@ impl Units {
         })
     }
 
-    /// Counts a unit that process `pid` gave to the semaphore in a place.
     fn keep_given(&mut self, pid: usize, place: Option<u8>) -> Result<(), AllocError>
         requires room { HasRoom pid self.old }
         ensures kept { OnOk result (self.new ≡ units_after_post pid place self.old) }

@@ -4,7 +4,6 @@ ghost use Rattle.lab_trace.specs.Columns.{blanks, at_left, at_right};
 
 use std::alloc::AllocError;
 
-/// Adds so many blanks.
 fn push_blanks(text: &mut String, count: usize) -> Result<(), AllocError>
     ensures text { OnOk result (string_bytes text.new ≡ string_bytes text.old ++ blanks count) }
 {

@@ -39,7 +39,6 @@ fn push_object(
     push_others(alloc, text, world, pid, place, service)
 }
 
-/// Adds since when a process waits.
 fn push_since(text: &mut String, since: Option<u32>) -> Result<(), AllocError>
     ensures text { OnOk result (string_bytes text.new ≡ string_bytes text.old ++ since_part since) }
 {
@@ -49,7 +48,6 @@ fn push_since(text: &mut String, since: Option<u32>) -> Result<(), AllocError>
     Ok(())
 }
 
-/// Adds what process `pid` waits for.
 fn push_wait(
     alloc: Global,
     text: &mut String,

@@ -64,7 +64,6 @@ impl<'a> Form<'a> {
         })
     }
 
-    /// The source of process `pid`, where it was given as one.
     fn source(&self, pid: usize) -> Option<&'a Source>
         ensures source { option_map (λ s. s.now) result ≡ source_of self.now.sources pid }
     {
@@ -191,7 +190,6 @@ pub fn separator(begun: bool) -> &'static str
     if begun { ", " } else { " ; " }
 }
 
-/// Adds at which label an address is.
 #[tactic(auto, unfolding(crate::specs::Forms::at_text))]
 fn push_at(text: &mut String, near: Near<'_>) -> Result<(), AllocError>
     ensures text { OnOk result (string_bytes text.new ≡ string_bytes text.old

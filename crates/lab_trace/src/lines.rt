@@ -11,7 +11,6 @@ use lc3_machine::How;
 use lc3_table::WordText;
 use std::alloc::{AllocError, Global};
 
-/// Adds the level of an object, where it is told.
 fn push_level_note(text: &mut String, level: Option<Level>) -> Result<(), AllocError>
     ensures text { OnOk result (string_bytes text.new ≡ string_bytes text.old
         ++ level_note level) }
@@ -23,7 +22,6 @@ fn push_level_note(text: &mut String, level: Option<Level>) -> Result<(), AllocE
     push_level(text, level)
 }
 
-/// Adds since when a process waited.
 #[tactic(auto, unfolding(crate::specs::Lines::waited_text))]
 fn push_waited(text: &mut String, since: u32) -> Result<(), AllocError>
     ensures text { OnOk result (string_bytes text.new ≡ string_bytes text.old
@@ -33,7 +31,6 @@ fn push_waited(text: &mut String, since: u32) -> Result<(), AllocError>
     Ok(())
 }
 
-/// Adds since when a process waited, where it did.
 fn push_wait_note(text: &mut String, begun: bool, since: Option<u32>) -> Result<(), AllocError>
     ensures text { OnOk result (string_bytes text.new ≡ string_bytes text.old
         ++ wait_note begun since) }
@@ -45,7 +42,6 @@ fn push_wait_note(text: &mut String, begun: bool, since: Option<u32>) -> Result<
     push_waited(text, since)
 }
 
-/// Adds where a message comes from.
 #[tactic(auto, unfolding(crate::specs::Lines::origin_text))]
 fn push_origin(text: &mut String, origin: Origin) -> Result<(), AllocError>
     ensures text { OnOk result (string_bytes text.new ≡ string_bytes text.old
@@ -57,7 +53,6 @@ fn push_origin(text: &mut String, origin: Origin) -> Result<(), AllocError>
     Ok(())
 }
 
-/// Adds where the message comes from that was received, where one was.
 fn push_origin_note(
     text: &mut String,
     begun: bool,
@@ -73,7 +68,6 @@ fn push_origin_note(
     push_origin(text, origin)
 }
 
-/// Adds the notes of a call.
 fn push_notes(text: &mut String, call: &Called) -> Result<(), AllocError>
     ensures text { OnOk result (string_bytes text.new ≡ string_bytes text.old
         ++ notes call.now) }
@@ -83,14 +77,12 @@ fn push_notes(text: &mut String, call: &Called) -> Result<(), AllocError>
     push_wait_note(text, call.level.is_some(), call.since)
 }
 
-/// Whether a call has notes.
 fn has_notes(call: &Called) -> bool
     ensures value { result ≡ has_notes call.now }
 {
     call.level.is_some() || call.origin.is_some() || call.since.is_some()
 }
 
-/// Adds a call and what became of it.
 #[tactic(auto, unfolding(crate::specs::Lines::called_text))]
 fn push_called(text: &mut String, call: &Called) -> Result<(), AllocError>
     ensures text { OnOk result (string_bytes text.new ≡ string_bytes text.old
@@ -113,7 +105,6 @@ fn push_output(text: &mut String, word: u16, bytes: &[u8]) -> Result<(), AllocEr
     push_bytes(text, bytes)
 }
 
-/// Adds how a process ended.
 fn push_end(text: &mut String, how: How) -> Result<(), AllocError>
     ensures text { OnOk result (string_bytes text.new ≡ string_bytes text.old ++ end_text how) }
 {
@@ -121,7 +112,6 @@ fn push_end(text: &mut String, how: How) -> Result<(), AllocError>
     text.push_str(how_name(how))
 }
 
-/// Adds what a process did by the instruction with this word.
 fn push_act(text: &mut String, word: u16, act: &Act) -> Result<(), AllocError>
     ensures text { OnOk result (string_bytes text.new ≡ string_bytes text.old
         ++ act_text word act.now) }
@@ -133,7 +123,6 @@ fn push_act(text: &mut String, word: u16, act: &Act) -> Result<(), AllocError>
     }
 }
 
-/// Whether notes stand behind what a process did.
 fn is_noted(act: &Act) -> bool
     ensures value { result ≡ is_noted act.now }
 {

@@ -39,7 +39,6 @@ pub fn error_name(error: Errno) -> &'static str
     }
 }
 
-/// Adds words and priority of a message that was received.
 fn push_received(text: &mut String, words: &[u16], priority: u16) -> Result<(), AllocError>
     ensures text { OnOk result (string_bytes text.new ≡ string_bytes text.old
         ++ received_text words.now priority) }

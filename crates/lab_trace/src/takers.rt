@@ -22,7 +22,6 @@ fn push_times(text: &mut String, count: u32) -> Result<(), AllocError>
     Ok(())
 }
 
-/// That a process has ended, or no text.
 fn ended_text(process: Option<&Process>) -> &'static str
     ensures text { result.now ≡ ended_text (option_map process_view (option_copied process.entry)) }
 {

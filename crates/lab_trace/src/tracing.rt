@@ -39,7 +39,6 @@ pub fn missing_after(world: &World, schedule: &Schedule) -> Option<u64>
     None
 }
 
-/// Writes a text.
 fn write_text<W: Write>(text: &str, output: &mut Output<W>) -> Result<(), TraceFault>
     ensures written { OnOk result
         (Appends (W.contents output.old.device) (W.contents output.new.device) text.now) }
