@@ -7,7 +7,7 @@ use Rattle.serde_json.specs.Written.{has_float, items_have_float}
 use Rattle.lab_sched.specs.Worlds.{Process, WorldState}
 use Rattle.lab_sched.specs.declared.verdict.Verdict.{Verdict}
 use Rattle.ipc_kernel.specs.Kernel.{KernelState}
-use Rattle.lab_page.specs.Runs.{verdict_word}
+use Rattle.lab_sched.specs.Verdicts.{verdict_word}
 use Rattle.lab_moments.specs.Values.{list, natural, or_null}
 use Rattle.lab_page.specs.Worlds.{standing_data, standing_in, standing_at, standings, has_edge, edge_before, node_data, edge_data}
 use Rattle.lab_page.specs.declared.worlds.WorldEdge.{WorldEdge}

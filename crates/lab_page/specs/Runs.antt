@@ -3,11 +3,9 @@ use Rattle.std.specs.Prelude.{ℕ, nat_le, Bool, Option, Some, None, List, [], �
 use Rattle.serde_json.specs.Data.{Data, null, string, boolean, object, member, no_members}
 use Rattle.serde_json.specs.Written.{compact_text}
 use Rattle.lab_sched.specs.Schedules.{steps_of}
-use Rattle.lab_sched.specs.Verdicts.{verdict_of}
+use Rattle.lab_sched.specs.Verdicts.{verdict_of, verdict_word}
 use Rattle.lab_sched.specs.Worlds.{Process, WorldState, machine_of}
 use Rattle.lab_sched.specs.declared.schedule.block.Block.{Block}
-use Rattle.lab_sched.specs.declared.verdict.Verdict.{Verdict}
-use Rattle.lab_sched.specs.declared.verdict.Verdict.TheVariants.{Ended, Stuck, Open}
 use Rattle.lab_texts.specs.Reports.{report_text}
 use Rattle.lab_trace.specs.Ends.{end_lines}
 use Rattle.lab_trace.specs.Forms.{Form, form_for}
@@ -29,12 +27,6 @@ block_data b = list (natural b.pid ∷ natural b.count ∷ [])
 -- the blocks of a schedule
 abbrev pub schedule_data : List Block → Data
 schedule_data s = list (map block_data s)
-
--- a verdict in a word
-abbrev pub verdict_word : Verdict → List ℕ
-verdict_word Ended = codes "ended"
-verdict_word Stuck = codes "stuck"
-verdict_word Open = codes "open"
 
 -- the bytes that a process has written, where it is there
 abbrev pub output_of : Option Process → Data

@@ -13,7 +13,7 @@ use Rattle.lab_told.specs.Calls.{arguments}
 use Rattle.lab_trace.specs.Outcomes.{call_text}
 use Rattle.lab_told.specs.Services.{service_at}
 use Rattle.ipc_traps.specs.declared.service.Service.{Service}
-use Rattle.lab_page.specs.Runs.{verdict_word}
+use Rattle.lab_sched.specs.Verdicts.{verdict_word}
 use Rattle.lab_moments.specs.Values.{list, natural, or_null, all_below}
 use Rattle.lab_page.specs.declared.worlds.WorldEdge.{WorldEdge}
 

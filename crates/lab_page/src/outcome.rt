@@ -3,12 +3,12 @@ ghost use Rattle.std.specs.Prelude.{◌≡◌, ◌++◌, ℕ, OnOk, IfOk, slice_
 ghost use Rattle.serde_json.specs.View.{view};
 ghost use Rattle.lab_told.specs.Scenes.{scene_at};
 ghost use Rattle.lab_page.specs.Private.Json.{run_end};
-ghost use Rattle.lab_page.specs.Runs.{block_data, schedule_data, verdict_word, output_of, outputs, outcome_at};
+ghost use Rattle.lab_page.specs.Runs.{block_data, schedule_data, output_of, outputs, outcome_at};
 
 use crate::json::push_behind;
 use crate::look::Look;
 use lab_moments::{Past, bytes_value, circles_value, holds_value, steps_value, waits_value};
-use lab_sched::{Block, Schedule, Verdict, World};
+use lab_sched::{Block, Schedule, World};
 use lab_texts::report_text;
 use lab_trace::{Form, Tally, stands};
 use serde_json::{Value, json};
@@ -29,17 +29,6 @@ pub fn schedule_value(alloc: Global, schedule: &Schedule) -> Result<Value, Alloc
         blocks.push(block_value(alloc, *block)?)?;
     }
     Ok(Value::Array(blocks))
-}
-
-/// A verdict in a word.
-pub(crate) fn verdict_word(verdict: Verdict) -> &'static str
-    ensures word { result.now ≡ verdict_word verdict }
-{
-    match verdict {
-        Verdict::Ended => "ended",
-        Verdict::Stuck => "stuck",
-        Verdict::Open => "open",
-    }
 }
 
 fn output_value(alloc: Global, world: &World, pid: usize) -> Result<Value, AllocError>
@@ -75,7 +64,7 @@ fn outcome_value(
         ≡ outcome_at form.now (scene_at number world.now tally.now) past.now) }
 {
     json!(in alloc; [
-        verdict_word(world.verdict()),
+        world.verdict().word(),
         stands(alloc, world, tally, form)?,
         report_text(alloc, world)?,
         outputs(alloc, world)?,

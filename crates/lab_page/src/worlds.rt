@@ -6,12 +6,11 @@ ghost use Rattle.serde_json.specs.Data.{string};
 ghost use Rattle.lab_sched.specs.Held.{process_view};
 ghost use Rattle.lab_sched.specs.Worlds.{machine_of};
 ghost use Rattle.lab_texts.specs.Texts.{place_text};
-ghost use Rattle.lab_page.specs.Runs.{verdict_word};
+ghost use Rattle.lab_sched.specs.Verdicts.{verdict_word};
 ghost use Rattle.lab_moments.specs.Values.{list, or_null};
-ghost use Rattle.lab_page.specs.Worlds.{edge_before, edge_data, has_edge, is_from, listed_json, is_to, node_data, stand_text, standing_at, standing_data, standings, state_text, with_node, worlds_json};
+ghost use Rattle.lab_page.specs.Worlds.{edge_before, edge_data, has_edge, is_from, is_to, listed_json, node_data, stand_text, standing_at, standing_data, standings, state_text, with_node, worlds_json};
 
 use crate::json::push_behind;
-use crate::outcome::verdict_word;
 use lab_moments::push_some;
 use lab_sched::{Process, Verdict, World};
 use lab_texts::how_name;
@@ -191,32 +190,9 @@ fn verdict_value(alloc: Global, verdict: Option<Verdict>) -> Result<Value, Alloc
         ≡ or_null (option_map (λ x. string (verdict_word x)) verdict)) }
 {
     match verdict {
-        Some(verdict) => Value::try_from_str(alloc, verdict_word(verdict)),
+        Some(verdict) => Value::try_from_str(alloc, verdict.word()),
         None => Ok(Value::Null),
     }
-}
-
-/// The world with a number, to which so many calls lead.
-#[tactic(auto, unfolding(crate::specs::Worlds::node_data))]
-fn node_value(
-    alloc: Global,
-    world: &World,
-    number: usize,
-    edges: &[WorldEdge],
-    calls: u32,
-    verdict: Option<Verdict>,
-    end: Option<usize>,
-) -> Result<Value, AllocError>
-    ensures node { IfOk result (λ v. view v
-        ≡ node_data world.now number edges.now calls verdict end) }
-{
-    json!(in alloc; [
-        calls,
-        standings(alloc, world, number, edges)?,
-        edge_before(edges, number),
-        verdict_value(alloc, verdict)?,
-        end
-    ])
 }
 
 fn edge_value(alloc: Global, edge: &WorldEdge) -> Result<Value, AllocError>
@@ -248,6 +224,28 @@ impl Worlds {
         }
     }
 
+    /// The next world, to which so many calls lead.
+    #[tactic(auto, unfolding(crate::specs::Worlds::node_data))]
+    fn node_value(
+        &self,
+        alloc: Global,
+        world: &World,
+        calls: u32,
+        verdict: Option<Verdict>,
+        end: Option<usize>,
+    ) -> Result<Value, AllocError>
+        ensures node { IfOk result (λ v. view v
+            ≡ node_data world.now self.now.count self.now.edges calls verdict end) }
+    {
+        json!(in alloc; [
+            calls,
+            standings(alloc, world, self.count, &self.edges)?,
+            edge_before(&self.edges, self.count),
+            verdict_value(alloc, verdict)?,
+            end
+        ])
+    }
+
     /// Adds the next world, to which so many calls lead. Where no process goes on, its end has a verdict, and a number among
     /// those that are told, from 0, if it is one of them.
     #[tactic(auto, using(crate::proofs::WorldLemmas::node_plain))]
@@ -263,7 +261,7 @@ impl Worlds {
     {
         let number = self.count;
         let count = number.checked_add(1).ok_or(AllocError)?;
-        let node = node_value(alloc, world, number, &self.edges, calls, verdict, end)?;
+        let node = self.node_value(alloc, world, calls, verdict, end)?;
         let comma = if number > 0 { "," } else { "" };
         push_behind(&mut self.json, comma, &node)?;
         self.count = count;
