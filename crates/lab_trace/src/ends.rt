@@ -3,7 +3,7 @@ ghost use Rattle.std.specs.Prelude.{◌≡◌, ◌<◌, ◌++◌, OnOk, length, 
 ghost use Rattle.lab_sched.specs.Held.{process_view};
 ghost use Rattle.lab_sched.specs.Worlds.{machine_of};
 ghost use Rattle.lab_told.specs.Services.{service_at};
-ghost use Rattle.lab_trace.specs.Ends.{object_part, since_part, wait_text, stand, stand_line, end_lines};
+ghost use Rattle.lab_trace.specs.Ends.{object_part, since_part, wait_text, stand_line, end_lines};
 
 use crate::form::Form;
 use crate::others::{others_title, push_others};
@@ -13,11 +13,10 @@ use ipc_traps::Service;
 use lab_sched::{Process, World};
 use lab_told::{Tally, arguments_of, held_place, level_at, service_at};
 use lc3_word::Reg;
-use std::alloc::{AllocError, Global};
+use std::alloc::AllocError;
 
 /// Adds the object in a place, who took its units, and who could serve a call of process `pid` on it.
 fn push_object(
-    alloc: Global,
     text: &mut String,
     world: &World,
     tally: &Tally,
@@ -34,9 +33,9 @@ fn push_object(
     if let Some(level) = level_at(world.kernel(), place) {
         push_level(text, level)?;
     }
-    push_takers(alloc, text, world, tally, place, service)?;
+    push_takers(text, world, tally, place, service)?;
     text.push_str(others_title(service))?;
-    push_others(alloc, text, world, pid, place, service)
+    push_others(text, world, pid, place, service)
 }
 
 fn push_since(text: &mut String, since: Option<u32>) -> Result<(), AllocError>
@@ -49,7 +48,6 @@ fn push_since(text: &mut String, since: Option<u32>) -> Result<(), AllocError>
 }
 
 fn push_wait(
-    alloc: Global,
     text: &mut String,
     world: &World,
     tally: &Tally,
@@ -68,49 +66,16 @@ fn push_wait(
     text.push_str("waits")?;
     push_since(text, tally.account(pid).since)?;
     text.push_str(" in ")?;
-    let arguments = arguments_of(alloc, kernel, pid, process, service)?;
+    let arguments = arguments_of(*text.allocator(), kernel, pid, process, service)?;
     push_call(text, service, &arguments)?;
     text.push_str(": ")?;
     let number = process.machine().reg(Reg::of_low_bits(0));
     let place = held_place(kernel, pid, service, number);
-    push_object(alloc, text, world, tally, pid, service, place)
-}
-
-/// Adds the line of process `pid`, if it hasn't ended.
-fn push_stand(
-    alloc: Global,
-    text: &mut String,
-    world: &World,
-    form: &Form<'_>,
-    tally: &Tally,
-    pid: usize,
-    process: &Process,
-) -> Result<(), AllocError>
-    requires process { pid < length world.now.processes }
-    ensures text { OnOk result (string_bytes text.new ≡ string_bytes text.old
-        ++ stand form.now world.now tally.now pid (process_view process.now)) }
-{
-    let pc = process.machine().pc();
-    let word = process.machine().word(pc);
-    let local = tally.account(pid).local;
-    match process {
-        Process::Running(_) => {
-            form.push_head(alloc, text, "end", pid, pc, local)?;
-            text.push_str("runs")?;
-            form.push_line_end(text, false, pid, pc, word)
-        }
-        Process::Waiting(_, _) => {
-            form.push_head(alloc, text, "end", pid, pc, local)?;
-            push_wait(alloc, text, world, tally, pid, process)?;
-            form.push_line_end(text, false, pid, pc, word)
-        }
-        Process::Ended(_) => Ok(()),
-    }
+    push_object(text, world, tally, pid, service, place)
 }
 
 /// Adds where process `pid` stands, if it hasn't ended.
-fn push_stand_line(
-    alloc: Global,
+fn push_stand(
     text: &mut String,
     world: &World,
     form: &Form<'_>,
@@ -121,16 +86,30 @@ fn push_stand_line(
     ensures text { OnOk result (string_bytes text.new ≡ string_bytes text.old
         ++ stand_line form.now world.now tally.now pid (slice_get world.now.processes pid)) }
 {
-    match world.process(pid) {
-        Some(process) => push_stand(alloc, text, world, form, tally, pid, process),
-        None => Ok(()),
+    let Some(process) = world.process(pid) else {
+        return Ok(());
+    };
+    let pc = process.machine().pc();
+    let word = process.machine().word(pc);
+    let local = tally.account(pid).local;
+    match process {
+        Process::Running(_) => {
+            form.push_head(text, "end", pid, pc, local)?;
+            text.push_str("runs")?;
+            form.push_line_end(text, false, pid, pc, word)
+        }
+        Process::Waiting(_, _) => {
+            form.push_head(text, "end", pid, pc, local)?;
+            push_wait(text, world, tally, pid, process)?;
+            form.push_line_end(text, false, pid, pc, word)
+        }
+        Process::Ended(_) => Ok(()),
     }
 }
 
 /// Adds where each process stands that hasn't ended.
 #[tactic(auto, using(lab_texts::proofs::RowLemmas::texts_below_none), unfolding(crate::specs::Ends::end_lines))]
 pub fn push_ends(
-    alloc: Global,
     text: &mut String,
     world: &World,
     form: &Form<'_>,
@@ -140,7 +119,7 @@ pub fn push_ends(
         ++ end_lines form.now world.now tally.now) }
 {
     for pid in 0..world.count() {
-        push_stand_line(alloc, text, world, form, tally, pid)?;
+        push_stand(text, world, form, tally, pid)?;
     }
     Ok(())
 }

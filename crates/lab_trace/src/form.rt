@@ -86,7 +86,6 @@ impl<'a> Form<'a> {
     #[tactic(auto, unfolding(crate::specs::Forms::head))]
     pub fn push_head(
         &self,
-        alloc: Global,
         text: &mut String,
         step: &str,
         pid: usize,
@@ -98,10 +97,10 @@ impl<'a> Form<'a> {
     {
         push_at_right(text, self.step, step)?;
         text.push_str(" ")?;
-        push_process(alloc, text, self.process, pid)?;
+        push_process(text, self.process, pid)?;
         let address = Hex(address);
         write!(text, "{address} ")?;
-        push_local(alloc, text, local)
+        push_local(text, local)
     }
 
     /// The line at an address of process `pid`, where it has a source, the first word of the line is
@@ -158,27 +157,22 @@ impl<'a> Form<'a> {
 
 /// Adds a process and a blank, in the width of the column.
 #[tactic(auto, unfolding(crate::specs::Forms::process_column))]
-fn push_process(
-    alloc: Global,
-    text: &mut String,
-    width: usize,
-    pid: usize,
-) -> Result<(), AllocError>
+fn push_process(text: &mut String, width: usize, pid: usize) -> Result<(), AllocError>
     ensures text { OnOk result (string_bytes text.new ≡ string_bytes text.old
         ++ process_column width pid) }
 {
-    let process = format!(in alloc; "P{pid}")?;
+    let process = format!(in *text.allocator(); "P{pid}")?;
     push_at_left(text, width, &process)?;
     text.push_str(" ")
 }
 
 /// Adds counted steps and a blank, in the width of the column.
 #[tactic(auto, unfolding(crate::specs::Forms::local_column))]
-fn push_local(alloc: Global, text: &mut String, local: u32) -> Result<(), AllocError>
+fn push_local(text: &mut String, local: u32) -> Result<(), AllocError>
     ensures text { OnOk result (string_bytes text.new ≡ string_bytes text.old
         ++ local_column local) }
 {
-    let local = format!(in alloc; "+{local}")?;
+    let local = format!(in *text.allocator(); "+{local}")?;
     push_at_right(text, LOCAL_WIDTH, &local)?;
     text.push_str(" ")
 }

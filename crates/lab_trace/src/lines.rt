@@ -1,6 +1,6 @@
 //! The line of a step.
 ghost use Rattle.std.specs.Prelude.{◌≡◌, ◌++◌, OnOk, IfOk, string_bytes};
-ghost use Rattle.lab_trace.specs.Lines.{level_note, waited_text, wait_note, origin_text, origin_note, notes, has_notes, called_text, output_text, end_text, act_text, is_noted, columns, step_line};
+ghost use Rattle.lab_trace.specs.Lines.{level_note, waited_text, wait_note, origin_text, origin_note, notes, called_text, output_text, end_text, act_text, is_noted, columns, step_line};
 
 use crate::bytes::push_bytes;
 use crate::form::{Form, separator};
@@ -77,12 +77,6 @@ fn push_notes(text: &mut String, call: &Called) -> Result<(), AllocError>
     push_wait_note(text, call.level.is_some(), call.since)
 }
 
-fn has_notes(call: &Called) -> bool
-    ensures value { result ≡ has_notes call.now }
-{
-    call.level.is_some() || call.origin.is_some() || call.since.is_some()
-}
-
 #[tactic(auto, unfolding(crate::specs::Lines::called_text))]
 fn push_called(text: &mut String, call: &Called) -> Result<(), AllocError>
     ensures text { OnOk result (string_bytes text.new ≡ string_bytes text.old
@@ -127,7 +121,9 @@ fn is_noted(act: &Act) -> bool
     ensures value { result ≡ is_noted act.now }
 {
     match act {
-        Act::Calls(call) => has_notes(call),
+        Act::Calls(call) => {
+            call.level.is_some() || call.origin.is_some() || call.since.is_some()
+        }
         Act::Writes(_) | Act::Ends(_) => false,
     }
 }
@@ -145,7 +141,7 @@ pub fn columns_text(
 {
     let mut text = String::new(alloc);
     let number = format!(in alloc; "{number}")?;
-    form.push_head(alloc, &mut text, &number, pid, event.pc, event.local)?;
+    form.push_head(&mut text, &number, pid, event.pc, event.local)?;
     Ok(text)
 }
 

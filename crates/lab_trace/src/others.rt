@@ -65,7 +65,6 @@ pub fn push_or_nobody(text: &mut String, found: &str) -> Result<(), AllocError>
 /// Adds the other processes that could serve a call of process `pid`.
 #[tactic(auto, unfolding(crate::specs::Ends::others_text))]
 pub fn push_others(
-    alloc: Global,
     text: &mut String,
     world: &World,
     pid: usize,
@@ -75,7 +74,7 @@ pub fn push_others(
     ensures text { OnOk result (string_bytes text.new ≡ string_bytes text.old
         ++ others_text world.now pid place service) }
 {
-    let found = others(alloc, world, pid, place, service)?;
+    let found = others(*text.allocator(), world, pid, place, service)?;
     push_or_nobody(text, &found)
 }
 

@@ -71,7 +71,6 @@ fn takers(alloc: Global, world: &World, tally: &Tally, place: u8) -> Result<Stri
 /// Adds who took units of the semaphore in a place that a call waits for and didn't give them back.
 #[tactic(auto, unfolding(crate::specs::Ends::takers_text))]
 pub fn push_takers(
-    alloc: Global,
     text: &mut String,
     world: &World,
     tally: &Tally,
@@ -85,7 +84,7 @@ pub fn push_takers(
         Service::MqReceive | Service::MqSend => Ok(()),
         _ => {
             text.push_str(", taken by")?;
-            let found = takers(alloc, world, tally, place)?;
+            let found = takers(*text.allocator(), world, tally, place)?;
             push_or_nobody(text, &found)
         }
     }

@@ -164,7 +164,7 @@ pub fn stands(
     ensures text { IfOk result (λ s. string_bytes s ≡ end_lines form.now world.now tally.now) }
 {
     let mut text = String::new(alloc);
-    push_ends(alloc, &mut text, world, form, tally)?;
+    push_ends(&mut text, world, form, tally)?;
     Ok(text)
 }
 
