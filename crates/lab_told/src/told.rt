@@ -4,7 +4,8 @@ ghost use Rattle.lab_sched.specs.Held.{process_view};
 ghost use Rattle.lab_sched.specs.Worlds.{machine_of};
 ghost use Rattle.lab_told.specs.Givers.{giver_by};
 ghost use Rattle.lab_told.specs.Origins.{origin_by};
-ghost use Rattle.lab_told.specs.Events.{opened_place, place_by, level_by, call_by, wrote, act_by, told_by};
+ghost use Rattle.lab_told.specs.Events.{opened_place, place_by, level_by, call_by, wrote, told_with, told_by};
+ghost use Rattle.lab_told.specs.Tallies.{account_of};
 
 use crate::answers::{Outcome, outcome_of, result_of, wanted_of};
 use crate::asking::{Asking, Observed};
@@ -194,28 +195,30 @@ fn wrote(alloc: Global, bytes: &[u8]) -> Result<Option<Act>, AllocError>
     }
 }
 
-/// What process `pid` did in a step with an effect, if it is shown, by what the step told and by the process and the kernel
-/// after it.
+/// What process `pid` did in a step with an effect, if it is shown, by what the step told and by the world after it.
 fn act_by(
     alloc: Global,
-    kernel: &Kernel,
+    world: &World,
     tally: &Tally,
     pid: usize,
-    asking: Option<Asking>,
-    written: usize,
+    before: Observed,
     stepped: Stepped,
-    after: &Process,
 ) -> Result<Option<Act>, AllocError>
-    requires process { pid < length kernel.now.processes }
-    ensures act { IfOk result (λ a. a
-        ≡ act_by kernel.now tally.now pid asking written stepped (process_view after.now)) }
+    requires process { pid < length world.now.processes }
+    ensures act { IfOk result (λ a. told_with before (account_of tally.now pid) a
+        ≡ told_by world.now.kernel tally.now pid before stepped
+        (slice_get world.now.processes pid)) }
 {
-    match (asking, outcome_of(stepped), after) {
+    let Some(after) = world.process(pid) else {
+        return Ok(None);
+    };
+    match (before.asking, outcome_of(stepped), after) {
         (_, _, Process::Ended(ended)) => Ok(Some(Act::Ends(ended.how()))),
-        (Some(asking), Some(outcome), _) => Ok(Some(Act::Calls(call_by(
-            kernel, tally, pid, asking, outcome,
-        )))),
-        (_, _, _) => wrote(alloc, new_output(written, after)),
+        (Some(asking), Some(outcome), _) => {
+            let call = call_by(world.kernel(), tally, pid, asking, outcome);
+            Ok(Some(Act::Calls(call)))
+        }
+        (_, _, _) => wrote(alloc, new_output(before.written, after)),
     }
 }
 
@@ -234,33 +237,15 @@ pub fn told_by(
         ≡ told_by world.now.kernel tally.now pid before stepped
         (slice_get world.now.processes pid)) }
 {
-    let Some(after) = world.process(pid) else {
-        return Ok(Told::Counted);
-    };
-    let Observed {
-        pc,
-        word,
-        written,
-        asking,
-    } = before;
+    let (pc, word) = (before.pc, before.word);
     let local = tally.account(pid).local;
-    let Some(act) = act_by(
-        alloc,
-        world.kernel(),
-        tally,
-        pid,
-        asking,
-        written,
-        stepped,
-        after,
-    )?
-    else {
-        return Ok(Told::Counted);
-    };
-    Ok(Told::Shown(Event {
-        pc,
-        word,
-        local,
-        act,
-    }))
+    match act_by(alloc, world, tally, pid, before, stepped)? {
+        Some(act) => Ok(Told::Shown(Event {
+            pc,
+            word,
+            local,
+            act,
+        })),
+        None => Ok(Told::Counted),
+    }
 }
