@@ -11,12 +11,15 @@ const PROFILES: &[&str] = &["a", "b"];
 const WARNINGS: &[&str] = &[
     "wraps",
     "unknown-trap",
+    "decimal-origin",
     "misspelt",
     "unused-label",
     "starts-in-data",
     "runs-into-data",
     "runs-past-end",
     "r7",
+    "stale-codes",
+    "loaded-string",
     "after-end",
 ];
 

@@ -124,8 +124,8 @@ fn push_counts(
 /// The word that a warning about a line speaks of: the one that is marked, or the operation of another line.
 fn word_spoken_of<'a>(source: &Source<'a>, line: &'a str, warning: Warning) -> &'a str {
     match warning.kind {
-        WarningKind::LostReturn { writer } => {
-            let line = line_at(source, writer);
+        WarningKind::LostReturn { writer: other } | WarningKind::StaleCodes { trap: other } => {
+            let line = line_at(source, other);
             word_at(line, operation_number(line))
         }
         _ => line.get(warning.start..warning.end).unwrap_or(""),

@@ -1,3 +1,4 @@
 pub mod NameLemmas
 pub mod ReturnLemmas
+pub mod StringLemmas
 pub mod WalkLemmas

@@ -1,8 +1,10 @@
 pub mod Around
+pub mod Codes
 pub mod Flows
 pub mod Labels
 pub mod Numbers
 pub mod Private
 pub mod Returns
+pub mod Strings
 pub mod Texts
 pub mod Warnings

@@ -1,5 +1,5 @@
 -- Numbers of fields that mean other numbers.
-use Rattle.std.specs.Prelude.{ℕ, ◌-◌, ℤ, pos, Bool, false, ◌&&◌, ◌||◌, ◌==◌, Option, Some, None, List, [], ◌∷◌, length, slice_get, if◌then◌else◌}
+use Rattle.std.specs.Prelude.{ℕ, ◌-◌, ℤ, pos, nat_abs, Bool, false, not, ◌&&◌, ◌||◌, ◌==◌, Option, Some, None, List, [], ◌∷◌, length, slice_get, if◌then◌else◌}
 use Rattle.std.specs.Ordering.{int_eq}
 use Rattle.lc3_word.specs.Words.{low_bits, signed_value}
 use Rattle.lc3_word.specs.Numbers.{is_x, is_b, begins_with_x}
@@ -8,7 +8,7 @@ use Rattle.lc3_table.specs.declared.operation.Operation.TheVariants as op
 use Rattle.lc3_table.specs.declared.operation.Form.{Form}
 use Rattle.lc3_table.specs.declared.operation.Form.TheVariants as form
 use Rattle.lc3_table.specs.Tokens.{Token, Word, tokens}
-use Rattle.lc3_table.specs.Statements.{Line, Operates, Operand, Number, forms, option_or}
+use Rattle.lc3_table.specs.Statements.{Line, Operates, Operand, Number, forms, option_or, is_between}
 use Rattle.lc3_warnings.specs.Flows.{is_known_trap}
 use Rattle.lc3_warnings.specs.declared.warning.Kind.{Kind}
 use Rattle.lc3_warnings.specs.declared.warning.Kind.TheVariants as kind
@@ -84,3 +84,13 @@ wraps bytes _ = None
 abbrev pub unknown_trap : Line Operand → Option Kind
 unknown_trap (Operates l op.Trap (Number z ∷ xs)) = if is_known_trap z then None else Some kind.UnknownTrap
 unknown_trap _ = None
+
+-- the warning of an address which this word writes
+abbrev pub decimal_as : List ℕ → ℤ → Option Kind
+decimal_as word z =
+    if is_between (pos 10) (pos 4095) z && not (is_in_digits_of_bits word) then Some (kind.DecimalOrigin (nat_abs z)) else None
+
+-- `.ORIG` has a decimal number from 10 to 4,095, so below x1000. (It is the last word of its line.)
+abbrev pub decimal_origin : List ℕ → Line Operand → Option Kind
+decimal_origin bytes (Operates l op.Origin (Number z ∷ xs)) = decimal_as (last_word [] (tokens bytes)) z
+decimal_origin bytes _ = None

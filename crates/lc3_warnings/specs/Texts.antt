@@ -1,7 +1,7 @@
 -- The names and the texts of warnings.
 use Rattle.std.specs.Prelude.{ℕ, ℤ, List, ◌++◌, codes}
 use Rattle.std.specs.Fmt.{decimal}
-use Rattle.lc3_word.specs.Words.{number_text}
+use Rattle.lc3_word.specs.Words.{number_text, hexadecimal_text}
 use Rattle.lc3_table.specs.declared.operation.Form.{Form}
 use Rattle.lc3_table.specs.declared.operation.Form.TheVariants as form
 use Rattle.lc3_warnings.specs.declared.warning.Kind.{Kind}
@@ -11,12 +11,15 @@ use Rattle.lc3_warnings.specs.declared.warning.Kind.TheVariants as kind
 abbrev pub warning_name : Kind → List ℕ
 warning_name (kind.Wraps f value) = codes "wraps"
 warning_name kind.UnknownTrap = codes "unknown-trap"
+warning_name (kind.DecimalOrigin n) = codes "decimal-origin"
 warning_name kind.Misspelt = codes "misspelt"
 warning_name kind.UnusedLabel = codes "unused-label"
 warning_name kind.StartsInData = codes "starts-in-data"
 warning_name (kind.RunsIntoData n) = codes "runs-into-data"
 warning_name kind.RunsPastEnd = codes "runs-past-end"
 warning_name (kind.LostReturn n) = codes "r7"
+warning_name (kind.StaleCodes n) = codes "stale-codes"
+warning_name (kind.LoadedString n) = codes "loaded-string"
 warning_name (kind.AfterEnd n) = codes "after-end"
 
 -- the numbers of a signed field, which stands as an operand of this form
@@ -59,14 +62,41 @@ unused_text word = codes "no line names the label " ++ word
 unfoldable pub lost_text : List ℕ → ℕ → List ℕ
 lost_text word n = word ++ codes " in line " ++ decimal n ++ codes " has written R7, so this goes back behind it; store R7 before it and load it again"
 
+-- an address as it is shown
+unfoldable pub address_text : ℕ → List ℕ
+address_text n = hexadecimal_text n
+
+-- a decimal number that is an address
+unfoldable pub names_text : List ℕ → List ℕ
+names_text word = word ++ codes " is decimal, the address "
+
+-- the same digits in hexadecimal
+unfoldable pub meant_text : ℕ → List ℕ
+meant_text n = codes "; did you mean x" ++ decimal n ++ codes "?"
+
+-- a decimal number that was meant in hexadecimal
+unfoldable pub decimal_text : List ℕ → ℕ → List ℕ
+decimal_text word n = names_text word ++ address_text n ++ meant_text n
+
+-- an operation in a line that has left the codes as they were
+unfoldable pub stale_text : List ℕ → ℕ → List ℕ
+stale_text word n = word ++ codes " in line " ++ decimal n ++ codes " sets no condition codes, so this reads those from before it; ADD R0,R0,#0 between them sets them by R0"
+
+-- an operation before a line that prints a string
+unfoldable pub loaded_text : List ℕ → ℕ → List ℕ
+loaded_text word n = word ++ codes " loads a word into R0, and line " ++ decimal n ++ codes " prints the string at the address in R0; LEA loads the address of a string"
+
 -- the text of a warning about a word
 abbrev pub warning_text : Kind → List ℕ → List ℕ
 warning_text (kind.Wraps f value) word = wraps_text word value (field_text f)
 warning_text kind.UnknownTrap word = codes "this trap ends the process as badtrap; the traps are x20 to x25, x40 to x46 and x50 to x56"
+warning_text (kind.DecimalOrigin n) word = decimal_text word n
 warning_text kind.Misspelt word = misspelt_text word
 warning_text kind.UnusedLabel word = unused_text word
 warning_text kind.StartsInData word = codes "execution begins here, and this is data"
 warning_text (kind.RunsIntoData n) word = into_data_text n
 warning_text kind.RunsPastEnd word = codes "execution goes on behind this last word; is a HALT missing?"
 warning_text (kind.LostReturn n) word = lost_text word n
+warning_text (kind.StaleCodes n) word = stale_text word n
+warning_text (kind.LoadedString n) word = loaded_text word n
 warning_text (kind.AfterEnd n) word = after_end_text n

@@ -6,10 +6,12 @@ use Rattle.lc3_table.specs.declared.profile.Profile.{Profile}
 use Rattle.lc3_table.specs.Statements.{Line, Operand}
 use Rattle.lc3_asm.specs.Texts.{lines}
 use Rattle.lc3_asm.specs.Faults.{Reading, reading, faults, has_faults}
-use Rattle.lc3_warnings.specs.Numbers.{wraps, unknown_trap}
+use Rattle.lc3_warnings.specs.Numbers.{wraps, unknown_trap, decimal_origin}
 use Rattle.lc3_warnings.specs.Around.{around, starts_in_data, runs_into_data, runs_past_end}
 use Rattle.lc3_warnings.specs.Labels.{named, called, mentioned, misspelt, unused_label}
 use Rattle.lc3_warnings.specs.Returns.{lost_return}
+use Rattle.lc3_warnings.specs.Codes.{stale_codes}
+use Rattle.lc3_warnings.specs.Strings.{strings, loaded_string}
 use Rattle.lc3_warnings.specs.declared.around.Around.{Around}
 use Rattle.lc3_warnings.specs.declared.warning.Kind.{Kind}
 use Rattle.lc3_warnings.specs.declared.warning.Kind.TheVariants as kind
@@ -35,12 +37,13 @@ if_accepted true k = k
 if_accepted false k = None
 
 -- what the warnings of a line rest on beside the lines around it: the machine, whether the text is accepted, the labels
--- that its lines name, those that its JSRs name, and those that are words of its faulty lines
+-- that its lines name, those that its JSRs name, those of its strings, and those that are words of its faulty lines
 pub record Setting : Type 0 where
   pub profile : Profile
   pub accepted : Bool
   pub named : List ℕ → Bool
   pub called : List ℕ → Bool
+  pub strings : List ℕ → Bool
   pub mentioned : List ℕ → Bool
 
 -- the warnings of a line with these bytes which stands so below these lines, the nearest first: one of each kind or none
@@ -48,12 +51,15 @@ abbrev pub line_kinds : Setting → List ℕ → Line Operand → Around → Lis
 line_kinds s bytes l a above =
     wraps bytes l
     ∷ unknown_trap l
+    ∷ decimal_origin bytes l
     ∷ misspelt s.named s.mentioned bytes l
     ∷ if_accepted s.accepted (unused_label s.named bytes l a)
     ∷ if_accepted s.accepted (starts_in_data a)
     ∷ if_accepted s.accepted (runs_into_data a)
     ∷ if_accepted s.accepted (runs_past_end a)
     ∷ if_accepted s.accepted (lost_return s.profile s.called l above)
+    ∷ if_accepted s.accepted (stale_codes s.named l above)
+    ∷ if_accepted s.accepted (loaded_string s.strings l a above)
     ∷ []
 
 -- the warnings of these lines, which have these bytes and stand behind those before them
@@ -89,7 +95,7 @@ is_accepted text = not (has_faults (faults text))
 -- the setting of a text with these lines that is read so, on this machine
 abbrev pub setting_of : Profile → Bool → List (List ℕ) → Reading → Setting
 setting_of p accepted texts r =
-    record { profile = p; accepted = accepted; named = named r.read; called = called r.read; mentioned = mentioned texts r.found }
+    record { profile = p; accepted = accepted; named = named r.read; called = called r.read; strings = strings r.read; mentioned = mentioned texts r.found }
 
 -- the warnings of a text that is read so: those of the lines up to `.END`, and then that of the lines behind it
 abbrev pub warnings_of : Profile → Bool → List (List ℕ) → Reading → List Told

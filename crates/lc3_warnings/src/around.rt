@@ -37,6 +37,7 @@ pub fn runs_into_data(around: Around) -> Option<Kind>
                 Next {
                     line,
                     flow: Flow::Data,
+                    ..
                 },
             ),
         ) => Some(Kind::RunsIntoData { next: line }),

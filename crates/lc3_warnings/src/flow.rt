@@ -1,8 +1,8 @@
 //! Where execution goes from the lines of a text.
 
-ghost use Rattle.std.specs.Prelude.{◌≡◌, ◌+◌, map, drop, ◌≤◌, length, ◌||◌};
+ghost use Rattle.std.specs.Prelude.{◌≡◌, ◌+◌, map, drop, ◌≤◌, length, ◌||◌, reverse, option_map};
 ghost use Rattle.lc3_asm.specs.Views.{seen_line, seen_operand};
-ghost use Rattle.lc3_warnings.specs.Flows.{is_known_trap, trap_flow, trap_flow_of, operation_flow, flow_of, next_from};
+ghost use Rattle.lc3_warnings.specs.Flows.{is_call, is_known_trap, trap_flow, trap_flow_of, operation_flow, flow_of, first_with_words, prints_string, next_from};
 
 use lc3_asm::{Line, Operand};
 use lc3_table::{ConsoleTrap, Operation, is_kernel_vector};
@@ -23,6 +23,18 @@ pub enum Flow {
 pub struct Next {
     pub line: usize,
     pub flow: Flow,
+    /// Whether it writes the string at the address in R0.
+    pub prints: bool,
+}
+
+/// Whether a call of the kernel has this vector.
+pub fn is_call(vector: i64) -> bool
+    ensures value { result ≡ is_call vector }
+{
+    match u8::try_from(vector) {
+        Ok(vector) => is_kernel_vector(vector),
+        Err(_) => false,
+    }
 }
 
 pub fn is_known_trap(vector: i64) -> bool
@@ -44,7 +56,7 @@ fn trap_flow(vector: i64) -> Flow
     }
 }
 
-fn trap_flow_of(operands: &[Operand]) -> Flow
+pub fn trap_flow_of(operands: &[Operand]) -> Flow
     ensures value { result ≡ trap_flow_of (map seen_operand operands.now) }
 {
     match operands.first() {
@@ -87,6 +99,41 @@ pub fn flow_of(line: &Line) -> Option<Flow>
     }
 }
 
+/// The last of these lines with words.
+pub fn last_with_words(lines: &[Line]) -> Option<&Line>
+    ensures value { option_map (λ line. seen_line line.now) result
+        ≡ first_with_words (reverse (map seen_line lines.now)) }
+{
+    let mut rest = lines;
+    while let Some((last, others)) = rest.split_last() {
+        if flow_of(last).is_some() {
+            return Some(last);
+        }
+        rest = others;
+    }
+    None
+}
+
+fn prints_string(line: &Line) -> bool
+    ensures value { result ≡ prints_string (seen_line line.now) }
+{
+    let Line::Operates {
+        operation,
+        operands,
+        ..
+    } = line
+    else {
+        return false;
+    };
+    match (operation, operands.first()) {
+        (Operation::Puts | Operation::Putsp, _) => true,
+        (Operation::Trap, Some(Operand::Number(vector))) => *vector
+            == i64::from(ConsoleTrap::Puts.vector())
+            || *vector == i64::from(ConsoleTrap::Putsp.vector()),
+        _ => false,
+    }
+}
+
 /// The first line with words behind this many lines.
 pub fn next_from(lines: &[Line], behind: usize) -> Option<Next>
     requires within { behind ≤ length lines.now }
@@ -94,7 +141,11 @@ pub fn next_from(lines: &[Line], behind: usize) -> Option<Next>
 {
     for i in behind..lines.len() {
         if let Some(flow) = flow_of(&lines[i]) {
-            return Some(Next { line: i + 1, flow });
+            return Some(Next {
+                line: i + 1,
+                flow,
+                prints: prints_string(&lines[i]),
+            });
         }
     }
     None

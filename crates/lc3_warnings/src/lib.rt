@@ -1,9 +1,11 @@
 //! What the assembler accepts and people don't mean: warnings about the lines of a source.
 //!
-//! Each kind of warning is a definition of its own in specs/: Numbers, Labels, Around, Returns and Warnings.
+//! Each kind of warning is a definition of its own in specs/: Numbers, Labels, Around, Returns, Codes,
+//! Strings and Warnings.
 #![tactic(auto)]
 
 mod around;
+mod codes;
 mod flow;
 mod line_kinds;
 mod marks;
@@ -13,6 +15,7 @@ mod names;
 mod numbers;
 mod returns;
 mod setting;
+mod strings;
 mod texts;
 mod unused;
 mod walk;

@@ -7,11 +7,13 @@ ghost use Rattle.lc3_asm.specs.Views.{seen_line};
 ghost use Rattle.lc3_warnings.specs.Warnings.{if_accepted, told, told_of, line_kinds};
 
 use crate::around::{Around, runs_into_data, runs_past_end, starts_in_data};
+use crate::codes::stale_codes;
 use crate::marks::span_of;
 use crate::misspelt::misspelt;
-use crate::numbers::{unknown_trap, wraps};
+use crate::numbers::{decimal_origin, unknown_trap, wraps};
 use crate::returns::lost_return;
 use crate::setting::Settings;
+use crate::strings::loaded_string;
 use crate::unused::unused_label;
 use crate::warning::{Kind, Warning};
 use lc3_asm::Line;
@@ -67,6 +69,7 @@ pub fn push_line(
     let kinds = [
         wraps(bytes, line),
         unknown_trap(line),
+        decimal_origin(bytes, line),
         misspelt,
         if_accepted(accepted, unused),
         if_accepted(accepted, starts_in_data(around)),
@@ -75,6 +78,11 @@ pub fn push_line(
         if_accepted(
             accepted,
             lost_return(setting.profile, &setting.called, line, before),
+        ),
+        if_accepted(accepted, stale_codes(&setting.named, line, before)),
+        if_accepted(
+            accepted,
+            loaded_string(&setting.strings, line, around, before),
         ),
     ];
     push_kinds(found, before.len() + 1, bytes, line, &kinds)

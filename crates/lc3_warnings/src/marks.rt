@@ -29,11 +29,15 @@ fn count_behind_first(bytes: &[u8]) -> usize {
 fn token_number(bytes: &[u8], line: &Line, kind: Kind) -> usize {
     match kind {
         Kind::Misspelt | Kind::UnusedLabel | Kind::AfterEnd { .. } => 0,
-        Kind::Wraps { .. } | Kind::UnknownTrap => count_behind_first(bytes),
+        Kind::Wraps { .. } | Kind::UnknownTrap | Kind::DecimalOrigin { .. } => {
+            count_behind_first(bytes)
+        }
         Kind::StartsInData
         | Kind::RunsIntoData { .. }
         | Kind::RunsPastEnd
-        | Kind::LostReturn { .. } => usize::from(line.label().is_some()),
+        | Kind::LostReturn { .. }
+        | Kind::StaleCodes { .. }
+        | Kind::LoadedString { .. } => usize::from(line.label().is_some()),
     }
 }
 

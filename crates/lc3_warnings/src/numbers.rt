@@ -3,7 +3,7 @@
 ghost use Rattle.std.specs.Prelude.{◌≡◌, ◌≤◌, map, []};
 ghost use Rattle.lc3_table.specs.Tokens.{tokens};
 ghost use Rattle.lc3_asm.specs.Views.{seen_line, seen_operand};
-ghost use Rattle.lc3_warnings.specs.Numbers.{is_in_digits_of_bits, field_value, is_bits_of, wrapped, wrapped_in, number_in, number_among, last_form, last_word, wraps_as, wraps, unknown_trap};
+ghost use Rattle.lc3_warnings.specs.Numbers.{is_in_digits_of_bits, field_value, is_bits_of, wrapped, wrapped_in, number_in, number_among, last_form, last_word, wraps_as, wraps, unknown_trap, decimal_as, decimal_origin};
 
 use crate::flow::is_known_trap;
 use crate::warning::Kind;
@@ -153,6 +153,35 @@ pub fn unknown_trap(line: &Line) -> Option<Kind>
     };
     match operands.first() {
         Some(Operand::Number(vector)) if !is_known_trap(*vector) => Some(Kind::UnknownTrap),
+        _ => None,
+    }
+}
+
+fn decimal_as(word: &[u8], number: i64) -> Option<Kind>
+    ensures value { result ≡ decimal_as word.now number }
+{
+    match u16::try_from(number) {
+        Ok(address) if matches!(address, 10..=4095) && !is_in_digits_of_bits(word) => {
+            Some(Kind::DecimalOrigin { address })
+        }
+        _ => None,
+    }
+}
+
+/// Whether a `.ORIG` has a small decimal number.
+pub fn decimal_origin(bytes: &[u8], line: &Line) -> Option<Kind>
+    ensures value { result ≡ decimal_origin bytes.now (seen_line line.now) }
+{
+    let Line::Operates {
+        operation: Operation::Origin,
+        operands,
+        ..
+    } = line
+    else {
+        return None;
+    };
+    match operands.first() {
+        Some(Operand::Number(number)) => decimal_as(last_word(bytes), *number),
         _ => None,
     }
 }

@@ -7,6 +7,7 @@ ghost use Rattle.lc3_warnings.specs.Warnings.{setting_of};
 
 use crate::mentions::mentioned;
 use crate::names::{Names, called, named};
+use crate::strings::strings;
 use lc3_asm::Reader;
 use lc3_table::Profile;
 use std::alloc::{AllocError, Global};
@@ -21,6 +22,8 @@ pub struct Settings {
     pub named: Names,
     /// The labels that JSRs name.
     pub called: Names,
+    /// The labels of strings.
+    pub strings: Names,
     /// The labels that are words of faulty lines.
     pub mentioned: Names,
 }
@@ -32,6 +35,7 @@ impl Drop for Settings {
             accepted: _,
             named: _,
             called: _,
+            strings: _,
             mentioned: _,
         } = self;
     }
@@ -54,6 +58,7 @@ pub fn setting_of(
         accepted,
         named: named(alloc, lines)?,
         called: called(alloc, lines)?,
+        strings: strings(alloc, lines)?,
         mentioned: mentioned(alloc, text, reader.faults())?,
     })
 }

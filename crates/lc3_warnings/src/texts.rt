@@ -2,10 +2,11 @@
 
 ghost use Rattle.std.specs.Prelude.{◌≡◌, ◌++◌, Some, OnOk, string_bytes};
 ghost use Rattle.lc3_word.specs.Words.{number_text};
-ghost use Rattle.lc3_warnings.specs.Texts.{warning_name, field_text, taken_text, here_text, wraps_text, misspelt_text, unused_text, lost_text, into_data_text, after_end_text, warning_text};
+ghost use Rattle.lc3_warnings.specs.Texts.{warning_name, field_text, taken_text, here_text, wraps_text, misspelt_text, unused_text, lost_text, names_text, address_text, meant_text, decimal_text, stale_text, loaded_text, into_data_text, after_end_text, warning_text};
 
 use crate::warning::Kind;
 use lc3_table::Form;
+use lc3_word::Hex;
 use std::alloc::AllocError;
 use std::fmt;
 use std::fmt::Write;
@@ -18,12 +19,15 @@ impl Kind {
         match self {
             Kind::Wraps { .. } => "wraps",
             Kind::UnknownTrap => "unknown-trap",
+            Kind::DecimalOrigin { .. } => "decimal-origin",
             Kind::Misspelt => "misspelt",
             Kind::UnusedLabel => "unused-label",
             Kind::StartsInData => "starts-in-data",
             Kind::RunsIntoData { .. } => "runs-into-data",
             Kind::RunsPastEnd => "runs-past-end",
             Kind::LostReturn { .. } => "r7",
+            Kind::StaleCodes { .. } => "stale-codes",
+            Kind::LoadedString { .. } => "loaded-string",
             Kind::AfterEnd { .. } => "after-end",
         }
     }
@@ -41,8 +45,8 @@ fn field_text(form: Form) -> &'static str
     }
 }
 
-/// Adds the text of a warning. `word` is the word that it speaks of, as it is shown: the one that is marked, and of a
-/// return the operation of the line that has written R7.
+/// Adds the text of a warning. `word` is the word that it speaks of, as it is shown: the one that is marked, of a
+/// return the operation of the line that has written R7, and of a branch that of the trap.
 pub fn push_text(text: &mut String, kind: Kind, word: &str) -> Result<(), AllocError>
     ensures text { OnOk result (string_bytes text.new
         ≡ string_bytes text.old ++ warning_text kind word.now) }
@@ -52,6 +56,7 @@ pub fn push_text(text: &mut String, kind: Kind, word: &str) -> Result<(), AllocE
         Kind::UnknownTrap => text.push_str(
             "this trap ends the process as badtrap; the traps are x20 to x25, x40 to x46 and x50 to x56",
         ),
+        Kind::DecimalOrigin { address } => push_decimal(text, word, address),
         Kind::Misspelt => push_misspelt(text, word),
         Kind::UnusedLabel => push_unused(text, word),
         Kind::StartsInData => text.push_str("execution begins here, and this is data"),
@@ -60,6 +65,8 @@ pub fn push_text(text: &mut String, kind: Kind, word: &str) -> Result<(), AllocE
             text.push_str("execution goes on behind this last word; is a HALT missing?")
         }
         Kind::LostReturn { writer } => push_lost(text, word, writer),
+        Kind::StaleCodes { trap } => push_stale(text, word, trap),
+        Kind::LoadedString { next } => push_loaded(text, word, next),
         Kind::AfterEnd { end } => push_after_end(text, end),
     }
 }
@@ -141,6 +148,78 @@ fn push_lost(text: &mut String, operation: &str, line: usize) -> Result<(), Allo
     match write!(
         text,
         "{operation} in line {line} has written R7, so this goes back behind it; store R7 before it and load it again"
+    ) {
+        Ok(()) => Ok(()),
+        Err(error) => Err(error),
+    }
+}
+
+#[tactic(auto, unfolding(crate::specs::Texts::names_text))]
+fn push_names(text: &mut String, word: &str) -> Result<(), AllocError>
+    ensures text { OnOk result (string_bytes text.new
+        ≡ string_bytes text.old ++ names_text word.now) }
+{
+    match write!(text, "{word} is decimal, the address ") {
+        Ok(()) => Ok(()),
+        Err(error) => Err(error),
+    }
+}
+
+#[tactic(auto, unfolding(crate::specs::Texts::address_text))]
+fn push_address(text: &mut String, address: u16) -> Result<(), AllocError>
+    ensures text { OnOk result (string_bytes text.new
+        ≡ string_bytes text.old ++ address_text address) }
+{
+    let shown = Hex(address);
+    match write!(text, "{shown}") {
+        Ok(()) => Ok(()),
+        Err(error) => Err(error),
+    }
+}
+
+#[tactic(auto, unfolding(crate::specs::Texts::meant_text))]
+fn push_meant(text: &mut String, digits: u16) -> Result<(), AllocError>
+    ensures text { OnOk result (string_bytes text.new
+        ≡ string_bytes text.old ++ meant_text digits) }
+{
+    match write!(text, "; did you mean x{digits}?") {
+        Ok(()) => Ok(()),
+        Err(error) => Err(error),
+    }
+}
+
+#[tactic(auto, unfolding(crate::specs::Texts::decimal_text))]
+fn push_decimal(text: &mut String, word: &str, address: u16) -> Result<(), AllocError>
+    ensures text { OnOk result (string_bytes text.new
+        ≡ string_bytes text.old ++ decimal_text word.now address) }
+{
+    push_names(text, word)?;
+    push_address(text, address)?;
+    push_meant(text, address)
+}
+
+#[tactic(auto, unfolding(crate::specs::Texts::stale_text))]
+fn push_stale(text: &mut String, operation: &str, line: usize) -> Result<(), AllocError>
+    ensures text { OnOk result (string_bytes text.new
+        ≡ string_bytes text.old ++ stale_text operation.now line) }
+{
+    match write!(
+        text,
+        "{operation} in line {line} sets no condition codes, so this reads those from before it; ADD R0,R0,#0 between them sets them by R0"
+    ) {
+        Ok(()) => Ok(()),
+        Err(error) => Err(error),
+    }
+}
+
+#[tactic(auto, unfolding(crate::specs::Texts::loaded_text))]
+fn push_loaded(text: &mut String, operation: &str, line: usize) -> Result<(), AllocError>
+    ensures text { OnOk result (string_bytes text.new
+        ≡ string_bytes text.old ++ loaded_text operation.now line) }
+{
+    match write!(
+        text,
+        "{operation} loads a word into R0, and line {line} prints the string at the address in R0; LEA loads the address of a string"
     ) {
         Ok(()) => Ok(()),
         Err(error) => Err(error),

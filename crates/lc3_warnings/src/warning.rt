@@ -9,6 +9,8 @@ pub enum Kind {
     Wraps { form: Form, value: i16 },
     /// The vector of a TRAP is none of those that are known.
     UnknownTrap,
+    /// `.ORIG` has this address as a decimal number.
+    DecimalOrigin { address: u16 },
     /// The label that stands alone in the line was meant as an operation.
     Misspelt,
     /// No line names the label that the line defines.
@@ -21,6 +23,10 @@ pub enum Kind {
     RunsPastEnd,
     /// A subroutine goes back, and the line of this number, from 1, has written R7.
     LostReturn { writer: usize },
+    /// A branch reads the condition codes from before the trap in the line of this number, from 1.
+    StaleCodes { trap: usize },
+    /// A word of a string is loaded, and the line of this number, from 1, takes the address of a string.
+    LoadedString { next: usize },
     /// The line stands behind the `.END` of the line of this number, from 1.
     AfterEnd { end: usize },
 }

@@ -5,4 +5,4 @@ use Rattle.lc3_warnings.specs.declared.setting.Settings.{Settings}
 
 -- the setting, with the labels as what they contain
 abbrev pub seen_setting : Settings → Setting
-seen_setting s = record { profile = s.profile; accepted = s.accepted; named = is_among s.named; called = is_among s.called; mentioned = is_among s.mentioned }
+seen_setting s = record { profile = s.profile; accepted = s.accepted; named = is_among s.named; called = is_among s.called; strings = is_among s.strings; mentioned = is_among s.mentioned }
