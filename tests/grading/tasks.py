@@ -55,6 +55,7 @@ CREATE .FILL x40
 """
 ASKS = WAITS.replace("TRAP x53", "ADD R4,R0,#0\nAGAIN ADD R0,R4,#0\n      TRAP x54\n      ADD R0,R0,#0\n      BRn AGAIN")
 POSTS = WAITS.replace("TRAP x53", "TRAP x55")
+NEVER_ENDS = WAITS.replace("TRAP x53", "ADD R4,R0,#0\nAGAIN ADD R0,R4,#0\n      TRAP x54\n      BR AGAIN")
 # a student's program, what stands behind it in the list of programs, the keys of the run, and the verdict
 ASKED = [
     (WAITS, "", "", "not halted"),
@@ -73,6 +74,16 @@ ASKED = [
     (POSTS, ', must-not-call = ["sem_post /w"]', "", "forbidden call"),
     (ASKS, '}, { given = "posts.asm"', "", "endless"),
     (ASKS, '}, { given = "posts.asm"', "fair = true", "pass"),
+    # where there is no end, nothing is so that is asked of ends
+    (NEVER_ENDS, "", 'require = "same"', "endless"),
+    (NEVER_ENDS, "", 'require = "empty"\nfair = true', "endless"),
+    (NEVER_ENDS, "", 'require = ""\noutputs = [{ free = true }]', "endless"),
+    (NEVER_ENDS, "", 'require = ""\nalternatives = [["x"]]', "endless"),
+    (NEVER_ENDS, ', must-call = ["sem_open"]', 'require = ""', "endless"),
+    (NEVER_ENDS, ', must-not-call = ["sem_close"]', 'require = "same"', "endless"),
+    (NEVER_ENDS, ', must-hold = ["/w"]', 'require = ""', "endless"),
+    (NEVER_ENDS, "", 'require = ""\nnever = ["crashed"]', "pass"),
+    (HALT, "", 'require = "same"\noutputs = [""]', "pass"),
 ]
 
 

@@ -19,13 +19,14 @@ class End:
 
 @dataclass
 class Answer:
-    """The ends, what isn't as it should be (a verdict, and a schedule that shows it where there is one), and the objects that
-    conditions name and nobody opens."""
+    """The ends, what isn't as it should be (a verdict, and a schedule that shows it where there is one), the objects that
+    conditions name and nobody opens, and a schedule that never ends, where there is one."""
 
     ends: list
     fault: tuple | None
     limits: list
     unopened: list
+    round: str | None
 
 
 def member(where, key, kind):
@@ -60,15 +61,21 @@ def faults_of(found):
         yield f"reached {member(it, 'never', str)}", schedule_of(member(it, "schedule", str))
 
 
+def round_of(found):
+    """A schedule that leads to a world and then round to it again, where some run never ends."""
+    endless = member(found, "endless", (dict, type(None)))
+    if endless is None:
+        return None
+    way, back = (schedule_of(member(endless, it, str)) for it in ("schedule", "round"))
+    return f"{way} {back}".strip()
+
+
 def fault_of(found, asks_to_end):
     """The first thing that isn't as it should be. `asks_to_end` says that an endless run is a fault, too."""
-    endless = member(found, "endless", (dict, type(None)))
+    endless = round_of(found)
     for it in faults_of(found):
         return it
-    if endless is not None and asks_to_end:
-        way, back = (schedule_of(member(endless, it, str)) for it in ("schedule", "round"))
-        return "endless", f"{way} {back}".strip()
-    return None
+    return ("endless", endless) if endless is not None and asks_to_end else None
 
 
 def read(raw, count, asked, asks_to_end):
@@ -86,4 +93,4 @@ def read(raw, count, asked, asks_to_end):
     holds = None if not asked or not fault and not complete else not fault
     if found.get("holds", "none") is not holds:
         raise NoMark("explore --json: holds contradicts what was found")
-    return Answer([end_of(it, count) for it in member(found, "ends", list)], fault, limits, unopened)
+    return Answer([end_of(it, count) for it in member(found, "ends", list)], fault, limits, unopened, round_of(found))

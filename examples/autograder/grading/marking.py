@@ -135,6 +135,8 @@ class Marking:
         """The first thing that isn't as it should be: the verdict, what is said of it, and its schedule."""
         if found.fault:
             return found.fault[0], [], found.fault[1]
+        if not found.ends and not found.limits and run.asks_of_ends():
+            return "endless", ["no interleaving has an end"], found.round
         for end in found.ends:
             wrong = outputs.difference(run.alternatives, end.outputs)
             if wrong:

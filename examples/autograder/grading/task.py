@@ -12,7 +12,7 @@ from .faults import TaskFault
 from .laboratory import Bounds
 
 # another number where marks come to be worked out otherwise, so that kept ones aren't taken up
-FORM = 2
+FORM = 3
 VISIBILITIES = ["visible", "hidden", "after_due_date", "after_published"]
 # what stands at the head of a task holds for each run that doesn't say otherwise
 SHARED = {"require": "halted", "may-wait": [], "never": [], "fair": False, "profile": "a", "limit": 100_000,
@@ -61,6 +61,10 @@ class Run:
     def asks(self):
         """Something is asked of the search itself."""
         return bool(self.options["require"] or self.options["never"])
+
+    def asks_of_ends(self):
+        """Something is asked of each end, and so of nothing where there is none."""
+        return bool(self.alternatives or self.options["require"] or any(it.is_watched() for it in self.programs))
 
     def asks_to_end(self):
         return not {"ended", "stuck", "halted"}.isdisjoint(self.options["require"].split(","))
