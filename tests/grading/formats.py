@@ -7,6 +7,7 @@ import csv
 import io
 import json
 import re
+import unicodedata
 from xml.etree import ElementTree
 
 VISIBILITIES = {"hidden", "after_due_date", "after_published", "visible"}
@@ -100,5 +101,10 @@ def csv_faults(raw):
     if len({len(it) for it in rows}) != 1:
         yield "the lines differ in their number of fields"
     for it in (cell for row in rows for cell in row):
-        if it.startswith(("=", "+", "-", "@", "\t", "\r")):
-            yield f"a field begins as a formula: {it}"
+        if it.startswith((";", "\t", "\r")) or any(map(is_formula, re.split("[;\t\r\n]", it))):
+            yield f"a field, or what some spreadsheet takes for one, begins as a formula: {it}"
+
+
+def is_formula(text):
+    """A spreadsheet would work it out. A sign may be as wide as a letter of Chinese."""
+    return unicodedata.normalize("NFKC", text.lstrip()[:1]) in {"=", "+", "-", "@"}

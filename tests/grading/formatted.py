@@ -44,7 +44,7 @@ def look_at_marks(check, names, folders):
     cases = [(it.get("classname"), it.get("name"), "pass" if it.find("failure") is None else it.find("failure").get("type"))
              for it in root.iter("testcase")]
     rows = list(csv.DictReader(io.StringIO(names["marks.csv"].read_bytes().decode(), newline="")))
-    table = [(it["folder"].removeprefix("'"), it["run"], it["verdict"]) for it in rows]
+    table = [(it["folder"].replace("'", ""), it["run"], it["verdict"]) for it in rows]
     check(cases == table and len(cases) == 2 * len(folders), f"the formats differ: {cases}, {table}")
     check(len({it[0] for it in cases}) == len(folders), "two folders have one name")
     failed = [it for it in rows if it["verdict"] not in ("pass", "no program")]

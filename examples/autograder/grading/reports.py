@@ -3,6 +3,7 @@ import csv
 import io
 import json
 import re
+import unicodedata
 from xml.etree import ElementTree
 
 from . import shown
@@ -10,8 +11,10 @@ from .records import PAGES
 
 # characters that XML 1.0 can't have
 NOT_XML = re.compile("[^\t\n\r -\uD7FF\uE000-\uFFFD\U00010000-\U0010FFFF]")
-# a spreadsheet would take a cell that begins so for a formula
-FORMULA = ("=", "+", "-", "@", "\t", "\r")
+# a spreadsheet would take a cell that begins so for a formula, also where the sign is as wide as a letter of Chinese, and
+# where semicolons, tabs or line feeds are what it takes for the ends of cells
+FORMULA = re.compile(r"(^|[;\t\r\n])(?=[ \t]*([^\w\s]))")
+SIGNS = set("=+-@")
 COLUMNS = ["folder", "mark", "points", "of", "run", "verdict", "detail", "schedule", "page", "ends_page", "seconds",
            "megabytes"]
 
@@ -79,8 +82,10 @@ def gradescope(task, marks):
 
 
 def cell(value):
+    """A field that no spreadsheet takes for a formula: an apostrophe stands before what would begin one."""
     text = str(value)
-    return "'" + text if text.startswith(FORMULA) else text
+    quoted = FORMULA.sub(lambda it: it[0] + "'" * (unicodedata.normalize("NFKC", it[2])[:1] in SIGNS), text)
+    return "'" + quoted if quoted.startswith((";", "\t", "\r", "\n")) else quoted
 
 
 def table(task, marks):
