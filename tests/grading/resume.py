@@ -1,6 +1,7 @@
 """A call that was stopped, however it was, goes on where it was, leaves nothing running, and makes the same marks."""
 import json
 import os
+import shutil
 import signal
 import time
 from pathlib import Path
@@ -28,6 +29,23 @@ def look(check, grader):
     for number in signal.SIGTERM, signal.SIGINT, signal.SIGKILL:
         look_at_one(check, grader, task, folders, whole, number)
     look_at_records(check, grader, task, folders, whole)
+    look_at_program(check, grader, task, folders[:2])
+
+
+def look_at_program(check, grader, task, folders):
+    """Marks are kept under the program that made them, also where a launcher starts it, which stays the same."""
+    clone, results = grader.place / "clone", grader.place / "results-of-clone"
+    (clone / ".built").mkdir(parents=True)
+    program = clone / ".built/lc3lab"
+    (clone / "lc3lab").write_text(f"#!/bin/sh\nexec '{program}' \"$@\"\n")
+    (clone / "lc3lab").chmod(0o755)
+    shutil.copy(grader.environment["LC3LAB"], program)
+    for count in 2, 2, 4:
+        if count == 4:
+            program.write_bytes(program.read_bytes() + b"\n")
+        printed, complained, status = grader.call("--results", results, task, *folders, LC3LAB=str(clone / "lc3lab"))
+        kept = len(list((results / "records").glob("*.json")))
+        check(status == 0 and kept == count, f"{kept} marks are kept, not {count}: {printed}{complained}")
 
 
 def look_at_one(check, grader, task, folders, whole, number):

@@ -106,15 +106,18 @@ class Pipes:
 
 
 class Laboratory:
-    """The command lc3lab."""
+    """The program lc3lab, kept open, so that all marks are of the one whose digest they are kept under."""
 
     def __init__(self, command):
-        self.command = command
         version = subprocess.run([command, "--version"], stdout=subprocess.PIPE, stderr=subprocess.PIPE, check=False)
         if version.returncode != 0 or not version.stdout.startswith(b"lc3lab "):
             raise TaskFault(f"{command} is no lc3lab, or can't be built")
-        known = hashlib.sha256(version.stdout + Path(command).read_bytes())
-        self.identity = known.hexdigest()
+        self.command = program_behind(command)
+        self.file = open(self.command, "rb")
+        known = self.file.read()
+        self.identity = hashlib.sha256(version.stdout + known).hexdigest()
+        # the file itself, also where another one comes to have its name; a script would take that for its own name
+        self.how = {"executable": f"/proc/self/fd/{self.file.fileno()}", "pass_fds": [self.file.fileno()]} if is_program(known) else {}
         self.help = subprocess.run([command, "explore", "--help"], stdout=subprocess.PIPE, stderr=subprocess.PIPE,
                                    check=False).stdout.decode("utf-8", "replace")
 
@@ -127,7 +130,7 @@ class Laboratory:
         deadline = time.monotonic() + 10 * bounds.seconds + 30
         pipes = {"stdin": subprocess.PIPE, "stdout": subprocess.PIPE, "stderr": subprocess.PIPE}
         environment = {"PATH": PLACES_OF_TOOLS, "LC_ALL": "C"}
-        child = subprocess.Popen([self.command, *words], cwd=folder, env=environment, preexec_fn=bounds.impose, **pipes)
+        child = subprocess.Popen([self.command, *words], cwd=folder, env=environment, preexec_fn=bounds.impose, **self.how, **pipes)
         taken = Pipes(child, given, most)
         bound = taken.run(deadline)
         if bound:
@@ -136,6 +139,16 @@ class Laboratory:
         if status in (-signal.SIGXCPU, -signal.SIGKILL) and not bound:
             bound = "time" if status == -signal.SIGXCPU else "memory"
         return Ran(taken.bytes_of(child.stdout), taken.bytes_of(child.stderr), status, bound)
+
+
+def is_program(content):
+    return content.startswith(b"\x7fELF")
+
+
+def program_behind(command):
+    """What the launcher of a clone, which was called once, has built; of any other command itself."""
+    built = Path(command).resolve().parent / ".built/lc3lab"
+    return command if is_program(Path(command).read_bytes()) or not built.exists() else str(built)
 
 
 def found_beside(script):
