@@ -46,8 +46,9 @@ def look_at_targets(check, grader, folders):
             _, complained, status = grader.call(option, target, TASK, *folders)
             refused = status == 2 and "lies in a folder that was handed in" in complained
             check(refused, f"{option} {target}: {status}: {complained}")
-    pages = sorted(it.name for it in (grader.place / "results").glob("*.html"))
-    wanted = [f"{name}.{run}.{ending}" for name in ("anna", "dora") for run in (1, 2) for ending in ("ends.html", "html")]
-    check(pages == wanted, f"pages: {pages}")
-    check(all(b"</html>" in (grader.place / "results" / it).read_bytes()[-200:] for it in pages), "a page has no end")
+    pages = sorted((grader.place / "results").glob("*/*.html"))
+    pages = [it for it in pages if it.parent.name != "records"]
+    wanted = [f"{name}/{run}.{ending}" for name in ("anna", "dora") for run in (1, 2) for ending in ("ends.html", "html")]
+    check([f"{it.parent.name[:4]}/{it.name}" for it in pages] == wanted, f"pages: {pages}")
+    check(all(b"</html>" in it.read_bytes()[-200:] for it in pages), "a page has no end")
     shutil.rmtree(grader.place / "results")

@@ -1,5 +1,6 @@
 """Folders by which a student could have another's mark, forge one, or stop the grader."""
 import os
+import shutil
 
 from .calling import ECHO, HALT, TASKS, example, example_path
 
@@ -26,7 +27,10 @@ OTHER .STRINGZ "/b\\"</b>)"
 CREATE .FILL x40
       .END
 """
-NAMES = ["x\nben: pass: 3 of 3 points", "x\\nben: pass\\c", "x\x1b[2J", "-x", "=1+1", 'a"b<c>&d', "\u202egp", " blank "]
+NAMES = ["x\nben: pass: 3 of 3 points", "x\\nben: pass\\c", "x\x1b[2J", "-x", "=1+1", 'a"b<c>&d', "\u202egp", " blank ",
+         ";=1+1", "a;@SUM(1)", "\t=1+1", "\uff1d1+1", "\uff0b1", "\ufe63\u00b9", "@x", "+x", "  =1"]
+# of the 255 bytes that a name may have; some are as long with each letter told by its bytes
+LONG = ["." + "\u00e9" * 81, "\u00e9" * 127, "." + "x" * 254, "%" * 255, "\U0001f600" * 63, ".\udcff" * 120]
 
 
 def look(check, grader):
@@ -47,6 +51,7 @@ def look(check, grader):
     for name in "unreadable", "closed":
         os.chmod(grader.place / "class" / name, 0o755)
     look_at_names(check, grader)
+    look_at_pages(check, grader)
     look_at_parts(check, grader)
     look_at_places(check, grader)
     look_at_answer(check, grader)
@@ -101,6 +106,37 @@ def look_at_names(check, grader):
     # from the folder itself, where a name could be taken for an option
     found = grader.marks(TASK, ["class/right/", "class/right//"])
     check(list(found.values()) == [["pass"] * 6], f"a slash behind a name: {found}")
+
+
+def look_at_pages(check, grader):
+    """Each folder has its marks and pages, however it is called, and whatever is wrong with those of another one."""
+    task = grader.task('[[run]]\nprograms = [{ asked = "a.asm" }]\noutputs = ["x"]\n')
+    above, results = grader.folder("pages"), grader.place / "results"
+    places = [f"{top}/{name}" for top, names in (("1", LONG + ["anna", "ben"]), ("2", ["anna"])) for name in names]
+    for number, it in enumerate(places):
+        os.makedirs(above / it)
+        # whose page it is can be seen in it
+        (above / it / "a.asm").write_text(ECHO.replace("     GETC", f"MINE{number} LEA R0,MINE{number}"))
+    (above / "link").symlink_to(above / "1/anna")
+    (above / "out").symlink_to(grader.place)
+    folders = [above / it for it in [*places, "link", "out"]]
+    printed, complained, status = grader.call("--results", results, task, *folders)
+    lines = printed.splitlines()
+    check(status == 0 and not complained and lines[-1] == f"0 of {len(folders)} pass", f"pages: {status}: {complained}{printed}")
+    pages = [it.removeprefix("    page ") for it in lines if it.startswith("    page ")]
+    check(len(set(pages)) == len(places) and all(it.endswith("/1.html") for it in pages), f"pages: {pages}")
+    for number, page in enumerate(pages):
+        check(f"MINE{number}" in (grader.place / page).read_text(), f"{page} is no page of {places[number]}")
+    # a folder called as another one's results are, and a file in the place of somebody's
+    anna, *_, other = [(grader.place / it).parent for it in pages if "/anna-" in it]
+    again = above / anna.name
+    os.makedirs(again)
+    shutil.rmtree(other)
+    other.write_text("no folder")
+    printed, complained, status = grader.call("--results", results, task, again, *folders)
+    check(status == 0 and not complained, f"pages again: status {status}: {complained}")
+    check(printed.count("    the page 1.html can't be written: ") == 1, f"a page that can't be written: {printed}")
+    check((anna / "1.html").exists() and printed.count("    page ") == len(places) - 1, f"pages again: {printed}")
 
 
 def look_at_parts(check, grader):

@@ -80,9 +80,14 @@ class Crew:
             return unmarked(self.task, traceback.format_exc(limit=-1).strip().splitlines()[-1])
 
     def begin(self, number, folder):
-        worker = Worker(number, self.mark_one, folder, self.rooms, time.monotonic() + self.patience)
+        """Begins with a folder. Where the machine has no room for that there is a mark at once, which is none."""
+        try:
+            worker = Worker(number, self.mark_one, folder, self.rooms, time.monotonic() + self.patience)
+        except OSError as it:
+            return [(number, unmarked(self.task, str(it)))]
         self.workers[worker.pipe] = worker
         self.ready.register(worker.pipe, selectors.EVENT_READ)
+        return []
 
     def end(self, worker):
         """The mark that a worker has written, or none where it was ended before."""
@@ -117,7 +122,7 @@ class Crew:
                     following = next(coming, None)
                     more = following is not None
                     if more:
-                        self.begin(*following)
+                        yield from self.begin(*following)
                 if self.workers:
                     yield from self.wait()
         finally:

@@ -4,7 +4,6 @@ import os
 import signal
 import sys
 import tempfile
-from collections import Counter
 from pathlib import Path
 
 from . import reports
@@ -12,7 +11,7 @@ from .crew import Crew
 from .faults import NoMark, TaskFault
 from .laboratory import Laboratory, found_beside
 from .marking import assemble_given, handed_in
-from .records import Records, file_name, write_whole
+from .records import Records, write_whole
 from .task import read_task
 
 WRITERS = {"junit": reports.junit, "gradescope": reports.gradescope, "csv": reports.table}
@@ -55,8 +54,8 @@ def part_of(folders, word):
 
 
 def keep_out(said):
-    """What is written has a place, and none in a folder that was handed in."""
-    inside = {os.path.realpath(it) for it in said.folders}
+    """What is written has a place, and none in a folder that was handed in. A link is no folder of a student's, and isn't read."""
+    inside = {os.path.realpath(it) for it in said.folders if not os.path.islink(it.rstrip("/"))}
     for target in [it for it in (said.results, said.junit, said.gradescope, said.csv) if it]:
         place = Path(os.path.realpath(target))
         if not inside.isdisjoint(map(str, [place, *place.parents])):
@@ -96,7 +95,7 @@ class Ear:
 
 def marks_of(crew, folders, said, ear):
     """The marks in the order of the folders; each is printed as soon as all before it are."""
-    found, printed, names = {}, 0, Counter(map(file_name, said.folders))
+    found, printed = {}, 0
     ear.waits = True
     for number, mark in crew.marks(folders, ear.look):
         found[number] = mark | {"folder": folders[number]}
@@ -105,7 +104,7 @@ def marks_of(crew, folders, said, ear):
             print(f"\r{len(found)} of {len(folders)}", end=end, file=sys.stderr, flush=True)
         while printed in found:
             if crew.records:
-                crew.records.publish(found[printed], names)
+                crew.records.publish(found[printed])
             print("\n".join(reports.lines(found[printed], said.brief)), flush=True)
             printed += 1
     ear.waits = False

@@ -2,6 +2,7 @@
 import hashlib
 import json
 import os
+import re
 import shutil
 import tempfile
 from pathlib import Path
@@ -22,6 +23,8 @@ def write_whole(path, content):
         raise
 
 
+# of the name of a folder that was handed in, so much is seen in that of its results
+LONGEST_NAME = 60
 # The pages of a run's part of a mark, and how the files of each end.
 PAGES = {"page": "html", "ends_page": "ends.html"}
 
@@ -55,16 +58,20 @@ class Records:
                 run[it] = name
         write_whole(self.inner / f"{record['key']}.json", json.dumps(record, sort_keys=True).encode())
 
-    def publish(self, mark, names):
-        """Puts each page beside the records under the name of its folder, and says in the mark where it is."""
-        name = file_name(mark["folder"])
-        if names[name] > 1:
-            name += "-" + hashlib.sha256(os.fsencode(mark["folder"])).hexdigest()[:8]
+    def publish(self, mark):
+        """Puts each page into a folder of its own for what was handed in, and says in the mark where it is."""
+        place = self.folder / place_name(mark["folder"])
+        shutil.rmtree(place, ignore_errors=True)
         for number, run in enumerate(mark["runs"], 1):
             for it in filter(run.get, PAGES):
-                target = self.folder / f"{name}.{number}.{PAGES[it]}"
-                share(self.inner / run[it], target)
-                run[it] = str(target)
+                target = place / f"{number}.{PAGES[it]}"
+                try:
+                    place.mkdir(exist_ok=True)
+                    share(self.inner / run[it], target)
+                    run[it] = str(target)
+                except OSError as fault:
+                    run[it] = None
+                    run["detail"].append(f"the page {target.name} can't be written: {fault.strerror or fault}")
 
 
 def share(source, target):
@@ -76,9 +83,10 @@ def share(source, target):
         shutil.copyfile(source, target)
 
 
-def file_name(folder):
-    """The last part of a path, as a file's name without surprises."""
-    last = os.path.basename(os.path.abspath(folder))
-    plain = "".join(it if it.isalnum() and it.isascii() or it in "-_" or it == "." else "".join(
-        f"%{byte:02X}" for byte in it.encode("utf-8", "surrogateescape")) for it in last)
-    return "%2E" + plain[1:] if plain.startswith(".") else plain[:150]
+def place_name(folder):
+    """A name for what belongs to a folder, without surprises: the beginning of its own, and a digest of the whole path, so that no
+    two folders have one, whatever they are called. A link is itself, and not what it leads to."""
+    above, last = os.path.split(os.path.abspath(folder))
+    path = os.path.join(os.path.realpath(above), last)
+    last = re.sub(r"[^A-Za-z0-9_]", lambda it: it[0] if it[0] in "-." else "_", last).lstrip(".-")
+    return f"{last[:LONGEST_NAME]}-{hashlib.sha256(os.fsencode(path)).hexdigest()[:16]}".lstrip("-")
