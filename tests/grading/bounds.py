@@ -51,6 +51,15 @@ TIMES .FILL 24000
 TEXT  .STRINGZ "%s"
       .END
 """ % ("A" * 2500)
+# ten megabytes of quotation marks, of which a trace shows each by its number, and then a call
+QUOTES = MUCH.replace("A" * 2500, '\\"' * 2500).replace("24000", "4000").replace("      HALT", """
+      LEA R0,NAME
+      LD R1,CREATE
+      AND R2,R2,#0
+      TRAP x50
+      HALT
+NAME  .STRINGZ "/s"
+CREATE .FILL x40""")
 # eleven times something is done with a semaphore
 ELEVEN_TIMES = """
       .ORIG x3000
@@ -89,6 +98,20 @@ seconds = 2
 [[run]]
 programs = [{ asked = "a.asm", must-call = ["sem_open /s"] }, { given = "gives.asm" }]
 """
+LONG_TASK = """
+seconds = 20
+[[run]]
+name = "calls"
+programs = [{ asked = "a.asm", must-call = ["sem_open /s"] }]
+[[run]]
+name = "no calls"
+programs = [{ asked = "a.asm" }]
+outputs = [{ each-line = '"*' }]
+[[run]]
+name = "another output"
+programs = [{ asked = "a.asm" }]
+outputs = [""]
+"""
 TASK = """
 seconds = 20
 worlds = {worlds}
@@ -118,9 +141,24 @@ def look(check, grader):
     check(found[folders["posts"]] in (["endless"], ["too long"]), f"a post that is refused for ever: {found}")
     check(time.monotonic() - began < 200, f"bounds: {time.monotonic() - began:.0f} seconds")
     look_at_seconds(check, grader, folders)
+    look_at_length(check, grader)
     (grader.place / "other.asm").write_text(HALT)
     found = grader.marks(small, [folders["round"], folders["halts"]])
     check(found == {folders["round"]: ["endless"], folders["halts"]: ["pass"]}, f"a round: {found}")
+
+
+def look_at_length(check, grader):
+    """What is too long to be traced is no mark of the machine's: the run is incomplete, and the others are marked."""
+    folder, results = grader.folder("quotes", a__asm=QUOTES), grader.place / "results"
+    printed, complained, status = grader.call("--results", results, grader.task(LONG_TASK, "long.toml"), folder)
+    check(status == 0 and not complained, f"long output: status {status}: {complained}")
+    said = [it for it in printed.splitlines() if it.startswith("  ") and it[2] != " "]
+    check(said == ["  calls: incomplete", "  another output: wrong output"], f"long output: {said}")
+    check("    the trace of an end, by which calls are known, has more output than is read\n" in printed, f"long output: {said}")
+    check(f"{folder}: fail: 1 of 3 points\n" in printed, f"long output: {printed[:200]}")
+    pages = [it.read_bytes() for it in results.glob("quotes-*/*.html")]
+    check(len(pages) == 4 and all(len(it) <= 4_000_000 and it.endswith(b"</html>\n") for it in pages), f"{len(pages)} long pages")
+    check(all(b"more than 4,000,000 bytes" in it for it in pages), "a page doesn't say that it was cut")
 
 
 def look_at_seconds(check, grader, folders):

@@ -67,8 +67,8 @@ class Crew:
         self.laboratory, self.task, self.given, self.records, self.hands = laboratory, task, given, records, hands
         self.rooms, self.workers = rooms, {}
         self.ready = selectors.DefaultSelector()
-        # each call of the program has a bound of its own; this one is for what nobody thought of
-        self.patience = sum(20 * it.bounds.seconds + 60 for it in task.runs) + 60
+        # each call of the program has a bound of its own, also by the clock; this one is for what nobody thought of
+        self.patience = sum(100 * it.bounds.seconds + 300 for it in task.runs) + 60
 
     def mark_one(self, folder, place):
         """The mark of a folder, also where something goes wrong that isn't the student's fault."""

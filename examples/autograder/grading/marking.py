@@ -5,12 +5,13 @@ import shutil
 import time
 from pathlib import Path
 
-from . import answer, calls, outputs, shown, sources
+from . import answer, calls, outputs, pages, shown, sources
 from .faults import NoMark, TaskFault
 from .records import PAGES
 
 LINES_OF_TRACE = 40
 LONGEST_LINE = 300
+LONGEST_OUTPUT = 100_000
 # a trace is read line by line, and a longer one than this isn't read
 MOST_OF_TRACE = 64 << 20
 
@@ -99,9 +100,10 @@ class Marking:
         verdict, detail, schedule = self.fault_of(run, found, words)
         part = {"verdict": verdict, "detail": detail, "schedule": schedule, "ends": len(found.ends)}
         if schedule is not None:
-            part["detail"] = detail + self.show(place, run, words, schedule)
-            part["page"] = self.page(f"{place}.html")
-            part["ends_page"] = self.page_of_ends(place, run, words)
+            text = self.show(place, run, words, schedule)
+            part["detail"] = detail + shown.lines(text, LONGEST_LINE, LINES_OF_TRACE)
+            part["page"] = pages.bounded(self.place / f"{place}.html", text)
+            part["ends_page"] = self.page_of_ends(place, run, words, found)
         return part
 
     def furnish(self, place, run, objects):
@@ -120,15 +122,11 @@ class Marking:
     def explore(self, run, words):
         """The answer to all that is asked of the search, or the part of a mark where there is none."""
         ran = self.laboratory.run(["explore", "--json", *run.words(), *words], self.place, run.bounds)
-        errors = shown.lines(ran.errors, LONGEST_LINE, 5)
-        if ran.bound == "time":
-            return {"verdict": "too long", "detail": [f"the search takes more than {run.bounds.seconds} seconds"]}
-        if ran.bound == "size":
-            return {"verdict": "incomplete", "detail": ["the ends have more output than a search may tell"]}
-        if ran.bound == "memory" or not ran.output and ran.status == 1 and b"out of memory" in ran.errors:
-            return {"verdict": "incomplete", "detail": [f"the search takes more than {run.bounds.memory} megabytes"]}
+        met = bound_met(run, ran, "the search")
+        if met:
+            return {"verdict": met[0], "detail": [met[1]]}
         if ran.status not in (0, 1):
-            raise NoMark("; ".join([f"explore ended with status {ran.status}"] + errors))
+            raise NoMark("; ".join([f"explore ended with status {ran.status}"] + shown.lines(ran.errors, LONGEST_LINE, 5)))
         return answer.read(ran.output, len(words), run.asks(), run.asks_to_end())
 
     def fault_of(self, run, found, words):
@@ -154,7 +152,13 @@ class Marking:
         for end in found.ends:
             if spent_so_far() > until:
                 return "too long", [f"the traces of all ends take more than {run.bounds.seconds} seconds"], None
-            made = self.calls_made(run, words, end.schedule)
+            ran = self.traced(run, words, end.schedule)
+            met = bound_met(run, ran, "the trace of an end, by which calls are known,")
+            if met:
+                return met[0], [met[1]], end.schedule
+            if ran.status != 0:
+                raise NoMark("; ".join(["trace failed"] + shown.lines(ran.errors, LONGEST_LINE, 5)))
+            made = calls.calls_of(ran.output)
             faults = [calls.fault_of(program, number, made) for number, program in enumerate(run.programs)]
             for verdict, said in filter(None, faults):
                 return verdict, [said], end.schedule
@@ -166,24 +170,16 @@ class Marking:
         words = ["trace", "--profile", run.options["profile"], *options, *words]
         return self.laboratory.run(words, self.place, run.bounds, given, MOST_OF_TRACE)
 
-    def calls_made(self, run, words, schedule):
-        ran = self.traced(run, words, schedule)
-        if ran.bound:
-            raise NoMark("the trace of an end is too long to be read")
-        if ran.status != 0:
-            raise NoMark("; ".join(["trace failed"] + shown.lines(ran.errors, LONGEST_LINE, 5)))
-        return calls.calls_of(ran.output)
-
     def show(self, place, run, words, schedule):
-        """The end of the trace by a schedule, with the labels and lines of what was handed in. Beside it a page is made, where that
-        has room."""
+        """The trace by a schedule, with the labels and lines of what was handed in. Beside it a page is made, where that has
+        room."""
         words = [self.with_source(place, number, program, word)
                  for number, (program, word) in enumerate(zip(run.programs, words))]
         ran = self.traced(run, words, schedule, "--page", f"{place}.html")
         if ran.status != 0 or ran.bound:
             (self.place / f"{place}.html").unlink(missing_ok=True)
             ran = self.traced(run, words, schedule)
-        return shown.lines(ran.output, LONGEST_LINE, LINES_OF_TRACE)
+        return ran.output
 
     def with_source(self, place, number, program, word):
         """The word for a program, with its source in the object file's place where a student has handed that in."""
@@ -193,18 +189,13 @@ class Marking:
         shutil.copyfile(self.place / "asked" / program.name, self.place / source)
         return source + word.removeprefix(f"{place}-{number}.obj")
 
-    def page_of_ends(self, place, run, words):
-        """The file of a page of all ends, by another search, where that has room."""
-        name = f"{place}.ends.html"
-        ran = self.laboratory.run(["explore", "--json", "--page", name, *run.words(), *words], self.place, run.bounds)
+    def page_of_ends(self, place, run, words, found):
+        """The file of a page of all ends, by another search."""
+        path = self.place / f"{place}.ends.html"
+        ran = self.laboratory.run(["explore", "--json", "--page", path.name, *run.words(), *words], self.place, run.bounds)
         if ran.status not in (0, 1) or ran.bound:
-            (self.place / name).unlink(missing_ok=True)
-        return self.page(name)
-
-    def page(self, name):
-        """The file of a page, where there is one."""
-        path = self.place / name
-        return str(path) if path.exists() else None
+            path.unlink(missing_ok=True)
+        return pages.bounded(path, "".join(lines_of_ends(found)).encode())
 
 
 def handed_in(task, folder):
@@ -212,6 +203,26 @@ def handed_in(task, folder):
     taken = {name: sources.take(folder, name) for name in task.asked()}
     found = repr([(name, it.content, it.fault) for name, it in taken.items()])
     return taken, hashlib.sha256(f"{task.key} {found}".encode()).hexdigest()
+
+
+def bound_met(run, ran, what):
+    """The verdict and a sentence where a call met a bound, which is what the programs do, and no fault of the machine."""
+    if ran.bound == "time":
+        return "too long", f"{what} takes more than {run.bounds.seconds} seconds"
+    if ran.bound == "size":
+        return "incomplete", f"{what} has more output than is read"
+    if ran.bound == "memory" or not ran.output and ran.status == 1 and b"out of memory" in ran.errors:
+        return "incomplete", f"{what} takes more than {run.bounds.memory} megabytes"
+    return None
+
+
+def lines_of_ends(found):
+    """What each process prints at each end, and a schedule that leads there."""
+    for number, end in enumerate(found.ends, 1):
+        yield f"end {number}\n"
+        for process, text in enumerate(end.outputs):
+            yield f"out {process} {shown.output(text, LONGEST_OUTPUT)}\n"
+        yield f"schedule {end.schedule}\n"
 
 
 def spent_so_far():
