@@ -1,5 +1,8 @@
 """Tasks that can't be taken are refused, what outputs may be, and what the keys of a run ask."""
+import csv
+import io
 import json
+import re
 
 from .calling import ECHO, HALT
 
@@ -31,6 +34,13 @@ REFUSED = {
     ONE + "points = -1\n": "points: this can't be -1",
     ONE + 'visibility = "never"\n': "visibility one of",
     ONE + 'profile = "c"\n': "profile is a or b",
+    ONE + "draw = 1\n": "draw: this must be a table",
+    ONE + 'draw = { N = "0-1" }\n': "names of small letters",
+    ONE + 'draw = { n = "7-0" }\n': "draw: not LOW-HIGH: 7-0",
+    ONE + "draw = { n = [] }\n": "draw: not LOW-HIGH",
+    ONE + 'draw = { n = { ascending = 3, of = "1-2" } }\n': "so many numbers can't be drawn: 3 of 1-2",
+    ONE + 'outputs = ["$(m)"]\ndraw = { n = "0-1" }\n': "$(m): m isn't drawn",
+    ONE + 'outputs = ["$(n+1)"]\ndraw = { n = ["a"] }\n': "$(n+1): this is no number",
 }
 PRINTS = '     .ORIG x3000\n     LEA R0,TEXT\n     PUTS\n     HALT\nTEXT .STRINGZ "12\\nabc\\n"\n     .END\n'
 OUTPUTS = {
@@ -87,6 +97,44 @@ ASKED = [
 ]
 
 
+SEEDED = """
+[[run]]
+name = "$(n), $(word), $(d.0)$(d.1)$(d.2)"
+draw = { n = "0-4", word = ["x", "y"], d = { ascending = 3, of = "1-9" } }
+programs = [{ asked = "a.asm", input = "$(n)" }]
+outputs = ["$(n)"]
+[[run]]
+name = "$(n*2) and $(n+1) and $(n-n) and $(n+m*2)"
+draw = { n = "0-4", m = "5-9" }
+programs = [{ asked = "a.asm", input = "$(n)" }]
+outputs = [{ any = ["$(n)"] }]
+"""
+
+
+def look_at_seeds(check, grader):
+    """What is drawn differs from seed to seed, is the same for the same one, and a mark is kept for its own alone."""
+    task, results = grader.task(SEEDED), grader.place / "seeds"
+    right = grader.folder("right", a__asm=ECHO)
+    wrong = grader.folder("constant", a__asm=ECHO.replace("GETC", "LD R0,FIVE").replace(".END", "FIVE .FILL x32\n     .END"))
+    told, passed = set(), set()
+    for seed in "abcdefgh":
+        table = grader.place / "seeded.csv"
+        for _ in range(2):
+            grader.call("--seed", seed, "--csv", table, "--results", results, task, right, wrong)
+            rows = list(csv.DictReader(io.StringIO(table.read_text(), newline="")))
+            told.add((seed, rows[0]["run"], rows[1]["run"]))
+            check({it["mark"] for it in rows if it["folder"] == str(right)} == {"pass"}, f"seed {seed}: {rows}")
+        passed.add(rows[2]["mark"])
+        names = [re.fullmatch(r"[0-4], [xy], ([1-9])([1-9])([1-9])", rows[0]["run"]),
+                 re.fullmatch(r"(\d) and (\d) and 0 and (\d+)", rows[1]["run"])]
+        check(names[0] and names[0][1] < names[0][2] < names[0][3], f"what is drawn: {rows[0]['run']}")
+        check(names[1] and int(names[1][1]) == 2 * int(names[1][2]) - 2, f"what is worked out: {rows[1]['run']}")
+    check(len(told) == 8 and len({it[1:] for it in told}) > 4, f"seeds: {told}")
+    check("fail" in passed, f"a constant passes whatever is drawn: {passed}")
+    count = len(list((results / "records").glob("*.json")))
+    check(count == 2 * len({it[1:] for it in told}), f"{count} marks are kept of {told}")
+
+
 def look_at_keys(check, grader):
     """What the keys of a run and of a program ask, each with an answer that is so, or with one that isn't."""
     (grader.place / "x.in").write_text("x")
@@ -112,6 +160,7 @@ def look_at_names(check, grader):
 
 def look(check, grader):
     look_at_keys(check, grader)
+    look_at_seeds(check, grader)
     look_at_names(check, grader)
     folder = grader.folder("one", a__asm=PRINTS)
     (grader.place / "given.asm").write_text(HALT)

@@ -34,6 +34,8 @@ def parser():
                        "processors, and memory for the task's limit in each)")
     words.add_argument("--results", metavar="PLACE", help="keep marks, and a page of each failure, in this folder; what is "
                        "kept there is taken up")
+    words.add_argument("--seed", metavar="WORD", default="", help="what the task leaves to be drawn is drawn by this word, which "
+                       "students don't know")
     words.add_argument("--pending", action="store_true", help="print the folders of which no mark is kept in PLACE, each with "
                        "a zero byte behind it, and mark none")
     words.add_argument("--part", metavar="K/N", help="take each N-th folder alone, from the K-th on")
@@ -124,7 +126,7 @@ def print_pending(task, folders, records):
 
 def grade(said, place, ear):
     laboratory = Laboratory(found_beside(Path(sys.argv[0])))
-    task = read_task(said.task, laboratory)
+    task = read_task(said.task, said.seed, laboratory)
     folders = [os.path.join(".", it) if it.startswith("-") else it.rstrip("/") or "/" for it in said.folders]
     folders = part_of(folders, said.part) if said.part else folders
     if said.gradescope and len(folders) != 1:

@@ -6,7 +6,7 @@ import tomllib
 from dataclasses import dataclass, field
 from pathlib import Path
 
-from . import calls, outputs
+from . import calls, drawn, outputs
 from .answer import WORDS
 from .faults import TaskFault
 from .laboratory import Bounds
@@ -182,11 +182,12 @@ def task_of(table, folder):
     return task
 
 
-def read_task(path, laboratory):
-    """The task in a file. Paths in it begin at its folder."""
+def read_task(path, seed, laboratory):
+    """The task in a file, with what the seed draws. Paths in it begin at its folder."""
     path = Path(path)
     try:
         table = tomllib.loads(path.read_text(encoding="utf-8"))
+        table |= {"run": [drawn.run_for(it, seed, number) for number, it in enumerate(value(table, "run", list, []), 1)]}
         task = task_of(table, path.parent)
         for run in task.runs:
             for option in [it for it in ("never", "fair") if run.options[it]] + ["json", "may-wait"]:
