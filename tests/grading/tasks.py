@@ -34,6 +34,8 @@ REFUSED = {
     ONE + "points = -1\n": "points: this can't be -1",
     ONE + 'visibility = "never"\n': "visibility one of",
     ONE + 'profile = "c"\n': "profile is a or b",
+    '[[run]]\nprograms = [{ asked = "a.asm", must-order = ["sem_wait >= 2"] }]\n': "must-order: a number of calls can't be asked",
+    '[[run]]\nprograms = [{ asked = "a.asm", may-call = "sem_wait" }]\n': "may-call: this must be a list",
     ONE + "draw = 1\n": "draw: this must be a table",
     ONE + 'draw = { N = "0-1" }\n': "names of small letters",
     ONE + 'draw = { n = "7-0" }\n': "draw: not LOW-HIGH: 7-0",
@@ -65,6 +67,25 @@ CREATE .FILL x40
 """
 ASKS = WAITS.replace("TRAP x53", "ADD R4,R0,#0\nAGAIN ADD R0,R4,#0\n      TRAP x54\n      ADD R0,R0,#0\n      BRn AGAIN")
 POSTS = WAITS.replace("TRAP x53", "TRAP x55")
+TWICE = WAITS.replace("TRAP x53", "TRAP x55\n      LEA R0,NAME\n      TRAP x50\n      TRAP x55")
+LOOKS = """
+      .ORIG x3000
+      LEA R0,NAME
+      LD R1,CREATE
+      TRAP x50
+      ADD R4,R0,#0
+      LEA R1,SEEN
+      TRAP x56
+      LD R1,SEEN
+      BRz DONE
+      ADD R0,R4,#0
+      TRAP x51
+DONE  HALT
+NAME  .STRINGZ "/w"
+CREATE .FILL x40
+SEEN  .BLKW 1
+      .END
+"""
 NEVER_ENDS = WAITS.replace("TRAP x53", "ADD R4,R0,#0\nAGAIN ADD R0,R4,#0\n      TRAP x54\n      BR AGAIN")
 # a student's program, what stands behind it in the list of programs, the keys of the run, and the verdict
 ASKED = [
@@ -82,6 +103,17 @@ ASKED = [
     (ECHO, ', input = "y"', 'outputs = ["y"]', "pass"),
     (POSTS, ', must-not-call = ["sem_post /v"]', "", "pass"),
     (POSTS, ', must-not-call = ["sem_post /w"]', "", "forbidden call"),
+    (POSTS, ', may-call = ["sem_open", "sem_post /w"]', "", "pass"),
+    (POSTS, ', may-call = ["sem_open", "sem_post /v"]', "", "forbidden call"),
+    (POSTS, ', may-call = ["sem_post"]', "", "forbidden call"),
+    (POSTS, ', must-order = ["sem_open /w", "sem_post"]', "", "pass"),
+    (POSTS, ', must-order = ["sem_post", "sem_open"]', "", "missing call"),
+    (POSTS, ', must-order = ["sem_post", "sem_post"]', "", "missing call"),
+    (TWICE, ', must-order = ["sem_post /w"]', "", "missing call"),
+    (TWICE, ', must-order = ["sem_post /w", "sem_post /w"]', "", "pass"),
+    # a call that is made only where another process was there before
+    (LOOKS, ', must-not-call = ["sem_close"] }, { given = "posts.asm"', "", "forbidden call"),
+    (LOOKS, ', may-call = ["sem_open", "sem_getvalue"] }, { given = "posts.asm"', "", "forbidden call"),
     (ASKS, '}, { given = "posts.asm"', "", "endless"),
     (ASKS, '}, { given = "posts.asm"', "fair = true", "pass"),
     # where there is no end, nothing is so that is asked of ends
@@ -132,7 +164,7 @@ def look_at_seeds(check, grader):
     check(len(told) == 8 and len({it[1:] for it in told}) > 4, f"seeds: {told}")
     check("fail" in passed, f"a constant passes whatever is drawn: {passed}")
     count = len(list((results / "records").glob("*.json")))
-    check(count == 2 * len({it[1:] for it in told}), f"{count} marks are kept of {told}")
+    check(count == 2 * len(told), f"{count} marks are kept of {told}")
 
 
 def look_at_keys(check, grader):

@@ -78,12 +78,21 @@ def fault_of(found, asks_to_end):
     return ("endless", endless) if endless is not None and asks_to_end else None
 
 
-def read(raw, count, asked, asks_to_end):
-    """The answer for a run of so many programs. `asked` says that there was --require or --never."""
+def parsed(raw):
     try:
-        found = json.loads(raw)
+        return json.loads(raw)
     except (ValueError, RecursionError):
         raise NoMark("explore --json: this is no JSON") from None
+
+
+def ways(raw, count):
+    """The schedules of the ends of walks."""
+    return [end_of(it, count).schedule for it in member(parsed(raw), "ends", list)]
+
+
+def read(raw, count, asked, asks_to_end):
+    """The answer for a run of so many programs. `asked` says that there was --require or --never."""
+    found = parsed(raw)
     limits, unopened = member(found, "limits", list), member(found, "unopened", list)
     complete = member(found, "search", str) == "complete"
     if complete == bool(limits) or not all(isinstance(it, str) for it in limits + unopened):

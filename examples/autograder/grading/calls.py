@@ -40,9 +40,11 @@ class Wanted:
     name: str | None
     times: int
 
+    def fits(self, made):
+        return made.call == self.call and self.name in (None, made.name)
+
     def is_made(self, made, process):
-        count = sum(1 for it in made if it.process == process and it.call == self.call and self.name in (None, it.name))
-        return count >= self.times
+        return sum(1 for it in made if it.process == process and self.fits(it)) >= self.times
 
     def told(self):
         return self.call + (f" {self.name}" if self.name else "") + (f" {self.times} times" if self.times > 1 else "")
@@ -58,6 +60,14 @@ def wanted_call(word, key):
     if not found or found[1] not in CALLS:
         raise TaskFault(f"{key}: no call: {word}")
     return Wanted(found[1], found[2], int(found[3] or 1))
+
+
+def listed_calls(words, key):
+    """The calls of a list in which each stands for itself, and not for so many."""
+    found = wanted_calls(words, key)
+    if any(it.times > 1 for it in found):
+        raise TaskFault(f"{key}: a number of calls can't be asked here")
+    return found
 
 
 def wanted_names(words, key):
@@ -123,4 +133,16 @@ def fault_of(program, process, made):
             return "forbidden call", f"process {process} calls {it.told()}"
     if not holds_together(named, process, program.must_hold):
         return "missing call", f"process {process} never holds {' and '.join(program.must_hold)} together"
-    return None
+    for it in made if program.may_call else []:
+        if it.process == process and not any(wanted.fits(it) for wanted in program.may_call):
+            return "forbidden call", f"process {process} calls {it.call} {it.name}"
+    return order_fault(program.must_order, process, named)
+
+
+def order_fault(wanted, process, made):
+    """What is said where the calls that are listed aren't made in this order, with no other of them between."""
+    found = [it for it in made if it.process == process and any(word.fits(it) for word in wanted)]
+    if len(found) == len(wanted) and all(word.fits(it) for word, it in zip(wanted, found)):
+        return None
+    told = ", ".join(f"{it.call} {it.name}" for it in found) or "none of them"
+    return "missing call", f"process {process} doesn't call {', '.join(it.told() for it in wanted)} in this order, but {told}"

@@ -149,20 +149,28 @@ class Marking:
     def fault_of_calls(self, run, found, words):
         """What is said of the first end on the way to which a process didn't call what it must, or called what it mustn't."""
         until = spent_so_far() + run.bounds.seconds
-        for end in found.ends:
+        for schedule in self.ways(run, found, words):
             if spent_so_far() > until:
                 return "too long", [f"the traces of all ends take more than {run.bounds.seconds} seconds"], None
-            ran = self.traced(run, words, end.schedule)
+            ran = self.traced(run, words, schedule)
             met = bound_met(run, ran, "the trace of an end, by which calls are known,")
             if met:
-                return met[0], [met[1]], end.schedule
+                return met[0], [met[1]], schedule
             if ran.status != 0:
                 raise NoMark("; ".join(["trace failed"] + shown.lines(ran.errors, LONGEST_LINE, 5)))
             made = calls.calls_of(ran.output)
             faults = [calls.fault_of(program, number, made) for number, program in enumerate(run.programs)]
             for verdict, said in filter(None, faults):
-                return verdict, [said], end.schedule
+                return verdict, [said], schedule
         return None
+
+    def ways(self, run, found, words):
+        """The schedules that lead to the ends, and those of some walks to an end, since other ways may have other calls."""
+        yield from (it.schedule for it in found.ends)
+        for number in self.task.walks if len(words) > 1 else []:
+            ran = self.laboratory.run(["explore", "--json", *run.words_of_walk(number), *words], self.place, run.bounds)
+            if not ran.bound and ran.status == 0:
+                yield from answer.ways(ran.output, len(words))
 
     def traced(self, run, words, schedule, *options):
         """The trace of a run by a schedule."""

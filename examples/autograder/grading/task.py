@@ -13,12 +13,14 @@ from .laboratory import Bounds
 
 # another number where marks come to be worked out otherwise, so that kept ones aren't taken up
 FORM = 3
+# of each run in which calls count, and which has more than one process, so many walks are looked at beside its ends
+WALKS = 6
 VISIBILITIES = ["visible", "hidden", "after_due_date", "after_published"]
 # what stands at the head of a task holds for each run that doesn't say otherwise
 SHARED = {"require": "halted", "may-wait": [], "never": [], "fair": False, "profile": "a", "limit": 100_000,
           "worlds": 100_000, "memory": 1024, "seconds": 60, "points": 1, "visibility": "visible"}
 OF_RUN = {"name", "programs", "outputs", "alternatives"}
-OF_PROGRAM = {"given", "asked", "input", "input-file", "must-call", "must-not-call", "must-hold"}
+OF_PROGRAM = {"given", "asked", "input", "input-file", "must-call", "must-not-call", "must-hold", "may-call", "must-order"}
 
 
 @dataclass
@@ -31,9 +33,11 @@ class Program:
     must_call: list
     must_not_call: list
     must_hold: list
+    may_call: list
+    must_order: list
 
     def is_watched(self):
-        return bool(self.must_call or self.must_not_call or self.must_hold)
+        return bool(self.must_call or self.must_not_call or self.must_hold or self.may_call or self.must_order)
 
 
 @dataclass
@@ -47,6 +51,12 @@ class Run:
     points: float
     visibility: str
     bounds: Bounds
+
+    def words_of_walk(self, number):
+        """The words of explore for one walk at random."""
+        said = self.options
+        return ["--profile", said["profile"], "--limit", str(said["limit"]), "--memory", str(said["memory"]),
+                "--random", "1", "--seed", str(number)]
 
     def words(self):
         """The words of explore but for the programs."""
@@ -77,6 +87,7 @@ class Task:
     title: str
     runs: list
     key: str = field(default="")
+    walks: list = field(default_factory=list)
 
     def asked(self):
         """The names of the files that a student hands in, each once."""
@@ -129,7 +140,8 @@ def program_of(table, folder):
     made = [calls.wanted_calls(table.get(it, []), it) for it in ("must-call", "must-not-call")]
     source = None if given is None else content_of(folder, given)
     name = asked_name(asked) if given is None else os.path.basename(given)
-    return Program(source, name, content, *made, calls.wanted_names(table.get("must-hold", []), "must-hold"))
+    listed = [calls.listed_calls(table.get(it, []), it) for it in ("may-call", "must-order")]
+    return Program(source, name, content, *made, calls.wanted_names(table.get("must-hold", []), "must-hold"), *listed)
 
 
 def wanted_outputs(table, count):
@@ -197,6 +209,8 @@ def read_task(path, seed, laboratory):
         raise TaskFault(f"{path}: {it.strerror}") from None
     except (ValueError, TaskFault) as it:
         raise TaskFault(f"{path}: {it}") from None
+    hat = drawn.Hat(f"{seed} walks")
+    task.walks = [hat.below(1_000_000) for _ in range(WALKS)]
     task.key = key_of(task, table, laboratory)
     return task
 
@@ -204,4 +218,4 @@ def read_task(path, seed, laboratory):
 def key_of(task, table, laboratory):
     """A digest of all that a mark depends on beside what is handed in."""
     files = [(it.given, it.input) for run in task.runs for it in run.programs]
-    return hashlib.sha256(repr((FORM, laboratory.identity, table, files)).encode()).hexdigest()
+    return hashlib.sha256(repr((FORM, laboratory.identity, table, files, task.walks)).encode()).hexdigest()
