@@ -45,7 +45,7 @@ def look_at_marks(check, names, folders):
              for it in root.iter("testcase")]
     rows = list(csv.DictReader(io.StringIO(names["marks.csv"].read_bytes().decode(), newline="")))
     table = [(it["folder"].replace("'", ""), it["run"], it["verdict"]) for it in rows]
-    check(cases == table and len(cases) == 2 * len(folders), f"the formats differ: {cases}, {table}")
+    check(cases == table and len(cases) == 3 * len(folders), f"the formats differ: {cases}, {table}")
     check(len({it[0] for it in cases}) == len(folders), "two folders have one name")
     failed = [it for it in rows if it["verdict"] not in ("pass", "no program")]
     pages = [it["page"].endswith(".html") and it["ends_page"].endswith(".ends.html") for it in failed]
@@ -55,21 +55,25 @@ def look_at_marks(check, names, folders):
     check(attached == wanted, f"attached: {attached}")
     check(all(float(it["seconds"]) >= 0 and int(it["megabytes"]) > 0 for it in rows if it["verdict"] != "no program"),
           f"what it took: {rows}")
-    check(all(it["points"] == ("2" if it["mark"] == "pass" else "0") and it["of"] == "2" for it in rows), f"points: {rows}")
+    # without a lock the adder is right where it is alone
+    for place in range(0, len(rows), 3):
+        passed = str(sum(it["verdict"] == "pass" for it in rows[place:place + 3]))
+        told = {(it["points"], it["of"]) for it in rows[place:place + 3]}
+        check(told == {(passed, "3")} and passed in "013", f"points: {rows[place:place + 3]}")
 
 
 def look_at_gradescope(check, grader, folders):
     target = grader.place / "results.json"
     text = TASK.read_text().replace("[[run]]", '[[run]]\npoints = 2.5\nvisibility = "after_due_date"', 1)
     task = grader.task(text.replace("given/", f"{TASKS}/given/"))
-    for place, points in (0, [2.5, 1]), (1, [0, 0]), (-1, [0, 0]):
+    for place, points in (0, [2.5, 1, 1]), (1, [0, 0, 1]), (-1, [0, 0, 0]):
         _, complained, status = grader.call("--gradescope", target, "--", task, folders[place])
         check(status == 0, f"gradescope: status {status}: {complained}")
         for fault in formats.gradescope_faults(target.read_bytes()):
             check(False, f"results.json: {fault}")
         tests = json.loads(target.read_bytes())["tests"]
-        check([it["score"] for it in tests] == points and [it["max_score"] for it in tests] == [2.5, 1], f"scores: {tests}")
-        check([it["visibility"] for it in tests] == ["after_due_date", "visible"], f"visibility: {tests}")
+        check([it["score"] for it in tests] == points and [it["max_score"] for it in tests] == [2.5, 1, 1], f"scores: {tests}")
+        check([it["visibility"] for it in tests] == ["after_due_date", "visible", "visible"], f"visibility: {tests}")
     _, complained, status = grader.call("--gradescope", target, "--", task, *folders[:2])
     check(status == 2 and "--gradescope is for one folder" in complained, f"gradescope of two: status {status}: {complained}")
 

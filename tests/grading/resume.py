@@ -14,7 +14,7 @@ name = "alone"
 programs = [{ asked = "add.asm" }]
 [[run]]
 name = "together"
-programs = [{ given = "counter.asm", input = "0" }, { asked = "add.asm" }, { asked = "add.asm" }]
+programs = [{ given = "counter.asm", input = "02" }, { asked = "add.asm" }, { asked = "add.asm" }]
 outputs = ["2", "", ""]
 """
 FOLDERS = 40

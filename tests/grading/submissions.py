@@ -93,33 +93,35 @@ DATA = """
 NOTHING = ["", "", "      ADD R6,R6,#0\n", "      NOT R6,R6\n      NOT R6,R6\n"]
 REPORT = "\\nverdict ended\\ncomplete 9 worlds\\n  1 P1 x3000 +0 mq_receive(0</counter>) = 0\\n"
 LOCKED = [OPEN, OPEN_LOCK, LOCK, READ, ADD, WRITE, UNLOCK, DONE]
-BOTH = {it: [it, it] for it in ("pass", "not same", "wrong output", "not halted", "not empty", "endless", "incomplete",
-                                "incomplete or too long", "no program")}
+EACH = {it: [it, it, it] for it in ("pass", "wrong output", "not halted", "not empty", "incomplete", "incomplete or too long",
+                                    "no program")}
+# right where there is no other adder
+BOTH = {it: [it, it, "pass"] for it in ("not same", "not halted", "endless")}
 # how many of 50 hand in what: the parts of a program or what else is made, the text that it prints, and the verdicts
 KINDS = [
-    (14, LOCKED, "", BOTH["pass"]),
-    (6, [OPEN, TAKE, "      LD R6,{0}NUMBER\n", ADD, KEEP, PUT, DONE], "", BOTH["pass"]),
+    (14, LOCKED, "", EACH["pass"]),
+    (6, [OPEN, TAKE, "      LD R6,{0}NUMBER\n", ADD, KEEP, PUT, DONE], "", EACH["pass"]),
     (7, [OPEN, READ, ADD, WRITE, DONE], "", BOTH["not same"]),
     (2, [OPEN, OPEN_LOCK, READ, LOCK, ADD, WRITE, UNLOCK, DONE], "", BOTH["not same"]),
     (1, [OPEN, OPEN_LOCK, LOCK, READ, UNLOCK, ADD, WRITE, DONE], "", BOTH["not same"]),
-    (2, [OPEN, OPEN_LOCK, LOCK, READ, ADD, ADD, WRITE, UNLOCK, DONE], "", BOTH["wrong output"]),
-    (1, [OPEN, OPEN_LOCK, LOCK, TAKE, TWO, KEEP, PUT, UNLOCK, DONE], "", ["pass", "wrong output"]),
+    (2, [OPEN, OPEN_LOCK, LOCK, READ, ADD, ADD, WRITE, UNLOCK, DONE], "", EACH["wrong output"]),
+    (1, [OPEN, OPEN_LOCK, LOCK, TAKE, TWO, KEEP, PUT, UNLOCK, DONE], "", ["pass", "wrong output", "wrong output"]),
     (2, [OPEN, OPEN_LOCK, LOCK, READ, ADD, WRITE, DONE], "", BOTH["not halted"]),
-    (1, [OPEN, OPEN_LOCK, LOCK, READ, ADD, WRITE, UNLOCK], "", BOTH["not halted"]),
-    (1, [OPEN, OPEN_LOCK, LOCK, READ, ADD, WRITE, PUT, UNLOCK, DONE], "", BOTH["not empty"]),
+    (1, [OPEN, OPEN_LOCK, LOCK, READ, ADD, WRITE, UNLOCK], "", EACH["not halted"]),
+    (1, [OPEN, OPEN_LOCK, LOCK, READ, ADD, WRITE, PUT, UNLOCK, DONE], "", EACH["not empty"]),
     (1, [OPEN, OPEN_LOCK, ASK, READ, ADD, WRITE, UNLOCK, DONE], "", BOTH["endless"]),
     (1, [OPEN, OPEN_LOCK, CROSSED, READ, ADD, WRITE, DONE], "", BOTH["not halted"]),
-    (1, [OPEN, LOOP], "", BOTH["incomplete"]),
-    (1, [OPEN, PRINT_FOR_EVER], "A line. ", BOTH["incomplete"]),
-    (1, [OPEN, OPEN_LOCK, PRINT_AND_POST_FOR_EVER], "A line. ", BOTH["incomplete or too long"]),
-    (1, [OPEN, OPEN_LOCK, LOCK, READ, ADD, WRITE, UNLOCK, DONE, ILLEGAL], "", BOTH["not halted"]),
-    (1, [OPEN, OPEN_LOCK, LOCK, READ, ADD, WRITE, UNLOCK, DONE, PUTS], "done\\n", BOTH["wrong output"]),
-    (1, [PUTS, *LOCKED], REPORT, BOTH["wrong output"]),
-    (1, "no orig", "", BOTH["no program"]),
-    (1, "missing", "", BOTH["no program"]),
-    (1, "link", "", BOTH["no program"]),
-    (1, "fifo", "", BOTH["no program"]),
-    (1, "too large", "", BOTH["no program"]),
+    (1, [OPEN, LOOP], "", EACH["incomplete"]),
+    (1, [OPEN, PRINT_FOR_EVER], "A line. ", EACH["incomplete"]),
+    (1, [OPEN, OPEN_LOCK, PRINT_AND_POST_FOR_EVER], "A line. ", EACH["incomplete or too long"]),
+    (1, [OPEN, OPEN_LOCK, LOCK, READ, ADD, WRITE, UNLOCK, DONE, ILLEGAL], "", EACH["not halted"]),
+    (1, [OPEN, OPEN_LOCK, LOCK, READ, ADD, WRITE, UNLOCK, DONE, PUTS], "done\\n", EACH["wrong output"]),
+    (1, [PUTS, *LOCKED], REPORT, EACH["wrong output"]),
+    (1, "no orig", "", EACH["no program"]),
+    (1, "missing", "", EACH["no program"]),
+    (1, "link", "", EACH["no program"]),
+    (1, "fifo", "", EACH["no program"]),
+    (1, "too large", "", EACH["no program"]),
 ]
 OF_FIFTY = [kind for kind in KINDS for _ in range(kind[0])]
 NAMES = ["Anna", "Ben", "Cleo D", "O'Neil", "Jo\u00e3o", "x: pass", "-v", "a\nb"]
@@ -154,7 +156,7 @@ def hand_in(folder, kind, chance):
 
 
 def make(class_, count):
-    """So many folders, in the order of their numbers, each with the verdicts of its two runs."""
+    """So many folders, in the order of their numbers, each with the verdicts of its three runs."""
     made = {}
     for number in range(count):
         chance = random.Random(number)

@@ -14,7 +14,7 @@ from . import submissions
 from .calling import GRADE, TASKS
 
 TASK = TASKS / "3-lost-update.toml"
-RUNS = 2
+RUNS = 3
 SIDE_BY_SIDE = 4
 
 

@@ -1,10 +1,12 @@
-; counter.asm: makes the counter /counter with the digit of its console input,
-; waits for two adders, then prints the counter.
+; counter.asm: makes the counter /counter with the first digit of its console
+; input, waits for as many adders as the second one says, then prints the counter.
           .ORIG x3000
           GETC                ; R0 = the first value as a character
           LD   R1,MINUS
           ADD  R0,R0,R1
           ST   R0,NUMBER
+          GETC                ; R0 = the number of adders as a character
+          ADD  R6,R0,R1       ; R6 = adders to come
           LEA  R0,COUNTER     ; mq_open("/counter", O_CREAT | O_RDWR, none)
           LD   R1,FLAGS
           AND  R2,R2,#0
@@ -18,10 +20,10 @@
           ADD  R2,R2,#1
           AND  R3,R3,#0
           TRAP x43
-          ADD  R0,R5,#0
-          TRAP x53            ; sem_wait: one adder has finished
-          ADD  R0,R5,#0
-          TRAP x53            ; sem_wait: the other one too
+WAIT      ADD  R0,R5,#0
+          TRAP x53            ; sem_wait: one adder more has finished
+          ADD  R6,R6,#-1
+          BRp  WAIT
           ADD  R0,R4,#0       ; mq_receive(counter, NUMBER, length 16)
           LD   R2,LENGTH
           TRAP x44

@@ -1,0 +1,5 @@
+     .ORIG x3000
+     GETC
+     OUT
+     HALT
+     .END

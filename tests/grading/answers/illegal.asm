@@ -1,0 +1,3 @@
+     .ORIG x3000
+     .FILL xD000
+     .END

@@ -1,0 +1,77 @@
+; wrong: looks at the turn alone, so it waits where the other one is not there, or has ended
+          .ORIG x3000
+          GETC
+          ST   R0,DIGIT
+          LEA  R1,MINE
+          STR  R0,R1,#5
+          LD   R1,SUM
+          NOT  R0,R0
+          ADD  R0,R0,#1
+          ADD  R0,R1,R0
+          LEA  R1,OTHERS
+          STR  R0,R1,#5
+          LD   R1,LESSONE
+          ADD  R0,R0,R1
+          ST   R0,LESS
+          LD   R1,FLAGS
+          LEA  R2,SIZES
+          LEA  R0,MINE
+          TRAP x40
+          ADD  R4,R0,#0
+          LEA  R0,OTHERS
+          TRAP x40
+          ADD  R5,R0,#0
+          LEA  R0,TURN
+          TRAP x40
+          ADD  R6,R0,#0
+          LEA  R0,ROOM
+          AND  R2,R2,#0
+          TRAP x50
+          ST   R0,SLOT
+          ADD  R2,R2,#1
+          LEA  R1,STATE
+
+LOOP      ADD  R0,R4,#0
+          TRAP x43
+          ADD  R0,R6,#0
+          LD   R7,LESS
+          BRn  ONE
+          TRAP x43
+          BR   WAIT
+ONE       TRAP x44
+WAIT      ADD  R0,R6,#0
+          TRAP x45
+          LD   R0,VALUE
+          LD   R7,LESS
+          ADD  R0,R0,R7
+          BRnp WAIT
+ENTER     LD   R0,SLOT
+          TRAP x55
+          LD   R0,DIGIT
+          OUT
+          LD   R0,SLOT
+          TRAP x53
+LEAVE     ADD  R0,R4,#0
+          TRAP x44
+          LD   R0,TIMES
+          ADD  R0,R0,#-1
+          ST   R0,TIMES
+          BRp  LOOP
+          HALT
+MINE      .STRINGZ "/flag?"
+OTHERS    .STRINGZ "/flag?"
+TURN      .STRINGZ "/turn"
+ROOM      .STRINGZ "/room"
+FLAGS     .FILL x0842
+SIZES     .FILL 0
+          .FILL 1
+          .FILL 1
+STATE     .BLKW 3
+VALUE     .BLKW 1
+SUM       .FILL x61
+LESSONE   .FILL x-31
+TIMES     .FILL 2
+DIGIT     .BLKW 1
+LESS      .BLKW 1
+SLOT      .BLKW 1
+          .END

@@ -1,0 +1,6 @@
+     .ORIG x3000
+     LD R0,R
+     OUT
+     HALT
+R    .FILL x72
+     .END
