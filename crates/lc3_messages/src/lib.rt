@@ -15,6 +15,7 @@ mod report;
 mod strings;
 mod texts;
 mod told;
+mod warned;
 mod words;
 
 pub use report::{Report, Wish, report_on};

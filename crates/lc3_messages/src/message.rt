@@ -13,6 +13,13 @@ pub(crate) struct Span {
     pub end: usize,
 }
 
+impl Span {
+    /// What stands there in a line.
+    pub fn text_in(self, line: &str) -> &str {
+        line.get(self.start..self.end).unwrap_or("")
+    }
+}
+
 /// What a message is about.
 #[derive(Clone, Copy)]
 pub(crate) enum Kind {

@@ -76,7 +76,7 @@ fn other_sort(form: Form, word: &str) -> (&str, &'static str) {
 pub(crate) fn bad_operands(alloc: Global, place: Place<'_>) -> Result<Remark, AllocError> {
     let operation = operation_number(place.line);
     if let Some(part) = part_at(place.line.as_bytes(), operation) {
-        if part.start == place.mark.start {
+        if part.span.start == place.mark.start {
             let text = other_count(alloc, place, operation)?;
             return Ok(place.remark(text));
         }

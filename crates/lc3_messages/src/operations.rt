@@ -1,7 +1,7 @@
 //! Words in the place of a label or of an operation.
 use crate::characters::{Excerpt, picture};
-use crate::message::{Remark, Span};
-use crate::parts::{Part, part_at, text_of};
+use crate::message::Remark;
+use crate::parts::{Part, part_at};
 use crate::texts::{Place, Source};
 use crate::words::{
     NO_LABEL_BUT_OPERATION, did_you_mean, is_number, is_operation, is_register, operation_meant,
@@ -81,10 +81,7 @@ pub(crate) fn bad_label(alloc: Global, place: Place<'_>) -> Result<Remark, Alloc
 
 fn remark_on(part: Part<'_>, text: String) -> Remark {
     Remark {
-        mark: Some(Span {
-            start: part.start,
-            end: part.end,
-        }),
+        mark: Some(part.span),
         text,
     }
 }
@@ -95,7 +92,7 @@ fn no_operation(
     part: Part<'_>,
     meant: Option<&str>,
 ) -> Result<Remark, AllocError> {
-    let shown = Excerpt(text_of(line, part));
+    let shown = Excerpt(part.span.text_in(line));
     let mean = did_you_mean(alloc, meant)?;
     let text = format!(in alloc; "{shown} is no operation and no directive{mean}")?;
     Ok(remark_on(part, text))
@@ -116,8 +113,8 @@ fn two_words(
     first: Part<'_>,
     second: Part<'_>,
 ) -> Result<Remark, AllocError> {
-    let first_meant = first_meant(alloc, text_of(line, first))?;
-    let second_word = text_of(line, second).as_bytes();
+    let first_meant = first_meant(alloc, first.span.text_in(line))?;
+    let second_word = second.span.text_in(line).as_bytes();
     let name = upper(alloc, second_word)?;
     if first_meant.is_some() && source.labels.definition(&name).is_some() {
         return no_operation(alloc, line, first, first_meant);
@@ -145,7 +142,7 @@ fn operand_behind(
     first: Part<'_>,
     second: Part<'_>,
 ) -> Result<Remark, AllocError> {
-    let word = text_of(line, first);
+    let word = first.span.text_in(line);
     let meant = first_meant(alloc, word)?;
     if meant.is_some() {
         return no_operation(alloc, line, first, meant);
@@ -172,7 +169,7 @@ pub(crate) fn bad_operation(
     };
     match (first.token, part_at(bytes, 1)) {
         (Token::Word([b'.', ..]), _) | (Token::Word(_), None) => {
-            let meant = operation_meant(alloc, text_of(line, first).as_bytes())?;
+            let meant = operation_meant(alloc, first.span.text_in(line).as_bytes())?;
             no_operation(alloc, line, first, meant)
         }
         (Token::Word(_), Some(second)) => match second.token {

@@ -1,14 +1,12 @@
 //! The tokens of a line with their places.
+use crate::message::Span;
 use lc3_asm::{Token, first_token, without_separators};
 
 /// A token of a line, and where it stands.
 #[derive(Clone, Copy)]
 pub(crate) struct Part<'a> {
     pub token: Token<'a>,
-    /// The place of its first byte in the line, from 0.
-    pub start: usize,
-    /// The place behind its last byte.
-    pub end: usize,
+    pub span: Span,
 }
 
 /// The token with this number, from 0, if there is one.
@@ -22,8 +20,10 @@ pub(crate) fn part_at(line: &[u8], number: usize) -> Option<Part<'_>> {
     let (token, after) = first_token(rest)?;
     Some(Part {
         token,
-        start: line.len().saturating_sub(rest.len()),
-        end: line.len().saturating_sub(after.len()),
+        span: Span {
+            start: line.len().saturating_sub(rest.len()),
+            end: line.len().saturating_sub(after.len()),
+        },
     })
 }
 
@@ -37,14 +37,10 @@ pub(crate) fn part_count(line: &[u8]) -> usize {
     count
 }
 
-pub(crate) fn text_of<'a>(line: &'a str, part: Part<'_>) -> &'a str {
-    line.get(part.start..part.end).unwrap_or("")
-}
-
 /// The text of the token with this number, from 0.
 pub(crate) fn word_at(line: &str, number: usize) -> &str {
     match part_at(line.as_bytes(), number) {
-        Some(part) => text_of(line, part),
+        Some(part) => part.span.text_in(line),
         None => "",
     }
 }

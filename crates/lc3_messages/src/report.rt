@@ -1,16 +1,16 @@
 //! All messages about a source, as they are written.
-use crate::characters::{Excerpt, picture};
+ghost use Rattle.std.specs.Prelude.{◌≡◌};
+ghost use Rattle.lc3_asm.specs.Faults.{reading};
+
+use crate::characters::picture;
 use crate::labels::labels_of;
 use crate::lines::{end_of, lines_of};
-use crate::message::{Kind, Message, Remark, Span, message_on};
-use crate::operations::name_of;
-use crate::parts::word_at;
+use crate::message::{Kind, Message, Span, message_on};
 use crate::texts::{Source, line_at, remark};
 use crate::told::{Finding, What, findings};
-use crate::words::{bare_operation_meant, did_you_mean, operation_number};
+use crate::warned::warning_remark;
 use lc3_asm::{Reader, faults_of, reading};
 use lc3_table::Profile;
-use lc3_warnings::{Kind as WarningKind, Warning, push_text};
 use std::alloc::{AllocError, Global};
 use std::fmt::Write;
 
@@ -45,7 +45,7 @@ fn push_marked(text: &mut String, line: &str, mark: Span) -> Result<(), AllocErr
     for character in line.get(..mark.start).unwrap_or("").chars() {
         text.push(if character == '\t' { '\t' } else { ' ' })?;
     }
-    let count = line.get(mark.start..mark.end).unwrap_or("").chars().count();
+    let count = mark.text_in(line).chars().count();
     push_carets(text, count)?;
     text.push('\n')
 }
@@ -121,35 +121,6 @@ fn push_counts(
     text.push('\n')
 }
 
-/// The word that a warning about a line speaks of: the one that is marked, or the operation of another line.
-fn word_spoken_of<'a>(source: &Source<'a>, line: &'a str, warning: Warning) -> &'a str {
-    match warning.kind {
-        WarningKind::LostReturn { writer: other } | WarningKind::StaleCodes { trap: other } => {
-            let line = line_at(source, other);
-            word_at(line, operation_number(line))
-        }
-        _ => line.get(warning.start..warning.end).unwrap_or(""),
-    }
-}
-
-/// Adds the operation that a word was meant to name, if there is one.
-fn push_meant(alloc: Global, text: &mut String, word: &str) -> Result<(), AllocError> {
-    let meant = bare_operation_meant(alloc, word.as_bytes())?;
-    text.push_str(did_you_mean(alloc, meant)?.as_str())
-}
-
-/// What is said of a warning that speaks of this word.
-fn warning_text(alloc: Global, kind: WarningKind, word: &str) -> Result<String, AllocError> {
-    let shown = Excerpt(name_of(word));
-    let shown = format!(in alloc; "{shown}")?;
-    let mut text = String::new(alloc);
-    push_text(&mut text, kind, &shown)?;
-    if matches!(kind, WarningKind::Misspelt) {
-        push_meant(alloc, &mut text, word)?;
-    }
-    Ok(text)
-}
-
 fn message_of<'a>(
     alloc: Global,
     source: &Source<'a>,
@@ -162,14 +133,8 @@ fn message_of<'a>(
             Ok(message_on(line, finding.line, Kind::Fault(fault), remark))
         }
         What::Warning(warning) => {
-            let remark = Remark {
-                mark: Some(Span {
-                    start: warning.start,
-                    end: warning.end,
-                }),
-                text: warning_text(alloc, warning.kind, word_spoken_of(source, line, warning))?,
-            };
-            let kind = Kind::Warning(warning.kind.name());
+            let remark = warning_remark(alloc, source, line, warning)?;
+            let kind = Kind::Warning(warning.name());
             Ok(message_on(line, finding.line, kind, remark))
         }
     }
@@ -214,7 +179,9 @@ fn source_report(
     content: &str,
     source: &Source<'_>,
     wish: Wish<'_>,
-) -> Result<Report, AllocError> {
+) -> Result<Report, AllocError>
+    requires read { source.now.reader.now ≡ reading content.now }
+{
     let faults = faults_of(alloc, source.lines.len(), source.reader)?;
     let findings = findings(alloc, source, &faults, content, wish)?;
     report_of(alloc, file, source, &findings)
@@ -227,7 +194,9 @@ fn lines_report(
     lines: &[&str],
     reader: &Reader,
     wish: Wish<'_>,
-) -> Result<Report, AllocError> {
+) -> Result<Report, AllocError>
+    requires read { reader.now ≡ reading content.now }
+{
     let labels = labels_of(alloc, lines, reader)?;
     let names = labels.names(alloc)?;
     let source = Source {

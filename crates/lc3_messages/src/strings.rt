@@ -87,13 +87,10 @@ fn unfit(alloc: Global, bad: Bad) -> Result<String, AllocError> {
 }
 
 pub(crate) fn bad_string(alloc: Global, line: &str, string: Span) -> Result<Remark, AllocError> {
-    let text = line.get(string.start..string.end).unwrap_or("");
+    let text = string.text_in(line);
     if !is_closed(text) {
         return Ok(Remark {
-            mark: Some(Span {
-                start: string.start,
-                end: string.end,
-            }),
+            mark: Some(string),
             text: unclosed(alloc, text)?,
         });
     }

@@ -36,7 +36,7 @@ pub(crate) struct Place<'a> {
 
 impl<'a> Place<'a> {
     pub fn word(&self) -> &'a str {
-        self.line.get(self.mark.start..self.mark.end).unwrap_or("")
+        self.mark.text_in(self.line)
     }
 
     pub fn remark(&self, text: String) -> Remark {
@@ -51,9 +51,15 @@ impl<'a> Place<'a> {
     }
 }
 
-fn mark_of(alloc: Global, line: &str, kind: Fault) -> Result<Option<Mark>, AllocError> {
+/// Where a line has a fault of this kind, and what could stand there as operands.
+fn mark_of(
+    alloc: Global,
+    line: &str,
+    kind: Fault,
+) -> Result<Option<(Span, &'static [Form])>, AllocError> {
     match fault_mark(alloc, line.as_bytes(), kind) {
-        Ok(mark) => Ok(mark),
+        Ok(Some(Mark { start, end, forms })) => Ok(Some((Span { start, end }, forms))),
+        Ok(None) => Ok(None),
         Err(AsmFault::NoMemory | AsmFault::At { .. }) => Err(AllocError),
     }
 }
@@ -75,7 +81,7 @@ pub(crate) fn word_at_fault<'a>(
 ) -> Result<&'a str, AllocError> {
     let line = line_at(source, fault.line);
     match mark_of(alloc, line, fault.kind)? {
-        Some(mark) => Ok(line.get(mark.start..mark.end).unwrap_or("")),
+        Some((mark, _)) => Ok(mark.text_in(line)),
         None => Ok(""),
     }
 }
@@ -160,17 +166,14 @@ pub(crate) fn remark(
     if kind == Fault::NoOrig && !source.reader.started() && source.reader.faults().is_empty() {
         return no_statement(alloc);
     }
-    let Some(mark) = mark_of(alloc, line, kind)? else {
+    let Some((mark, forms)) = mark_of(alloc, line, kind)? else {
         return no_statement(alloc);
     };
     let place = Place {
         number,
         line,
-        mark: Span {
-            start: mark.start,
-            end: mark.end,
-        },
-        forms: mark.forms,
+        mark,
+        forms,
     };
     remark_at(alloc, source, place, kind)
 }

@@ -1,21 +1,22 @@
 //! What is told of a text.
 ghost use Rattle.std.specs.Prelude.{◌≡◌, ◌<◌, ◌++◌, true, false, length, IfOk, OnOk, map, slice_get, IsPermutation};
 ghost use Rattle.std.specs.List.Sorted.{IsNonDecreasingBy};
+ghost use Rattle.lc3_asm.specs.Faults.{reading};
 ghost use Rattle.lc3_messages.specs.Private.Told.{names_a_label, AreFrom, is_error, finding_of, AddsWarnings, Tells};
 
 use crate::report::Wish;
 use crate::texts::{Source, word_at_fault};
 use crate::words::upper;
-use lc3_asm::{LineFault, without_colon};
+use lc3_asm::{LineFault, Reader, without_colon};
 use lc3_table::Fault;
-use lc3_warnings::{Warning, warnings};
+use lc3_warnings::{Kind, warnings};
 use std::alloc::{AllocError, Global};
 
 /// What is found in a line.
 #[derive(Clone, Copy)]
 pub(crate) enum What {
     Fault(Fault),
-    Warning(Warning),
+    Warning(Kind),
 }
 
 impl What {
@@ -117,16 +118,18 @@ fn sort_by_line(found: &mut Vec<Finding>) -> Result<(), AllocError>
 fn push_warnings(
     alloc: Global,
     content: &str,
+    reader: &Reader,
     wish: Wish<'_>,
     found: &mut Vec<Finding>,
 ) -> Result<(), AllocError>
+    requires read { reader.now ≡ reading content.now }
     ensures added { OnOk result (AddsWarnings found.old.items found.new.items) }
 {
-    for warning in &warnings(alloc, content, wish.profile)? {
+    for warning in &warnings(alloc, content, wish.profile, reader)? {
         if !is_allowed(warning.kind.name(), wish.allowed) {
             found.push(Finding {
                 line: warning.line,
-                what: What::Warning(*warning),
+                what: What::Warning(warning.kind),
             })?;
         }
     }
@@ -146,13 +149,14 @@ pub(crate) fn findings(
     content: &str,
     wish: Wish<'_>,
 ) -> Result<Vec<Finding>, AllocError>
+    requires read { source.now.reader.now ≡ reading content.now }
     ensures told { IfOk result (λ found. Tells faults.now found.items) }
     ensures ordered { IfOk result (λ found. IsNonDecreasingBy (λ f. f.line) found.items) }
 {
     let mut found = Vec::new(alloc);
     let told = told_faults(alloc, source, faults)?;
     push_faults(&mut found, &told)?;
-    push_warnings(alloc, content, wish, &mut found)?;
+    push_warnings(alloc, content, source.reader, wish, &mut found)?;
     sort_by_line(&mut found)?;
     Ok(found)
 }

@@ -1,7 +1,6 @@
 //! Words of a line.
 use crate::characters::Excerpt;
-use crate::parts::part_at;
-use lc3_asm::{Token, register, token_operation};
+use lc3_asm::{Token, first_token, register, token_operation};
 use lc3_spelling::{BARE_OPERATIONS, OPERATIONS, shown, suggestion};
 use lc3_word::number_of;
 use std::alloc::{AllocError, Global};
@@ -16,17 +15,16 @@ pub(crate) fn upper(alloc: Global, word: &[u8]) -> Result<String, AllocError> {
 
 /// The first token of a line, where that is a word and names no operation or directive.
 pub(crate) fn label_word(line: &[u8]) -> Option<&[u8]> {
-    let first = part_at(line, 0)?;
-    match first.token {
-        Token::Word(word) if token_operation(first.token).is_none() => Some(word),
+    match first_token(line) {
+        Some((Token::Word(word), _)) if !is_operation(word) => Some(word),
         _ => None,
     }
 }
 
 /// The number of the operation among the tokens of a line, which may stand behind a label.
 pub(crate) fn operation_number(line: &str) -> usize {
-    match part_at(line.as_bytes(), 0) {
-        Some(first) => usize::from(token_operation(first.token).is_none()),
+    match first_token(line.as_bytes()) {
+        Some((first, _)) => usize::from(token_operation(first).is_none()),
         None => 0,
     }
 }

@@ -7,12 +7,13 @@ use Rattle.lc3_asm.specs.Views.{seen_line}
 use Rattle.lc3_asm.specs.declared.line.Line.{Line as Read}
 use Rattle.lc3_warnings.specs.declared.flow.Flow.{Flow}
 use Rattle.lc3_warnings.specs.declared.flow.Next.{Next}
+use Rattle.lc3_warnings.specs.declared.warning.Warning.{Warning}
 use Rattle.lc3_warnings.specs.Flows.{flow_of, last_flow, next_from}
 use Rattle.lc3_warnings.specs.Around.{around}
 use Rattle.lc3_asm.specs.Texts.{lines}
 use Rattle.lc3_asm.specs.Faults.{Reading, reading}
 use Rattle.lc3_table.specs.declared.profile.Profile.{Profile}
-use Rattle.lc3_warnings.specs.Warnings.{Setting, setting_of, Told, told, line_kinds, lines_told, after_end, is_accepted, warnings_of, warnings}
+use Rattle.lc3_warnings.specs.Warnings.{Setting, setting_of, told, line_kinds, lines_told, after_end, is_accepted, warnings_of, warnings}
 
 or-none : {A : Type 0} (o : Option A) → option_or o None ≡ o
 or-none None = refl
@@ -57,7 +58,7 @@ module _ (read : List Read) (i : ℕ) (d x : Read) (h : i < length read) (is : x
       ∙ sym (ap last_flow front ∙ last-append (map seen_line (take i read)) (seen_line x))
 
   -- the warnings of one more line
-  pub lines-more : (s : Setting) (bytes : List ℕ) (rest : List (List ℕ)) (fs gs all : List Told) (p o : Option Flow) (n : Option Next)
+  pub lines-more : (s : Setting) (bytes : List ℕ) (rest : List (List ℕ)) (fs gs all : List Warning) (p o : Option Flow) (n : Option Next)
       → p ≡ last_flow (map seen_line (take i read)) → o ≡ flow_of (seen_line x) → n ≡ next_from (i + 1) (map seen_line (drop (i + 1) read))
       → gs ≡ fs ++ flat_map (told (length (take i read) + 1)) (line_kinds s bytes (seen_line x) (record { previous = p; here = o; next = n }) (reverse (map seen_line (take i read))))
       → fs ++ lines_told s (map seen_line (take i read)) (bytes ∷ rest) (map seen_line (drop i read)) ≡ all
@@ -82,7 +83,7 @@ module _ (read : List Read) (i : ℕ) (d x : Read) (h : i < length read) (is : x
       ∙ f
 
 -- all the warnings of a text: those of its lines, and then that of the lines behind `.END`
-pub all_told : (p : Profile) (text : List ℕ) (accepted : Bool) (s : Setting) (read : List Read) (r : Reading) (rest : List (List ℕ)) (fs gs : List Told)
+pub all_told : (p : Profile) (text : List ℕ) (accepted : Bool) (s : Setting) (read : List Read) (r : Reading) (rest : List (List ℕ)) (fs gs : List Warning)
     → accepted ≡ is_accepted text → map seen_line read ≡ r.read → r ≡ reading text → s ≡ setting_of p accepted (lines text) r
     → fs ≡ lines_told s [] (lines text) (map seen_line read) → rest ≡ drop (length read) (lines text)
     → gs ≡ fs ++ after_end (length read) rest → gs ≡ warnings p text

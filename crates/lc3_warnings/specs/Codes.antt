@@ -2,7 +2,7 @@
 use Rattle.std.specs.Prelude.{ℕ, ◌+◌, Bool, true, false, ◌&&◌, nat_le, Option, Some, None, List, [], ◌∷◌, length, if◌then◌else◌}
 use Rattle.lc3_table.specs.declared.operation.Operation.{Operation}
 use Rattle.lc3_table.specs.declared.operation.Operation.TheVariants as op
-use Rattle.lc3_table.specs.Statements.{Line, Blank, LabelAlone, Operates, Operand, Register, Number}
+use Rattle.lc3_table.specs.Statements.{Line, Operates, Operand, Register, Number}
 use Rattle.lc3_warnings.specs.Flows.{is_call, trap_flow_of, first_with_words}
 use Rattle.lc3_warnings.specs.Labels.{defines_one}
 use Rattle.lc3_warnings.specs.declared.flow.Flow.{Flow}

@@ -17,17 +17,8 @@ use Rattle.lc3_warnings.specs.declared.warning.Kind.{Kind}
 use Rattle.lc3_warnings.specs.declared.warning.Kind.TheVariants as kind
 use Rattle.lc3_warnings.specs.declared.warning.Warning.{Warning}
 
--- what a warning says, and of which line
-pub record Told : Type 0 where
-  pub line : ℕ
-  pub kind : Kind
-
--- the same of a warning that is found
-abbrev pub told_of : Warning → Told
-told_of w = record { line = w.line; kind = w.kind }
-
 -- a warning of line n, if there is one
-abbrev pub told : ℕ → Option Kind → List Told
+abbrev pub told : ℕ → Option Kind → List Warning
 told n None = []
 told n (Some k) = record { line = n; kind = k } ∷ []
 
@@ -63,7 +54,7 @@ line_kinds s bytes l a above =
     ∷ []
 
 -- the warnings of these lines, which have these bytes and stand behind those before them
-abbrev pub lines_told : Setting → List (Line Operand) → List (List ℕ) → List (Line Operand) → List Told
+abbrev pub lines_told : Setting → List (Line Operand) → List (List ℕ) → List (Line Operand) → List Warning
 lines_told s before (bytes ∷ texts) (l ∷ ls) =
     flat_map (told (length before + 1)) (line_kinds s bytes l (around before l ls) (reverse before))
     ++ lines_told s (before ++ l ∷ []) texts ls
@@ -80,12 +71,12 @@ first_with_token n [] = None
 first_with_token n (bytes ∷ rest) = if has_token (tokens bytes) then Some (n + 1) else first_with_token (n + 1) rest
 
 -- the warning of a line behind the `.END` in line n, where there is one with a token
-abbrev pub behind_end : ℕ → Option ℕ → List Told
+abbrev pub behind_end : ℕ → Option ℕ → List Warning
 behind_end n None = []
 behind_end n (Some line) = told line (Some (kind.AfterEnd n))
 
 -- The first line with a token behind `.END`, which is in line n.
-abbrev pub after_end : ℕ → List (List ℕ) → List Told
+abbrev pub after_end : ℕ → List (List ℕ) → List Warning
 after_end n rest = behind_end n (first_with_token n rest)
 
 -- whether a text has no fault
@@ -98,10 +89,10 @@ setting_of p accepted texts r =
     record { profile = p; accepted = accepted; named = named r.read; called = called r.read; strings = strings r.read; mentioned = mentioned texts r.found }
 
 -- the warnings of a text that is read so: those of the lines up to `.END`, and then that of the lines behind it
-abbrev pub warnings_of : Profile → Bool → List (List ℕ) → Reading → List Told
+abbrev pub warnings_of : Profile → Bool → List (List ℕ) → Reading → List Warning
 warnings_of p accepted texts r =
     lines_told (setting_of p accepted texts r) [] texts r.read ++ after_end (length r.read) (drop (length r.read) texts)
 
 -- The warnings of a text, for this machine, by line.
-abbrev pub warnings : Profile → List ℕ → List Told
+abbrev pub warnings : Profile → List ℕ → List Warning
 warnings p text = warnings_of p (is_accepted text) (lines text) (reading text)

@@ -8,7 +8,6 @@ mod around;
 mod codes;
 mod flow;
 mod line_kinds;
-mod marks;
 mod mentions;
 mod misspelt;
 mod names;

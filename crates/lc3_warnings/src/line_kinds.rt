@@ -4,11 +4,10 @@ ghost use Rattle.std.specs.Prelude.{◌≡◌, ◌+◌, ◌++◌, map, length, r
 ghost use Rattle.std.specs.List.{flat_map};
 ghost use Rattle.lc3_warnings.specs.Private.Settings.{seen_setting};
 ghost use Rattle.lc3_asm.specs.Views.{seen_line};
-ghost use Rattle.lc3_warnings.specs.Warnings.{if_accepted, told, told_of, line_kinds};
+ghost use Rattle.lc3_warnings.specs.Warnings.{if_accepted, told, line_kinds};
 
 use crate::around::{Around, runs_into_data, runs_past_end, starts_in_data};
 use crate::codes::stale_codes;
-use crate::marks::span_of;
 use crate::misspelt::misspelt;
 use crate::numbers::{decimal_origin, unknown_trap, wraps};
 use crate::returns::lost_return;
@@ -27,23 +26,15 @@ fn if_accepted(accepted: bool, kind: Option<Kind>) -> Option<Kind>
 
 fn push_kinds(
     found: &mut Vec<Warning>,
-    number: usize,
-    bytes: &[u8],
-    line: &Line,
+    line: usize,
     kinds: &[Option<Kind>],
 ) -> Result<(), AllocError>
-    ensures told { OnOk result (map told_of found.new.items
-        ≡ map told_of found.old.items ++ flat_map (told number) kinds.now) }
+    ensures told { OnOk result (found.new.items
+        ≡ found.old.items ++ flat_map (told line) kinds.now) }
 {
     for kind in kinds {
         if let Some(kind) = kind {
-            let span = span_of(bytes, line, *kind);
-            found.push(Warning {
-                line: number,
-                start: span.start,
-                end: span.end,
-                kind: *kind,
-            })?;
+            found.push(Warning { line, kind: *kind })?;
         }
     }
     Ok(())
@@ -59,7 +50,7 @@ pub fn push_line(
     line: &Line,
     around: Around,
 ) -> Result<(), AllocError>
-    ensures told { OnOk result (map told_of found.new.items ≡ map told_of found.old.items
+    ensures told { OnOk result (found.new.items ≡ found.old.items
         ++ flat_map (told (length before.now + 1)) (line_kinds (seen_setting setting.now) bytes.now
         (seen_line line.now) around (reverse (map seen_line before.now)))) }
 {
@@ -85,5 +76,5 @@ pub fn push_line(
             loaded_string(&setting.strings, line, around, before),
         ),
     ];
-    push_kinds(found, before.len() + 1, bytes, line, &kinds)
+    push_kinds(found, before.len() + 1, &kinds)
 }

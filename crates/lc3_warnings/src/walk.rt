@@ -1,6 +1,6 @@
 //! The warnings of a text.
 
-ghost use Rattle.std.specs.Prelude.{◌≡◌, ◌+◌, ◌++◌, [], map, drop, length, IfOk, OnOk, ◌<◌, ◌^◌, option_map};
+ghost use Rattle.std.specs.Prelude.{◌≡◌, ◌+◌, ◌++◌, [], map, drop, length, IfOk, OnOk, ◌<◌, ◌^◌};
 ghost use Rattle.lc3_table.specs.Statements.{option_or};
 ghost use Rattle.lc3_warnings.specs.Private.Settings.{seen_setting};
 ghost use Rattle.lc3_asm.specs.Texts.{lines};
@@ -9,15 +9,14 @@ ghost use Rattle.lc3_asm.specs.Views.{lines_if};
 ghost use Rattle.lc3_asm.specs.Views.{seen_line};
 ghost use Rattle.lc3_table.specs.Tokens.{tokens};
 ghost use Rattle.lc3_warnings.specs.Flows.{flow_of, next_from};
-ghost use Rattle.lc3_warnings.specs.Warnings.{told_of, lines_told, has_token, first_with_token, after_end, is_accepted, warnings};
+ghost use Rattle.lc3_warnings.specs.Warnings.{lines_told, has_token, first_with_token, after_end, is_accepted, warnings};
 
 use crate::around::Around;
 use crate::flow::{Flow, Next, flow_of, next_from};
 use crate::line_kinds::push_line;
-use crate::marks::token_span;
 use crate::setting::{Settings, setting_of};
 use crate::warning::{Kind, Warning};
-use lc3_asm::{Line, Reader, faults_of, first_line, first_token, line_count, reading};
+use lc3_asm::{Line, Reader, faults_of, first_line, first_token, line_count};
 use lc3_table::Profile;
 use std::alloc::{AllocError, Global};
 
@@ -51,7 +50,7 @@ fn push_lines<'a>(
     text: &'a [u8],
     read: &[Line],
 ) -> Result<Option<&'a [u8]>, AllocError>
-    ensures told { OnOk result (map told_of found.new.items ≡ map told_of found.old.items
+    ensures told { OnOk result (found.new.items ≡ found.old.items
         ++ lines_told (seen_setting setting.now) [] (lines text.now) (map seen_line read.now)) }
     ensures rest { IfOk result (λ rest. lines_if rest ≡ drop (length read.now) (lines text.now)) }
 {
@@ -82,10 +81,10 @@ fn has_token(bytes: &[u8]) -> bool
     first_token(bytes).is_some()
 }
 
-/// The number of the first line with a token among those that stand behind so many others, and the line.
-fn first_with_token(behind: usize, rest: Option<&[u8]>) -> Option<(usize, &[u8])>
+/// The number of the first line with a token among those that stand behind so many others.
+fn first_with_token(behind: usize, rest: Option<&[u8]>) -> Option<usize>
     requires small { behind < 2 ^ 63 }
-    ensures value { option_map (λ e. e.0) result ≡ first_with_token behind (lines_if rest.entry) }
+    ensures value { result ≡ first_with_token behind (lines_if rest.entry) }
 {
     let mut number = behind;
     let mut left = rest;
@@ -93,7 +92,7 @@ fn first_with_token(behind: usize, rest: Option<&[u8]>) -> Option<(usize, &[u8])
         let (bytes, after) = first_line(text);
         number += 1;
         if has_token(bytes) {
-            return Some((number, bytes));
+            return Some(number);
         }
         left = after;
     }
@@ -107,15 +106,12 @@ fn push_after_end(
     rest: Option<&[u8]>,
 ) -> Result<(), AllocError>
     requires small { end < 2 ^ 63 }
-    ensures told { OnOk result (map told_of found.new.items
-        ≡ map told_of found.old.items ++ after_end end (lines_if rest.entry)) }
+    ensures told { OnOk result (found.new.items
+        ≡ found.old.items ++ after_end end (lines_if rest.entry)) }
 {
-    if let Some((line, bytes)) = first_with_token(end, rest) {
-        let span = token_span(bytes, 0);
+    if let Some(line) = first_with_token(end, rest) {
         found.push(Warning {
             line,
-            start: span.start,
-            end: span.end,
             kind: Kind::AfterEnd { end },
         })?;
     }
@@ -137,7 +133,7 @@ fn warnings_under(
     text: &[u8],
     read: &[Line],
 ) -> Result<Vec<Warning>, AllocError>
-    ensures told { IfOk result (λ found. map told_of found.items
+    ensures told { IfOk result (λ found. found.items
         ≡ lines_told (seen_setting setting.now) [] (lines text.now) (map seen_line read.now)
         ++ after_end (length read.now) (drop (length read.now) (lines text.now))) }
 {
@@ -147,27 +143,18 @@ fn warnings_under(
     Ok(found)
 }
 
+/// The warnings of a source text that was read so, by line, for programs on this machine.
 #[tactic(auto, using(crate::proofs::WalkLemmas::all_told))]
-fn warnings_of(
+pub fn warnings(
     alloc: Global,
     text: &str,
     profile: Profile,
     reader: &Reader,
 ) -> Result<Vec<Warning>, AllocError>
     requires read { reader.now ≡ reading text.now }
-    ensures told { IfOk result
-        (λ found. map told_of found.items ≡ warnings profile text.now) }
+    ensures told { IfOk result (λ found. found.items ≡ warnings profile text.now) }
 {
     let accepted = is_accepted(alloc, text, reader)?;
     let setting = setting_of(alloc, profile, accepted, text.as_bytes(), reader)?;
     warnings_under(alloc, &setting, text.as_bytes(), reader.lines())
-}
-
-/// The warnings of a source text, by line, for programs on this machine.
-pub fn warnings(alloc: Global, text: &str, profile: Profile) -> Result<Vec<Warning>, AllocError>
-    ensures told { IfOk result
-        (λ found. map told_of found.items ≡ warnings profile text.now) }
-{
-    let reader = reading(alloc, text)?;
-    warnings_of(alloc, text, profile, &reader)
 }

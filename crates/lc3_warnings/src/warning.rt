@@ -36,10 +36,6 @@ pub enum Kind {
 pub struct Warning {
     /// The number of the line, from 1.
     pub line: usize,
-    /// Where the word that it is about begins in the line, in bytes from 0.
-    pub start: usize,
-    /// Where that word ends.
-    pub end: usize,
     /// What is said.
     pub kind: Kind,
 }

@@ -4,7 +4,7 @@ use Rattle.lc3_asm.specs.Texts.{lines}
 use Rattle.lc3_asm.specs.Views.{lines_if}
 use Rattle.lc3_asm.specs.Views.{seen_line}
 use Rattle.lc3_warnings.specs.Private.Settings.{seen_setting}
-use Rattle.lc3_warnings.specs.Warnings.{told_of, lines_told}
+use Rattle.lc3_warnings.specs.Warnings.{lines_told}
 use Rattle.lc3_warnings.proofs.WalkLemmas.{rest-more, rest-none, lines-none, previous-more, lines-more}
 use Rattle.lc3_warnings.proofs.walk.push_lines.Goals as goal
 
@@ -25,15 +25,15 @@ loop-i-preserved c =
           c.loop-i.invariant.1 c.flow_of-here.ensures.value c.last_of-previous.ensures.value,
       c.next_behind-next.ensures.value,
       lines-more read c.loop-i.i _ c.index-read-i.result c.loop-i-test.true c.index-read-i.is (seen_setting c.args.setting.now) bytes rest
-          (map told_of c.loop-i.found.items) (map told_of c.push_line.new.found.items) _ c.loop-i.previous c.flow_of-here.result c.next_behind-next.result
+          c.loop-i.found.items c.push_line.new.found.items _ c.loop-i.previous c.flow_of-here.result c.next_behind-next.result
           c.loop-i.invariant.1 c.flow_of-here.ensures.value c.next_behind-next.ensures.value told
-          (ap (λ u. map told_of c.loop-i.found.items ++ lines_told (seen_setting c.args.setting.now) (map seen_line (take c.loop-i.i read)) u (map seen_line (drop c.loop-i.i read))) (sym cut)
+          (ap (λ u. c.loop-i.found.items ++ lines_told (seen_setting c.args.setting.now) (map seen_line (take c.loop-i.i read)) u (map seen_line (drop c.loop-i.i read))) (sym cut)
           ∙ c.loop-i.invariant.3),
     )
 
 pub returns-clause-told : goal.returns-clause-told
 returns-clause-told c =
-    let found = map told_of c.loop-i.found.items in
+    let found = c.loop-i.found.items in
     let before = map seen_line (take c.loop-i.i c.args.read.now) in
     sym (append-nil found)
     ∙ ap (λ u. found ++ u) (sym (lines-none (seen_setting c.args.setting.now) before (lines_if c.loop-i.rest)))

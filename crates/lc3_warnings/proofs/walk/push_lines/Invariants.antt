@@ -4,7 +4,7 @@ use Rattle.lc3_asm.specs.Views.{lines_if}
 use Rattle.lc3_asm.specs.Views.{seen_line}
 use Rattle.lc3_warnings.specs.Flows.{last_flow, next_from}
 use Rattle.lc3_warnings.specs.Private.Settings.{seen_setting}
-use Rattle.lc3_warnings.specs.Warnings.{told_of, lines_told}
+use Rattle.lc3_warnings.specs.Warnings.{lines_told}
 use Rattle.lc3_warnings.proofs.walk.push_lines.Given as goal
 
 abbrev pub invariant-loop-i : goal.invariant-loop-i
@@ -12,5 +12,5 @@ invariant-loop-i l =
     (lines_if l.rest ≡ drop l.i (lines l.text))
     × (l.previous ≡ last_flow (map seen_line (take l.i l.read)))
     × (l.first ≡ next_from l.i (map seen_line (drop l.i l.read)))
-    × (map told_of l.found.items ++ lines_told (seen_setting l.setting) (map seen_line (take l.i l.read)) (lines_if l.rest) (map seen_line (drop l.i l.read))
-    ≡ map told_of l.initial.found.items ++ lines_told (seen_setting l.setting) [] (lines l.text) (map seen_line l.read))
+    × (l.found.items ++ lines_told (seen_setting l.setting) (map seen_line (take l.i l.read)) (lines_if l.rest) (map seen_line (drop l.i l.read))
+    ≡ l.initial.found.items ++ lines_told (seen_setting l.setting) [] (lines l.text) (map seen_line l.read))

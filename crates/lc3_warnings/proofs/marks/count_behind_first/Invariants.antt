@@ -1,8 +1,0 @@
-use Rattle.std.proofs.Common.{◌≤◌, ◌+◌, length}
-use Rattle.lc3_warnings.proofs.marks.count_behind_first.Given as goal
-
-abbrev pub invariant-loop-after : goal.invariant-loop-after
-invariant-loop-after l = l.count + length l.rest ≤ length l.bytes
-
-abbrev pub decreases-loop-after : goal.decreases-loop-after
-decreases-loop-after l = length l.rest
