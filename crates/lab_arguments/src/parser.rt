@@ -1,4 +1,10 @@
 //! The words of the command line, read by a parser of commands.
+ghost use Rattle.std.specs.Prelude.{◌≡◌, String};
+ghost use Rattle.clap.specs.Values.{kind_of};
+ghost use Rattle.std.specs.declared.alloc.Global.{Global};
+ghost use Rattle.clap.specs.declared.error.kind.ErrorKind.TheVariants.{InvalidSubcommand};
+ghost use Rattle.lab_arguments.specs.declared.request.Refusal.TheVariants.{NoCommand};
+
 use crate::commands::{
     assemble_request, check_request, debug_request, disassemble_request, run_request, step_request,
     trace_request,
@@ -47,7 +53,10 @@ fn shown_words(alloc: Global, words: &[String]) -> Result<Vec<String>, AllocErro
 }
 
 /// The text of help, or of what is wrong with the words.
-fn refusal_of(alloc: Global, error: &Error) -> Refusal {
+fn refusal_of(alloc: Global, error: &Error) -> Refusal
+    ensures no_command { (text : String Global) → result ≡ NoCommand text
+        → kind_of error.now ≡ InvalidSubcommand }
+{
     let Ok(text) = error.to_string(alloc) else {
         return Refusal::NoMemory;
     };
@@ -55,6 +64,7 @@ fn refusal_of(alloc: Global, error: &Error) -> Refusal {
         ErrorKind::OutOfMemory => Refusal::NoMemory,
         ErrorKind::DisplayHelp => Refusal::Help(text),
         ErrorKind::DisplayVersion => Refusal::Version(text),
+        ErrorKind::InvalidSubcommand => Refusal::NoCommand(text),
         _ => Refusal::Usage(text),
     }
 }

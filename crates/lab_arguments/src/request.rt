@@ -79,6 +79,8 @@ pub enum Refusal {
     Version(String),
     /// They are wrong, as this text says.
     Usage(String),
+    /// They are wrong, as this text says: where a command was meant stands a word that is none.
+    NoCommand(String),
     /// There is no memory to read them.
     NoMemory,
 }

@@ -19,6 +19,11 @@ pub fn is_same_file<T: Files>(rt: &T, one: &str, other: &str) -> bool {
     }
 }
 
+/// Whether a file of this name is there, which is no folder and no device.
+pub fn is_file<T: Files>(rt: &T, name: &str) -> bool {
+    fs::metadata(rt, name).is_ok_and(|found| found.is_file())
+}
+
 /// The text of a source file, which is UTF-8 of at most 4,000,000 bytes.
 pub fn read_source<'a, T: Files>(
     rt: &T,

@@ -23,7 +23,7 @@ pub use complaint::{At, Complaint, Misuse, Reason};
 pub use debug::debug_programs;
 pub use dis::disassemble_file;
 pub use explore::{Search, explore_programs, find_ends};
-pub use files::{is_same_file, read_file, read_source, write_text, write_whole};
+pub use files::{is_file, is_same_file, read_file, read_source, write_text, write_whole};
 pub use inquiry::{Inquiry, refuse_question};
 pub use job::{Job, Texts};
 pub use programs::{Programs, files_of, laboratory, read_programs};
