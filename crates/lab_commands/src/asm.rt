@@ -1,7 +1,7 @@
 //! The command `asm`.
 use crate::check::messages_if;
 use crate::complaint::{At, Complaint, Misuse, Reason};
-use crate::files::{is_same_file, read_file, write_object, write_text};
+use crate::files::{is_same_file, read_code, write_object, write_text};
 use crate::job::Job;
 use crate::progress::Progress;
 use lab_io::Output;
@@ -46,7 +46,7 @@ fn accepted<'a, T: Files, E: Write, P: Progress>(
     errors: &mut Output<E>,
 ) -> Result<Assembled, Complaint<'a>> {
     let source = assembly.source;
-    let bytes = read_file(job.rt, job.alloc, source).at(job.alloc, source)?;
+    let bytes = read_code(job.rt, job.alloc, source)?;
     let report = messages_if(job, source, &bytes, assembly.profile, assembly.explain);
     match assemble_bytes(job.alloc, source, &bytes) {
         Ok(assembled) => {

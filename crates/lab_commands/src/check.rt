@@ -1,6 +1,6 @@
 //! The command `check`: all messages about sources.
-use crate::complaint::{At, Complaint, Reason};
-use crate::files::read_file;
+use crate::complaint::{Complaint, Reason};
+use crate::files::read_code;
 use crate::job::Job;
 use crate::progress::Progress;
 use lab_arguments::Shown;
@@ -43,7 +43,7 @@ fn check_source<'a, T: Files, E: Write, P>(
     strict: bool,
     errors: &mut Output<E>,
 ) -> Result<bool, Complaint<'a>> {
-    let bytes = read_file(job.rt, job.alloc, source).at(job.alloc, source)?;
+    let bytes = read_code(job.rt, job.alloc, source)?;
     let Ok(report) = messages(job.alloc, source, &bytes, wish) else {
         return Err(Reason::NoMemory.at(source));
     };

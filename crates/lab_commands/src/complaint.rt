@@ -143,10 +143,15 @@ impl<'a> Complaint<'a> {
 
     /// The complaint with the messages about its source, if there are any, unless it is of memory.
     pub fn explained(self, report: Option<Report>) -> Complaint<'a> {
+        self.followed(report.map(|report| report.text))
+    }
+
+    /// The complaint with further lines about it, each with its line feed, if there are any, unless it is of memory.
+    pub fn followed(self, lines: Option<String>) -> Complaint<'a> {
         let Complaint { place, text, .. } = self;
         let explanation = match text {
             Text::Reason(Reason::NoMemory) => None,
-            _ => report.map(|report| report.text),
+            _ => lines,
         };
         Complaint {
             place,

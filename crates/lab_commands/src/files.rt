@@ -1,5 +1,6 @@
 //! Files that are read or written whole.
 use crate::complaint::{At, Complaint, Reason};
+use lab_arguments::Shown;
 use lab_hex::{CliFault, read_whole};
 use lab_io::{Input, Output};
 use lc3_obj::{ObjFault, write_image};
@@ -30,8 +31,35 @@ pub fn read_source<'a, T: Files>(
     alloc: Global,
     name: &'a str,
 ) -> Result<String, Complaint<'a>> {
-    let bytes = read_file(rt, alloc, name).at(alloc, name)?;
+    let bytes = read_code(rt, alloc, name)?;
     String::from_utf8(bytes).map_err(|_| Reason::NotUtf8.at(name))
+}
+
+/// The bytes of a source or an object file, at most 4,000,000. Where it can't be read, a source that has its name and `.asm`
+/// behind it is named too.
+pub fn read_code<'a, T: Files>(
+    rt: &T,
+    alloc: Global,
+    name: &'a str,
+) -> Result<Vec<u8>, Complaint<'a>> {
+    match read_file(rt, alloc, name) {
+        Err(CliFault::Read) => {
+            let complaint = Complaint::new(alloc, name, CliFault::Read);
+            Err(complaint.followed(source_meant(rt, alloc, name)))
+        }
+        outcome => outcome.at(alloc, name),
+    }
+}
+
+/// The line that names the source which was meant by a name without its `.asm`, where that is there and memory allows it.
+fn source_meant<T: Files>(rt: &T, alloc: Global, name: &str) -> Option<String> {
+    let source = format!(in alloc; "{name}.asm").ok()?;
+    if !is_file(rt, &source) {
+        return None;
+    }
+    let word = Shown(name);
+    let meant = Shown(&source);
+    format!(in alloc; "lc3lab: {word}: did you mean {meant}?\n").ok()
 }
 
 /// The bytes of a file, at most 4,000,000: a file with more is refused as too large.

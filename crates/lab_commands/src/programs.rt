@@ -2,7 +2,7 @@
 use crate::asm::assemble_bytes;
 use crate::check::messages_if;
 use crate::complaint::{At, Complaint, Reason};
-use crate::files::read_file;
+use crate::files::{read_code, read_file};
 use crate::job::Job;
 use crate::progress::Progress;
 use lab_arguments::{Setup, Shown};
@@ -95,7 +95,7 @@ fn read_object<'a, T: Files, P: Progress>(
     job: &Job<'_, T, P>,
     file: &'a str,
 ) -> Result<Image, Complaint<'a>> {
-    let bytes = read_file(job.rt, job.alloc, file).at(job.alloc, file)?;
+    let bytes = read_code(job.rt, job.alloc, file)?;
     if is_text(bytes.as_slice()) {
         tell_text(job, file);
     }
@@ -108,7 +108,7 @@ fn read_assembled<'a, T: Files, P: Progress>(
     job: &Job<'_, T, P>,
     file: &'a str,
 ) -> Result<Source, Complaint<'a>> {
-    let bytes = read_file(job.rt, job.alloc, file).at(job.alloc, file)?;
+    let bytes = read_code(job.rt, job.alloc, file)?;
     match assemble_bytes(job.alloc, file, &bytes) {
         Ok(assembled) => match String::from_utf8(bytes) {
             Ok(text) => Ok(Source { text, assembled }),
