@@ -1,7 +1,12 @@
 //! What the words of the commands ask for; those of `explore` are apart.
+ghost use Rattle.std.specs.Prelude.{◌≡◌, ℕ, List, None, Some, codes};
+ghost use Rattle.clap.specs.Words.{found_of, one_text};
+ghost use Rattle.lab_arguments.specs.Private.Options.{IsNumber};
+
 use crate::MOST_STEPS_EACH;
 use crate::options::{limit_of, number_of, profile_of, setup_of, values_of};
-use crate::request::{Page, Refusal, Request};
+use crate::programs::Holds;
+use crate::request::{Manner, Page, Refusal, Request};
 use clap::ArgMatches;
 use std::alloc::{AllocError, Global};
 
@@ -42,7 +47,7 @@ pub(crate) fn step_request<'a>(
     words: &ArgMatches<'a>,
 ) -> Result<Request<'a>, Refusal> {
     Ok(Request::Step {
-        setup: setup_of(alloc, words)?,
+        setup: setup_of(alloc, words, Holds::Schedule)?,
     })
 }
 
@@ -52,7 +57,7 @@ pub(crate) fn trace_request<'a>(
     words: &ArgMatches<'a>,
 ) -> Result<Request<'a>, Refusal> {
     Ok(Request::Trace {
-        setup: setup_of(alloc, words)?,
+        setup: setup_of(alloc, words, Holds::Schedule)?,
         page: page_of(alloc, words)?,
     })
 }
@@ -72,11 +77,27 @@ pub(crate) fn run_request<'a>(
     words: &ArgMatches<'a>,
 ) -> Result<Request<'a>, Refusal> {
     Ok(Request::Run {
-        setup: setup_of(alloc, words)?,
+        setup: setup_of(alloc, words, Holds::Nothing)?,
+        manner: manner_of(words),
+    })
+}
+
+/// How programs are run, as the words of `run` say.
+fn manner_of<'a>(words: &ArgMatches<'a>) -> Manner<'a>
+    ensures limit { (text : List ℕ) (n : ℕ)
+        → one_text (found_of words.now) (codes "limit") ≡ Some text
+        → IsNumber text n → result.limit ≡ n }
+    ensures no_pauses { one_text (found_of words.now) (codes "mix") ≡ None
+        → result.mix ≡ None }
+    ensures pauses { (text : List ℕ) (n : ℕ)
+        → one_text (found_of words.now) (codes "mix") ≡ Some text
+        → IsNumber text n → result.mix ≡ Some n }
+{
+    Manner {
         limit: limit_of(words, "limit", MOST_STEPS_EACH),
         mix: number_of(words, "mix"),
         page: words.get_str("page"),
-    })
+    }
 }
 
 /// What the words of `debug` ask for.
@@ -85,6 +106,6 @@ pub(crate) fn debug_request<'a>(
     words: &ArgMatches<'a>,
 ) -> Result<Request<'a>, Refusal> {
     Ok(Request::Debug {
-        setup: setup_of(alloc, words)?,
+        setup: setup_of(alloc, words, Holds::Commands)?,
     })
 }

@@ -8,6 +8,7 @@ ghost use Rattle.lab_arguments.specs.declared.question.Choice.TheVariants.{End};
 
 use crate::misuse::Misuse;
 use crate::options::{limit_of, number_of, setup_of, values_of};
+use crate::programs::Holds;
 use crate::question::{Choice, Question};
 use crate::request::{Refusal, Request};
 use crate::requirements::{Requirements, requirements_of};
@@ -127,6 +128,7 @@ fn question_of<'a>(alloc: Global, words: &ArgMatches<'a>) -> Result<Question<'a>
         seed: seed_of(words),
         schedule,
         json: words.get_flag("json"),
+        page: words.get_str("page"),
     })
 }
 
@@ -136,22 +138,20 @@ pub(crate) fn explore_request<'a>(
     words: &ArgMatches<'a>,
 ) -> Result<Request<'a>, Refusal> {
     let question = question_of(alloc, words)?;
-    let page = words.get_str("page");
-    if let Some(misuse) = misuse_in(&question, words.get_str("seed").is_some(), page.is_some()) {
+    if let Some(misuse) = misuse_in(&question, words.get_str("seed").is_some()) {
         return Err(misuse.refusal(alloc));
     }
     Ok(Request::Explore {
-        setup: setup_of(alloc, words)?,
+        setup: setup_of(alloc, words, Holds::Nothing)?,
         question,
-        page,
     })
 }
 
-/// Which options don't go together, if some don't: of a question that has a seed, or a page.
-fn misuse_in(question: &Question<'_>, has_seed: bool, has_page: bool) -> Option<Misuse<'static>> {
+/// Which options don't go together, if some don't: of a question that has a seed.
+fn misuse_in(question: &Question<'_>, has_seed: bool) -> Option<Misuse<'static>> {
     match question.random {
         None if has_seed => Some(Misuse::NothingSeeded),
-        Some(_) if has_page => Some(Misuse::PageAndRandom),
+        Some(_) if question.page.is_some() => Some(Misuse::PageAndRandom),
         _ => misuse_of(question),
     }
 }

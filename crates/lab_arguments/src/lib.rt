@@ -6,6 +6,7 @@ mod exploring;
 mod misuse;
 mod options;
 mod parser;
+mod programs;
 mod question;
 mod request;
 mod requirements;
@@ -16,8 +17,9 @@ mod table;
 mod walks;
 
 pub use parser::read_words;
+pub use programs::{Console, program_of, takes_input};
 pub use question::{Choice, Question};
-pub use request::{Page, Refusal, Request, Setup};
+pub use request::{Manner, Page, Refusal, Request, Setup};
 pub use requirements::{Requirements, Rest};
 pub use rows::{CommandRow, ProgramRow, Row, Takes};
 pub use shown::Shown;

@@ -1,4 +1,5 @@
 //! What is wrong with words that the parser of commands takes one by one.
+use crate::programs::Holds;
 use crate::request::Refusal;
 use crate::shown::Shown;
 use std::alloc::Global;
@@ -29,6 +30,8 @@ pub(crate) enum Misuse<'a> {
     PageAndRandom,
     /// All answers, as JSON, and a schedule alone.
     JsonAndSchedule,
+    /// A console input from standard input, which holds something else.
+    Input(&'a str, Holds),
 }
 
 impl Misuse<'_> {
@@ -51,6 +54,20 @@ fn write_invalid<W: fmt::Write>(
     write!(f, "invalid value '{value}' for '{option}'")
 }
 
+/// Says why standard input can't be the console input of a process.
+fn write_input<W: fmt::Write>(f: &mut fmt::Formatter<W>, word: &str, holds: Holds) -> fmt::Result {
+    let word = Shown(word);
+    let why = match holds {
+        Holds::Nothing => "is that of another process",
+        Holds::Schedule => "holds the schedule",
+        Holds::Commands => "holds the commands",
+    };
+    write!(
+        f,
+        "standard input can't be the console input of '{word}': it {why}"
+    )
+}
+
 impl fmt::Display for Misuse<'_> {
     fn fmt<W: fmt::Write>(&self, f: &mut fmt::Formatter<W>) -> fmt::Result {
         let text = match *self {
@@ -64,6 +81,7 @@ impl fmt::Display for Misuse<'_> {
             Misuse::NeverAndRandom => "--never and --random exclude each other",
             Misuse::FairAndRandom => "--fair and --random exclude each other",
             Misuse::PageAndRandom => "--page and --random exclude each other",
+            Misuse::Input(word, holds) => return write_input(f, word, holds),
             Misuse::JsonAndSchedule => "--json and --schedule exclude each other",
         };
         f.write_str(text)

@@ -1,10 +1,14 @@
 //! Options of several commands, and what the words give them.
-ghost use Rattle.std.specs.Prelude.{◌≡◌, ℕ, List, None, Some, IfOk, codes};
+ghost use Rattle.std.specs.Prelude.{◌≡◌, ◌≤◌, ℕ, List, None, Some, IfOk, codes, map};
+ghost use Rattle.std.specs.List.{count_by};
 ghost use Rattle.clap.specs.Words.{first_value, found_of, one_text};
 ghost use Rattle.lc3_table.specs.declared.profile.Profile.TheVariants.{A, B};
-ghost use Rattle.lab_arguments.specs.Private.Options.{IsNumber};
+ghost use Rattle.lab_arguments.specs.Private.Options.{IsNumber, most_inputs};
+ghost use Rattle.lab_arguments.specs.Programs.{takes_input};
 
-use crate::request::Setup;
+use crate::misuse::Misuse;
+use crate::programs::{Holds, surplus};
+use crate::request::{Refusal, Setup};
 use clap::ArgMatches;
 use lc3_table::Profile;
 use std::alloc::{AllocError, Global};
@@ -49,15 +53,25 @@ pub(crate) fn profile_of(words: &ArgMatches<'_>) -> Profile
     }
 }
 
-/// The programs and the profile that the words of a command name.
-pub(crate) fn setup_of<'a>(alloc: Global, words: &ArgMatches<'a>) -> Result<Setup<'a>, AllocError>
+/// The programs and the profile that the words of a command name, which finds that in standard input.
+pub(crate) fn setup_of<'a>(
+    alloc: Global,
+    words: &ArgMatches<'a>,
+    holds: Holds,
+) -> Result<Setup<'a>, Refusal>
+    ensures inputs { IfOk result (λ s.
+        count_by takes_input (map (λ w. w.now) s.programs.items) ≤ most_inputs holds) }
     ensures profile_a { IfOk result (λ s.
         first_value (found_of words.now) (codes "profile") ≡ Some (codes "a") → s.profile ≡ A) }
     ensures profile_b { IfOk result (λ s.
         first_value (found_of words.now) (codes "profile") ≡ Some (codes "b") → s.profile ≡ B) }
 {
-    Ok(Setup {
-        programs: values_of(alloc, words, "PROGRAM")?,
-        profile: profile_of(words),
-    })
+    let programs = values_of(alloc, words, "PROGRAM")?;
+    match surplus(&programs, holds.most()) {
+        Some(word) => Err(Misuse::Input(word, holds).refusal(alloc)),
+        None => Ok(Setup {
+            programs,
+            profile: profile_of(words),
+        }),
+    }
 }

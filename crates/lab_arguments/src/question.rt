@@ -33,6 +33,8 @@ pub struct Question<'a> {
     pub schedule: Option<Choice>,
     /// Whether the answers are printed as JSON.
     pub json: bool,
+    /// The file of the page to write, where one is asked for.
+    pub page: Option<&'a str>,
 }
 
 impl Drop for Question<'_> {
@@ -53,6 +55,7 @@ impl Drop for Question<'_> {
             seed: _,
             schedule: _,
             json: _,
+            page: _,
         } = self;
     }
 }

@@ -35,17 +35,11 @@ pub enum Request<'a> {
     },
     Run {
         setup: Setup<'a>,
-        limit: u32,
-        /// The seed of the pauses before calls, where there are pauses.
-        mix: Option<u32>,
-        /// The file of the page to write, where one is asked for.
-        page: Option<&'a str>,
+        manner: Manner<'a>,
     },
     Explore {
         setup: Setup<'a>,
         question: Question<'a>,
-        /// The file of the page to write, where one is asked for.
-        page: Option<&'a str>,
     },
     Debug {
         setup: Setup<'a>,
@@ -59,6 +53,17 @@ pub struct Setup<'a> {
     pub programs: Vec<&'a str>,
     /// The profile of the machines.
     pub profile: Profile,
+}
+
+/// How programs are run on threads.
+#[derive(Clone, Copy)]
+pub struct Manner<'a> {
+    /// The most steps of each process.
+    pub limit: u32,
+    /// The seed of the pauses before calls, where there are pauses.
+    pub mix: Option<u32>,
+    /// The file of the page to write, where one is asked for.
+    pub page: Option<&'a str>,
 }
 
 /// What a page of a trace is made of.

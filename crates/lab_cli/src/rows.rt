@@ -76,6 +76,10 @@ const MACHINES: &str = "The machine: a is the book's; in b LEA sets no codes and
 const GIVEN: &str =
     "A source (.asm) or an object file; with =INPUT behind it, a file of console input";
 
+/// The programs of a laboratory that finds nothing else in standard input.
+const GIVEN_OR_TYPED: &str =
+    "A source (.asm) or an object file; with =INPUT behind it, a file of console input, or - for standard input";
+
 /// The page of a run.
 const PAGE: &str = "Also writes FILE, a page that shows the run step by step in a browser";
 
@@ -176,7 +180,7 @@ const RUN: &[Row] = &[
     Row {
         name: "PROGRAM",
         takes: Takes::Places,
-        help: GIVEN,
+        help: GIVEN_OR_TYPED,
     },
     Row {
         name: "profile",
@@ -204,7 +208,7 @@ const EXPLORE: &[Row] = &[
     Row {
         name: "PROGRAM",
         takes: Takes::Places,
-        help: GIVEN,
+        help: GIVEN_OR_TYPED,
     },
     Row {
         name: "profile",

@@ -1,17 +1,22 @@
 //! The programs of a laboratory, as the command line names them.
+ghost use Rattle.std.specs.Prelude.{◌≡◌, false};
+
 use crate::asm::assemble_bytes;
 use crate::check::messages_if;
 use crate::complaint::{At, Complaint, Reason};
 use crate::files::{read_code, read_file};
 use crate::job::Job;
 use crate::progress::Progress;
-use lab_arguments::{Setup, Shown};
+use lab_arguments::{Console, Setup, Shown, program_of, takes_input};
+use lab_hex::read_whole;
+use lab_io::Input;
 use lab_sched::{Fresh, FreshFault, Program};
 use lab_sources::Source;
 use lc3_obj::read_image;
 use lc3_table::Profile;
 use lc3_word::Image;
 use std::alloc::Global;
+use std::io::Read;
 use std::rt::Files;
 
 /// The programs of a laboratory, and of each its source, where it was given as one.
@@ -22,17 +27,28 @@ pub struct Programs {
     pub sources: Vec<Option<Source>>,
 }
 
-/// The program file that a word names, and the file of its console input, where there is one. The word is `FILE` or
-/// `FILE=INPUT`, split at its first `=`.
-pub fn files_of(word: &str) -> (&str, Option<&str>) {
-    match word.split_once('=') {
-        Some((file, input)) => (file, Some(input)),
-        None => (word, None),
+impl Programs {
+    /// Reads the console input of the process that takes it from standard input, if one of these words says so.
+    pub fn fill<R: Read>(
+        &mut self,
+        alloc: Global,
+        words: &[&str],
+        input: &mut Input<R>,
+    ) -> Result<(), Complaint<'static>>
+        requires input_healthy { input.old.failed ≡ false }
+    {
+        let Some(process) = words.iter().position(|word| takes_input(word)) else {
+            return Ok(());
+        };
+        if let Some(program) = self.programs.get_mut(process) {
+            program.input = read_whole(alloc, input).at(alloc, "standard input")?;
+        }
+        Ok(())
     }
 }
 
 /// The programs that words name, each by a source or an object file. A file is read and checked before the next one is
-/// opened.
+/// opened. A console input that comes from standard input is empty here.
 pub fn read_programs<'a, T: Files, P: Progress>(
     job: &Job<'_, T, P>,
     words: &[&'a str],
@@ -54,21 +70,21 @@ fn read_program<'a, T: Files, P: Progress>(
     job: &Job<'_, T, P>,
     word: &'a str,
 ) -> Result<(Program, Option<Source>), Complaint<'a>> {
-    let (file, input) = files_of(word);
+    let (file, console) = program_of(word);
     let (image, source) = read_image_file(job, file)?;
-    let input = read_input(job.rt, job.alloc, input)?;
+    let input = read_console(job.rt, job.alloc, console)?;
     Ok((Program { image, input }, source))
 }
 
 /// The bytes of a file of console input; none where there is no such file.
-fn read_input<'a, T: Files>(
+fn read_console<'a, T: Files>(
     rt: &T,
     alloc: Global,
-    file: Option<&'a str>,
+    console: Console<'a>,
 ) -> Result<Vec<u8>, Complaint<'a>> {
-    match file {
-        Some(file) => read_file(rt, alloc, file).at(alloc, file),
-        None => Ok(Vec::new(alloc)),
+    match console {
+        Console::File(file) => read_file(rt, alloc, file).at(alloc, file),
+        Console::Standard | Console::Nowhere => Ok(Vec::new(alloc)),
     }
 }
 
@@ -150,13 +166,29 @@ pub fn laboratory(
     Fresh::new(alloc, programs, profile).map_err(|fault| fault_of(alloc, fault))
 }
 
-/// The laboratory of the programs in files, before its first step.
-pub fn read_laboratory<'a, T: Files, P: Progress>(
+/// The laboratory of the programs in files, and of what standard input holds for one of them, before its first step.
+pub fn read_laboratory<'a, T: Files, R: Read, P: Progress>(
     job: &Job<'_, T, P>,
     setup: &Setup<'a>,
-) -> Result<Fresh, Complaint<'a>> {
-    let given = read_programs(job, setup.programs.as_slice())?;
+    input: &mut Input<R>,
+) -> Result<Fresh, Complaint<'a>>
+    requires input_healthy { input.old.failed ≡ false }
+{
+    let given = read_with_input(job, setup.programs.as_slice(), input)?;
     laboratory(job.alloc, given.programs.as_slice(), setup.profile)
+}
+
+/// The programs that words name, and behind their files the console input that comes from standard input, if one does.
+pub fn read_with_input<'a, T: Files, R: Read, P: Progress>(
+    job: &Job<'_, T, P>,
+    words: &[&'a str],
+    input: &mut Input<R>,
+) -> Result<Programs, Complaint<'a>>
+    requires input_healthy { input.old.failed ≡ false }
+{
+    let mut given = read_programs(job, words)?;
+    given.fill(job.alloc, words, input)?;
+    Ok(given)
 }
 
 /// What is said where there is no laboratory of some programs.

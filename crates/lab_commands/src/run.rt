@@ -7,46 +7,40 @@ use crate::files::write_text;
 use crate::job::Job;
 use crate::programs::read_laboratory;
 use crate::progress::{CallCount, Progress};
-use lab_arguments::{MOST_STEPS_EACH, Setup};
-use lab_io::Output;
+use lab_arguments::{MOST_STEPS_EACH, Manner, Setup};
+use lab_io::{Input, Output};
 use lab_sched::Fresh;
 use lab_texts::report_text;
 use lab_threads::{Gate, NoGate, PausingGate, Report, RunFault, run_threads};
 use std::alloc::{AllocError, Global};
-use std::io::Write;
+use std::io::{Read, Write};
 use std::rt::Files;
 use std::sync::Wait;
 use std::thread::Threads;
 use std::time::Clock;
 
-/// How programs are run on threads.
-#[derive(Clone, Copy, Debug, PartialEq, Eq)]
-pub struct Manner {
-    /// The most steps of each process, which are 1 at least and [`MOST_STEPS_EACH`] at most.
-    pub limit: u32,
-    /// The seed of the pauses before calls, where there are pauses.
-    pub mix: Option<u32>,
-}
-
-/// Reads the files of the programs, runs them on threads, and writes the report and the schedule of an interleaving that
-/// leads to it.
-pub fn run_programs<'a, T: Files + Threads + Wait + Clock + Sync, W: Write, P: Progress>(
+/// Reads the files of the programs, and standard input where a process takes it, runs them on threads, and writes the report
+/// and the schedule of an interleaving that leads to it.
+pub fn run_programs<'a, T: Files + Threads + Wait + Clock + Sync, R: Read, W: Write, P: Progress>(
     job: &Job<'_, T, P>,
     setup: &Setup<'a>,
-    manner: Manner,
+    manner: Manner<'a>,
+    input: &mut Input<R>,
     output: &mut Output<W>,
 ) -> Result<(), Complaint<'a>>
+    requires input_healthy { input.old.failed ≡ false }
     requires output_healthy { output.old.failed ≡ false }
 {
-    let fresh = read_laboratory(job, setup)?;
+    let fresh = read_laboratory(job, setup, input)?;
     tell_run(job.alloc, &run_fresh(job, fresh, manner)?, output)
 }
 
-/// Runs the programs of a laboratory on threads. With a seed, workers pause before calls.
+/// Runs the programs of a laboratory on threads, each for [`MOST_STEPS_EACH`] steps at most. With a seed, workers pause before
+/// calls.
 pub fn run_fresh<T: Threads + Wait + Clock + Sync, P: Progress>(
     job: &Job<'_, T, P>,
     fresh: Fresh,
-    manner: Manner,
+    manner: Manner<'_>,
 ) -> Result<Report, Complaint<'static>> {
     let limit = manner.limit.clamp(1, MOST_STEPS_EACH);
     let outcome = match manner.mix {

@@ -1,6 +1,6 @@
 //! What is advised where a file stands in the place of a command.
-use lab_arguments::Shown;
-use lab_commands::{Job, files_of, is_file};
+use lab_arguments::{Shown, program_of};
+use lab_commands::{Job, is_file};
 use lab_io::Output;
 use std::alloc::{AllocError, Global};
 use std::io::Write;
@@ -15,7 +15,7 @@ pub fn advise_run<T: Files, E: Write, P>(
     let Some(word) = words.first() else {
         return;
     };
-    let (file, _) = files_of(word);
+    let (file, _) = program_of(word);
     if !is_file(job.rt, file) {
         return;
     }

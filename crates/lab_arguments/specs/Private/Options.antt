@@ -1,5 +1,7 @@
 -- What the words of an option say.
 use Rattle.std.specs.Prelude.{◌≡◌, ℕ, ◌<◌, ◌^◌, List, Option, Some, None}
+use Rattle.lab_arguments.specs.declared.programs.Holds.{Holds}
+use Rattle.lab_arguments.specs.declared.programs.Holds.TheVariants.{Nothing, Schedule, Commands}
 use Rattle.std.specs.Str.Parse.{IsNumeral, digits_value, without_leading_plus}
 
 -- a text is this number in decimal digits, which has at most 32 bits
@@ -11,3 +13,9 @@ IsNumber text n =
 abbrev pub usual_worlds : Option ℕ → ℕ
 usual_worlds None = 100000
 usual_worlds (Some count) = 10000
+
+-- of how many processes standard input can be the console input, which holds that
+abbrev pub most_inputs : Holds → ℕ
+most_inputs Nothing = 1
+most_inputs Schedule = 0
+most_inputs Commands = 0

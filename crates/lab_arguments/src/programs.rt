@@ -1,0 +1,86 @@
+//! The words that name programs.
+ghost use Rattle.std.specs.Prelude.{◌≡◌, ◌≤◌, ◌<◌, None, IfSome, List, ℕ, true, map, false, codes};
+ghost use Rattle.std.specs.List.{count_by};
+ghost use Rattle.std.specs.Borrow.{Bor};
+ghost use Rattle.lab_arguments.specs.Private.Options.{most_inputs};
+ghost use Rattle.lab_arguments.specs.Programs.{file_of, input_of, takes_input};
+ghost use Rattle.lab_arguments.specs.declared.programs.Console.TheVariants.{File, Standard};
+
+/// Where the console input of a process comes from.
+#[derive(Clone, Copy)]
+pub enum Console<'a> {
+    /// There is none.
+    Nowhere,
+    /// A file.
+    File(&'a str),
+    /// Standard input.
+    Standard,
+}
+
+/// The program file that a word names, and where the console input of its process comes from. The word is `FILE`, or
+/// `FILE=INPUT`, split at its first `=`, where an INPUT `-` stands for standard input.
+pub fn program_of(word: &str) -> (&str, Console<'_>)
+    ensures file { result.0.now ≡ file_of word.now }
+    ensures standard { takes_input word.now ≡ true → result.1 ≡ Standard }
+    ensures input { takes_input word.now ≡ false → (input : Bor (List ℕ))
+        → result.1 ≡ File input → input.now ≡ input_of word.now }
+{
+    match word.split_once('=') {
+        Some((file, "-")) => (file, Console::Standard),
+        Some((file, input)) => (file, Console::File(input)),
+        None => (word, Console::Nowhere),
+    }
+}
+
+/// Whether standard input is the console input of the process that a word names.
+pub fn takes_input(word: &str) -> bool
+    ensures value { result ≡ takes_input word.now }
+{
+    match word.split_once('=') {
+        Some((_, input)) => input == "-",
+        None => false,
+    }
+}
+
+/// What a command finds in standard input.
+#[derive(Clone, Copy)]
+pub(crate) enum Holds {
+    /// Nothing of its own.
+    Nothing,
+    /// A schedule.
+    Schedule,
+    /// Commands of the debugger.
+    Commands,
+}
+
+impl Holds {
+    /// Of how many processes standard input can be the console input.
+    pub(crate) fn most(self) -> usize
+        ensures most { result ≡ most_inputs self }
+    {
+        match self {
+            Holds::Nothing => 1,
+            Holds::Schedule | Holds::Commands => 0,
+        }
+    }
+}
+
+/// The first word by which standard input is the console input of more than so many processes, if there is one.
+pub(crate) fn surplus<'a>(words: &[&'a str], most: usize) -> Option<&'a str>
+    ensures none { result ≡ None
+        → count_by takes_input (map (λ w. w.now) words.now) ≤ most }
+    ensures some { IfSome result (λ word. takes_input word.now ≡ true) }
+    ensures more { IfSome result (λ _.
+        most < count_by takes_input (map (λ w. w.now) words.now)) }
+{
+    let mut count = 0;
+    for word in words {
+        if takes_input(word) {
+            if count == most {
+                return Some(word);
+            }
+            count += 1;
+        }
+    }
+    None
+}
