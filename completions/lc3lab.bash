@@ -44,7 +44,7 @@ _lc3lab() {
     dis) options='--help -h' ;;
     step | debug) options='--profile --help -h' ;;
     trace) options='--profile --page --source --help -h' ;;
-    run) options='--profile --limit --mix --page --help -h' ;;
+    run) options='--profile --limit --mix --plain --page --help -h' ;;
     explore) options='--profile --limit --worlds --memory --threads --random --seed --require --may-wait --never --fair --show --first --schedule --json --page --help -h' ;;
     help) options=$commands ;;
     esac

@@ -25,6 +25,7 @@ complete -c lc3lab -n '__fish_seen_subcommand_from trace' -x -l source -d 'On th
 complete -c lc3lab -n '__fish_seen_subcommand_from run' -x -l profile -a 'a b' -d 'The machine: of the book, or with traps that leave R7'
 complete -c lc3lab -n '__fish_seen_subcommand_from run' -x -l limit -d 'The most steps of each process'
 complete -c lc3lab -n '__fish_seen_subcommand_from run' -x -l mix -d 'Pauses before calls, by random numbers from this seed'
+complete -c lc3lab -n '__fish_seen_subcommand_from run' -l plain -d 'Also prints what each process has written as it is'
 complete -c lc3lab -n '__fish_seen_subcommand_from run' -r -l page -d 'Also writes this file, a page that shows the run in a browser'
 complete -c lc3lab -n '__fish_seen_subcommand_from explore' -x -l profile -a 'a b' -d 'The machine: of the book, or with traps that leave R7'
 complete -c lc3lab -n '__fish_seen_subcommand_from explore' -x -l worlds -d 'The most worlds to visit, or those of a walk'

@@ -96,6 +96,7 @@ fn manner_of<'a>(words: &ArgMatches<'a>) -> Manner<'a>
     Manner {
         limit: limit_of(words, "limit", MOST_STEPS_EACH),
         mix: number_of(words, "mix"),
+        plain: words.get_flag("plain"),
         page: words.get_str("page"),
     }
 }

@@ -62,6 +62,8 @@ pub struct Manner<'a> {
     pub limit: u32,
     /// The seed of the pauses before calls, where there are pauses.
     pub mix: Option<u32>,
+    /// Whether what the processes have written is printed as it is, too.
+    pub plain: bool,
     /// The file of the page to write, where one is asked for.
     pub page: Option<&'a str>,
 }

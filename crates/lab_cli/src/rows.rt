@@ -198,6 +198,11 @@ const RUN: &[Row] = &[
         help: "Pauses before calls, by random numbers from SEED, which does not fix the interleaving",
     },
     Row {
+        name: "plain",
+        takes: Takes::Nothing,
+        help: "Also prints what each process has written as it is, behind the report",
+    },
+    Row {
         name: "page",
         takes: Takes::Text("FILE"),
         help: PAGE,

@@ -89,13 +89,13 @@ pub fn write_whole<T: Files>(
     bytes: &[u8],
 ) -> Result<(), CliFault> {
     if fs::metadata(rt, name).is_ok_and(|found| !found.is_file()) {
-        return write_bytes(
+        return write_file(
             fs::create(rt, name).map_err(|error| not_made(&error))?,
             bytes,
         );
     }
     let (file, beside) = create_beside(rt, alloc, name)?;
-    let written = write_bytes(file, bytes).and_then(|()| fs::rename(
+    let written = write_file(file, bytes).and_then(|()| fs::rename(
         rt,
         beside.as_str(),
         name,
@@ -133,7 +133,7 @@ fn not_made(error: &io::Error) -> CliFault {
     }
 }
 
-fn write_bytes<W: Write + Drop>(file: W, bytes: &[u8]) -> Result<(), CliFault> {
+fn write_file<W: Write + Drop>(file: W, bytes: &[u8]) -> Result<(), CliFault> {
     Output::new(file)
         .write_all(bytes)
         .map_err(|_| CliFault::Write)
@@ -141,7 +141,15 @@ fn write_bytes<W: Write + Drop>(file: W, bytes: &[u8]) -> Result<(), CliFault> {
 
 /// Writes a text to the output of the program.
 pub fn write_text<W: Write>(text: &str, output: &mut Output<W>) -> Result<(), Complaint<'static>> {
+    write_bytes(text.as_bytes(), output)
+}
+
+/// Writes bytes to the output of the program.
+pub fn write_bytes<W: Write>(
+    bytes: &[u8],
+    output: &mut Output<W>,
+) -> Result<(), Complaint<'static>> {
     output
-        .write_all(text.as_bytes())
+        .write_all(bytes)
         .map_err(|_| Reason::CannotWrite.at("run"))
 }

@@ -10,6 +10,7 @@ mod explore;
 mod files;
 mod inquiry;
 mod job;
+mod plain;
 mod programs;
 mod progress;
 mod run;

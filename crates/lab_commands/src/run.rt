@@ -3,8 +3,9 @@ ghost use Rattle.std.specs.Prelude.{◌≡◌, ◌≤◌, false};
 ghost use Rattle.lab_threads.specs.Limits.{most_steps_each};
 
 use crate::complaint::{At, Complaint};
-use crate::files::write_text;
+use crate::files::{write_bytes, write_text};
 use crate::job::Job;
+use crate::plain::plain_output;
 use crate::programs::read_laboratory;
 use crate::progress::{CallCount, Progress};
 use lab_arguments::{MOST_STEPS_EACH, Manner, Setup};
@@ -32,7 +33,12 @@ pub fn run_programs<'a, T: Files + Threads + Wait + Clock + Sync, R: Read, W: Wr
     requires output_healthy { output.old.failed ≡ false }
 {
     let fresh = read_laboratory(job, setup, input)?;
-    tell_run(job.alloc, &run_fresh(job, fresh, manner)?, output)
+    tell_run(
+        job.alloc,
+        &run_fresh(job, fresh, manner)?,
+        manner.plain,
+        output,
+    )
 }
 
 /// Runs the programs of a laboratory on threads, each for [`MOST_STEPS_EACH`] steps at most. With a seed, workers pause before
@@ -50,15 +56,21 @@ pub fn run_fresh<T: Threads + Wait + Clock + Sync, P: Progress>(
     outcome.at(job.alloc, "run")
 }
 
-/// Writes the report on a run, and a line with its schedule.
+/// Writes the report on a run, and a line with its schedule; and, where that is `plain`, behind these what the processes have
+/// written, as it is.
 pub fn tell_run<W: Write>(
     alloc: Global,
     report: &Report,
+    plain: bool,
     output: &mut Output<W>,
 ) -> Result<(), Complaint<'static>>
     requires output_healthy { output.old.failed ≡ false }
 {
-    write_text(&text_of(alloc, report)?, output)
+    write_text(&text_of(alloc, report)?, output)?;
+    if plain {
+        write_bytes(&plain_output(alloc, &report.world)?, output)?;
+    }
+    Ok(())
 }
 
 /// The report on a run through this gate, which shows meanwhile how many calls were made.
