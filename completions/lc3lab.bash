@@ -29,7 +29,7 @@ _lc3lab() {
         COMPREPLY=($(compgen -W 'out left' -- "$word"))
         return
         ;;
-    --schedule)
+    --schedule | --trace)
         COMPREPLY=($(compgen -W 'bad' -- "$word"))
         return
         ;;
@@ -45,7 +45,7 @@ _lc3lab() {
     step | debug) options='--profile --help -h' ;;
     trace) options='--profile --page --source --help -h' ;;
     run) options='--profile --limit --mix --plain --page --help -h' ;;
-    explore) options='--profile --limit --worlds --memory --threads --random --seed --require --may-wait --never --fair --show --first --schedule --json --page --help -h' ;;
+    explore) options='--profile --limit --worlds --memory --threads --random --seed --require --may-wait --never --fair --show --first --schedule --trace --json --page --help -h' ;;
     help) options=$commands ;;
     esac
     case $command:$word in

@@ -41,6 +41,7 @@ complete -c lc3lab -n '__fish_seen_subcommand_from explore' -l fair -d 'Tells on
 complete -c lc3lab -n '__fish_seen_subcommand_from explore' -x -l show -a 'out left out,left' -d 'What is told of each end'
 complete -c lc3lab -n '__fish_seen_subcommand_from explore' -l first -d 'Ends the search where something is found that is not as it has to be'
 complete -c lc3lab -n '__fish_seen_subcommand_from explore' -x -l schedule -a bad -d 'Prints the schedule of this end alone, or of what is not as it has to be'
+complete -c lc3lab -n '__fish_seen_subcommand_from explore' -x -l trace -a bad -d 'Also prints what happens in the run to this end, or to what is not as it has to be'
 complete -c lc3lab -n '__fish_seen_subcommand_from explore' -l json -d 'Prints the answers as JSON'
 complete -c lc3lab -n '__fish_seen_subcommand_from explore' -r -l page -d 'Also writes this file, a page that shows the ends and their runs in a browser'
 complete -c lc3lab -n '__fish_seen_subcommand_from debug' -x -l profile -a 'a b' -d 'The machine: of the book, or with traps that leave R7'

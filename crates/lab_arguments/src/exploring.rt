@@ -53,17 +53,21 @@ fn shown_of<'a>(alloc: Global, words: &ArgMatches<'a>) -> Result<(bool, bool), R
     }
 }
 
-/// Which schedule is printed alone, as the words say.
-fn choice_of<'a>(alloc: Global, words: &ArgMatches<'a>) -> Result<Option<Choice>, Refusal>
+/// Which schedule the words name at an option of this name, if they name one.
+fn choice_of<'a>(
+    alloc: Global,
+    words: &ArgMatches<'a>,
+    name: &'static str,
+) -> Result<Option<Choice>, Refusal>
     ensures end { IfOk result (λ choice. (text : List ℕ) (n : ℕ)
-        → one_text (found_of words.now) (codes "schedule") ≡ Some text
+        → one_text (found_of words.now) name.now ≡ Some text
         → IsNumber text n → choice ≡ Some (End n)) }
 {
-    match (number_of(words, "schedule"), words.get_str("schedule")) {
+    match (number_of(words, name), words.get_str(name)) {
         (Some(number @ 1..=MOST_WORLDS), _) => Ok(Some(Choice::End(number))),
         (None, None) => Ok(None),
         (None, Some("bad")) => Ok(Some(Choice::Bad)),
-        (_, text) => Err(Misuse::NoSchedule(text.unwrap_or_default()).refusal(alloc)),
+        (_, text) => Err(Misuse::NoChoice(text.unwrap_or_default(), name).refusal(alloc)),
     }
 }
 
@@ -96,6 +100,9 @@ fn question_of<'a>(alloc: Global, words: &ArgMatches<'a>) -> Result<Question<'a>
     ensures schedule { IfOk result (λ q. (text : List ℕ) (n : ℕ)
         → one_text (found_of words.now) (codes "schedule") ≡ Some text
         → IsNumber text n → q.schedule ≡ Some (End n)) }
+    ensures trace { IfOk result (λ q. (text : List ℕ) (n : ℕ)
+        → one_text (found_of words.now) (codes "trace") ≡ Some text
+        → IsNumber text n → q.trace ≡ Some (End n)) }
     ensures any { IfOk result (λ q.
         first_value (found_of words.now) (codes "require") ≡ None → q.required ≡ nothing) }
     ensures required { IfOk result (λ q. (text : List ℕ)
@@ -111,7 +118,8 @@ fn question_of<'a>(alloc: Global, words: &ArgMatches<'a>) -> Result<Question<'a>
     let required = required_of(alloc, words)?;
     let (out, left) = shown_of(alloc, words)?;
     let random = number_of(words, "random");
-    let schedule = choice_of(alloc, words)?;
+    let schedule = choice_of(alloc, words, "schedule")?;
+    let trace = choice_of(alloc, words, "trace")?;
     Ok(Question {
         worlds: worlds_of(words, random),
         memory: limit_of(words, "memory", MOST_MEMORY),
@@ -127,6 +135,7 @@ fn question_of<'a>(alloc: Global, words: &ArgMatches<'a>) -> Result<Question<'a>
         random,
         seed: seed_of(words),
         schedule,
+        trace,
         json: words.get_flag("json"),
         page: words.get_str("page"),
     })
@@ -164,6 +173,9 @@ fn misuse_of(question: &Question<'_>) -> Option<Misuse<'static>> {
     if matches!(question.schedule, Some(Choice::Bad)) && !question.judges() {
         return Some(Misuse::NothingJudged);
     }
+    if matches!(question.trace, Some(Choice::Bad)) && !question.judges() {
+        return Some(Misuse::NothingTraced);
+    }
     if question.first && !question.judges() {
         return Some(Misuse::NothingEnds);
     }
@@ -175,6 +187,9 @@ fn misuse_of(question: &Question<'_>) -> Option<Misuse<'static>> {
     }
     if question.json && question.schedule.is_some() {
         return Some(Misuse::JsonAndSchedule);
+    }
+    if question.json && question.trace.is_some() {
+        return Some(Misuse::JsonAndTrace);
     }
     None
 }

@@ -12,12 +12,14 @@ pub(crate) enum Misuse<'a> {
     NoRequirement(&'a str),
     /// The value of `--show` isn't made of its words.
     NoShow(&'a str),
-    /// The value of `--schedule` is neither the number of an end nor `bad`.
-    NoSchedule(&'a str),
+    /// The value of the option of this name is neither the number of an end nor `bad`.
+    NoChoice(&'a str, &'static str),
     /// Processes may wait, but no end is judged by that.
     NobodyWaits,
     /// What isn't as it has to be is asked for, but nothing has to be so.
     NothingJudged,
+    /// The run to what isn't as it has to be is traced, but nothing has to be so.
+    NothingTraced,
     /// The first thing that isn't as it has to be ends the search, but nothing has to be so.
     NothingEnds,
     /// A seed of random numbers by which nothing is taken.
@@ -30,6 +32,8 @@ pub(crate) enum Misuse<'a> {
     PageAndRandom,
     /// All answers, as JSON, and a schedule alone.
     JsonAndSchedule,
+    /// All answers, as JSON, and the trace of a run behind them.
+    JsonAndTrace,
     /// A console input from standard input, which holds something else.
     Input(&'a str, Holds),
 }
@@ -73,9 +77,11 @@ impl fmt::Display for Misuse<'_> {
         let text = match *self {
             Misuse::NoRequirement(text) => return write_invalid(f, text, "--require <WORDS>"),
             Misuse::NoShow(text) => return write_invalid(f, text, "--show <WORDS>"),
-            Misuse::NoSchedule(text) => return write_invalid(f, text, "--schedule <K|bad>"),
+            Misuse::NoChoice(text, "trace") => return write_invalid(f, text, "--trace <K|bad>"),
+            Misuse::NoChoice(text, _) => return write_invalid(f, text, "--schedule <K|bad>"),
             Misuse::NobodyWaits => "--may-wait needs --require ended or --require halted",
             Misuse::NothingJudged => "--schedule bad needs --require or --never",
+            Misuse::NothingTraced => "--trace bad needs --require or --never",
             Misuse::NothingEnds => "--first needs --require or --never",
             Misuse::NothingSeeded => "--seed needs --random",
             Misuse::NeverAndRandom => "--never and --random exclude each other",
@@ -83,6 +89,7 @@ impl fmt::Display for Misuse<'_> {
             Misuse::PageAndRandom => "--page and --random exclude each other",
             Misuse::Input(word, holds) => return write_input(f, word, holds),
             Misuse::JsonAndSchedule => "--json and --schedule exclude each other",
+            Misuse::JsonAndTrace => "--json and --trace exclude each other",
         };
         f.write_str(text)
     }

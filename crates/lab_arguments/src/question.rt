@@ -31,6 +31,8 @@ pub struct Question<'a> {
     pub seed: u32,
     /// Which schedule is printed alone.
     pub schedule: Option<Choice>,
+    /// The run of which schedule is traced, too.
+    pub trace: Option<Choice>,
     /// Whether the answers are printed as JSON.
     pub json: bool,
     /// The file of the page to write, where one is asked for.
@@ -54,6 +56,7 @@ impl Drop for Question<'_> {
             random: _,
             seed: _,
             schedule: _,
+            trace: _,
             json: _,
             page: _,
         } = self;

@@ -290,6 +290,11 @@ const EXPLORE: &[Row] = &[
         help: "Prints the schedule of end K alone, or of the first thing that is not as it has to be",
     },
     Row {
+        name: "trace",
+        takes: Takes::Text("K|bad"),
+        help: "Also prints what happens in the run to end K, or to the first thing that is not as it has to be",
+    },
+    Row {
         name: "json",
         takes: Takes::Nothing,
         help: "Prints the answers as JSON",

@@ -1,21 +1,17 @@
 //! The command `explore`.
-ghost use Rattle.std.specs.Prelude.{◌≡◌, false, IfSome};
+ghost use Rattle.std.specs.Prelude.{◌≡◌, IfSome};
 
 use crate::complaint::{At, Complaint};
-use crate::inquiry::{Inquiry, asked_of, inquiry_of, refuse_question};
+use crate::inquiry::{Inquiry, asked_of, inquiry_of};
 use crate::job::Job;
-use crate::programs::{laboratory, read_with_input};
+use crate::programs::laboratory;
 use crate::progress::{Progress, SearchCount, WALKS, WORLDS};
 use crate::stages::{has_more, stages_of};
-use crate::telling::tell_ends;
-use lab_arguments::{Question, Setup};
-use lab_io::{Input, Output};
+use lab_arguments::Question;
 use lab_questions::{Answers, Asked, ask, ask_walks};
 use lab_sched::{Fresh, Program};
 use lab_worlds::{ExploreFault, Limits, Walks, Workers};
 use lc3_table::Profile;
-use std::io::{Read, Write};
-use std::rt::Files;
 use std::thread::{Threads, available_parallelism};
 
 /// How far an exploration was to go, and what it found.
@@ -23,37 +19,6 @@ use std::thread::{Threads, available_parallelism};
 pub struct Search {
     pub inquiry: Inquiry,
     pub answers: Answers,
-}
-
-/// Reads the files of the programs, and standard input where a process takes it, visits every interleaving of them as far as
-/// the limits allow, and writes the ends that they can have, with what else is asked, or one schedule alone. Where memory was
-/// refused on the way, what was found till then is written.
-pub fn explore_programs<'a, T: Files + Threads + Sync, R: Read, W: Write, P: Progress>(
-    job: &Job<'_, T, P>,
-    setup: &Setup<'a>,
-    question: &Question<'a>,
-    input: &mut Input<R>,
-    output: &mut Output<W>,
-) -> Result<(), Complaint<'a>>
-    requires input_healthy { input.old.failed ≡ false }
-    requires output_healthy { output.old.failed ≡ false }
-{
-    let search = search_in(job, setup, question, input)?;
-    tell_ends(job, &search, output)
-}
-
-/// Reads the programs, and visits every interleaving of them as far as the limits allow.
-fn search_in<'a, T: Files + Threads + Sync, R: Read, P: Progress>(
-    job: &Job<'_, T, P>,
-    setup: &Setup<'a>,
-    question: &Question<'a>,
-    input: &mut Input<R>,
-) -> Result<Search, Complaint<'a>>
-    requires input_healthy { input.old.failed ≡ false }
-{
-    refuse_question(job.alloc, question, setup.programs.len())?;
-    let given = read_with_input(job, setup.programs.as_slice(), input)?;
-    find_ends(job, given.programs.as_slice(), setup.profile, question)
 }
 
 /// Visits every interleaving of programs, as far as the limits allow, or takes walks, if these are asked for, and judges what

@@ -17,6 +17,8 @@ pub struct Inquiry {
     pub threads: Option<u32>,
     /// Which schedule is printed alone.
     pub choice: Option<Choice>,
+    /// The run of which schedule is traced, too.
+    pub trace: Option<Choice>,
     /// Whether the answers are printed as JSON.
     pub json: bool,
 }
@@ -38,6 +40,7 @@ pub fn inquiry_of(question: &Question<'_>) -> Inquiry {
         },
         threads: question.threads,
         choice: question.schedule,
+        trace: question.trace,
         json: question.json,
     }
 }

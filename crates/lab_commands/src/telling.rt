@@ -24,29 +24,50 @@ pub fn tell_ends<T, W: Write, P: Progress>(
 {
     let found = &search.answers;
     match search.inquiry.choice {
-        Some(Choice::End(number)) => write_schedule(job.alloc, found, number as usize, output)?,
-        Some(Choice::Bad) => write_bad(job.alloc, found, output)?,
+        Some(choice) => write_schedule(job.alloc, found, choice, output)?,
         None => write_answers(job.alloc, found, &search.inquiry, output)?,
     }
     tell_unopened(job, &found.unopened)?;
     complain(job.alloc, found)
 }
 
-/// Writes the schedule of the end that is told with a number, from 1, which must be there, unless memory was refused.
-fn write_schedule<W: Write>(
+/// The text of a schedule that is chosen, if there is one: what isn't as it has to be has none where all is so, and an end, which
+/// must be there, has none where memory was refused.
+pub fn chosen_schedule(
+    alloc: Global,
+    found: &Answers,
+    choice: Choice,
+) -> Result<Option<String>, Complaint<'static>> {
+    match choice {
+        Choice::Bad => Ok(found.bad_schedule(alloc)?),
+        Choice::End(number) => end_schedule(alloc, found, number as usize),
+    }
+}
+
+/// The text of the schedule of the end that is told with a number, from 1.
+fn end_schedule(
     alloc: Global,
     found: &Answers,
     number: usize,
+) -> Result<Option<String>, Complaint<'static>> {
+    match number.checked_sub(1).and_then(|before| found.end(before)) {
+        None if found.exploration.refused => Ok(None),
+        None => Err(Reason::NoEnd.at("explore")),
+        Some(end) => Ok(Some(end.schedule.text(alloc)?)),
+    }
+}
+
+fn write_schedule<W: Write>(
+    alloc: Global,
+    found: &Answers,
+    choice: Choice,
     output: &mut Output<W>,
 ) -> Result<(), Complaint<'static>> {
-    match number.checked_sub(1).and_then(|before| found.end(before)) {
-        None if found.exploration.refused => Ok(()),
-        None => Err(Reason::NoEnd.at("explore")),
-        Some(end) => {
-            write_text(&end.schedule.text(alloc)?, output)?;
-            write_text("\n", output)
-        }
-    }
+    let Some(schedule) = chosen_schedule(alloc, found, choice)? else {
+        return Ok(());
+    };
+    write_text(&schedule, output)?;
+    write_text("\n", output)
 }
 
 /// Says which objects that conditions name nobody opens.
@@ -59,19 +80,6 @@ fn tell_unopened<T, P: Progress>(
         job.progress.tell(&line);
     }
     Ok(())
-}
-
-/// Writes the schedule of the first thing that isn't as it has to be, if there is one.
-fn write_bad<W: Write>(
-    alloc: Global,
-    found: &Answers,
-    output: &mut Output<W>,
-) -> Result<(), Complaint<'static>> {
-    let Some(schedule) = found.bad_schedule(alloc)? else {
-        return Ok(());
-    };
-    write_text(&schedule, output)?;
-    write_text("\n", output)
 }
 
 /// Writes all answers, as lines or as JSON.
