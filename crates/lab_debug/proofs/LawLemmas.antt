@@ -7,7 +7,7 @@ use Rattle.lab_sched.specs.Worlds.{WorldState, step_effect_in, step, run}
 use Rattle.lab_sched.specs.Verdicts.{is_nothing}
 use Rattle.lab_sched.specs.Schedules.{steps_of}
 use Rattle.lab_debug.specs.declared.command.Command.{Command}
-use Rattle.lab_debug.specs.declared.command.Command.TheVariants.{Step, Run, Play, Until, Back, Regs, Mem, Dis, Procs, Mqs, Sems, Fds, Out, Where, Code, Labels, Go, Break, Clear, Breaks, Watch, Unwatch, Watches, Steps, Taken, Profile, Help, Quit}
+use Rattle.lab_debug.specs.declared.command.Command.TheVariants.{Step, Run, Play, Until, Back, Regs, Mem, Dis, Procs, Mqs, Sems, Fds, Out, Raw, Where, Code, Labels, Go, Break, Clear, Breaks, Watch, Unwatch, Watches, Steps, Taken, Profile, Help, Quit}
 use Rattle.lab_debug.specs.declared.command.Refusal.{Refusal}
 use Rattle.lab_debug.specs.declared.command.Refusal.TheVariants.{NoProcess, NoBreak, NoWatch}
 use Rattle.lab_debug.specs.declared.fault.SessionFault.TheVariants.{TooManyLines, LineTooLong}
@@ -89,6 +89,7 @@ accepted s Mqs h = h
 accepted s Sems h = h
 accepted s (Fds pid) h = h
 accepted s (Out pid) h = h
+accepted s (Raw pid) h = h
 accepted s (Where pid) h = h
 accepted s (Code range) h = h
 accepted s (Labels pid) h = h

@@ -10,7 +10,7 @@ use Rattle.lab_sched.specs.declared.schedule.fault.SchedFault.{SchedFault}
 use Rattle.lab_sched.specs.Schedules.{most_steps}
 use Rattle.lab_sched.specs.ScheduleTexts.{reading_of_words}
 use Rattle.lab_debug.specs.declared.command.Command.{Command}
-use Rattle.lab_debug.specs.declared.command.Command.TheVariants.{Step, Run, Play, Until, Back, Regs, Mem, Dis, Procs, Mqs, Sems, Fds, Out, Where, Code, Labels, Go, Break, Clear, Breaks, Watch, Unwatch, Watches, Steps, Taken, Profile, Help, Quit}
+use Rattle.lab_debug.specs.declared.command.Command.TheVariants.{Step, Run, Play, Until, Back, Regs, Mem, Dis, Procs, Mqs, Sems, Fds, Out, Raw, Where, Code, Labels, Go, Break, Clear, Breaks, Watch, Unwatch, Watches, Steps, Taken, Profile, Help, Quit}
 use Rattle.lab_debug.specs.declared.command.Range.{Range}
 use Rattle.lab_session.specs.declared.marks.Place.{Place}
 use Rattle.lab_debug.specs.declared.command.Refusal.{Refusal}
@@ -78,9 +78,18 @@ back_of [] = Some (Back 1)
 back_of (w ∷ ws) =
     option_and_then (λ word. option_map Back (number_within 1 most_steps word)) (one_of (w ∷ ws))
 
+-- whether a word is this one, in lower case
+unfoldable pub is_named : List ℕ → List ℕ → Bool
+is_named name word = bytes_eq name word
+
 -- P: a process
 abbrev pub of_process : (ℕ → Command) → List (List ℕ) → Option Command
 of_process make ws = option_and_then (λ w. option_map make (process_of w)) (one_of ws)
+
+-- P, or --raw P: a process, whose output is shown so that it can be printed, or as it is
+abbrev pub out_of : List (List ℕ) → Option Command
+out_of (flag ∷ p ∷ []) = if is_named (codes "--raw") flag then option_map Raw (process_of p) else None
+out_of ws = of_process Out ws
 
 -- P ADDR N: a range of memory of a process
 abbrev pub range_of : List (List ℕ) → Option Range
@@ -128,10 +137,6 @@ abbrev pub or_bad : Option Command → Result Command Refusal
 or_bad (Some command) = Ok command
 or_bad None = Err BadOperands
 
--- whether a word is this one, in lower case
-unfoldable pub is_named : List ℕ → List ℕ → Bool
-is_named name word = bytes_eq name word
-
 -- a command on watches, by its name and its operands
 unfoldable pub watching_command : List ℕ → List (List ℕ) → Result Command Refusal
 watching_command name ws =
@@ -169,7 +174,7 @@ showing_command name ws =
     if is_named (codes "mqs") name then or_bad (bare_of Mqs ws) else
     if is_named (codes "sems") name then or_bad (bare_of Sems ws) else
     if is_named (codes "fds") name then or_bad (of_process Fds ws) else
-    if is_named (codes "out") name then or_bad (of_process Out ws) else
+    if is_named (codes "out") name then or_bad (out_of ws) else
     if is_named (codes "profile") name then or_bad (bare_of Profile ws) else
     if is_named (codes "help") name then or_bad (bare_of Help ws) else
     placing_command name ws

@@ -4,10 +4,11 @@ use Rattle.std.specs.List.{list_all}
 use Rattle.lab_sched.specs.Worlds.{WorldState, run}
 use Rattle.lab_sched.specs.Schedules.{steps_of}
 use Rattle.lab_debug.specs.declared.command.Command.{Command}
-use Rattle.lab_debug.specs.declared.command.Command.TheVariants.{Step, Run, Play, Until, Back, Regs, Mem, Dis, Procs, Mqs, Sems, Fds, Out, Where, Code, Labels, Go, Break, Clear, Breaks, Watch, Unwatch, Watches, Steps, Taken, Profile, Help, Quit}
+use Rattle.lab_debug.specs.declared.command.Command.TheVariants.{Step, Run, Play, Until, Back, Regs, Mem, Dis, Procs, Mqs, Sems, Fds, Out, Raw, Where, Code, Labels, Go, Break, Clear, Breaks, Watch, Unwatch, Watches, Steps, Taken, Profile, Help, Quit}
 use Rattle.lab_debug.specs.declared.command.Refusal.{Refusal}
 use Rattle.lab_debug.specs.declared.command.Refusal.TheVariants.{UnknownCommand, BadOperands, NoProcess, NoLabel, NoBreak, NoWatch}
 use Rattle.lab_debug.specs.Commands.{words_of, command_of}
+use Rattle.lab_debug.specs.Outputs.{raw_output}
 use Rattle.lab_session.specs.Listings.{listing_of, has_labels}
 use Rattle.lab_debug.specs.Labels.{LabelSeen, label_address, addressed, command_at, second_label, with_zero}
 use Rattle.lab_session.specs.Places.{where_text, code_text, labels_text}
@@ -120,6 +121,7 @@ accepted_effect s Mqs = text_effect mqs_text s
 accepted_effect s Sems = text_effect sems_text s
 accepted_effect s (Fds pid) = text_effect (fds_text pid) s
 accepted_effect s (Out pid) = text_effect (out_text pid) s
+accepted_effect s (Raw pid) = text_effect (raw_output pid) s
 accepted_effect s (Where pid) = text_effect (where_text pid (listing_of s.listings pid)) s
 accepted_effect s (Code range) = text_effect (code_text range.pid range.address range.count (listing_of s.listings range.pid)) s
 accepted_effect s (Labels pid) = text_effect (λ v. labels_text (listing_of s.listings pid)) s
@@ -155,6 +157,7 @@ are_there w Mqs = true
 are_there w Sems = true
 are_there w (Fds pid) = is_there w pid
 are_there w (Out pid) = is_there w pid
+are_there w (Raw pid) = is_there w pid
 are_there w (Where pid) = is_there w pid
 are_there w (Code range) = is_there w range.pid
 are_there w (Labels pid) = is_there w pid

@@ -1,5 +1,6 @@
 pub mod Lines
 pub mod Script
+pub mod Outputs
 pub mod Commands
 pub mod Labels
 pub mod Effects

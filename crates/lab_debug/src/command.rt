@@ -2,7 +2,7 @@
 ghost use Rattle.std.specs.Prelude.{◌≡◌, ◌≤◌, ◌+◌, IfOk, IfSome, map, codes};
 ghost use Rattle.lab_sched.specs.ScheduleTexts.{reading_of_words};
 ghost use Rattle.lab_debug.specs.Private.Ranges.{IsCommand};
-ghost use Rattle.lab_debug.specs.Commands.{step_of, until_of, back_of, bare_of, of_process, range_of, of_range, of_blocks, read_schedule, is_named, showing_command, plain_command, command_of};
+ghost use Rattle.lab_debug.specs.Commands.{step_of, until_of, back_of, bare_of, of_process, out_of, range_of, of_range, of_blocks, read_schedule, is_named, showing_command, plain_command, command_of};
 
 use crate::operands::{address_in, count_in, number_in, one, process_in, three, two};
 use crate::placing::read_placing;
@@ -79,8 +79,12 @@ pub enum Command {
     Fds {
         pid: usize,
     },
-    /// The output of a process.
+    /// The output of a process, so that it can be printed.
     Out {
+        pid: usize,
+    },
+    /// The output of a process as it is.
+    Raw {
         pid: usize,
     },
     /// Where a process stands in its source.
@@ -101,7 +105,7 @@ pub enum Command {
     Quit,
 }
 
-ghost use Rattle.lab_debug.specs.declared.command.Command.TheVariants.{Regs, Mem, Dis, Fds, Out, Run, Play};
+ghost use Rattle.lab_debug.specs.declared.command.Command.TheVariants.{Regs, Mem, Dis, Fds, Run, Play};
 
 /// Why a line is refused, in this order.
 #[derive(Clone, Copy)]
@@ -177,13 +181,25 @@ fn read_fds(operands: &[&[u8]]) -> Option<Command>
     Some(Command::Fds { pid })
 }
 
-/// `P`, of its output
+/// `P`, of its output, or `--raw P`, of the same as it is
 fn read_out(operands: &[&[u8]]) -> Option<Command>
-    ensures value { result ≡ of_process Out (map (λ word. word.now) operands.now) }
+    ensures value { result ≡ out_of (map (λ word. word.now) operands.now) }
     ensures ranges { IfSome result (λ command. IsCommand command) }
 {
-    let pid = process_in(one(operands)?)?;
-    Some(Command::Out { pid })
+    match operands {
+        [flag, pid] => {
+            if is_name("--raw", *flag) {
+                let pid = process_in(*pid)?;
+                Some(Command::Raw { pid })
+            } else {
+                None
+            }
+        }
+        _ => {
+            let pid = process_in(one(operands)?)?;
+            Some(Command::Out { pid })
+        }
+    }
 }
 
 /// `P ADDR N`, a range of its memory

@@ -1,5 +1,5 @@
 //! What a line of a script does.
-ghost use Rattle.std.specs.Prelude.{◌≡◌, ◌≤◌, ◌<◌, true, IfOk, OnOk, string_bytes, length, replicate, map, option_map, ◌∷◌};
+ghost use Rattle.std.specs.Prelude.{◌≡◌, ◌≤◌, ◌<◌, true, IfOk, OnOk, length, replicate, map, option_map, ◌∷◌};
 ghost use Rattle.ipc_kernel.specs.Limits.{process_max};
 ghost use Rattle.std.specs.List.{list_all};
 ghost use Rattle.lab_sched.specs.Schedules.{steps_of};
@@ -18,7 +18,7 @@ use crate::command::{Command, Refusal, read_command};
 use crate::label::{Label, address_of, second_label, with_zero};
 use crate::marking::{clear, go, play, set_break, unwatch, watch};
 use crate::operands::split_words;
-use crate::reply::{Reply, refuse};
+use crate::reply::{Reply, refuse, said};
 use crate::showing::{shown, steps_text};
 use lab_sched::{Block, Schedule, World};
 use lab_session::Session;
@@ -54,7 +54,7 @@ fn step(alloc: Global, session: &mut Session, pid: usize, count: u32) -> Result<
 {
     step_times(alloc, session, pid, count)?;
     let text = status_text(alloc, session.world(), pid)?;
-    Ok(Reply { text, ends: false })
+    Ok(said(text))
 }
 
 /// Takes the steps of a schedule, and shows the verdict.
@@ -64,7 +64,7 @@ fn run(alloc: Global, session: &mut Session, schedule: &Schedule) -> Result<Repl
 {
     session.run(schedule)?;
     let text = verdict_text(alloc, session.world())?;
-    Ok(Reply { text, ends: false })
+    Ok(said(text))
 }
 
 /// Takes at most so many steps of a process, up to an address, and shows where it stands.
@@ -81,7 +81,7 @@ fn step_until(
 {
     session.step_until(pid, address, count)?;
     let text = status_text(alloc, session.world(), pid)?;
-    Ok(Reply { text, ends: false })
+    Ok(said(text))
 }
 
 /// Goes back before the last so many steps that had an effect, and shows how many are left.
@@ -91,7 +91,7 @@ fn go_back(alloc: Global, session: &mut Session, count: u32) -> Result<Reply, Al
 {
     let left = session.back(alloc, count)?;
     let text = steps_text(alloc, left)?;
-    Ok(Reply { text, ends: false })
+    Ok(said(text))
 }
 
 /// Whether process `pid` is there.
@@ -119,6 +119,7 @@ fn are_there(world: &World, command: &Command) -> bool
         | Command::Regs { pid }
         | Command::Fds { pid }
         | Command::Out { pid }
+        | Command::Raw { pid }
         | Command::Where { pid }
         | Command::Labels { pid } => is_there(world, *pid),
         Command::Mem(range) | Command::Dis(range) | Command::Code(range) => is_there(
@@ -168,7 +169,7 @@ fn change(alloc: Global, session: &mut Session, command: Command) -> Result<Repl
         Command::Watch(place) => watch(alloc, session, place),
         Command::Unwatch(place) => unwatch(alloc, session, place),
         Command::Quit => {
-            let text = String::new(alloc);
+            let text = Vec::new(alloc);
             Ok(Reply { text, ends: true })
         }
         _ => unreachable!(),
@@ -285,8 +286,7 @@ pub fn perform(alloc: Global, session: &mut Session, line: &[u8]) -> Result<Repl
 {
     let words = split_words(alloc, line)?;
     let Some((name, operands)) = words.as_slice().split_first() else {
-        let text = String::new(alloc);
-        return Ok(Reply { text, ends: false });
+        return Ok(said(String::new(alloc)));
     };
     perform_words(alloc, session, name, operands)
 }

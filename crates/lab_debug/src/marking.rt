@@ -6,7 +6,7 @@ ghost use Rattle.lab_debug.specs.Private.Replies.{effect_of};
 ghost use Rattle.lab_debug.specs.Effects.{break_effect, clear_effect, watch_effect, unwatch_effect, go_effect, play_effect};
 
 use crate::command::Refusal;
-use crate::reply::{Reply, refuse};
+use crate::reply::{Reply, refuse, said};
 use lab_sched::Schedule;
 use lab_session::{
     Place, Session, break_text, clear_text, has_place, play_text, push_changes, unwatch_text,
@@ -22,7 +22,7 @@ pub fn set_break(alloc: Global, session: &mut Session, place: Place) -> Result<R
 {
     session.set_break(alloc, place)?;
     let text = break_text(alloc, session.listings(), place)?;
-    Ok(Reply { text, ends: false })
+    Ok(said(text))
 }
 
 /// Takes a break off, or refuses it where there is none.
@@ -33,7 +33,7 @@ pub fn clear(alloc: Global, session: &mut Session, place: Place) -> Result<Reply
     if has_place(session.breaks(), place) {
         session.clear_break(alloc, place)?;
         let text = clear_text(alloc, session.listings(), place)?;
-        Ok(Reply { text, ends: false })
+        Ok(said(text))
     } else {
         refuse(alloc, Refusal::NoBreak)
     }
@@ -47,7 +47,7 @@ pub fn watch(alloc: Global, session: &mut Session, place: Place) -> Result<Reply
     session.set_watch(alloc, place)?;
     let watched = watched_at(session.world(), place);
     let text = watch_text(alloc, session.listings(), watched)?;
-    Ok(Reply { text, ends: false })
+    Ok(said(text))
 }
 
 /// Takes a watch off, or refuses it where there is none.
@@ -58,7 +58,7 @@ pub fn unwatch(alloc: Global, session: &mut Session, place: Place) -> Result<Rep
     if has_place(session.watches(), place) {
         session.clear_watch(alloc, place)?;
         let text = unwatch_text(alloc, session.listings(), place)?;
-        Ok(Reply { text, ends: false })
+        Ok(said(text))
     } else {
         refuse(alloc, Refusal::NoWatch)
     }
@@ -73,7 +73,7 @@ pub fn go(alloc: Global, session: &mut Session, pid: usize, count: u32) -> Resul
     session.go(alloc, pid, count)?;
     let mut text = status_text(alloc, session.world(), pid)?;
     push_changes(&mut text, session.listings(), session.world(), &watched)?;
-    Ok(Reply { text, ends: false })
+    Ok(said(text))
 }
 
 /// Takes the steps of a schedule up to a stop.
@@ -85,5 +85,5 @@ pub fn play(alloc: Global, session: &mut Session, schedule: &Schedule) -> Result
     let (taken, stopped) = session.play(alloc, schedule)?;
     let mut text = play_text(alloc, session.world(), taken, schedule.total(), stopped)?;
     push_changes(&mut text, session.listings(), session.world(), &watched)?;
-    Ok(Reply { text, ends: false })
+    Ok(said(text))
 }

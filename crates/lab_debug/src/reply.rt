@@ -5,16 +5,27 @@ ghost use Rattle.lab_debug.specs.Effects.{refusal_text};
 use crate::command::Refusal;
 use std::alloc::{AllocError, Global};
 
-/// What a line answers: its text, and whether it ends the session.
+/// What a line answers: the bytes that it writes, and whether it ends the session.
 #[derive(Drop)]
 pub struct Reply {
-    pub text: String,
+    pub text: Vec<u8>,
     pub ends: bool,
+}
+
+/// The reply of a line that writes a text.
+pub fn said(text: String) -> Reply
+    ensures text { result.text.items ≡ string_bytes text }
+    ensures ends { result.ends ≡ false }
+{
+    Reply {
+        text: text.into_bytes(),
+        ends: false,
+    }
 }
 
 /// The text of a refusal.
 pub fn refuse(alloc: Global, refusal: Refusal) -> Result<Reply, AllocError>
-    ensures text { IfOk result (λ r. string_bytes r.text ≡ refusal_text refusal) }
+    ensures text { IfOk result (λ r. r.text.items ≡ refusal_text refusal) }
     ensures ends { IfOk result (λ r. r.ends ≡ false) }
 {
     let text = match refusal {
@@ -25,5 +36,5 @@ pub fn refuse(alloc: Global, refusal: Refusal) -> Result<Reply, AllocError>
         Refusal::NoWatch => String::from_str(alloc, "? no such watch\n")?,
         Refusal::NoLabel => String::from_str(alloc, "? no such label\n")?,
     };
-    Ok(Reply { text, ends: false })
+    Ok(said(text))
 }

@@ -41,7 +41,7 @@ fn perform_lines<R: Read, W: Write>(
             return Ok(());
         };
         let reply = perform(alloc, state, line.as_slice())?;
-        let Ok(()) = output.write_all(reply.text.as_bytes()) else {
+        let Ok(()) = output.write_all(reply.text.as_slice()) else {
             return Err(SessionFault::Write);
         };
         if reply.ends {

@@ -4,10 +4,12 @@ ghost use Rattle.lab_session.specs.Sessions.{state_of, effective};
 ghost use Rattle.lab_session.specs.Taken.{taken_text};
 ghost use Rattle.lab_session.specs.Watches.{watched_words, watches_text};
 ghost use Rattle.lab_debug.specs.Effects.{steps_text, shown_effect, accepted_effect};
+ghost use Rattle.lab_debug.specs.Outputs.{whole_lines, raw_output};
 ghost use Rattle.lab_debug.specs.Private.Changes.{changes};
 ghost use Rattle.lab_debug.specs.Private.Ranges.{IsCommand};
 
 use crate::command::Command;
+use lab_sched::World;
 use lab_session::{
     Session, breaks_text, code_text, labels_text, taken_text, watches_text, where_text,
 };
@@ -54,16 +56,39 @@ fn steps_shown(alloc: Global, session: &Session) -> Result<String, AllocError>
     taken_text(alloc, blocks.as_slice())
 }
 
-/// The text of a command that changes nothing, whose processes are there.
+/// Bytes, and a line feed where a line is left open.
+fn whole_lines(alloc: Global, bytes: &[u8]) -> Result<Vec<u8>, AllocError>
+    ensures lines { IfOk result (λ all. all.items ≡ whole_lines bytes.now) }
+{
+    let mut all = bytes.to_vec(alloc)?;
+    if let Some(last) = bytes.last() {
+        if *last != b'\n' {
+            all.push(b'\n')?;
+        }
+    }
+    Ok(all)
+}
+
+/// The bytes that a process has written, and a line feed where a line is left open.
+fn raw_output(alloc: Global, world: &World, pid: usize) -> Result<Vec<u8>, AllocError>
+    ensures bytes { IfOk result (λ all. all.items ≡ raw_output pid world.now) }
+{
+    match world.process(pid) {
+        Some(process) => whole_lines(alloc, process.machine().output()),
+        None => Ok(Vec::new(alloc)),
+    }
+}
+
+/// What a command writes that changes nothing, whose processes are there.
 pub fn shown(
     alloc: Global,
     session: &Session,
     command: &Command,
-) -> Result<Option<String>, AllocError>
+) -> Result<Option<Vec<u8>>, AllocError>
     requires ranges { IsCommand command.now }
     ensures shown { IfOk result (λ found. IfSome found (λ text.
         accepted_effect (state_of session.now) command.now
-        ≡ shown_effect (string_bytes text) (state_of session.now))) }
+        ≡ shown_effect text.items (state_of session.now))) }
     ensures none { IfOk result (λ found. found ≡ None → changes command.now ≡ true) }
 {
     let world = session.world();
@@ -80,6 +105,7 @@ pub fn shown(
         Command::Sems => sems_text(alloc, world),
         Command::Fds { pid } => fds_text(alloc, world, *pid),
         Command::Out { pid } => out_text(alloc, world, *pid),
+        Command::Raw { pid } => return Ok(Some(raw_output(alloc, world, *pid)?)),
         Command::Where { pid } => where_text(alloc, world, *pid, session.listing(*pid)),
         Command::Code(range) => code_text(
             alloc,
@@ -94,5 +120,5 @@ pub fn shown(
         Command::Help => String::from_str(alloc, session.help()),
         _ => return Ok(None),
     };
-    Ok(Some(text?))
+    Ok(Some(text?.into_bytes()))
 }
