@@ -24,6 +24,7 @@ code P ADDR N   the same with labels and the lines of the source\n\
 where P         the label and the line of the source at which P stands\n\
 labels P        the labels of P with their addresses\n\
 out P           what P has written\n\
+out --raw P     the same bytes as they are, with a line feed behind them where a line is left open\n\
 mqs             the queues\n\
 sems            the semaphores\n\
 fds P           the descriptors and slots of P\n\
