@@ -7,18 +7,18 @@ use Rattle.lab_sched.specs.Worlds.{WorldState, step_effect_in, step, run}
 use Rattle.lab_sched.specs.Verdicts.{is_nothing}
 use Rattle.lab_sched.specs.Schedules.{steps_of}
 use Rattle.lab_debug.specs.declared.command.Command.{Command}
-use Rattle.lab_debug.specs.declared.command.Command.TheVariants.{Step, Run, Play, Until, Back, Regs, Mem, Dis, Procs, Mqs, Sems, Fds, Out, Raw, Where, Code, Labels, Go, Break, Clear, Breaks, Watch, Unwatch, Watches, Steps, Taken, Profile, Help, Quit}
+use Rattle.lab_debug.specs.declared.command.Command.TheVariants.{Step, Run, Play, Until, Back, Regs, Mem, Dis, Procs, Mqs, Sems, Fds, Out, Raw, Where, Code, Labels, Go, Set, Unset, Marks, Steps, Taken, Profile, Help, Quit}
 use Rattle.lab_debug.specs.declared.command.Refusal.{Refusal}
-use Rattle.lab_debug.specs.declared.command.Refusal.TheVariants.{NoProcess, NoBreak, NoWatch}
+use Rattle.lab_debug.specs.declared.command.Refusal.TheVariants.{NoProcess, NoMark}
 use Rattle.lab_debug.specs.declared.fault.SessionFault.TheVariants.{TooManyLines, LineTooLong}
 use Rattle.lab_debug.specs.Commands.{words_of, command_of}
 use Rattle.lab_session.specs.Listings.{listing_of}
 use Rattle.lab_debug.specs.Labels.{LabelSeen, label_address, addressed, command_at, with_zero}
 use Rattle.lab_debug.specs.Lines.{lines, line_limit}
-use Rattle.lab_session.specs.Marks.{has_place}
-use Rattle.lab_session.specs.Stops.{steps_to_stop, steps_played}
+use Rattle.lab_session.specs.Marks.{has_mark}
+use Rattle.lab_session.specs.Stops.{steps_to_stop, steps_until}
 use Rattle.lab_debug.specs.Script.{Effect, Script, before, script_of, script, line_count_limit}
-use Rattle.lab_session.specs.Sessions.{SessionState, with_steps, after_steps, effective, without_last, steps_before, steps_until}
+use Rattle.lab_session.specs.Sessions.{SessionState, with_steps, after_steps, effective, without_last, steps_before}
 use Rattle.lab_debug.specs.Effects.{refusal_effect, accepted_effect, is_there, are_there, reading_effect, placed_effect, located_effect, labelled_effect, label_effect, operands_effect, label_among, words_effect, line_effect}
 use Rattle.lab_debug.specs.Laws.{StepsLead, StepsLeadFirst, StepsLeadOn, BackUndoes, BackToTheStart}
 use Rattle.lab_session.proofs.StepLemmas.{stays, run-same, run-start, effective-append}
@@ -69,16 +69,13 @@ either false e f h k = k
 accepted : (s : SessionState) (c : Command) → StepsLead s → StepsLead (accepted_effect s c).world
 accepted s (Step pid n) h = lead-after s (replicate n pid) h
 accepted s (Run schedule) h = lead-after s (steps_of schedule) h
-accepted s (Play schedule) h = lead-after s (steps_played s.marks s.world (steps_of schedule)) h
+accepted s (Play schedule) h = lead-after s (steps_to_stop s.marks s.world (steps_of schedule)) h
 accepted s (Until pid address n) h = lead-after s (steps_until pid address s.world n) h
 accepted s (Back n) h = refl
-accepted s (Go pid n) h = lead-after s (steps_to_stop s.marks pid s.world n) h
-accepted s (Break place) h = h
-accepted s (Clear place) h = either (has_place s.marks.breaks place) _ (refusal_effect NoBreak s) h h
-accepted s Breaks h = h
-accepted s (Watch place) h = h
-accepted s (Unwatch place) h = either (has_place s.marks.watches place) _ (refusal_effect NoWatch s) h h
-accepted s Watches h = h
+accepted s (Go pid n) h = lead-after s (steps_to_stop s.marks s.world (replicate n pid)) h
+accepted s (Set mark) h = h
+accepted s (Unset mark) h = either (has_mark s.marks mark) _ (refusal_effect (NoMark mark.kind) s) h h
+accepted s (Marks kind) h = h
 accepted s Steps h = h
 accepted s Taken h = h
 accepted s (Regs pid) h = h

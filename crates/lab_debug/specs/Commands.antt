@@ -10,9 +10,11 @@ use Rattle.lab_sched.specs.declared.schedule.fault.SchedFault.{SchedFault}
 use Rattle.lab_sched.specs.Schedules.{most_steps}
 use Rattle.lab_sched.specs.ScheduleTexts.{reading_of_words}
 use Rattle.lab_debug.specs.declared.command.Command.{Command}
-use Rattle.lab_debug.specs.declared.command.Command.TheVariants.{Step, Run, Play, Until, Back, Regs, Mem, Dis, Procs, Mqs, Sems, Fds, Out, Raw, Where, Code, Labels, Go, Break, Clear, Breaks, Watch, Unwatch, Watches, Steps, Taken, Profile, Help, Quit}
+use Rattle.lab_debug.specs.declared.command.Command.TheVariants.{Step, Run, Play, Until, Back, Regs, Mem, Dis, Procs, Mqs, Sems, Fds, Out, Raw, Where, Code, Labels, Go, Set, Unset, Marks, Steps, Taken, Profile, Help, Quit}
 use Rattle.lab_debug.specs.declared.command.Range.{Range}
-use Rattle.lab_session.specs.declared.marks.Place.{Place}
+use Rattle.lab_session.specs.declared.marks.Mark.{Mark}
+use Rattle.lab_session.specs.declared.marks.MarkKind.{MarkKind}
+use Rattle.lab_session.specs.declared.marks.MarkKind.TheVariants.{Break, Watch}
 use Rattle.lab_debug.specs.declared.command.Refusal.{Refusal}
 use Rattle.lab_debug.specs.declared.command.Refusal.TheVariants.{UnknownCommand, BadOperands}
 
@@ -102,15 +104,15 @@ range_of ws =
 abbrev pub of_range : (Range → Command) → List (List ℕ) → Option Command
 of_range make ws = option_map make (range_of ws)
 
--- P ADDR: an address of a process
-abbrev pub place_of : List (List ℕ) → Option Place
-place_of ws =
-    option_and_then (λ w. option_and_then (λ p. option_map (λ a. record { pid = p; address = a })
+-- P ADDR: a mark of this kind at an address of a process
+abbrev pub mark_of : MarkKind → List (List ℕ) → Option Mark
+mark_of kind ws =
+    option_and_then (λ w. option_and_then (λ p. option_map (λ a. record { kind = kind; pid = p; address = a })
     (address_of w.1)) (process_of w.0)) (two_of ws)
 
--- a command on an address of a process
-abbrev pub of_place : (Place → Command) → List (List ℕ) → Option Command
-of_place make ws = option_map make (place_of ws)
+-- a command on such a mark
+abbrev pub of_mark : (Mark → Command) → MarkKind → List (List ℕ) → Option Command
+of_mark make kind ws = option_map make (mark_of kind ws)
 
 -- P, or P N: a process, and a number of steps; the most where it isn't given
 abbrev pub go_of : List (List ℕ) → Option Command
@@ -140,17 +142,17 @@ or_bad None = Err BadOperands
 -- a command on watches, by its name and its operands
 unfoldable pub watching_command : List ℕ → List (List ℕ) → Result Command Refusal
 watching_command name ws =
-    if is_named (codes "watch") name then or_bad (of_place Watch ws) else
-    if is_named (codes "unwatch") name then or_bad (of_place Unwatch ws) else
-    if is_named (codes "watches") name then or_bad (bare_of Watches ws) else
+    if is_named (codes "watch") name then or_bad (of_mark Set Watch ws) else
+    if is_named (codes "unwatch") name then or_bad (of_mark Unset Watch ws) else
+    if is_named (codes "watches") name then or_bad (bare_of (Marks Watch) ws) else
     Err UnknownCommand
 
 -- a command on breaks or on the steps of the session, by its name and its operands
 unfoldable pub breaking_command : List ℕ → List (List ℕ) → Result Command Refusal
 breaking_command name ws =
-    if is_named (codes "break") name then or_bad (of_place Break ws) else
-    if is_named (codes "clear") name then or_bad (of_place Clear ws) else
-    if is_named (codes "breaks") name then or_bad (bare_of Breaks ws) else
+    if is_named (codes "break") name then or_bad (of_mark Set Break ws) else
+    if is_named (codes "clear") name then or_bad (of_mark Unset Break ws) else
+    if is_named (codes "breaks") name then or_bad (bare_of (Marks Break) ws) else
     if is_named (codes "go") name then or_bad (go_of ws) else
     if is_named (codes "steps") name then or_bad (bare_of Steps ws) else
     if is_named (codes "schedule") name then or_bad (bare_of Taken ws) else

@@ -4,23 +4,24 @@ use Rattle.std.specs.List.{list_all}
 use Rattle.lab_sched.specs.Worlds.{WorldState, run}
 use Rattle.lab_sched.specs.Schedules.{steps_of}
 use Rattle.lab_debug.specs.declared.command.Command.{Command}
-use Rattle.lab_debug.specs.declared.command.Command.TheVariants.{Step, Run, Play, Until, Back, Regs, Mem, Dis, Procs, Mqs, Sems, Fds, Out, Raw, Where, Code, Labels, Go, Break, Clear, Breaks, Watch, Unwatch, Watches, Steps, Taken, Profile, Help, Quit}
+use Rattle.lab_debug.specs.declared.command.Command.TheVariants.{Step, Run, Play, Until, Back, Regs, Mem, Dis, Procs, Mqs, Sems, Fds, Out, Raw, Where, Code, Labels, Go, Set, Unset, Marks, Steps, Taken, Profile, Help, Quit}
 use Rattle.lab_debug.specs.declared.command.Refusal.{Refusal}
-use Rattle.lab_debug.specs.declared.command.Refusal.TheVariants.{UnknownCommand, BadOperands, NoProcess, NoLabel, NoBreak, NoWatch}
+use Rattle.lab_debug.specs.declared.command.Refusal.TheVariants.{UnknownCommand, BadOperands, NoProcess, NoLabel, NoMark}
 use Rattle.lab_debug.specs.Commands.{words_of, command_of}
 use Rattle.lab_debug.specs.Outputs.{raw_output}
 use Rattle.lab_session.specs.Listings.{listing_of, has_labels}
 use Rattle.lab_debug.specs.Labels.{LabelSeen, label_address, addressed, command_at, second_label, with_zero}
 use Rattle.lab_session.specs.Places.{where_text, code_text, labels_text}
-use Rattle.lab_session.specs.declared.marks.Place.{Place}
-use Rattle.lab_session.specs.Marks.{has_place, with_place, without_place, with_breaks, with_watches}
-use Rattle.lab_session.specs.Breaks.{break_text, clear_text, breaks_text}
-use Rattle.lab_session.specs.Watches.{watched_at, watched_words, watch_text, unwatch_text, watches_text, changes_text}
-use Rattle.lab_session.specs.Stops.{steps_to_stop, steps_played, stopped_process}
+use Rattle.lab_session.specs.declared.marks.Mark.{Mark}
+use Rattle.lab_session.specs.declared.marks.MarkKind.TheVariants.{Break, Watch}
+use Rattle.lab_session.specs.Marks.{has_mark, with_mark, without_mark, of_kind}
+use Rattle.lab_session.specs.MarkTexts.{set_text, off_text, marks_text, changes_text}
+use Rattle.lab_session.specs.Watches.{watched_words}
+use Rattle.lab_session.specs.Stops.{steps_to_stop, stopped_process, steps_until}
 use Rattle.lab_session.specs.Played.{play_text}
 use Rattle.lab_session.specs.Taken.{taken_text}
 use Rattle.std.specs.Fmt.{decimal}
-use Rattle.lab_session.specs.Sessions.{SessionState, with_marks, after_steps, steps_until, effective, back}
+use Rattle.lab_session.specs.Sessions.{SessionState, with_marks, after_steps, effective, back}
 use Rattle.lab_debug.specs.Script.{Effect, Script, script}
 use Rattle.lab_texts.specs.Texts.{status_text, procs_text, profile_text, regs_text, mem_text, dis_text, out_text}
 use Rattle.lab_texts.specs.Objects.{mqs_text, sems_text, fds_text}
@@ -32,8 +33,8 @@ refusal_text UnknownCommand = codes "? unknown command\n"
 refusal_text BadOperands = codes "? bad operands\n"
 refusal_text NoProcess = codes "? no such process\n"
 refusal_text NoLabel = codes "? no such label\n"
-refusal_text NoBreak = codes "? no such break\n"
-refusal_text NoWatch = codes "? no such watch\n"
+refusal_text (NoMark Break) = codes "? no such break\n"
+refusal_text (NoMark Watch) = codes "? no such watch\n"
 
 -- a text of a world, and nothing else
 abbrev pub text_effect : (WorldState → List ℕ) → SessionState → Effect SessionState
@@ -55,47 +56,30 @@ refusal_effect refusal s = record { text = refusal_text refusal; world = s; ends
 abbrev pub shown_effect : List ℕ → SessionState → Effect SessionState
 shown_effect text s = record { text = text; world = s; ends = false }
 
--- a break is set, which may be there already
-abbrev pub break_effect : SessionState → Place → Effect SessionState
-break_effect s place = shown_effect (break_text s.listings place) (with_marks s (with_breaks s.marks (with_place s.marks.breaks place)))
+-- a mark is set, which may be there already
+abbrev pub set_effect : SessionState → Mark → Effect SessionState
+set_effect s mark = shown_effect (set_text s.listings s.world mark) (with_marks s (with_mark s.marks mark))
 
--- a break is taken off
-abbrev pub clear_effect : SessionState → Place → Effect SessionState
-clear_effect s place =
-    if has_place s.marks.breaks place
-    then shown_effect (clear_text s.listings place) (with_marks s (with_breaks s.marks (without_place s.marks.breaks place)))
-    else refusal_effect NoBreak s
-
--- a watch is set, which may be there already
-abbrev pub watch_effect : SessionState → Place → Effect SessionState
-watch_effect s place =
-    shown_effect (watch_text s.listings (watched_at s.world place)) (with_marks s (with_watches s.marks (with_place s.marks.watches place)))
-
--- a watch is taken off
-abbrev pub unwatch_effect : SessionState → Place → Effect SessionState
-unwatch_effect s place =
-    if has_place s.marks.watches place
-    then shown_effect (unwatch_text s.listings place) (with_marks s (with_watches s.marks (without_place s.marks.watches place)))
-    else refusal_effect NoWatch s
-
--- the watches, each with the word there now
-abbrev pub watches_effect : SessionState → Effect SessionState
-watches_effect s = shown_effect (watches_text s.listings (watched_words s.marks.watches s.world)) s
+-- a mark is taken off
+abbrev pub unset_effect : SessionState → Mark → Effect SessionState
+unset_effect s mark =
+    if has_mark s.marks mark then shown_effect (off_text s.listings mark) (with_marks s (without_mark s.marks mark))
+    else refusal_effect (NoMark mark.kind) s
 
 -- a text of the world after further steps, and each watched word that they changed
 abbrev pub stepped_effect : (WorldState → List ℕ) → SessionState → List ℕ → Effect SessionState
 stepped_effect text s ps =
-    shown_effect (text (run s.world ps) ++ changes_text s.listings (run s.world ps) (watched_words s.marks.watches s.world)) (after_steps s ps)
+    shown_effect (text (run s.world ps) ++ changes_text s.listings (run s.world ps) (watched_words s.marks s.world)) (after_steps s ps)
 
 -- at most n steps of a process, up to a stop
 abbrev pub go_effect : SessionState → ℕ → ℕ → Effect SessionState
-go_effect s pid n = stepped_effect (status_text pid) s (steps_to_stop s.marks pid s.world n)
+go_effect s pid n = stepped_effect (status_text pid) s (steps_to_stop s.marks s.world (replicate n pid))
 
 -- the steps of a schedule up to a stop
 abbrev pub play_effect : SessionState → List ℕ → Effect SessionState
 play_effect s ps =
-    stepped_effect (play_text (length (steps_played s.marks s.world ps)) (length ps) (stopped_process s.marks s.world ps))
-    s (steps_played s.marks s.world ps)
+    stepped_effect (play_text (length (steps_to_stop s.marks s.world ps)) (length ps) (stopped_process s.marks s.world ps))
+    s (steps_to_stop s.marks s.world ps)
 
 -- what a command does, where its processes are there
 abbrev pub accepted_effect : SessionState → Command → Effect SessionState
@@ -105,12 +89,9 @@ accepted_effect s (Until pid address n) = text_effect (status_text pid) (after_s
 accepted_effect s (Back n) = back_effect (back n s)
 accepted_effect s (Play schedule) = play_effect s (steps_of schedule)
 accepted_effect s (Go pid n) = go_effect s pid n
-accepted_effect s (Break place) = break_effect s place
-accepted_effect s (Clear place) = clear_effect s place
-accepted_effect s Breaks = shown_effect (breaks_text s.listings s.marks.breaks) s
-accepted_effect s (Watch place) = watch_effect s place
-accepted_effect s (Unwatch place) = unwatch_effect s place
-accepted_effect s Watches = watches_effect s
+accepted_effect s (Set mark) = set_effect s mark
+accepted_effect s (Unset mark) = unset_effect s mark
+accepted_effect s (Marks kind) = shown_effect (marks_text s.listings s.world (of_kind kind s.marks)) s
 accepted_effect s Steps = shown_effect (steps_text (length (effective s.start s.steps))) s
 accepted_effect s Taken = shown_effect (taken_text (effective s.start s.steps)) s
 accepted_effect s (Regs pid) = text_effect (regs_text pid) s
@@ -141,12 +122,9 @@ are_there w (Play schedule) = list_all (λ b. is_there w b.pid) schedule
 are_there w (Until pid address n) = is_there w pid
 are_there w (Back n) = true
 are_there w (Go pid n) = is_there w pid
-are_there w (Break place) = is_there w place.pid
-are_there w (Clear place) = is_there w place.pid
-are_there w Breaks = true
-are_there w (Watch place) = is_there w place.pid
-are_there w (Unwatch place) = is_there w place.pid
-are_there w Watches = true
+are_there w (Set mark) = is_there w mark.pid
+are_there w (Unset mark) = is_there w mark.pid
+are_there w (Marks kind) = true
 are_there w Steps = true
 are_there w Taken = true
 are_there w (Regs pid) = is_there w pid

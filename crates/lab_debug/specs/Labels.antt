@@ -7,7 +7,7 @@ use Rattle.lab_sched.specs.ScheduleTexts.{in_range}
 use Rattle.lab_sources.specs.Labels.{address_of}
 use Rattle.lab_sources.specs.declared.listing.Listing.{Listing}
 use Rattle.lab_debug.specs.declared.command.Command.{Command}
-use Rattle.lab_debug.specs.declared.command.Command.TheVariants.{Until, Mem, Dis, Code, Break, Clear, Watch, Unwatch}
+use Rattle.lab_debug.specs.declared.command.Command.TheVariants.{Until, Mem, Dis, Code, Set, Unset}
 use Rattle.lab_debug.specs.declared.command.Range.{Range}
 use Rattle.lab_debug.specs.declared.command.Refusal.{Refusal}
 use Rattle.lab_debug.specs.declared.command.Refusal.TheVariants.{BadOperands, NoLabel}
@@ -66,10 +66,8 @@ addressed (Until pid address n) = Some pid
 addressed (Mem range) = Some range.pid
 addressed (Dis range) = Some range.pid
 addressed (Code range) = Some range.pid
-addressed (Break place) = Some place.pid
-addressed (Clear place) = Some place.pid
-addressed (Watch place) = Some place.pid
-addressed (Unwatch place) = Some place.pid
+addressed (Set mark) = Some mark.pid
+addressed (Unset mark) = Some mark.pid
 addressed command = None
 
 -- a range that begins at an address, where it ends within memory
@@ -80,10 +78,8 @@ range_at a range =
 -- a command with this address in the place of its own, where its range ends within memory
 abbrev pub command_at : ℕ → Command → Option Command
 command_at a (Until pid address n) = Some (Until pid a n)
-command_at a (Break place) = Some (Break (record { pid = place.pid; address = a }))
-command_at a (Clear place) = Some (Clear (record { pid = place.pid; address = a }))
-command_at a (Watch place) = Some (Watch (record { pid = place.pid; address = a }))
-command_at a (Unwatch place) = Some (Unwatch (record { pid = place.pid; address = a }))
+command_at a (Set mark) = Some (Set (record { kind = mark.kind; pid = mark.pid; address = a }))
+command_at a (Unset mark) = Some (Unset (record { kind = mark.kind; pid = mark.pid; address = a }))
 command_at a (Mem range) = option_map Mem (range_at a range)
 command_at a (Dis range) = option_map Dis (range_at a range)
 command_at a (Code range) = option_map Code (range_at a range)

@@ -1,40 +1,39 @@
-//! The commands on breaks and on the steps of a session, as they are written.
+//! The commands on marks and on the steps of a session, as they are written.
 ghost use Rattle.std.specs.Prelude.{◌≡◌, map, IfOk, IfSome};
 ghost use Rattle.lab_debug.specs.Private.Ranges.{IsCommand};
-ghost use Rattle.lab_debug.specs.Commands.{place_of, of_place, go_of, bare_of, breaking_command};
-ghost use Rattle.lab_debug.specs.declared.command.Command.TheVariants.{Break, Clear};
+ghost use Rattle.lab_debug.specs.Commands.{mark_of, of_mark, go_of, breaking_command, watching_command};
+ghost use Rattle.lab_debug.specs.declared.command.Command.TheVariants.{Set, Unset};
 
 use crate::command::{Command, Refusal, is_name, read_bare};
 use crate::operands::{STEP_COUNT_MAX, address_in, count_in, process_in, two};
-use crate::watching::read_watching;
-use lab_session::Place;
+use lab_session::{Mark, MarkKind};
 
-/// `P ADDR`, a place
-pub fn read_place(operands: &[&[u8]]) -> Option<Place>
-    ensures value { result ≡ place_of (map (λ word. word.now) operands.now) }
+/// `P ADDR`, a mark of this kind
+fn read_mark(kind: MarkKind, operands: &[&[u8]]) -> Option<Mark>
+    ensures value { result ≡ mark_of kind (map (λ word. word.now) operands.now) }
 {
     let (pid, address) = two(operands)?;
     let pid = process_in(pid)?;
     let address = address_in(address)?;
-    Some(Place { pid, address })
+    Some(Mark { kind, pid, address })
 }
 
-/// `P ADDR`, of a break to set
-fn read_break(operands: &[&[u8]]) -> Option<Command>
-    ensures value { result ≡ of_place Break (map (λ word. word.now) operands.now) }
+/// `P ADDR`, of a mark to set
+fn read_set(kind: MarkKind, operands: &[&[u8]]) -> Option<Command>
+    ensures value { result ≡ of_mark Set kind (map (λ word. word.now) operands.now) }
     ensures ranges { IfSome result (λ command. IsCommand command) }
 {
-    let place = read_place(operands)?;
-    Some(Command::Break(place))
+    let mark = read_mark(kind, operands)?;
+    Some(Command::Set(mark))
 }
 
-/// `P ADDR`, of a break to take off
-fn read_clear(operands: &[&[u8]]) -> Option<Command>
-    ensures value { result ≡ of_place Clear (map (λ word. word.now) operands.now) }
+/// `P ADDR`, of a mark to take off
+fn read_unset(kind: MarkKind, operands: &[&[u8]]) -> Option<Command>
+    ensures value { result ≡ of_mark Unset kind (map (λ word. word.now) operands.now) }
     ensures ranges { IfSome result (λ command. IsCommand command) }
 {
-    let place = read_place(operands)?;
-    Some(Command::Clear(place))
+    let mark = read_mark(kind, operands)?;
+    Some(Command::Unset(mark))
 }
 
 /// `P`, or `P N`, up to a stop
@@ -59,6 +58,24 @@ fn read_go(operands: &[&[u8]]) -> Option<Command>
     }
 }
 
+/// A command on watches, by its name and its operands.
+#[tactic(auto, unfolding(crate::specs::Commands::watching_command))]
+fn read_watching(name: &[u8], operands: &[&[u8]]) -> Result<Command, Refusal>
+    ensures value { result ≡ watching_command name.now (map (λ word. word.now) operands.now) }
+    ensures ranges { IfOk result (λ command. IsCommand command) }
+{
+    if is_name("watch", name) {
+        return read_set(MarkKind::Watch, operands).ok_or(Refusal::BadOperands);
+    }
+    if is_name("unwatch", name) {
+        return read_unset(MarkKind::Watch, operands).ok_or(Refusal::BadOperands);
+    }
+    if is_name("watches", name) {
+        return read_bare(Command::Marks(MarkKind::Watch), operands).ok_or(Refusal::BadOperands);
+    }
+    Err(Refusal::UnknownCommand)
+}
+
 /// A command on breaks or on the steps of the session, by its name and its operands.
 #[tactic(auto, unfolding(crate::specs::Commands::breaking_command))]
 pub fn read_breaking(name: &[u8], operands: &[&[u8]]) -> Result<Command, Refusal>
@@ -66,13 +83,13 @@ pub fn read_breaking(name: &[u8], operands: &[&[u8]]) -> Result<Command, Refusal
     ensures ranges { IfOk result (λ command. IsCommand command) }
 {
     if is_name("break", name) {
-        return read_break(operands).ok_or(Refusal::BadOperands);
+        return read_set(MarkKind::Break, operands).ok_or(Refusal::BadOperands);
     }
     if is_name("clear", name) {
-        return read_clear(operands).ok_or(Refusal::BadOperands);
+        return read_unset(MarkKind::Break, operands).ok_or(Refusal::BadOperands);
     }
     if is_name("breaks", name) {
-        return read_bare(Command::Breaks, operands).ok_or(Refusal::BadOperands);
+        return read_bare(Command::Marks(MarkKind::Break), operands).ok_or(Refusal::BadOperands);
     }
     if is_name("go", name) {
         return read_go(operands).ok_or(Refusal::BadOperands);

@@ -7,7 +7,7 @@ ghost use Rattle.lab_debug.specs.Commands.{step_of, until_of, back_of, bare_of, 
 use crate::operands::{address_in, count_in, number_in, one, process_in, three, two};
 use crate::placing::read_placing;
 use lab_sched::{MOST_STEPS, SchedFault, Schedule};
-use lab_session::Place;
+use lab_session::{Mark, MarkKind};
 use std::alloc::{AllocError, Global};
 
 /// A range of memory of a process: so many words from an address on.
@@ -41,18 +41,12 @@ pub enum Command {
         pid: usize,
         count: u32,
     },
-    /// A break to set.
-    Break(Place),
-    /// A break to take off.
-    Clear(Place),
-    /// The breaks.
-    Breaks,
-    /// A watch to set.
-    Watch(Place),
-    /// A watch to take off.
-    Unwatch(Place),
-    /// The watches.
-    Watches,
+    /// A mark to set.
+    Set(Mark),
+    /// A mark to take off.
+    Unset(Mark),
+    /// The marks of a kind.
+    Marks(MarkKind),
     /// How many steps had an effect.
     Steps,
     /// The schedule of the steps that had an effect.
@@ -118,10 +112,8 @@ pub enum Refusal {
     NoProcess,
     /// A label that is named isn't in the source of its process, or the process has no source.
     NoLabel,
-    /// There is no break at the place.
-    NoBreak,
-    /// There is no watch at the place.
-    NoWatch,
+    /// There is no mark of this kind at the address.
+    NoMark(MarkKind),
 }
 
 /// `P N`

@@ -3,7 +3,8 @@ ghost use Rattle.std.specs.Prelude.{◌≡◌, ◌≤◌, ◌<◌, true, IfOk, O
 ghost use Rattle.ipc_kernel.specs.Limits.{process_max};
 ghost use Rattle.std.specs.List.{list_all};
 ghost use Rattle.lab_sched.specs.Schedules.{steps_of};
-ghost use Rattle.lab_session.specs.Sessions.{state_of, after_steps, steps_until, back};
+ghost use Rattle.lab_session.specs.Sessions.{state_of, after_steps, back};
+ghost use Rattle.lab_session.specs.Stops.{steps_until};
 ghost use Rattle.lab_debug.specs.Commands.{step_count_max};
 ghost use Rattle.lab_texts.specs.Texts.{status_text};
 ghost use Rattle.lab_texts.specs.Verdicts.{verdict_text};
@@ -16,7 +17,7 @@ ghost use Rattle.lab_debug.specs.Private.Ranges.{IsCommand};
 
 use crate::command::{Command, Refusal, read_command};
 use crate::label::{Label, address_of, second_label, with_zero};
-use crate::marking::{clear, go, play, set_break, unwatch, watch};
+use crate::marking::{go, play, set, unset};
 use crate::operands::split_words;
 use crate::reply::{Reply, refuse, said};
 use crate::showing::{shown, steps_text};
@@ -79,7 +80,7 @@ fn step_until(
         (status_text pid) (after_steps (state_of session.old)
         (steps_until pid address (state_of session.old).world count))) }
 {
-    session.step_until(pid, address, count)?;
+    session.step_until(alloc, pid, address, count)?;
     let text = status_text(alloc, session.world(), pid)?;
     Ok(said(text))
 }
@@ -125,16 +126,12 @@ fn are_there(world: &World, command: &Command) -> bool
         Command::Mem(range) | Command::Dis(range) | Command::Code(range) => is_there(
             world, range.pid,
         ),
-        Command::Break(place)
-        | Command::Clear(place)
-        | Command::Watch(place)
-        | Command::Unwatch(place) => is_there(world, place.pid),
+        Command::Set(mark) | Command::Unset(mark) => is_there(world, mark.pid),
         Command::Run(schedule) | Command::Play(schedule) => {
             blocks_are_there(world, schedule.blocks())
         }
         Command::Back { .. }
-        | Command::Breaks
-        | Command::Watches
+        | Command::Marks(_)
         | Command::Steps
         | Command::Taken
         | Command::Procs
@@ -164,10 +161,8 @@ fn change(alloc: Global, session: &mut Session, command: Command) -> Result<Repl
         } => step_until(alloc, session, pid, address, count),
         Command::Back { count } => go_back(alloc, session, count),
         Command::Go { pid, count } => go(alloc, session, pid, count),
-        Command::Break(place) => set_break(alloc, session, place),
-        Command::Clear(place) => clear(alloc, session, place),
-        Command::Watch(place) => watch(alloc, session, place),
-        Command::Unwatch(place) => unwatch(alloc, session, place),
+        Command::Set(mark) => set(alloc, session, mark),
+        Command::Unset(mark) => unset(alloc, session, mark),
         Command::Quit => {
             let text = Vec::new(alloc);
             Ok(Reply { text, ends: true })

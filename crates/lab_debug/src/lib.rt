@@ -14,7 +14,6 @@ mod placing;
 mod reply;
 mod script;
 mod showing;
-mod watching;
 
 pub use fault::SessionFault;
 pub use lab_session::Session;

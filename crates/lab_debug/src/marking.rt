@@ -3,74 +3,47 @@ ghost use Rattle.std.specs.Prelude.{◌≡◌, IfOk};
 ghost use Rattle.lab_sched.specs.Schedules.{steps_of};
 ghost use Rattle.lab_session.specs.Sessions.{state_of};
 ghost use Rattle.lab_debug.specs.Private.Replies.{effect_of};
-ghost use Rattle.lab_debug.specs.Effects.{break_effect, clear_effect, watch_effect, unwatch_effect, go_effect, play_effect};
+ghost use Rattle.lab_debug.specs.Effects.{set_effect, unset_effect, go_effect, play_effect};
 
 use crate::command::Refusal;
 use crate::reply::{Reply, refuse, said};
-use lab_sched::Schedule;
-use lab_session::{
-    Place, Session, break_text, clear_text, has_place, play_text, push_changes, unwatch_text,
-    watch_text, watched_at,
-};
+use lab_sched::{Block, Schedule};
+use lab_session::{Mark, Session, has_mark, off_text, play_text, push_changes, set_text};
 use lab_texts::status_text;
 use std::alloc::{AllocError, Global};
 
-/// Sets a break, which may be there already.
-pub fn set_break(alloc: Global, session: &mut Session, place: Place) -> Result<Reply, AllocError>
+/// Sets a mark, which may be there already.
+pub fn set(alloc: Global, session: &mut Session, mark: Mark) -> Result<Reply, AllocError>
     ensures effect { IfOk result (λ r. effect_of r (state_of session.new)
-        ≡ break_effect (state_of session.old) place) }
+        ≡ set_effect (state_of session.old) mark) }
 {
-    session.set_break(alloc, place)?;
-    let text = break_text(alloc, session.listings(), place)?;
+    session.set_mark(alloc, mark)?;
+    let text = set_text(alloc, session.listings(), session.world(), mark)?;
     Ok(said(text))
 }
 
-/// Takes a break off, or refuses it where there is none.
-pub fn clear(alloc: Global, session: &mut Session, place: Place) -> Result<Reply, AllocError>
+/// Takes a mark off, or refuses it where there is none.
+pub fn unset(alloc: Global, session: &mut Session, mark: Mark) -> Result<Reply, AllocError>
     ensures effect { IfOk result (λ r. effect_of r (state_of session.new)
-        ≡ clear_effect (state_of session.old) place) }
+        ≡ unset_effect (state_of session.old) mark) }
 {
-    if has_place(session.breaks(), place) {
-        session.clear_break(alloc, place)?;
-        let text = clear_text(alloc, session.listings(), place)?;
+    if has_mark(session.marks(), mark) {
+        session.clear_mark(alloc, mark)?;
+        let text = off_text(alloc, session.listings(), mark)?;
         Ok(said(text))
     } else {
-        refuse(alloc, Refusal::NoBreak)
-    }
-}
-
-/// Sets a watch, which may be there already.
-pub fn watch(alloc: Global, session: &mut Session, place: Place) -> Result<Reply, AllocError>
-    ensures effect { IfOk result (λ r. effect_of r (state_of session.new)
-        ≡ watch_effect (state_of session.old) place) }
-{
-    session.set_watch(alloc, place)?;
-    let watched = watched_at(session.world(), place);
-    let text = watch_text(alloc, session.listings(), watched)?;
-    Ok(said(text))
-}
-
-/// Takes a watch off, or refuses it where there is none.
-pub fn unwatch(alloc: Global, session: &mut Session, place: Place) -> Result<Reply, AllocError>
-    ensures effect { IfOk result (λ r. effect_of r (state_of session.new)
-        ≡ unwatch_effect (state_of session.old) place) }
-{
-    if has_place(session.watches(), place) {
-        session.clear_watch(alloc, place)?;
-        let text = unwatch_text(alloc, session.listings(), place)?;
-        Ok(said(text))
-    } else {
-        refuse(alloc, Refusal::NoWatch)
+        refuse(alloc, Refusal::NoMark(mark.kind))
     }
 }
 
 /// Takes at most so many steps of a process, up to a stop.
+#[tactic(auto, using(lab_session::proofs::BlockLemmas::one_block))]
 pub fn go(alloc: Global, session: &mut Session, pid: usize, count: u32) -> Result<Reply, AllocError>
     ensures effect { IfOk result (λ r. effect_of r (state_of session.new)
         ≡ go_effect (state_of session.old) pid count) }
 {
     let watched = session.watched_words(alloc)?;
-    session.go(alloc, pid, count)?;
+    session.play(alloc, &[Block { pid, count }])?;
     let mut text = status_text(alloc, session.world(), pid)?;
     push_changes(&mut text, session.listings(), session.world(), &watched)?;
     Ok(said(text))
@@ -82,7 +55,7 @@ pub fn play(alloc: Global, session: &mut Session, schedule: &Schedule) -> Result
         ≡ play_effect (state_of session.old) (steps_of schedule.now)) }
 {
     let watched = session.watched_words(alloc)?;
-    let (taken, stopped) = session.play(alloc, schedule)?;
+    let (taken, stopped) = session.play(alloc, schedule.blocks())?;
     let mut text = play_text(alloc, session.world(), taken, schedule.total(), stopped)?;
     push_changes(&mut text, session.listings(), session.world(), &watched)?;
     Ok(said(text))

@@ -8,7 +8,7 @@ ghost use Rattle.lab_debug.specs.declared.command.Command.TheVariants.{Where, Co
 use crate::breaking::read_breaking;
 use crate::command::{Command, Range, Refusal, is_name, read_range};
 use crate::operands::{one, process_in};
-use lab_session::Place;
+use lab_session::Mark;
 
 /// `P`, of where it stands
 fn read_where(operands: &[&[u8]]) -> Option<Command>
@@ -81,10 +81,7 @@ impl Command {
         match self {
             Command::Until { pid, .. } => Some(*pid),
             Command::Mem(range) | Command::Dis(range) | Command::Code(range) => Some(range.pid),
-            Command::Break(place)
-            | Command::Clear(place)
-            | Command::Watch(place)
-            | Command::Unwatch(place) => Some(place.pid),
+            Command::Set(mark) | Command::Unset(mark) => Some(mark.pid),
             _ => None,
         }
     }
@@ -101,10 +98,8 @@ impl Command {
                 address,
                 count,
             }),
-            Command::Break(Place { pid, .. }) => Some(Command::Break(Place { pid, address })),
-            Command::Clear(Place { pid, .. }) => Some(Command::Clear(Place { pid, address })),
-            Command::Watch(Place { pid, .. }) => Some(Command::Watch(Place { pid, address })),
-            Command::Unwatch(Place { pid, .. }) => Some(Command::Unwatch(Place { pid, address })),
+            Command::Set(mark) => Some(Command::Set(Mark { address, ..mark })),
+            Command::Unset(mark) => Some(Command::Unset(Mark { address, ..mark })),
             Command::Mem(range) => Some(Command::Mem(range_at(range, address)?)),
             Command::Dis(range) => Some(Command::Dis(range_at(range, address)?)),
             Command::Code(range) => Some(Command::Code(range_at(range, address)?)),

@@ -3,6 +3,7 @@ ghost use Rattle.std.specs.Prelude.{◌≡◌, false, IfOk, string_bytes};
 ghost use Rattle.lab_debug.specs.Effects.{refusal_text};
 
 use crate::command::Refusal;
+use lab_session::MarkKind;
 use std::alloc::{AllocError, Global};
 
 /// What a line answers: the bytes that it writes, and whether it ends the session.
@@ -32,8 +33,8 @@ pub fn refuse(alloc: Global, refusal: Refusal) -> Result<Reply, AllocError>
         Refusal::UnknownCommand => String::from_str(alloc, "? unknown command\n")?,
         Refusal::BadOperands => String::from_str(alloc, "? bad operands\n")?,
         Refusal::NoProcess => String::from_str(alloc, "? no such process\n")?,
-        Refusal::NoBreak => String::from_str(alloc, "? no such break\n")?,
-        Refusal::NoWatch => String::from_str(alloc, "? no such watch\n")?,
+        Refusal::NoMark(MarkKind::Break) => String::from_str(alloc, "? no such break\n")?,
+        Refusal::NoMark(MarkKind::Watch) => String::from_str(alloc, "? no such watch\n")?,
         Refusal::NoLabel => String::from_str(alloc, "? no such label\n")?,
     };
     Ok(said(text))

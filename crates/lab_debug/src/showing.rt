@@ -2,7 +2,8 @@
 ghost use Rattle.std.specs.Prelude.{◌≡◌, None, true, length, IfOk, IfSome, string_bytes};
 ghost use Rattle.lab_session.specs.Sessions.{state_of, effective};
 ghost use Rattle.lab_session.specs.Taken.{taken_text};
-ghost use Rattle.lab_session.specs.Watches.{watched_words, watches_text};
+ghost use Rattle.lab_session.specs.Marks.{of_kind};
+ghost use Rattle.lab_session.specs.MarkTexts.{marks_text};
 ghost use Rattle.lab_debug.specs.Effects.{steps_text, shown_effect, accepted_effect};
 ghost use Rattle.lab_debug.specs.Outputs.{whole_lines, raw_output};
 ghost use Rattle.lab_debug.specs.Private.Changes.{changes};
@@ -11,7 +12,7 @@ ghost use Rattle.lab_debug.specs.Private.Ranges.{IsCommand};
 use crate::command::Command;
 use lab_sched::World;
 use lab_session::{
-    Session, breaks_text, code_text, labels_text, taken_text, watches_text, where_text,
+    MarkKind, Session, code_text, labels_text, marks_text, step_count, taken_text, where_text,
 };
 use lab_texts::{
     dis_text, fds_text, mem_text, mqs_text, out_text, procs_text, profile_text, regs_text,
@@ -29,13 +30,13 @@ pub fn steps_text(alloc: Global, count: u64) -> Result<String, AllocError>
     Ok(text)
 }
 
-/// The watches of a session, each with the word there now.
-fn watches_shown(alloc: Global, session: &Session) -> Result<String, AllocError>
-    ensures text { IfOk result (λ s. string_bytes s ≡ watches_text (state_of session.now).listings
-        (watched_words (state_of session.now).marks.watches (state_of session.now).world)) }
+/// The marks of a kind.
+fn marks_shown(alloc: Global, session: &Session, kind: MarkKind) -> Result<String, AllocError>
+    ensures text { IfOk result (λ s. string_bytes s ≡ marks_text (state_of session.now).listings
+        (state_of session.now).world (of_kind kind (state_of session.now).marks)) }
 {
-    let watched = session.watched_words(alloc)?;
-    watches_text(alloc, session.listings(), &watched)
+    let marks = session.marks_of(alloc, kind)?;
+    marks_text(alloc, session.listings(), session.world(), &marks)
 }
 
 /// How many steps of a session had an effect.
@@ -43,8 +44,8 @@ fn count_shown(alloc: Global, session: &Session) -> Result<String, AllocError>
     ensures text { IfOk result (λ s. string_bytes s ≡ steps_text
         (length (effective (state_of session.now).start (state_of session.now).steps))) }
 {
-    let (_, total) = session.effective(alloc)?;
-    steps_text(alloc, total)
+    let blocks = session.effective(alloc)?;
+    steps_text(alloc, step_count(&blocks)?)
 }
 
 /// The schedule of these steps.
@@ -52,7 +53,7 @@ fn steps_shown(alloc: Global, session: &Session) -> Result<String, AllocError>
     ensures text { IfOk result (λ s. string_bytes s
         ≡ taken_text (effective (state_of session.now).start (state_of session.now).steps)) }
 {
-    let (blocks, _) = session.effective(alloc)?;
+    let blocks = session.effective(alloc)?;
     taken_text(alloc, blocks.as_slice())
 }
 
@@ -93,8 +94,7 @@ pub fn shown(
 {
     let world = session.world();
     let text = match command {
-        Command::Breaks => breaks_text(alloc, session.listings(), session.breaks()),
-        Command::Watches => watches_shown(alloc, session),
+        Command::Marks(kind) => marks_shown(alloc, session, *kind),
         Command::Steps => count_shown(alloc, session),
         Command::Taken => steps_shown(alloc, session),
         Command::Regs { pid } => regs_text(alloc, world, *pid),

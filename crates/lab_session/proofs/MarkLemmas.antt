@@ -1,7 +1,7 @@
--- Marked places.
+-- Marks.
 use Rattle.std.proofs.Common.{◌≡◌, ◌++◌, List, [], ◌∷◌, append_assoc}
-use Rattle.lab_session.specs.declared.marks.Place.{Place}
+use Rattle.lab_session.specs.declared.marks.Mark.{Mark}
 
--- a place between others
-pub one_between : (xs ys : List Place) (b : Place) → (xs ++ b ∷ []) ++ ys ≡ xs ++ b ∷ ys
-one_between xs ys b = append_assoc xs (b ∷ []) ys
+-- a mark between others
+pub one_between : (xs ys : List Mark) (m : Mark) → (xs ++ m ∷ []) ++ ys ≡ xs ++ m ∷ ys
+one_between xs ys m = append_assoc xs (m ∷ []) ys

@@ -1,14 +1,16 @@
--- Schedules up to a stop.
-use Rattle.std.proofs.Common.{◌≡◌, ℕ, zero, suc, ◌++◌, List, [], ◌∷◌, Option, Some, None, Bool, true, false, replicate, refl, sym, ap, ◌∙◌, append_assoc}
+-- Steps of blocks up to a stop.
+use Rattle.std.proofs.Common.{◌≡◌, ℕ, zero, suc, ◌++◌, ◌&&◌, List, [], ◌∷◌, Option, Some, None, Bool, true, false, not, replicate, slice_get, refl, sym, ap, ◌∙◌, append_assoc, append-nil}
 use Rattle.lab_sched.specs.Verdicts.{is_nothing}
-use Rattle.lab_sched.specs.Worlds.{WorldState, step_effect_in, step, run}
+use Rattle.lab_sched.specs.Worlds.{Process, WorldState, step_effect_in, step, run}
 use Rattle.lab_sched.specs.Schedules.{steps_of}
 use Rattle.lab_sched.specs.declared.schedule.block.Block.{Block}
-use Rattle.lab_session.specs.Marks.{MarksSeen}
-use Rattle.lab_session.specs.Stops.{is_stop, comes_to_stop, steps_to_stop, steps_played, stopped_process}
+use Rattle.lab_session.specs.declared.marks.Mark.{Mark}
+use Rattle.lab_session.specs.Marks.{break_at, stands_at_break, is_at_break}
+use Rattle.lab_session.specs.Sessions.{SessionState, effective, with_steps, after_steps}
+use Rattle.lab_session.specs.Stops.{is_stop, comes_to_stop, steps_to_stop, stopped_process, steps_until}
 use Rattle.lab_session.specs.Private.Stops.{only_if}
-use Rattle.lab_session.proofs.StepLemmas.{stays, run-rests}
-use Rattle.lab_session.proofs.StopLemmas.{rests-on}
+use Rattle.lab_session.proofs.StepLemmas.{run-same, effective-append}
+use Rattle.lab_session.proofs.StopLemmas.{went-rests}
 use Rattle.lab_session.proofs.BlockLemmas.{steps-cons}
 
 pub stop-yes : (b : Bool) (p : ℕ) (r : Option ℕ) → only_if b p ≡ r → b ≡ true → r ≡ Some p
@@ -17,18 +19,35 @@ stop-yes b p r is holds = sym is ∙ rw holds refl
 pub stop-no : (b : Bool) (p : ℕ) (r : Option ℕ) → only_if b p ≡ r → b ≡ false → r ≡ None
 stop-no b p r is fails = sym is ∙ rw fails refl
 
+-- where nothing is marked no step is a stop
+no-break : (p : ℕ) (s : Option Process) → stands_at_break [] p s ≡ false
+no-break p None = refl
+no-break p (Some s) = refl
+
+and-false : (b : Bool) → (b && false) ≡ false
+and-false true = refl
+and-false false = refl
+
+no-stop : (p : ℕ) (w : WorldState) → comes_to_stop [] p w ≡ false
+no-stop p w = rw (no-break p (slice_get (step w p).processes p)) (and-false (not (is_nothing (step_effect_in w p))))
+
+pub no_marks_no_stop : (w : WorldState) (ps : List ℕ) → steps_to_stop [] w ps ≡ ps
+unfolding steps_to_stop
+no_marks_no_stop w [] = refl
+no_marks_no_stop w (p ∷ ps) = rw (no-stop p w) (ap (λ zs. p ∷ zs) (no_marks_no_stop (step w p) ps))
+
 -- steps that come to no stop, and others behind them
-pub played-on : (ms : MarksSeen) (w : WorldState) (xs ys : List ℕ) → stopped_process ms w xs ≡ None → steps_played ms w (xs ++ ys) ≡ xs ++ steps_played ms (run w xs) ys
-unfolding steps_played stopped_process run
-played-on ms w [] ys is = refl
-played-on ms w (p ∷ xs) ys is = by (comes_to_stop ms p w) refl (λ k. played-on ms (step w p) xs ys k)
+steps-on : (ms : List Mark) (w : WorldState) (xs ys : List ℕ) → stopped_process ms w xs ≡ None → steps_to_stop ms w (xs ++ ys) ≡ xs ++ steps_to_stop ms (run w xs) ys
+unfolding steps_to_stop stopped_process run
+steps-on ms w [] ys is = refl
+steps-on ms w (p ∷ xs) ys is = by (comes_to_stop ms p w) refl (λ k. steps-on ms (step w p) xs ys k)
   where
-    by : (b : Bool) → comes_to_stop ms p w ≡ b → (stopped_process ms (step w p) xs ≡ None → steps_played ms (step w p) (xs ++ ys) ≡ xs ++ steps_played ms (run (step w p) xs) ys)
-        → steps_played ms w (p ∷ (xs ++ ys)) ≡ p ∷ (xs ++ steps_played ms (run (step w p) xs) ys)
+    by : (b : Bool) → comes_to_stop ms p w ≡ b → (stopped_process ms (step w p) xs ≡ None → steps_to_stop ms (step w p) (xs ++ ys) ≡ xs ++ steps_to_stop ms (run (step w p) xs) ys)
+        → steps_to_stop ms w (p ∷ (xs ++ ys)) ≡ p ∷ (xs ++ steps_to_stop ms (run (step w p) xs) ys)
     by true e more = let never : Some p ≡ None = (rw e at is) in cc
     by false e more = rw e (ap (λ zs. p ∷ zs) (more (rw e at is)))
 
-pub stopped-on : (ms : MarksSeen) (w : WorldState) (xs ys : List ℕ) → stopped_process ms w xs ≡ None → stopped_process ms w (xs ++ ys) ≡ stopped_process ms (run w xs) ys
+stopped-on : (ms : List Mark) (w : WorldState) (xs ys : List ℕ) → stopped_process ms w xs ≡ None → stopped_process ms w (xs ++ ys) ≡ stopped_process ms (run w xs) ys
 unfolding stopped_process run
 stopped-on ms w [] ys is = refl
 stopped-on ms w (p ∷ xs) ys is = by (comes_to_stop ms p w) refl (λ k. stopped-on ms (step w p) xs ys k)
@@ -38,18 +57,25 @@ stopped-on ms w (p ∷ xs) ys is = by (comes_to_stop ms p w) refl (λ k. stopped
     by true e more = let never : Some p ≡ None = (rw e at is) in cc
     by false e more = rw e (more (rw e at is))
 
+-- all of them are taken
+all-taken : (ms : List Mark) (w : WorldState) (xs : List ℕ) → stopped_process ms w xs ≡ None → steps_to_stop ms w xs ≡ xs
+unfolding steps_to_stop
+all-taken ms w xs is =
+    let none : steps_to_stop ms (run w xs) [] ≡ [] = refl in
+    ap (steps_to_stop ms w) (sym (append-nil xs)) ∙ steps-on ms w xs [] is ∙ ap (λ zs. xs ++ zs) none ∙ append-nil xs
+
 -- steps that come to a stop, and others behind them
-pub played-met : (ms : MarksSeen) (w : WorldState) (xs ys : List ℕ) (q : ℕ) → stopped_process ms w xs ≡ Some q → steps_played ms w (xs ++ ys) ≡ steps_played ms w xs
-unfolding steps_played stopped_process
-played-met ms w [] ys q is = cc
-played-met ms w (p ∷ xs) ys q is = by (comes_to_stop ms p w) refl (λ k. played-met ms (step w p) xs ys q k)
+steps-met : (ms : List Mark) (w : WorldState) (xs ys : List ℕ) (q : ℕ) → stopped_process ms w xs ≡ Some q → steps_to_stop ms w (xs ++ ys) ≡ steps_to_stop ms w xs
+unfolding steps_to_stop stopped_process
+steps-met ms w [] ys q is = cc
+steps-met ms w (p ∷ xs) ys q is = by (comes_to_stop ms p w) refl (λ k. steps-met ms (step w p) xs ys q k)
   where
-    by : (b : Bool) → comes_to_stop ms p w ≡ b → (stopped_process ms (step w p) xs ≡ Some q → steps_played ms (step w p) (xs ++ ys) ≡ steps_played ms (step w p) xs)
-        → steps_played ms w (p ∷ (xs ++ ys)) ≡ steps_played ms w (p ∷ xs)
+    by : (b : Bool) → comes_to_stop ms p w ≡ b → (stopped_process ms (step w p) xs ≡ Some q → steps_to_stop ms (step w p) (xs ++ ys) ≡ steps_to_stop ms (step w p) xs)
+        → steps_to_stop ms w (p ∷ (xs ++ ys)) ≡ steps_to_stop ms w (p ∷ xs)
     by true e more = rw e refl
     by false e more = rw e (ap (λ zs. p ∷ zs) (more (rw e at is)))
 
-pub stopped-met : (ms : MarksSeen) (w : WorldState) (xs ys : List ℕ) (q : ℕ) → stopped_process ms w xs ≡ Some q → stopped_process ms w (xs ++ ys) ≡ Some q
+stopped-met : (ms : List Mark) (w : WorldState) (xs ys : List ℕ) (q : ℕ) → stopped_process ms w xs ≡ Some q → stopped_process ms w (xs ++ ys) ≡ Some q
 unfolding stopped_process
 stopped-met ms w [] ys q is = cc
 stopped-met ms w (p ∷ xs) ys q is = by (comes_to_stop ms p w) refl (λ k. stopped-met ms (step w p) xs ys q k)
@@ -59,72 +85,90 @@ stopped-met ms w (p ∷ xs) ys q is = by (comes_to_stop ms p w) refl (λ k. stop
     by true e more = rw e (rw e at is)
     by false e more = rw e (more (rw e at is))
 
--- the steps of a process up to a stop, and its steps in a schedule
-pub to-break-none : (ms : MarksSeen) (p : ℕ) (w : WorldState) (n : ℕ) → stopped_process ms w (replicate n p) ≡ None → run w (steps_to_stop ms p w n) ≡ run w (replicate n p)
-unfolding steps_to_stop stopped_process run
-to-break-none ms p w zero is = refl
-to-break-none ms p w (suc n) is = by (is_nothing (step_effect_in w p)) (is_stop ms p w) refl refl (λ k. to-break-none ms p (step w p) n k)
+-- steps of one process that come to a stop all have an effect
+all-act : (ms : List Mark) (p : ℕ) (w : WorldState) (n q : ℕ) → stopped_process ms w (replicate n p) ≡ Some q
+    → steps_to_stop ms w (replicate n p) ≡ effective w (steps_to_stop ms w (replicate n p))
+unfolding steps_to_stop stopped_process effective
+all-act ms p w zero q is = cc
+all-act ms p w (suc n) q is = by (is_nothing (step_effect_in w p)) (is_stop ms p w) refl refl (λ k. all-act ms p (step w p) n q k)
   where
     by : (b m : Bool) → is_nothing (step_effect_in w p) ≡ b → is_stop ms p w ≡ m
-        → (stopped_process ms (step w p) (replicate n p) ≡ None → run (step w p) (steps_to_stop ms p (step w p) n) ≡ run (step w p) (replicate n p))
-        → run w (steps_to_stop ms p w (suc n)) ≡ run (step w p) (replicate n p)
-    by true m e met more = rw e (sym (run-rests (suc n) w p (stays w p (step_effect_in w p) e)))
-    by false true e met more = let never : Some p ≡ None = (rw (e, met) at is) in cc
-    by false false e met more = rw (e, met) (more (rw (e, met) at is))
-
-pub to-break-some : (ms : MarksSeen) (p : ℕ) (w : WorldState) (n q : ℕ) → stopped_process ms w (replicate n p) ≡ Some q → steps_to_stop ms p w n ≡ steps_played ms w (replicate n p)
-unfolding steps_to_stop steps_played stopped_process
-to-break-some ms p w zero q is = cc
-to-break-some ms p w (suc n) q is = by (is_nothing (step_effect_in w p)) (is_stop ms p w) refl refl (λ k. to-break-some ms p (step w p) n q k)
-  where
-    by : (b m : Bool) → is_nothing (step_effect_in w p) ≡ b → is_stop ms p w ≡ m
-        → (stopped_process ms (step w p) (replicate n p) ≡ Some q → steps_to_stop ms p (step w p) n ≡ steps_played ms (step w p) (replicate n p))
-        → steps_to_stop ms p w (suc n) ≡ steps_played ms w (p ∷ replicate n p)
-    by true m e met more = let never : None ≡ Some q = sym (rests-on ms p w (suc n) e) ∙ is in cc
+        → (stopped_process ms (step w p) (replicate n p) ≡ Some q → steps_to_stop ms (step w p) (replicate n p) ≡ effective (step w p) (steps_to_stop ms (step w p) (replicate n p)))
+        → steps_to_stop ms w (p ∷ replicate n p) ≡ effective w (steps_to_stop ms w (p ∷ replicate n p))
+    by true m e met more = let never : None ≡ Some q = sym (ap (λ t. t.1) (went-rests ms p w (suc n) e)) ∙ is in cc
     by false true e met more = rw (e, met) refl
     by false false e met more = rw (e, met) (ap (λ zs. p ∷ zs) (more (rw (e, met) at is)))
 
--- the world behind the steps of a block that comes to no stop
-pub world-on : (ms : MarksSeen) (w v : WorldState) (p n e : ℕ) → stopped_process ms w (replicate n p) ≡ None → replicate e p ≡ steps_to_stop ms p w n → v ≡ run w (replicate e p) → v ≡ run w (replicate n p)
-world-on ms w v p n e none steps v-is = v-is ∙ ap (run w) steps ∙ to-break-none ms p w n none
+-- the steps, those with an effect, the process that stopped, and the world
+abbrev pub Came : Type 0
+Came = List ℕ × List ℕ × Option ℕ × WorldState
 
--- the steps of the blocks behind such a block
-pub block-on : (ms : MarksSeen) (w v : WorldState) (b : Block) (rest : List Block) (xs ys all : List ℕ)
-    → stopped_process ms w (replicate b.count b.pid) ≡ None → v ≡ run w (replicate b.count b.pid) → ys ≡ xs ++ replicate b.count b.pid
-    → xs ++ steps_played ms w (steps_of (b ∷ rest)) ≡ all → ys ++ steps_played ms v (steps_of rest) ≡ all
-block-on ms w v b rest xs ys all none v-is ys-is is =
+-- what steps come to
+abbrev pub came : List Mark → WorldState → List ℕ → Came
+came ms w ps = (steps_to_stop ms w ps, effective w (steps_to_stop ms w ps), stopped_process ms w ps, run w (steps_to_stop ms w ps))
+
+-- the same behind other steps
+abbrev pub after : List ℕ → List ℕ → Came → Came
+after xs ys t = (xs ++ t.0, ys ++ t.1, t.2, t.3)
+
+after-both : (xs ys us vs : List ℕ) (t : Came) → after (xs ++ us) (ys ++ vs) t ≡ after xs ys (after us vs t)
+after-both xs ys us vs t = rw (append_assoc xs us t.0, append_assoc ys vs t.1) refl
+
+came-on : (ms : List Mark) (w : WorldState) (xs ys : List ℕ) → stopped_process ms w xs ≡ None → came ms w (xs ++ ys) ≡ after xs (effective w xs) (came ms (run w xs) ys)
+came-on ms w xs ys is =
+    let zs = steps_to_stop ms (run w xs) ys in
+    rw (steps-on ms w xs ys is, stopped-on ms w xs ys is, effective-append w xs zs, run-same w xs zs) refl
+
+came-met : (ms : List Mark) (w : WorldState) (xs ys : List ℕ) (q : ℕ) → stopped_process ms w xs ≡ Some q → came ms w (xs ++ ys) ≡ came ms w xs
+came-met ms w xs ys q is = rw (steps-met ms w xs ys q is, stopped-met ms w xs ys q is, is) refl
+
+cut-steps : (ms : List Mark) (w : WorldState) (left rest : List Block) (b : Block) → left ≡ b ∷ rest → came ms w (steps_of left) ≡ came ms w (replicate b.count b.pid ++ steps_of rest)
+cut-steps ms w left rest b cut = ap (λ bs. came ms w (steps_of bs)) cut ∙ ap (came ms w) (steps-cons b rest)
+
+-- a block that comes to no stop
+pub block-on : (ms : List Mark) (w v : WorldState) (b : Block) (left rest : List Block) (xs ys us vs : List ℕ) (e : ℕ) (all : Came)
+    → left ≡ b ∷ rest → stopped_process ms w (replicate b.count b.pid) ≡ None
+    → replicate e b.pid ≡ effective w (steps_to_stop ms w (replicate b.count b.pid)) → v ≡ run w (steps_to_stop ms w (replicate b.count b.pid))
+    → us ≡ xs ++ replicate b.count b.pid → vs ≡ ys ++ replicate e b.pid
+    → after xs ys (came ms w (steps_of left)) ≡ all → after us vs (came ms v (steps_of rest)) ≡ all
+block-on ms w v b left rest xs ys us vs e all cut none acted v-is us-is vs-is is =
     let steps = replicate b.count b.pid in
-    ap (λ zs. zs ++ steps_played ms v (steps_of rest)) ys-is
-    ∙ append_assoc xs steps (steps_played ms v (steps_of rest))
-    ∙ ap (λ u. xs ++ (steps ++ steps_played ms u (steps_of rest))) v-is
-    ∙ ap (λ zs. xs ++ zs) (sym (played-on ms w steps (steps_of rest) none) ∙ ap (steps_played ms w) (sym (steps-cons b rest)))
-    ∙ is
+    let whole : steps_to_stop ms w steps ≡ steps = all-taken ms w steps none in
+    let some : vs ≡ ys ++ effective w steps = vs-is ∙ ap (λ zs. ys ++ zs) (acted ∙ ap (effective w) whole) in
+    let there : v ≡ run w steps = v-is ∙ ap (run w) whole in
+    rw (us-is, some, there)
+    (after-both xs ys steps (effective w steps) (came ms (run w steps) (steps_of rest))
+    ∙ ap (after xs ys) (sym (cut-steps ms w left rest b cut ∙ came-on ms w steps (steps_of rest) none))
+    ∙ is)
 
-pub stop-on : (ms : MarksSeen) (w v : WorldState) (b : Block) (rest : List Block) (all : Option ℕ)
-    → stopped_process ms w (replicate b.count b.pid) ≡ None → v ≡ run w (replicate b.count b.pid)
-    → stopped_process ms w (steps_of (b ∷ rest)) ≡ all → stopped_process ms v (steps_of rest) ≡ all
-stop-on ms w v b rest all none v-is is =
-    ap (λ u. stopped_process ms u (steps_of rest)) v-is
-    ∙ sym (stopped-on ms w (replicate b.count b.pid) (steps_of rest) none) ∙ ap (stopped_process ms w) (sym (steps-cons b rest)) ∙ is
+-- a block that comes to a stop
+pub block-met : (ms : List Mark) (w v : WorldState) (b : Block) (left rest : List Block) (xs ys us vs : List ℕ) (e : ℕ) (all : Came)
+    → left ≡ b ∷ rest → stopped_process ms w (replicate b.count b.pid) ≡ Some b.pid
+    → replicate e b.pid ≡ effective w (steps_to_stop ms w (replicate b.count b.pid)) → v ≡ run w (steps_to_stop ms w (replicate b.count b.pid))
+    → us ≡ xs ++ replicate e b.pid → vs ≡ ys ++ replicate e b.pid
+    → after xs ys (came ms w (steps_of left)) ≡ all → (us, vs, Some b.pid, v) ≡ all
+block-met ms w v b left rest xs ys us vs e all cut met acted v-is us-is vs-is is =
+    let steps = replicate b.count b.pid in
+    let whole : replicate e b.pid ≡ steps_to_stop ms w steps = acted ∙ sym (all-act ms b.pid w b.count b.pid met) in
+    let those : us ≡ xs ++ steps_to_stop ms w steps = us-is ∙ ap (λ zs. xs ++ zs) whole in
+    let some : vs ≡ ys ++ effective w (steps_to_stop ms w steps) = vs-is ∙ ap (λ zs. ys ++ zs) acted in
+    rw (those, some, v-is, sym met)
+    (ap (after xs ys) (sym (cut-steps ms w left rest b cut ∙ came-met ms w steps (steps_of rest) b.pid met))
+    ∙ is)
 
--- the steps up to a stop, in a block that comes to one
-pub block-met : (ms : MarksSeen) (w : WorldState) (b : Block) (rest : List Block) (xs ys all : List ℕ) (e : ℕ)
-    → stopped_process ms w (replicate b.count b.pid) ≡ Some b.pid → replicate e b.pid ≡ steps_to_stop ms b.pid w b.count → ys ≡ xs ++ replicate e b.pid
-    → xs ++ steps_played ms w (steps_of (b ∷ rest)) ≡ all → ys ≡ all
-block-met ms w b rest xs ys all e met steps ys-is is =
-    ys-is ∙ ap (λ zs. xs ++ zs) (steps ∙ to-break-some ms b.pid w b.count b.pid met
-    ∙ sym (played-met ms w (replicate b.count b.pid) (steps_of rest) b.pid met) ∙ ap (steps_played ms w) (sym (steps-cons b rest)))
-    ∙ is
+-- before the first block, and behind the last
+pub blocks-start : (ms : List Mark) (w : WorldState) (bs us vs : List Block) → us ≡ [] → vs ≡ [] → after (steps_of us) (steps_of vs) (came ms w (steps_of bs)) ≡ came ms w (steps_of bs)
+unfolding steps_of
+blocks-start ms w bs us vs us-is vs-is = rw (us-is, vs-is) refl
 
-pub stop-at : (ms : MarksSeen) (w : WorldState) (b : Block) (rest : List Block) (all : Option ℕ)
-    → stopped_process ms w (replicate b.count b.pid) ≡ Some b.pid → stopped_process ms w (steps_of (b ∷ rest)) ≡ all → Some b.pid ≡ all
-stop-at ms w b rest all met is =
-    sym (stopped-met ms w (replicate b.count b.pid) (steps_of rest) b.pid met) ∙ ap (stopped_process ms w) (sym (steps-cons b rest)) ∙ is
+pub blocks-done : (ms : List Mark) (w : WorldState) (left : List Block) (xs ys : List ℕ) (all : Came) → left ≡ []
+    → after xs ys (came ms w (steps_of left)) ≡ all → (xs, ys, None, w) ≡ all
+unfolding steps_of steps_to_stop stopped_process effective run
+blocks-done ms w left xs ys all none is =
+    let those : List ℕ → List ℕ → Came = λ us vs. (us, vs, None, w) in
+    ap (λ us. those us ys) (sym (append-nil xs)) ∙ ap (those (xs ++ [])) (sym (append-nil ys)) ∙ (rw none at is)
 
-pub play-none : (ms : MarksSeen) (w : WorldState) → steps_played ms w (steps_of []) ≡ []
-unfolding steps_of steps_played
-play-none ms w = refl
-
-pub stop-none : (ms : MarksSeen) (w : WorldState) → None ≡ stopped_process ms w (steps_of [])
-unfolding steps_of stopped_process
-stop-none ms w = refl
+-- a session whose process is at the address already
+pub none_until : (s : SessionState) (pid a n : ℕ) → is_at_break (break_at pid a ∷ []) pid s.world ≡ true → s ≡ after_steps s (steps_until pid a s.world n)
+unfolding run
+none_until s pid a n here = rw here (ap (λ xs. with_steps s xs s.world) (sym (append-nil s.steps)))

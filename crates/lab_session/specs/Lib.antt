@@ -1,8 +1,8 @@
 pub mod Listings
 pub mod Places
 pub mod Marks
-pub mod Breaks
 pub mod Watches
+pub mod MarkTexts
 pub mod Stops
 pub mod Played
 pub mod Taken

@@ -2,7 +2,7 @@
 //! were taken, the world after them, and where a process stands in its source.
 #![tactic(auto)]
 
-mod breaks;
+mod mark_texts;
 mod marks;
 mod places;
 mod playing;
@@ -11,10 +11,11 @@ mod stepping;
 mod taken;
 mod watches;
 
-pub use breaks::{break_text, breaks_text, clear_text};
-pub use marks::{Place, has_place};
+pub use mark_texts::{marks_text, off_text, push_changes, set_text};
+pub use marks::{Mark, MarkKind, has_mark};
 pub use places::{code_text, labels_text, where_text};
 pub use playing::play_text;
 pub use state::Session;
+pub use stepping::step_count;
 pub use taken::taken_text;
-pub use watches::{Watched, push_changes, unwatch_text, watch_text, watched_at, watches_text};
+pub use watches::Watched;

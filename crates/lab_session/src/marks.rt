@@ -1,160 +1,140 @@
-//! Marked places: the breaks and the watches of a session.
-ghost use Rattle.std.specs.Prelude.{◌≡◌, Some, IfOk, OnOk, filter};
-ghost use Rattle.lab_session.specs.Breaks.{mark_text};
-ghost use Rattle.lab_session.specs.Marks.{is_same, is_before, has_place, with_place, without_place, no_marks, with_breaks, with_watches, marks_seen};
+//! Marks: addresses of processes that steps stop at, or whose words they watch.
+ghost use Rattle.std.specs.Prelude.{◌≡◌, IfOk, filter};
+ghost use Rattle.lab_session.specs.Marks.{rank, is_of, is_same, is_lower, is_before, has_mark, with_mark, without_mark, of_kind, break_at, is_at_break};
 
-use crate::state::listing_in;
-use lab_sources::{Listing, NearestLabel};
-use lc3_word::Hex;
+use lab_sched::World;
 use std::alloc::{AllocError, Global};
-use std::fmt;
 
-/// An address of a process.
+/// What a mark is for.
 #[derive(Clone, Copy)]
-pub struct Place {
+pub enum MarkKind {
+    /// Steps of the process stop at the address.
+    Break,
+    /// Steps stop where they change the word at the address.
+    Watch,
+}
+
+/// A marked address of a process.
+#[derive(Clone, Copy)]
+pub struct Mark {
+    pub kind: MarkKind,
     pub pid: usize,
     pub address: u16,
 }
 
-/// Whether a place comes before another one, in the order of process and address.
-fn is_before(place: Place, other: Place) -> bool
-    ensures value { result ≡ is_before place other }
+/// Breaks come before watches.
+fn rank(kind: MarkKind) -> u8
+    ensures value { result ≡ rank kind }
 {
-    place.pid < other.pid || (place.pid == other.pid && place.address < other.address)
+    match kind {
+        MarkKind::Break => 0,
+        MarkKind::Watch => 1,
+    }
 }
 
-/// Whether both are the same place.
-fn is_same(place: Place, other: Place) -> bool
-    ensures value { result ≡ is_same place other }
+fn is_of(kind: MarkKind, mark: Mark) -> bool
+    ensures value { result ≡ is_of kind mark }
 {
-    place.pid == other.pid && place.address == other.address
+    rank(mark.kind) == rank(kind)
 }
 
-/// Whether a place is one of these.
-pub fn has_place(places: &[Place], place: Place) -> bool
-    ensures value { result ≡ has_place places.now place }
+fn is_same(mark: Mark, other: Mark) -> bool
+    ensures value { result ≡ is_same mark other }
 {
-    places.iter().any(|it| is_same(*it, place))
+    is_of(other.kind, mark) && mark.pid == other.pid && mark.address == other.address
 }
 
-/// Those before a place.
-fn places_before(alloc: Global, places: &[Place], place: Place) -> Result<Vec<Place>, AllocError>
-    ensures places { IfOk result
-        (λ found. found.items ≡ filter (λ it. is_before it place) places.now) }
+/// Whether a mark comes before another one, in the order of process and address.
+fn is_lower(mark: Mark, other: Mark) -> bool
+    ensures value { result ≡ is_lower mark other }
 {
-    places
+    mark.pid < other.pid || (mark.pid == other.pid && mark.address < other.address)
+}
+
+/// Whether a mark comes before another one, in the order of kind, process and address.
+fn is_before(mark: Mark, other: Mark) -> bool
+    ensures value { result ≡ is_before mark other }
+{
+    rank(mark.kind) < rank(other.kind) || (is_of(other.kind, mark) && is_lower(mark, other))
+}
+
+/// Whether a mark is one of these.
+pub fn has_mark(marks: &[Mark], mark: Mark) -> bool
+    ensures value { result ≡ has_mark marks.now mark }
+{
+    marks.iter().any(|it| is_same(*it, mark))
+}
+
+fn marks_before(alloc: Global, marks: &[Mark], mark: Mark) -> Result<Vec<Mark>, AllocError>
+    ensures marks { IfOk result
+        (λ found. found.items ≡ filter (λ it. is_before it mark) marks.now) }
+{
+    marks
         .iter()
         .copied()
-        .filter(|it| is_before(*it, place))
+        .filter(|it| is_before(*it, mark))
         .collect(alloc)
 }
 
-/// Those behind a place.
-fn places_behind(alloc: Global, places: &[Place], place: Place) -> Result<Vec<Place>, AllocError>
-    ensures places { IfOk result
-        (λ found. found.items ≡ filter (λ it. is_before place it) places.now) }
+fn marks_behind(alloc: Global, marks: &[Mark], mark: Mark) -> Result<Vec<Mark>, AllocError>
+    ensures marks { IfOk result
+        (λ found. found.items ≡ filter (λ it. is_before mark it) marks.now) }
 {
-    places
+    marks
         .iter()
         .copied()
-        .filter(|it| is_before(place, *it))
+        .filter(|it| is_before(mark, *it))
         .collect(alloc)
 }
 
-/// These with a place, in the order of process and address.
+/// These with a mark, in the order of kind, process and address.
 #[tactic(auto, using(crate::proofs::MarkLemmas::one_between))]
-fn with_place(alloc: Global, places: &[Place], place: Place) -> Result<Vec<Place>, AllocError>
-    ensures places { IfOk result (λ all. all.items ≡ with_place places.now place) }
+pub fn with_mark(alloc: Global, marks: &[Mark], mark: Mark) -> Result<Vec<Mark>, AllocError>
+    ensures marks { IfOk result (λ all. all.items ≡ with_mark marks.now mark) }
 {
-    let mut all = places_before(alloc, places, place)?;
-    all.push(place)?;
-    let behind = places_behind(alloc, places, place)?;
+    let mut all = marks_before(alloc, marks, mark)?;
+    all.push(mark)?;
+    let behind = marks_behind(alloc, marks, mark)?;
     all.extend_from_slice(behind.as_slice())?;
     Ok(all)
 }
 
-/// The other places.
-fn without_place(alloc: Global, places: &[Place], place: Place) -> Result<Vec<Place>, AllocError>
-    ensures places { IfOk result (λ left. left.items ≡ without_place places.now place) }
+/// The other marks.
+pub fn without_mark(alloc: Global, marks: &[Mark], mark: Mark) -> Result<Vec<Mark>, AllocError>
+    ensures marks { IfOk result (λ left. left.items ≡ without_mark marks.now mark) }
 {
-    places
+    marks
         .iter()
         .copied()
-        .filter(|it| !is_same(*it, place))
+        .filter(|it| !is_same(*it, mark))
         .collect(alloc)
 }
 
-/// The breaks and the watches of a session, each in the order of process and address.
-#[derive(Drop)]
-pub struct Marks {
-    pub breaks: Vec<Place>,
-    pub watches: Vec<Place>,
+/// The marks of a kind.
+pub fn of_kind(alloc: Global, marks: &[Mark], kind: MarkKind) -> Result<Vec<Mark>, AllocError>
+    ensures marks { IfOk result (λ found. found.items ≡ of_kind kind marks.now) }
+{
+    marks
+        .iter()
+        .copied()
+        .filter(|it| is_of(kind, *it))
+        .collect(alloc)
 }
 
-impl Marks {
-    /// Neither breaks nor watches.
-    pub fn new(alloc: Global) -> Marks
-        ensures none { marks_seen result ≡ no_marks }
-    {
-        Marks {
-            breaks: Vec::new(alloc),
-            watches: Vec::new(alloc),
-        }
-    }
-
-    /// Sets a break, which may be there already.
-    pub fn set_break(&mut self, alloc: Global, place: Place) -> Result<(), AllocError>
-        ensures marks { OnOk result (marks_seen self.new ≡ with_breaks (marks_seen self.old)
-            (with_place (marks_seen self.old).breaks place)) }
-    {
-        self.breaks = with_place(alloc, &self.breaks, place)?;
-        Ok(())
-    }
-
-    /// Takes a break off.
-    pub fn clear_break(&mut self, alloc: Global, place: Place) -> Result<(), AllocError>
-        ensures marks { OnOk result (marks_seen self.new ≡ with_breaks (marks_seen self.old)
-            (without_place (marks_seen self.old).breaks place)) }
-    {
-        self.breaks = without_place(alloc, &self.breaks, place)?;
-        Ok(())
-    }
-
-    /// Sets a watch, which may be there already.
-    pub fn set_watch(&mut self, alloc: Global, place: Place) -> Result<(), AllocError>
-        ensures marks { OnOk result (marks_seen self.new ≡ with_watches (marks_seen self.old)
-            (with_place (marks_seen self.old).watches place)) }
-    {
-        self.watches = with_place(alloc, &self.watches, place)?;
-        Ok(())
-    }
-
-    /// Takes a watch off.
-    pub fn clear_watch(&mut self, alloc: Global, place: Place) -> Result<(), AllocError>
-        ensures marks { OnOk result (marks_seen self.new ≡ with_watches (marks_seen self.old)
-            (without_place (marks_seen self.old).watches place)) }
-    {
-        self.watches = without_place(alloc, &self.watches, place)?;
-        Ok(())
-    }
+/// A break at an address of a process.
+pub fn break_at(pid: usize, address: u16) -> Mark
+    ensures value { result ≡ break_at pid address }
+{
+    let kind = MarkKind::Break;
+    Mark { kind, pid, address }
 }
 
-/// A place as it is shown, with the nearest label of its address.
-#[derive(Clone, Copy)]
-pub struct Marked<'a> {
-    pub listings: &'a [Option<Listing>],
-    pub place: Place,
-}
-
-impl fmt::Display for Marked<'_> {
-    ghost output = { λ m. Some (mark_text m.listings.now m.place) };
-
-    #[tactic(auto, unfolding(crate::specs::Breaks::mark_text))]
-    fn fmt<W: fmt::Write>(&self, f: &mut fmt::Formatter<W>) -> fmt::Result {
-        let Place { pid, address } = self.place;
-        let shown = Hex(address);
-        let listing = listing_in(self.listings, pid);
-        let label = NearestLabel { listing, address };
-        write!(f, "{pid} {shown} {label}")
+/// Whether process `pid` is at one of its breaks.
+pub fn is_at_break(world: &World, marks: &[Mark], pid: usize) -> bool
+    ensures value { result ≡ is_at_break marks.now pid world.now }
+{
+    match world.process(pid) {
+        Some(process) => has_mark(marks, break_at(pid, process.machine().pc())),
+        None => false,
     }
 }

@@ -1,17 +1,16 @@
 //! The state of a session: its programs, the steps that were taken, and the world after them.
-ghost use Rattle.std.specs.Prelude.{◌≡◌, ◌↔◌, Err, IfOk, OnOk, OnErr, length, option_map};
+ghost use Rattle.std.specs.Prelude.{◌≡◌, ◌↔◌, Err, IfOk, OnOk, OnErr, [], ◌∷◌, length, option_map, replicate};
 ghost use Rattle.lab_sched.specs.Schedules.{steps_of};
 ghost use Rattle.lab_sched.specs.Starts.{IsCount, fresh};
 ghost use Rattle.lab_sched.specs.declared.fresh.FreshFault.TheVariants.{Count};
-ghost use Rattle.lab_session.specs.Marks.{with_place, without_place, with_breaks, with_watches};
+ghost use Rattle.lab_session.specs.Marks.{with_mark, without_mark, of_kind};
 ghost use Rattle.lab_session.specs.Watches.{watched_words};
-ghost use Rattle.lab_session.specs.Stops.{steps_to_stop, steps_played, stopped_process};
+ghost use Rattle.lab_session.specs.Stops.{steps_to_stop, stopped_process, steps_until};
 ghost use Rattle.lab_session.specs.Listings.{listing_of, has_labels};
-ghost use Rattle.lab_session.specs.Sessions.{session_from, with_marks, effective, after_steps, steps_until, back, state_of};
+ghost use Rattle.lab_session.specs.Sessions.{session_from, with_marks, effective, after_steps, back, state_of};
 
-use crate::marks::{Marks, Place};
-use crate::playing::{Played, play_blocks};
-use crate::stepping::{effective_blocks, push_steps, run_first, step_to_stop, step_until};
+use crate::marks::{Mark, MarkKind, break_at, is_at_break, of_kind, with_mark, without_mark};
+use crate::stepping::{advance, first_steps, step_count};
 use crate::watches::{Watched, watched_words};
 use lab_sched::{Block, Fresh, FreshFault, Program, Schedule, World};
 use lab_sources::Listing;
@@ -25,7 +24,7 @@ pub struct Session {
     listings: Vec<Option<Listing>>,
     help: &'static str,
     profile: Profile,
-    marks: Marks,
+    marks: Vec<Mark>,
     taken: Vec<Block>,
     world: World,
 }
@@ -87,7 +86,7 @@ impl Session {
             listings,
             help,
             profile,
-            marks: Marks::new(alloc),
+            marks: Vec::new(alloc),
             taken: Vec::new(alloc),
             world: World::from(fresh),
         })
@@ -129,104 +128,97 @@ impl Session {
         self.listings.as_slice()
     }
 
-    /// The breaks, in the order of process and address.
-    pub fn breaks(&self) -> &[Place]
-        ensures breaks { result.now ≡ (state_of self.now).marks.breaks }
+    /// The breaks and behind them the watches, each in the order of process and address.
+    pub fn marks(&self) -> &[Mark]
+        ensures marks { result.now ≡ (state_of self.now).marks }
     {
-        self.marks.breaks.as_slice()
+        self.marks.as_slice()
     }
 
-    /// The watches, in the order of process and address.
-    pub fn watches(&self) -> &[Place]
-        ensures watches { result.now ≡ (state_of self.now).marks.watches }
+    /// The marks of a kind.
+    pub fn marks_of(&self, alloc: Global, kind: MarkKind) -> Result<Vec<Mark>, AllocError>
+        ensures marks { IfOk result
+            (λ found. found.items ≡ of_kind kind (state_of self.now).marks) }
     {
-        self.marks.watches.as_slice()
+        of_kind(alloc, &self.marks, kind)
     }
 
     /// The watches with the words that are there.
     pub fn watched_words(&self, alloc: Global) -> Result<Vec<Watched>, AllocError>
         ensures words { IfOk result (λ found. found.items
-            ≡ watched_words (state_of self.now).marks.watches (state_of self.now).world) }
+            ≡ watched_words (state_of self.now).marks (state_of self.now).world) }
     {
-        watched_words(alloc, &self.world, &self.marks.watches)
+        watched_words(alloc, &self.world, &self.marks)
     }
 
-    /// Sets a break, which may be there already.
-    pub fn set_break(&mut self, alloc: Global, place: Place) -> Result<(), AllocError>
-        ensures state { OnOk result (state_of self.new ≡ with_marks (state_of self.old)
-            (with_breaks (state_of self.old).marks (with_place (state_of self.old).marks.breaks place))) }
+    /// Sets a mark, which may be there already.
+    pub fn set_mark(&mut self, alloc: Global, mark: Mark) -> Result<(), AllocError>
+        ensures state { OnOk result (state_of self.new
+            ≡ with_marks (state_of self.old) (with_mark (state_of self.old).marks mark)) }
     {
-        self.marks.set_break(alloc, place)
+        self.marks = with_mark(alloc, &self.marks, mark)?;
+        Ok(())
     }
 
-    /// Takes a break off.
-    pub fn clear_break(&mut self, alloc: Global, place: Place) -> Result<(), AllocError>
-        ensures state { OnOk result (state_of self.new ≡ with_marks (state_of self.old)
-            (with_breaks (state_of self.old).marks (without_place (state_of self.old).marks.breaks place))) }
+    /// Takes a mark off.
+    pub fn clear_mark(&mut self, alloc: Global, mark: Mark) -> Result<(), AllocError>
+        ensures state { OnOk result (state_of self.new
+            ≡ with_marks (state_of self.old) (without_mark (state_of self.old).marks mark)) }
     {
-        self.marks.clear_break(alloc, place)
+        self.marks = without_mark(alloc, &self.marks, mark)?;
+        Ok(())
     }
 
-    /// Sets a watch, which may be there already.
-    pub fn set_watch(&mut self, alloc: Global, place: Place) -> Result<(), AllocError>
-        ensures state { OnOk result (state_of self.new ≡ with_marks (state_of self.old)
-            (with_watches (state_of self.old).marks (with_place (state_of self.old).marks.watches place))) }
-    {
-        self.marks.set_watch(alloc, place)
-    }
-
-    /// Takes a watch off.
-    pub fn clear_watch(&mut self, alloc: Global, place: Place) -> Result<(), AllocError>
-        ensures state { OnOk result (state_of self.new ≡ with_marks (state_of self.old)
-            (with_watches (state_of self.old).marks (without_place (state_of self.old).marks.watches place))) }
-    {
-        self.marks.clear_watch(alloc, place)
-    }
-
-    /// Takes at most so many steps of a process: up to one that leads to a break or changes a
-    /// watched word, and only steps that have an effect.
-    pub fn go(&mut self, alloc: Global, pid: usize, count: u32) -> Result<(), AllocError>
-        ensures state { OnOk result (state_of self.new ≡ after_steps (state_of self.old)
-            (steps_to_stop (state_of self.old).marks pid (state_of self.old).world count)) }
-    {
-        let (taken, _) = step_to_stop(alloc, &mut self.world, &self.marks, pid, count)?;
-        push_steps(&mut self.taken, pid, taken)
-    }
-
-    /// Takes the steps of a schedule, up to one with an effect that leads its process to a break or
+    /// Takes the steps of blocks, up to one with an effect that leads its process to a break or
     /// changes a watched word; with how many steps were taken, and the process that stopped, if one
     /// did.
     #[tactic(auto, using(crate::proofs::BlockLemmas::steps_both))]
     pub fn play(
         &mut self,
         alloc: Global,
-        schedule: &Schedule,
+        blocks: &[Block],
     ) -> Result<(u64, Option<usize>), AllocError>
         ensures state { OnOk result (state_of self.new ≡ after_steps (state_of self.old)
-            (steps_played (state_of self.old).marks (state_of self.old).world (steps_of schedule.now))) }
-        ensures total { IfOk result (λ played. played.0 ≡ length
-            (steps_played (state_of self.old).marks (state_of self.old).world (steps_of schedule.now))) }
+            (steps_to_stop (state_of self.old).marks (state_of self.old).world (steps_of blocks.now))) }
+        ensures count { IfOk result (λ played. played.0 ≡ length
+            (steps_to_stop (state_of self.old).marks (state_of self.old).world (steps_of blocks.now))) }
         ensures stopped { IfOk result (λ played. played.1 ≡ stopped_process
-            (state_of self.old).marks (state_of self.old).world (steps_of schedule.now)) }
+            (state_of self.old).marks (state_of self.old).world (steps_of blocks.now)) }
     {
-        let Played {
-            steps,
-            total,
-            stopped,
-        } = play_blocks(alloc, &mut self.world, &self.marks, schedule.blocks())?;
-        self.taken.extend_from_slice(steps.as_slice())?;
-        Ok((total, stopped))
+        let taken = advance(alloc, &mut self.world, &self.marks, blocks)?;
+        self.taken.extend_from_slice(&taken.steps)?;
+        let count = step_count(&taken.steps)?;
+        Ok((count, taken.stopped))
     }
 
-    /// The steps that had an effect, and how many they are. The programs are run again from their
-    /// start.
-    pub fn effective(&self, alloc: Global) -> Result<(Vec<Block>, u64), AllocError>
-        ensures steps { IfOk result (λ kept. steps_of kept.0.items
-            ≡ effective (state_of self.now).start (state_of self.now).steps) }
-        ensures total { IfOk result (λ kept. kept.1 ≡ length (steps_of kept.0.items)) }
+    /// Takes at most so many steps of a process, up to one that leads it to this break.
+    #[tactic(auto, using(crate::proofs::BlockLemmas::steps_both, crate::proofs::BlockLemmas::one_block))]
+    fn step_to(&mut self, alloc: Global, goal: Mark, count: u32) -> Result<(), AllocError>
+        ensures state { OnOk result (state_of self.new ≡ after_steps (state_of self.old)
+            (steps_to_stop (goal ∷ []) (state_of self.old).world (replicate count goal.pid))) }
     {
-        let mut world = start_of(alloc, self.programs.as_slice(), self.profile)?;
-        effective_blocks(alloc, &mut world, self.taken.as_slice())
+        let pid = goal.pid;
+        let taken = advance(alloc, &mut self.world, &[goal], &[Block { pid, count }])?;
+        self.taken.extend_from_slice(&taken.steps)
+    }
+
+    /// Takes at most so many steps of a process, up to an address; none where it is there already.
+    pub fn step_until(
+        &mut self,
+        alloc: Global,
+        pid: usize,
+        address: u16,
+        count: u32,
+    ) -> Result<(), AllocError>
+        ensures state { OnOk result (state_of self.new ≡ after_steps (state_of self.old)
+            (steps_until pid address (state_of self.old).world count)) }
+    {
+        let goal = break_at(pid, address);
+        if is_at_break(&self.world, &[goal], pid) {
+            Ok(())
+        } else {
+            self.step_to(alloc, goal, count)
+        }
     }
 
     /// Takes the steps of a schedule.
@@ -241,28 +233,31 @@ impl Session {
         self.taken.extend_from_slice(schedule.blocks())
     }
 
-    /// Takes at most so many steps of a process: up to an address, and only steps that have an
-    /// effect.
-    pub fn step_until(&mut self, pid: usize, address: u16, count: u32) -> Result<(), AllocError>
-        ensures state { OnOk result (state_of self.new ≡ after_steps (state_of self.old)
-            (steps_until pid address (state_of self.old).world count)) }
+    /// The steps that had an effect. The programs are run again from their start.
+    #[tactic(auto, using(crate::proofs::PlayLemmas::no_marks_no_stop))]
+    pub fn effective(&self, alloc: Global) -> Result<Vec<Block>, AllocError>
+        ensures steps { IfOk result (λ kept. steps_of kept.items
+            ≡ effective (state_of self.now).start (state_of self.now).steps) }
     {
-        let taken = step_until(&mut self.world, pid, address, count)?;
-        push_steps(&mut self.taken, pid, taken)
+        let mut world = start_of(alloc, self.programs.as_slice(), self.profile)?;
+        let taken = advance(alloc, &mut world, &[], self.taken.as_slice())?;
+        Ok(taken.effective)
     }
 
     /// Goes back before the last `count` steps that had an effect, or to the start where there are
     /// fewer; with how many are left. The programs are run again from their start. Where memory is
     /// refused nothing has changed.
+    #[tactic(auto, using(crate::proofs::PlayLemmas::no_marks_no_stop))]
     pub fn back(&mut self, alloc: Global, count: u32) -> Result<u64, AllocError>
         ensures state { OnOk result (state_of self.new ≡ back count (state_of self.old)) }
         ensures left { IfOk result (λ left. left ≡ length (state_of self.new).steps) }
         ensures err { OnErr result (self.new ≡ self.old) }
     {
-        let (kept, total) = self.effective(alloc)?;
-        let left = total.saturating_sub(u64::from(count));
+        let kept = self.effective(alloc)?;
+        let left = step_count(&kept)?.saturating_sub(u64::from(count));
+        let taken = first_steps(alloc, &kept, left)?;
         let mut world = start_of(alloc, self.programs.as_slice(), self.profile)?;
-        let taken = run_first(alloc, &mut world, kept.as_slice(), left)?;
+        advance(alloc, &mut world, &[], &taken)?;
         self.taken = taken;
         self.world = world;
         Ok(left)

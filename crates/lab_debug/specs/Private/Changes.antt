@@ -1,7 +1,7 @@
 -- Commands that change the session or end it.
 use Rattle.std.specs.Prelude.{Bool, true, false}
 use Rattle.lab_debug.specs.declared.command.Command.{Command}
-use Rattle.lab_debug.specs.declared.command.Command.TheVariants.{Step, Run, Play, Until, Go, Break, Clear, Watch, Unwatch, Back, Quit}
+use Rattle.lab_debug.specs.declared.command.Command.TheVariants.{Step, Run, Play, Until, Go, Set, Unset, Back, Quit}
 
 -- whether a command changes the session or ends it, where its processes are there
 abbrev pub changes : Command → Bool
@@ -10,10 +10,8 @@ changes (Run schedule) = true
 changes (Play schedule) = true
 changes (Until pid address n) = true
 changes (Go pid n) = true
-changes (Break place) = true
-changes (Clear place) = true
-changes (Watch place) = true
-changes (Unwatch place) = true
+changes (Set mark) = true
+changes (Unset mark) = true
 changes (Back n) = true
 changes Quit = true
 changes command = false

@@ -19,7 +19,7 @@ loop-preserved g c =
     let is = rw c.as_slice.ensures.value at c.in_ok-reply.ensures.effect in
     let next : line_count_limit - (c.loop.counter + 1) ≡ room - 1 = omega arith in (
       sent ++ text,
-      Appends-trans _ _ _ sent text c.loop.invariant.1 (rw c.as_slice-2.ensures.value at c.in-Ok.ensures.bytes),
+      Appends-trans _ _ _ sent text c.loop.invariant.1 (rw c.as_slice-in-loop.ensures.value at c.in-Ok.ensures.bytes),
       rw next (IsReached-more line_effect (state_of c.args.state.now) _ _ _ sent room (state_of c.loop.state) c.in-Some.line.items _ is c.if-reply.false (omega (arith, c.loop-test.true)) short c.loop.invariant.2 took),
     )
 
@@ -30,7 +30,7 @@ returns-in_default-write_all-clause-prefix g c =
     let took = rw c.in-Some.is at c.in_ok-line.ensures.line in
     let short = rw c.in-Some.is at c.in_ok-line.ensures.limit in
     let is = rw c.as_slice.ensures.value at c.in_ok-reply.ensures.effect in
-    let part = rw c.as_slice-2.ensures.value at c.in_default-write_all.ensures.prefix in
+    let part = rw c.as_slice-in-loop.ensures.value at c.in_default-write_all.ensures.prefix in
     IsReached-part line_effect (state_of c.args.state.now) _ _ _ _ _ _ sent room (state_of c.loop.state) c.in-Some.line.items _ is (omega (arith, c.loop-test.true)) short c.loop.invariant.2 took c.loop.invariant.1 part
 
 pub returns-else-is_over-clause-fault : goal.returns-else-is_over-clause-fault
@@ -48,4 +48,4 @@ returns-then-reply-clause-written g c =
     let short = rw c.in-Some.is at c.in_ok-line.ensures.limit in
     let is = rw c.as_slice.ensures.value at c.in_ok-reply.ensures.effect in
     IsReached-ends line_effect (state_of c.args.state.now) _ _ _ _ _ _ sent room (state_of c.loop.state) c.in-Some.line.items _ is c.if-reply.true (omega (arith, c.loop-test.true)) short c.loop.invariant.2 took
-    c.loop.invariant.1 (rw c.as_slice-2.ensures.value at c.in-Ok.ensures.bytes)
+    c.loop.invariant.1 (rw c.as_slice-in-loop.ensures.value at c.in-Ok.ensures.bytes)

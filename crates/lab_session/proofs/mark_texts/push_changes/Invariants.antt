@@ -1,6 +1,6 @@
 use Rattle.std.proofs.Common.{◌≡◌, ◌++◌, drop, string_bytes}
-use Rattle.lab_session.specs.Watches.{changes_text}
-use Rattle.lab_session.proofs.watches.push_changes.Given as goal
+use Rattle.lab_session.specs.MarkTexts.{changes_text}
+use Rattle.lab_session.proofs.mark_texts.push_changes.Given as goal
 
 -- the changes so far and those that are left are all of them
 abbrev pub invariant-loop-word : goal.invariant-loop-word
