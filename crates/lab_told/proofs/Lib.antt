@@ -3,4 +3,5 @@ pub mod UnitLemmas
 pub mod NameLemmas
 pub mod BelowLemmas
 pub mod SceneLemmas
+pub mod TellingLemmas
 pub mod AnswerLemmas

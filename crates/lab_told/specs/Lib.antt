@@ -13,5 +13,6 @@ pub mod Givers
 pub mod Tallies
 pub mod Events
 pub mod Scenes
+pub mod Tellings
 pub mod Shown
 pub mod Private

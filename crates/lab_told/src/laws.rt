@@ -3,7 +3,7 @@ ghost use Rattle.lab_told.specs.Scenes.{StartsKept, StaysKept};
 ghost use Rattle.lab_told.specs.Shown.{ShowsAnswer, ShowsRefusal};
 
 /// Before the first step, and then after each, there is an account of each process, and the counts in the tally are below
-/// the number of the next step: so `trace_step` may be called with it.
+/// the number of the next step: so `tell_run` may be called with it.
 pub fn kept_law()
     ensures first { StartsKept }
     ensures next { StaysKept }

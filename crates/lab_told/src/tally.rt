@@ -83,6 +83,10 @@ impl Tally {
         })
     }
 
+    pub(crate) fn allocator(&self) -> Global {
+        *self.accounts.allocator()
+    }
+
     /// The account of a process.
     pub fn account(&self, pid: usize) -> Account
         ensures value { result ≡ account_of self.now pid }
