@@ -1,4 +1,5 @@
 pub mod PastLemmas
+pub mod StandLemmas
 pub mod JsonLemmas
 pub mod MomentLemmas
 pub mod FaultLemmas

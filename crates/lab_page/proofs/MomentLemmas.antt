@@ -11,7 +11,8 @@ use Rattle.lab_trace.specs.Lines.{line, events}
 use Rattle.lab_trace.specs.Forms.{Form}
 use Rattle.lab_told.specs.declared.told.Told.{Told}
 use Rattle.lab_told.specs.declared.told.Told.TheVariants.{Nothing}
-use Rattle.lab_trace.proofs.LineLemmas.{Stands, events-append, events-more}
+use Rattle.lab_trace.proofs.LineLemmas.{events-append}
+use Rattle.lab_page.proofs.StandLemmas.{Stands, events-more}
 use Rattle.lab_told.proofs.SceneLemmas.{renumbered, next-still, told-still, told-some}
 use Rattle.lab_page.specs.Private.Json.{more_json}
 use Rattle.lab_moments.specs.Pasts.{Past}

@@ -1,8 +1,6 @@
 -- The trace of a schedule: the lines of its steps, where the processes stand at its end, and the report.
-use Rattle.std.specs.Prelude.{◌≡◌, ◌<◌, ℕ, nat_le, slice_index_or, Bool, IsTrue, Option, Some, List, ◌++◌, length, position, ⊤}
+use Rattle.std.specs.Prelude.{◌≡◌, ℕ, nat_le, Bool, IsTrue, Option, Some, List, ◌++◌, length, position, ⊤}
 use Rattle.lab_sched.specs.Worlds.{WorldState}
-use Rattle.lab_sched.specs.Schedules.{block}
-use Rattle.lab_sched.specs.declared.schedule.block.Block.{Block}
 use Rattle.lab_sources.specs.declared.source.Source.{Source}
 use Rattle.lab_texts.specs.Reports.{report_text}
 use Rattle.lab_trace.specs.Forms.{Form, form_for}
@@ -28,10 +26,6 @@ trace_text w ss ps = trace_with (form_for (length ps) (length w.processes) ss) (
 -- how many steps come before the first of a process that isn't there, if there is one
 unfoldable pub missing_after : WorldState → List ℕ → Option ℕ
 missing_after w ps = position (λ p. nat_le (length w.processes) p) ps
-
--- each block is of a process that is there
-abbrev pub AreThere : WorldState → List Block → Type 0
-AreThere w bs = (i : ℕ) → i < length bs → (slice_index_or bs i (block 0 0)).pid < length w.processes
 
 -- why a trace broke off: a process that isn't there, or a writer that failed
 abbrev pub Explains : TraceFault → WorldState → List ℕ → Bool → Type 0

@@ -1,15 +1,15 @@
 //! A whole trace.
-ghost use Rattle.std.specs.Prelude.{◌≡◌, ◌<◌, ◌≤◌, ◌+◌, ℕ, Some, Err, IfNone, IsTrue, IfOk, IfErr, OnOk, OnErr, length, replicate, string_bytes};
+ghost use Rattle.std.specs.Prelude.{◌≡◌, ℕ, Some, Err, IfNone, IsTrue, IfOk, IfErr, OnOk, OnErr, [], refl, string_bytes};
 ghost use Rattle.std.specs.Io.KnownBytes.{Appends, Keeps};
 ghost use Rattle.lab_io.specs.Device.{AppendsPrefix};
-ghost use Rattle.lab_sched.specs.Worlds.{step, run};
-ghost use Rattle.lab_sched.specs.Schedules.{steps_of, total_of, most_steps};
-ghost use Rattle.lab_told.specs.Scenes.{scene_at, told, next_tally, scene_after, IsKept};
-ghost use Rattle.lab_trace.specs.Lines.{line, events};
+ghost use Rattle.lab_sched.specs.Worlds.{run};
+ghost use Rattle.lab_sched.specs.Schedules.{steps_of};
+ghost use Rattle.lab_told.specs.Tellings.{AreThere};
+ghost use Rattle.lab_trace.specs.Lines.{line};
 ghost use Rattle.lab_trace.specs.Ends.{end_lines};
-ghost use Rattle.lab_trace.specs.Traces.{ending, trace_text, missing_after, AreThere, Explains};
+ghost use Rattle.lab_trace.specs.Traces.{ending, trace_text, missing_after, Explains};
 ghost use Rattle.lab_trace.specs.Private.Faults.{IsFault};
-ghost use Rattle.lab_told.specs.declared.told.Told.TheVariants.{Nothing};
+ghost use Rattle.lab_trace.specs.Private.Written.{WritesLine, BreaksLine};
 ghost use Rattle.lab_trace.specs.declared.fault.TraceFault.TheVariants.{NoProcess, Write};
 
 use crate::ends::push_ends;
@@ -17,10 +17,10 @@ use crate::fault::TraceFault;
 use crate::form::Form;
 use crate::lines::step_line;
 use lab_io::Output;
-use lab_sched::{Block, Schedule, World};
+use lab_sched::{Schedule, World};
 use lab_sources::Source;
 use lab_texts::report_text;
-use lab_told::{Tally, steps_told, trace_step};
+use lab_told::{Taken, Tally, Telling, tell_run};
 use std::alloc::{AllocError, Global};
 use std::io::Write;
 
@@ -53,105 +53,30 @@ fn write_text<W: Write>(text: &str, output: &mut Output<W>) -> Result<(), TraceF
     }
 }
 
-/// Takes step number `number`, of process `pid`, and writes its line. The answer is how many of at most so many steps of the
-/// process it stands for.
-fn trace_one<W: Write>(
-    alloc: Global,
-    world: &mut World,
-    tally: &mut Tally,
-    form: &Form<'_>,
-    number: u32,
-    pid: usize,
-    most: u32,
-    output: &mut Output<W>,
-) -> Result<u32, TraceFault>
-    requires process { pid < length world.old.processes }
-    requires kept { IsKept (scene_at number world.old tally.old) }
-    requires some { 1 ≤ most }
-    ensures world { OnOk result (world.new ≡ step world.old pid) }
-    ensures tally { OnOk result
-        (tally.new ≡ next_tally (scene_at number world.old tally.old) pid) }
-    ensures written { OnOk result
-        (Appends (W.contents output.old.device) (W.contents output.new.device)
-        (line form.now (scene_at number world.old tally.old) pid)) }
-    ensures prefix { OnErr result
-        (AppendsPrefix (W.contents output.old.device) (W.contents output.new.device)
-        (line form.now (scene_at number world.old tally.old) pid)) }
-    ensures other { IfOk result (λ done.
-        (told (scene_at number world.old tally.old) pid ≡ Nothing → ⊥) → done ≡ 1) }
-    ensures some { IfOk result (λ done. 1 ≤ done) }
-    ensures within { IfOk result (λ done. done ≤ most) }
-    ensures fault { IfErr result (λ e. IsFault e output.new.failed) }
-{
-    let told = trace_step(alloc, world, tally, number, pid)?;
-    let line = step_line(alloc, form, number, pid, &told);
-    let done = steps_told(&told, most);
-    drop(told);
-    write_text(&line?, output)?;
-    Ok(done)
-}
+impl<'a, W: Write> Telling<Output<W>> for Form<'a> {
+    type Fault = TraceFault;
 
-/// Takes the steps of a block, of which the first has number `first`, and writes their lines.
-fn trace_block<W: Write>(
-    alloc: Global,
-    world: &mut World,
-    tally: &mut Tally,
-    form: &Form<'_>,
-    first: u32,
-    block: Block,
-    output: &mut Output<W>,
-) -> Result<(), TraceFault>
-    requires process { block.pid < length world.old.processes }
-    requires room { first + block.count ≤ most_steps + 1 }
-    requires kept { IsKept (scene_at first world.old tally.old) }
-    ensures scene { OnOk result (scene_at (first + block.count) world.new tally.new
-        ≡ scene_after (scene_at first world.old tally.old) (replicate block.count block.pid)) }
-    ensures written { OnOk result
-        (Appends (W.contents output.old.device) (W.contents output.new.device)
-        (events form.now (scene_at first world.old tally.old) (replicate block.count block.pid))) }
-    ensures prefix { OnErr result
-        (AppendsPrefix (W.contents output.old.device) (W.contents output.new.device)
-        (events form.now (scene_at first world.old tally.old) (replicate block.count block.pid))) }
-    ensures fault { IfErr result (λ e. IsFault e output.new.failed) }
-{
-    let mut done = 0;
-    while done < block.count {
-        let number = first + done;
-        let most = block.count - done;
-        let taken = trace_one(alloc, world, tally, form, number, block.pid, most, output)?;
-        done += taken;
-    }
-    Ok(())
-}
+    ghost use Rattle.std.proofs.Common.{subst, sym};
+    ghost use Rattle.std.proofs.KnownBytes.{Appends-nil};
 
-/// Takes the steps of blocks, of which the first has number 1, and writes their lines.
-fn trace_blocks<W: Write>(
-    alloc: Global,
-    world: &mut World,
-    tally: &mut Tally,
-    form: &Form<'_>,
-    blocks: &[Block],
-    output: &mut Output<W>,
-) -> Result<(), TraceFault>
-    requires kept { IsKept (scene_at 1 world.old tally.old) }
-    requires room { total_of blocks.now ≤ most_steps }
-    requires there { AreThere world.old blocks.now }
-    ensures scene { OnOk result ((number : ℕ) × (scene_at number world.new tally.new
-        ≡ scene_after (scene_at 1 world.old tally.old) (steps_of blocks.now))) }
-    ensures written { OnOk result
-        (Appends (W.contents output.old.device) (W.contents output.new.device)
-        (events form.now (scene_at 1 world.old tally.old) (steps_of blocks.now))) }
-    ensures prefix { OnErr result
-        (AppendsPrefix (W.contents output.old.device) (W.contents output.new.device)
-        (events form.now (scene_at 1 world.old tally.old) (steps_of blocks.now))) }
-    ensures fault { IfErr result (λ e. IsFault e output.new.failed) }
-{
-    let mut number = 1;
-    for block in blocks {
-        trace_block(alloc, world, tally, form, number, *block, output)?;
-        number += block.count;
+    ghost tells = { WritesLine W.contents };
+
+    ghost fails = { BreaksLine W.contents };
+
+    ghost refused = { λ v s p o e refused. (
+      record { sent = []; unsent = line v s p; whole = refl; appended = Appends-nil _ },
+      subst (λ x. IsFault x o.failed) (sym refused) tt,
+    ) };
+
+    fn tell_step(
+        &self,
+        alloc: Global,
+        output: &mut Output<W>,
+        taken: &Taken<'_>,
+    ) -> Result<(), TraceFault> {
+        let line = step_line(alloc, self, taken.number, taken.pid, taken.told)?;
+        write_text(&line, output)
     }
-    Ok(())
 }
 
 /// Where the processes stand that haven't ended.
@@ -214,7 +139,7 @@ pub fn trace<W: Write>(
     }
     let form = Form::new(alloc, schedule.total(), world.count(), sources)?;
     let mut tally = Tally::new(alloc, world.count())?;
-    trace_blocks(alloc, world, &mut tally, &form, schedule.blocks(), output)?;
+    tell_run(&form, output, world, &mut tally, schedule.blocks())?;
     let text = ending(alloc, world, &tally, &form)?;
     write_text(&text, output)
 }

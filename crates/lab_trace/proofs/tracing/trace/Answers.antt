@@ -4,25 +4,26 @@ use Rattle.std.proofs.KnownBytes.{Appends-trans}
 use Rattle.lab_io.proofs.Prefixes.{AppendsPrefix-after}
 use Rattle.lab_sched.specs.Schedules.{steps_of}
 use Rattle.lab_told.specs.Scenes.{Scene, scene_at, IsKept}
-use Rattle.lab_trace.specs.Lines.{events}
 use Rattle.lab_told.specs.Tallies.{new_tally}
 use Rattle.lab_told.proofs.SceneLemmas.{scene-world, kept-first}
+use Rattle.lab_trace.specs.Lines.{events}
+use Rattle.lab_trace.proofs.LineLemmas.{lines-told, lines-broke}
 use Rattle.lab_trace.proofs.WrittenLemmas.{on_err, on_ok, on_err-map, on_ok-map, trace-whole, lines-prefix, prefix-lines, form-is}
 use Rattle.lab_trace.proofs.tracing.trace.Goals as goal
 
-pub trace_blocks-requires-clause-kept : goal.trace_blocks-requires-clause-kept
-trace_blocks-requires-clause-kept g c =
+pub tell_run-requires-clause-kept : goal.tell_run-requires-clause-kept
+tell_run-requires-clause-kept g c =
     let first = c.in_ok-tally.ensures.empty ∙ ap new_tally c.count-2.ensures.count in
     subst (λ t. IsKept (scene_at 1 c.args.world.now t)) (sym first) (kept-first c.args.world.now)
 
-pub returns-in_err-trace_blocks-clause-prefix : goal.returns-in_err-trace_blocks-clause-prefix
-returns-in_err-trace_blocks-clause-prefix g c =
+pub returns-in_err-tell_run-clause-prefix : goal.returns-in_err-tell_run-clause-prefix
+returns-in_err-tell_run-clause-prefix g c =
     let ps = steps_of c.args.schedule.now in
     let v = c.in_ok-form.form in
     let wide = form-is v c.total.result c.count.result ps c.args.world.now c.args.sources.now c.in_ok-form.ensures.form c.total.ensures.steps c.count.ensures.count in
     let first = c.in_ok-tally.ensures.empty ∙ ap new_tally c.count-2.ensures.count in
-    let part = rw c.blocks-2.ensures.value at c.in_err-trace_blocks.ensures.prefix in
-    on_err _ _ (prefix-lines c.args.world.now c.args.sources.now ps v c.in_ok-tally.tally _ _ wide first part)
+    let part = rw c.blocks-2.ensures.value at c.in_err-tell_run.ensures.fault in
+    on_err _ _ (prefix-lines c.args.world.now c.args.sources.now ps v c.in_ok-tally.tally _ _ wide first (lines-broke g.W.Write.contents v _ ps _ _ _ part))
 
 pub returns-in_err-text-clause-prefix : goal.returns-in_err-text-clause-prefix
 returns-in_err-text-clause-prefix g c =
@@ -30,8 +31,8 @@ returns-in_err-text-clause-prefix g c =
     let v = c.in_ok-form.form in
     let wide = form-is v c.total.result c.count.result ps c.args.world.now c.args.sources.now c.in_ok-form.ensures.form c.total.ensures.steps c.count.ensures.count in
     let first = c.in_ok-tally.ensures.empty ∙ ap new_tally c.count-2.ensures.count in
-    let sent = rw c.blocks-2.ensures.value at c.in_ok-trace_blocks.ensures.written in
-    on_err _ _ (lines-prefix c.args.world.now c.args.sources.now ps v c.in_ok-tally.tally _ _ wide first sent)
+    let told = rw c.blocks-2.ensures.value at c.in_ok-tell_run.ensures.told in
+    on_err _ _ (lines-prefix c.args.world.now c.args.sources.now ps v c.in_ok-tally.tally _ _ wide first (lines-told g.W.Write.contents v _ ps _ _ told))
 
 pub returns-clause-written : goal.returns-clause-written
 returns-clause-written g c =
@@ -39,21 +40,21 @@ returns-clause-written g c =
     let v = c.in_ok-form.form in
     let wide = form-is v c.total.result c.count.result ps c.args.world.now c.args.sources.now c.in_ok-form.ensures.form c.total.ensures.steps c.count.ensures.count in
     let first = c.in_ok-tally.ensures.empty ∙ ap new_tally c.count-2.ensures.count in
-    let sent = rw c.blocks-2.ensures.value at c.in_ok-trace_blocks.ensures.written in
-    let led = rw c.blocks-2.ensures.value at c.in_ok-trace_blocks.ensures.scene in
+    let told = rw c.blocks-2.ensures.value at c.in_ok-tell_run.ensures.told in
+    let led = rw c.blocks-2.ensures.value at c.in_ok-tell_run.ensures.scene in
     let s = scene_at 1 c.args.world.now c.in_ok-tally.tally in
-    let whole = trace-whole c.args.world.now c.trace_blocks.new.world c.args.sources.now ps v c.in_ok-tally.tally c.trace_blocks.new.tally led.0 wide first led.1
+    let whole = trace-whole c.args.world.now c.tell_run.new.world c.args.sources.now ps v c.in_ok-tally.tally c.tell_run.new.tally _ wide first led
     ∙ ap (λ (l : List ℕ). events v s ps ++ l) (sym (c.deref.ensures ∙ c.in_ok-text.ensures.text)) in
     on_ok-map c.write_text.result _ _
     (λ more. subst (λ (l : List ℕ). Appends (g.W.Write.contents c.args.output.now.device) (g.W.Write.contents c.write_text.new.output.device) l) (sym whole)
-    (Appends-trans _ _ _ (events v s ps) c.deref.result.now sent more))
+    (Appends-trans _ _ _ (events v s ps) c.deref.result.now (lines-told g.W.Write.contents v s ps _ _ told) more))
     c.write_text.ensures.written
 
 pub returns-clause-world : goal.returns-clause-world
 returns-clause-world g c =
     let ps = steps_of c.args.schedule.now in
-    let led = rw c.blocks-2.ensures.value at c.in_ok-trace_blocks.ensures.scene in
-    on_ok _ _ (ap (λ (x : Scene). x.world) led.1 ∙ scene-world (scene_at 1 c.args.world.now c.in_ok-tally.tally) ps)
+    let led = rw c.blocks-2.ensures.value at c.in_ok-tell_run.ensures.scene in
+    on_ok _ _ (ap (λ (x : Scene). x.world) led ∙ scene-world (scene_at 1 c.args.world.now c.in_ok-tally.tally) ps)
 
 pub returns-clause-prefix : goal.returns-clause-prefix
 returns-clause-prefix g c =
@@ -61,11 +62,11 @@ returns-clause-prefix g c =
     let v = c.in_ok-form.form in
     let wide = form-is v c.total.result c.count.result ps c.args.world.now c.args.sources.now c.in_ok-form.ensures.form c.total.ensures.steps c.count.ensures.count in
     let first = c.in_ok-tally.ensures.empty ∙ ap new_tally c.count-2.ensures.count in
-    let sent = rw c.blocks-2.ensures.value at c.in_ok-trace_blocks.ensures.written in
-    let led = rw c.blocks-2.ensures.value at c.in_ok-trace_blocks.ensures.scene in
+    let told = rw c.blocks-2.ensures.value at c.in_ok-tell_run.ensures.told in
+    let led = rw c.blocks-2.ensures.value at c.in_ok-tell_run.ensures.scene in
     let s = scene_at 1 c.args.world.now c.in_ok-tally.tally in
-    let whole = trace-whole c.args.world.now c.trace_blocks.new.world c.args.sources.now ps v c.in_ok-tally.tally c.trace_blocks.new.tally led.0 wide first led.1
+    let whole = trace-whole c.args.world.now c.tell_run.new.world c.args.sources.now ps v c.in_ok-tally.tally c.tell_run.new.tally _ wide first led
     ∙ ap (λ (l : List ℕ). events v s ps ++ l) (sym (append-nil c.deref.result.now ∙ c.deref.ensures ∙ c.in_ok-text.ensures.text)) in
     on_err-map c.write_text.result _ _
-    (λ part. AppendsPrefix-after _ _ _ (events v s ps) c.deref.result.now [] _ sent part whole)
+    (λ part. AppendsPrefix-after _ _ _ (events v s ps) c.deref.result.now [] _ (lines-told g.W.Write.contents v s ps _ _ told) part whole)
     c.write_text.ensures.prefix

@@ -3,8 +3,8 @@ use Rattle.std.proofs.lemmas.Result.{err_from_is_err_and}
 use Rattle.lab_sched.specs.Worlds.{WorldState}
 use Rattle.lab_told.specs.Scenes.{scene_at, IsKept}
 use Rattle.lab_told.proofs.SceneLemmas.{scene-none, kept-after, length-step}
-use Rattle.lab_trace.proofs.LineLemmas.{events-none, stands}
-use Rattle.lab_trace.proofs.WrittenLemmas.{scene-told}
+use Rattle.lab_page.proofs.StandLemmas.{events-none, stands}
+use Rattle.lab_page.proofs.StandLemmas.{scene-told}
 use Rattle.serde_json.specs.Data.{Data}
 use Rattle.lab_page.specs.Private.Json.{more_json}
 use Rattle.lab_page.proofs.MomentLemmas.{moments-none, moments-told, json-more, lines-more}

@@ -7,8 +7,8 @@ use Rattle.lab_sched.proofs.ScheduleRuns.{steps_of-none, steps-more, steps-among
 use Rattle.lab_told.specs.Scenes.{Scene, scene_at, scene_after, IsKept}
 use Rattle.lab_trace.specs.Lines.{events}
 use Rattle.lab_told.proofs.SceneLemmas.{scene-none, kept-after, length-scene}
-use Rattle.lab_trace.proofs.LineLemmas.{events-none}
-use Rattle.lab_trace.proofs.WrittenLemmas.{scene-block}
+use Rattle.lab_page.proofs.StandLemmas.{events-none}
+use Rattle.lab_page.proofs.StandLemmas.{scene-block}
 use Rattle.serde_json.specs.Data.{Data}
 use Rattle.lab_page.specs.Moments.{moments}
 use Rattle.lab_moments.specs.Pasts.{Past}
