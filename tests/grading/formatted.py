@@ -102,5 +102,10 @@ def look_at_status(check, grader, folders):
     no_lab.write_text(no_lab.read_text().replace("$REAL", str(grader.place / "real")))
     printed, _, status = grader.call("--junit", grader.place / "marks.xml", "--", TASK, folders[0], LC3LAB=str(no_lab))
     check(status == 1 and printed.splitlines()[0].endswith(": no mark"), f"no mark: status {status}: {printed}")
+    # and neither is an assembler that crashes
+    no_lab.write_text(f"#!/bin/sh\n[ \"$2\" != --explain ] || exit 3\nexec {grader.place / 'real'} \"$@\"\n")
+    printed, _, status = grader.call("--", TASK, folders[0], LC3LAB=str(no_lab))
+    good = status == 1 and printed.splitlines()[0].endswith(": no mark") and "    asm ended with status 3\n" in printed
+    check(good, f"no assembler: status {status}: {printed}")
     faults = list(formats.junit_faults((grader.place / "marks.xml").read_bytes()))
     check(not faults, f"no mark: {faults}")

@@ -41,7 +41,7 @@ class Marking:
         return record
 
     def assemble(self, taken):
-        """The object file of each source that was handed in, or the lines that say why there is none."""
+        """The object file of each source that was handed in, or the lines that say why there is none, or that the machine failed."""
         objects = {}
         for name, source in taken.items():
             if source.fault:
@@ -58,6 +58,8 @@ class Marking:
         ran = self.laboratory.run(words, self.place, self.task.runs[0].bounds)
         if ran.status == 0 and not ran.bound:
             return target
+        if not ran.bound and ran.status != 1:
+            return NoMark(f"asm ended with status {ran.status}")
         told = [it.replace(f"{self.place}/asked/", "") for it in shown.lines(ran.errors, LONGEST_LINE + 200, 20)]
         return told or [f"{name} isn't accepted"]
 
@@ -91,6 +93,9 @@ class Marking:
         """What is found of a run: its verdict, and the schedule that shows it."""
         missing = {it.name: objects[it.name] for it in run.programs
                    if it.given is None and not isinstance(objects[it.name], Path)}
+        for it in missing.values():
+            if isinstance(it, NoMark):
+                raise it
         if missing:
             return {"verdict": "no program", "detail": [line for lines in missing.values() for line in lines]}
         words = self.furnish(place, run, objects)
