@@ -30,6 +30,7 @@ def look(check, grader):
         look_at_one(check, grader, task, folders, whole, number)
     look_at_records(check, grader, task, folders, whole)
     look_at_program(check, grader, task, folders[:2])
+    look_at_room(check, grader, task, folders[:2])
 
 
 def look_at_program(check, grader, task, folders):
@@ -64,6 +65,21 @@ def look_at_one(check, grader, task, folders, whole, number):
     check(found == whole, f"signal {number}: other marks: {found}")
     same = all((results / "records" / name).stat().st_mtime_ns == at for name, at in names.items())
     check(len(names) >= 5 and same, f"signal {number}: marks that were kept are worked out again")
+
+
+def look_at_room(check, grader, task, folders):
+    """A mark that can't be kept is told all the same."""
+    results = grader.place / "results-without-room"
+    (results / "records").mkdir(parents=True)
+    for _ in range(2):
+        printed = grader.call("--results", results, task, *folders)[0]
+        check(printed.count(" points\n") == len(folders), f"a mark isn't told: {printed}")
+        for kept in (results / "records").glob("*.json"):
+            # a folder in its place can't be written over
+            if kept.is_file():
+                kept.unlink()
+                kept.mkdir()
+    check(printed.count("    the mark isn't kept: ") == len(folders), f"marks that can't be kept: {printed}")
 
 
 def wait_for(results, count):

@@ -34,10 +34,13 @@ class Marking:
                   "of": sum(it.points for it in self.task.runs), "runs": runs, "warnings": self.warnings(objects, runs),
                   "megabytes": resource.getrusage(resource.RUSAGE_CHILDREN).ru_maxrss // 1024}
         if records and not {"no mark", "too long"} & {it["verdict"] for it in runs}:
-            records.keep(record)
-        else:
-            for it in runs:
-                it.update(dict.fromkeys(PAGES))
+            try:
+                records.keep(record)
+                return record
+            except OSError as it:
+                record["warnings"].append(f"the mark isn't kept: {it.strerror or it}")
+        for it in runs:
+            it.update(dict.fromkeys(PAGES))
         return record
 
     def assemble(self, taken):
@@ -81,8 +84,8 @@ class Marking:
                 "visibility": run.visibility, "schedule": None, **dict.fromkeys(PAGES)}
         try:
             part.update(self.judge(place, run, objects))
-        except NoMark as it:
-            part.update(verdict="no mark", detail=[str(it)])
+        except (NoMark, OSError, MemoryError) as it:
+            part.update(verdict="no mark", detail=[str(it) or type(it).__name__])
         if part["verdict"] == "pass":
             part["points"] = run.points
         part["seconds"] = round(spent_so_far() - spent, 3)
