@@ -33,11 +33,12 @@ def look_at_array(check, grader, folders, whole):
     """The jobs of an array, run here one behind the other as Slurm would run them."""
     results = grader.place / "array"
     for job in "1", "2":
-        given = grader.environment | {"SLURM_ARRAY_TASK_ID": job, "SLURM_ARRAY_TASK_COUNT": "2", "SLURM_CPUS_PER_TASK": "2"}
+        given = grader.environment | {"SLURM_ARRAY_TASK_ID": job, "SLURM_ARRAY_TASK_COUNT": "2", "SLURM_CPUS_PER_TASK": "2",
+                                        "GRADE_SEED": "a b"}
         ran = subprocess.run(["sh", SPREAD / "array.sbatch", GRADE, results, TASK, folders[0].parent], env=given,
                              stdout=subprocess.PIPE, stderr=subprocess.PIPE, cwd=grader.place, check=False)
         check(ran.returncode == 0 and not ran.stderr, f"array, job {job}: status {ran.returncode}: {ran.stderr.decode()}")
-    found = grader.call("--brief", "--results", results, TASK, *folders)[0].splitlines()[:-1]
+    found = grader.call("--brief", "--seed", "a b", "--results", results, TASK, *folders)[0].splitlines()[:-1]
     check(found == whole and len(list((results / "records").glob("*.json"))) == 7, f"array: {found}")
 
 
