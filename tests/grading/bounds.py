@@ -51,8 +51,8 @@ TIMES .FILL 24000
 TEXT  .STRINGZ "%s"
       .END
 """ % ("A" * 2500)
-# ten megabytes of quotation marks, of which a trace shows each by its number, and then a call
-QUOTES = MUCH.replace("A" * 2500, '\\"' * 2500).replace("24000", "4000").replace("      HALT", """
+# eight megabytes of quotation marks, each of which takes two bytes as JSON and four in a trace, and then a call
+QUOTES = MUCH.replace("A" * 2500, '\\"' * 2500).replace("24000", "3200").replace("      HALT", """
       LEA R0,NAME
       LD R1,CREATE
       AND R2,R2,#0
@@ -157,8 +157,8 @@ def look_at_length(check, grader):
     check("    the trace of an end, by which calls are known, has more output than is read\n" in printed, f"long output: {said}")
     check(f"{folder}: fail: 1 of 3 points\n" in printed, f"long output: {printed[:200]}")
     pages = [it.read_bytes() for it in results.glob("quotes-*/*.html")]
-    check(len(pages) == 4 and all(len(it) <= 4_000_000 and it.endswith(b"</html>\n") for it in pages), f"{len(pages)} long pages")
-    check(all(b"more than 4,000,000 bytes" in it for it in pages), "a page doesn't say that it was cut")
+    check(len(pages) == 4 and all(len(it) <= 4_000_000 and b"</html>" in it[-200:] for it in pages), f"{len(pages)} long pages")
+    check(any(b"more than 4,000,000 bytes" in it for it in pages), "no page says that it was cut")
 
 
 def look_at_seconds(check, grader, folders):

@@ -136,8 +136,8 @@ draw = { n = "0-4", word = ["x", "y"], d = { ascending = 3, of = "1-9" } }
 programs = [{ asked = "a.asm", input = "$(n)" }]
 outputs = ["$(n)"]
 [[run]]
-name = "$(n*2) and $(n+1) and $(n-n) and $(n+m*2)"
-draw = { n = "0-4", m = "5-9" }
+name = "$(n*2) and $(n+1) and $(n-n) and $(n+m*2), $(t.a) $(t.b)"
+draw = { n = "0-4", m = "5-9", t = [{ a = "one", b = "1" }, { a = "two", b = "2" }] }
 programs = [{ asked = "a.asm", input = "$(n)" }]
 outputs = [{ any = ["$(n)"] }]
 """
@@ -158,7 +158,7 @@ def look_at_seeds(check, grader):
             check({it["mark"] for it in rows if it["folder"] == str(right)} == {"pass"}, f"seed {seed}: {rows}")
         passed.add(rows[2]["mark"])
         names = [re.fullmatch(r"[0-4], [xy], ([1-9])([1-9])([1-9])", rows[0]["run"]),
-                 re.fullmatch(r"(\d) and (\d) and 0 and (\d+)", rows[1]["run"])]
+                 re.fullmatch(r"(\d) and (\d) and 0 and (\d+), (one 1|two 2)", rows[1]["run"])]
         check(names[0] and names[0][1] < names[0][2] < names[0][3], f"what is drawn: {rows[0]['run']}")
         check(names[1] and int(names[1][1]) == 2 * int(names[1][2]) - 2, f"what is worked out: {rows[1]['run']}")
     check(len(told) == 8 and len({it[1:] for it in told}) > 4, f"seeds: {told}")

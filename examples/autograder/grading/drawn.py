@@ -5,8 +5,8 @@ import re
 from .faults import TaskFault
 
 RANGE = re.compile(r"(\d{1,5})-(\d{1,5})")
-# $(n), $(n.0), $(n+2), $(n-m.1), and from left to right $(n+m*2)
-OPERAND = r"(?:[a-z]+(?:\.\d+)?|\d+)"
+# $(n), $(n.0), $(n.word), $(n+2), $(n-m.1), and from left to right $(n+m*2)
+OPERAND = r"(?:[a-z]+(?:\.(?:[a-z]+|\d+))?|\d+)"
 PLACE = re.compile(rf"\$\(({OPERAND})((?:[-+*]{OPERAND})*)\)")
 STEP = re.compile(rf"([-+*])({OPERAND})")
 BY_SIGN = {"+": lambda one, other: one + other, "-": lambda one, other: one - other, "*": lambda one, other: one * other}
@@ -41,9 +41,11 @@ def numbers_of(word):
 
 
 def draw(name, word, hat):
-    """What a name of `draw` stands for: a number, one of some texts, or several numbers."""
+    """What a name of `draw` stands for: a number, one of some texts, one of some tables of texts, or several numbers."""
     if isinstance(word, list) and word and all(isinstance(it, str) for it in word):
         return {name: hat.one_of(word)}
+    if isinstance(word, list) and word and all(isinstance(it, dict) for it in word):
+        return {f"{name}.{key}": it for key, it in hat.one_of(word).items() if isinstance(it, str)}
     if isinstance(word, dict) and word.keys() == {"ascending", "of"} and isinstance(word["ascending"], int):
         among = numbers_of(word["of"])
         if not 1 <= word["ascending"] <= len(among):

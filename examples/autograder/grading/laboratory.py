@@ -117,7 +117,8 @@ class Laboratory:
         known = self.file.read()
         self.identity = hashlib.sha256(version.stdout + known).hexdigest()
         # the file itself, also where another one comes to have its name; a script would take that for its own name
-        self.how = {"executable": f"/proc/self/fd/{self.file.fileno()}", "pass_fds": [self.file.fileno()]} if is_program(known) else {}
+        number = self.file.fileno()
+        self.how = {"executable": f"/proc/self/fd/{number}", "pass_fds": [number]} if is_program(known) else {}
         self.help = subprocess.run([command, "explore", "--help"], stdout=subprocess.PIPE, stderr=subprocess.PIPE,
                                    check=False).stdout.decode("utf-8", "replace")
 
@@ -125,13 +126,14 @@ class Laboratory:
         """`explore` has this option."""
         return option in self.help.replace(",", " ").replace("[", " ").replace("]", " ").split()
 
-    def run(self, words, folder, bounds, given=b"", most=MOST_BYTES):
+    def run(self, words, folder, bounds, given=b""):
         """Calls the program in a folder. Time that goes by without work is bounded, too, but at a multiple."""
         deadline = time.monotonic() + 10 * bounds.seconds + 30
         pipes = {"stdin": subprocess.PIPE, "stdout": subprocess.PIPE, "stderr": subprocess.PIPE}
         environment = {"PATH": PLACES_OF_TOOLS, "LC_ALL": "C"}
-        child = subprocess.Popen([self.command, *words], cwd=folder, env=environment, preexec_fn=bounds.impose, **self.how, **pipes)
-        taken = Pipes(child, given, most)
+        how = {"cwd": folder, "env": environment, "preexec_fn": bounds.impose, **self.how, **pipes}
+        child = subprocess.Popen([self.command, *words], **how)
+        taken = Pipes(child, given, MOST_BYTES)
         bound = taken.run(deadline)
         if bound:
             child.kill()

@@ -56,7 +56,7 @@ def part_of(folders, word):
 
 
 def keep_out(said):
-    """What is written has a place, and none in a folder that was handed in. A link is no folder of a student's, and isn't read."""
+    """What is written has a place, and none in a folder that was handed in. A link isn't read, so it is none."""
     inside = {os.path.realpath(it) for it in said.folders if not os.path.islink(it.rstrip("/"))}
     for target in [it for it in (said.results, said.junit, said.gradescope, said.csv) if it]:
         place = Path(os.path.realpath(target))

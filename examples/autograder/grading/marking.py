@@ -12,8 +12,6 @@ from .records import PAGES
 LINES_OF_TRACE = 40
 LONGEST_LINE = 300
 LONGEST_OUTPUT = 100_000
-# a trace is read line by line, and a longer one than this isn't read
-MOST_OF_TRACE = 64 << 20
 
 
 class Marking:
@@ -44,7 +42,7 @@ class Marking:
         return record
 
     def assemble(self, taken):
-        """The object file of each source that was handed in, or the lines that say why there is none, or that the machine failed."""
+        """The object file of each source that was handed in, or the lines that say why there is none, or that nobody knows."""
         objects = {}
         for name, source in taken.items():
             if source.fault:
@@ -184,7 +182,7 @@ class Marking:
         """The trace of a run by a schedule."""
         given = f"{schedule}\n".encode()
         words = ["trace", "--profile", run.options["profile"], *options, *words]
-        return self.laboratory.run(words, self.place, run.bounds, given, MOST_OF_TRACE)
+        return self.laboratory.run(words, self.place, run.bounds, given)
 
     def show(self, place, run, words, schedule):
         """The trace by a schedule, with the labels and lines of what was handed in. Beside it a page is made, where that has

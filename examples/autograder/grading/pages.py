@@ -12,8 +12,8 @@ CUT = ALL + " Of the text {left} bytes more are left out."
 
 
 def bounded(path, text):
-    """The page at a path or, where there is none or it is too large, one of the beginning of the text. None, where the disk has no
-    room for it, since a mark stands without its page."""
+    """The page at a path or, where there is none or it is too large, one of the beginning of the text. There is none where the
+    disk has no room for it, since a mark stands without its page."""
     try:
         if not path.exists() or path.stat().st_size > MOST_BYTES:
             path.write_bytes(plain(text))

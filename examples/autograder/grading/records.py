@@ -84,8 +84,8 @@ def share(source, target):
 
 
 def place_name(folder):
-    """A name for what belongs to a folder, without surprises: the beginning of its own, and a digest of the whole path, so that no
-    two folders have one, whatever they are called. A link is itself, and not what it leads to."""
+    """A name for what belongs to a folder, without surprises: the beginning of its own, and a digest of the whole path, so that
+    no two folders have one, whatever they are called. A link is itself, and not what it leads to."""
     above, last = os.path.split(os.path.abspath(folder))
     path = os.path.join(os.path.realpath(above), last)
     last = re.sub(r"[^A-Za-z0-9_]", lambda it: it[0] if it[0] in "-." else "_", last).lstrip(".-")
