@@ -1,3 +1,4 @@
 pub mod Conditions
 pub mod Written
 pub mod Losses
+pub mod Refusals

@@ -1,19 +1,21 @@
 -- Conditions as they are written.
-use Rattle.std.specs.Prelude.{ℕ, ◌+◌, ◌≡◌, ◌++◌, ◌==◌, not, filter, flat_map, nat_le, min, if◌then◌else◌, Bool, Option, Some, None, Result, Ok, Err, List, [], ◌∷◌, codes, length, take, drop, position, string_bytes, IsTrue, false}
+use Rattle.std.specs.Prelude.{ℕ, ◌+◌, ◌≡◌, ◌++◌, ◌==◌, not, filter, flat_map, nat_le, min, if◌then◌else◌, Bool, Option, Some, None, Result, Ok, Err, List, [], ◌∷◌, codes, length, take, drop, position, string_bytes, IsTrue, IfSome, All, ◌<◌, false}
 use Rattle.std.specs.Option.{option_map, option_and_then}
 use Rattle.std.specs.List.{slice_split}
 use Rattle.std.specs.Str.{bytes_eq}
 use Rattle.lc3_word.specs.Numbers.{unsigned_number}
 use Rattle.ipc_names.specs.declared.errno.Errno.{Errno}
 use Rattle.ipc_names.specs.Name.{name_read}
+use Rattle.ipc_errors.specs.Names.{error_named}
 use Rattle.lab_conditions.specs.declared.condition.Relation.{Relation}
 use Rattle.lab_conditions.specs.declared.condition.Relation.TheVariants.{More, Less, Equal}
 use Rattle.lab_conditions.specs.declared.condition.State.{State}
 use Rattle.lab_conditions.specs.declared.condition.State.TheVariants.{Blocked, Ended, Crashed, At}
 use Rattle.lab_conditions.specs.declared.condition.Part.{Part}
 use Rattle.lab_conditions.specs.declared.condition.Part.TheVariants.{Semaphore, Queue, Of, MoreThan}
+use Rattle.lab_conditions.specs.Conditions.{NamesOnly}
 use Rattle.lab_conditions.specs.declared.never.Never.{Never}
-use Rattle.lab_conditions.specs.declared.never.Never.TheVariants.{Holds, Lost}
+use Rattle.lab_conditions.specs.declared.never.Never.TheVariants.{Holds, Lost, Refused}
 
 -- whether a word is this one
 unfoldable pub is_word : List ℕ → List ℕ → Bool
@@ -154,12 +156,39 @@ abbrev pub are_lost : List (List ℕ) → Bool
 are_lost (word ∷ []) = is_word (codes "lost") word
 are_lost words = false
 
--- a text writes what must never be so: `lost`, or a condition
+-- `refused`, or behind it the name of an error
+abbrev pub refused_in : List (List ℕ) → Option (Option Errno)
+refused_in (word ∷ []) = if is_word (codes "refused") word then Some None else None
+refused_in (word ∷ name ∷ []) =
+    if is_word (codes "refused") word then option_map (λ e. Some e) (error_named name) else None
+refused_in words = None
+
+-- of this process, or of any where the first word is no number
+abbrev pub refused_by : Option ℕ → List ℕ → List (List ℕ) → Option (Option ℕ × Option Errno)
+refused_by (Some p) word rest = option_map (λ e. (Some p, e)) (refused_in rest)
+refused_by None word rest = option_map (λ e. (None, e)) (refused_in (word ∷ rest))
+
+-- the process whose call is refused and the error, where they are named: `refused`, `refused E`, `P refused` or
+-- `P refused E`
+unfoldable pub refusal_in : List (List ℕ) → Option (Option ℕ × Option Errno)
+refusal_in [] = None
+refusal_in (word ∷ rest) = refused_by (process_in word) word rest
+
+-- a text writes what must never be so: `lost`, a call that is refused, or a condition
 abbrev pub Writes : List ℕ → Never → Type 0
 Writes text (Holds c) = (condition_in text ≡ Some c.parts.items) × (string_bytes c.text ≡ spaced (words text))
 Writes text Lost = IsTrue (are_lost (words text))
+Writes text (Refused r) =
+    (refusal_in (words text) ≡ Some (r.process, r.error)) × (string_bytes r.text ≡ spaced (words text))
 
 -- what must never be so, as it is written
 abbrev pub never_text : Never → List ℕ
 never_text (Holds c) = string_bytes c.text
 never_text Lost = codes "lost"
+never_text (Refused r) = string_bytes r.text
+
+-- what must never be so names no process but those below a number
+abbrev pub NamesOnlyIn : ℕ → Never → Type 0
+NamesOnlyIn count (Holds c) = All (NamesOnly count) c.parts.items
+NamesOnlyIn count Lost = Unit {0}
+NamesOnlyIn count (Refused r) = IfSome r.process (λ p. p < count)

@@ -6,6 +6,7 @@ ghost use Rattle.lab_conditions.specs.Written.{words, parts_in, condition_in, sp
 
 mod numbers;
 mod part;
+pub(crate) mod refusal;
 pub(crate) mod words;
 
 use crate::{Condition, Part};

@@ -15,25 +15,26 @@ use Rattle.lab_sched.specs.Schedules.{steps_of}
 use Rattle.lab_conditions.specs.declared.condition.Condition.{Condition}
 use Rattle.lab_conditions.specs.declared.never.Never.{Never}
 use Rattle.lab_conditions.specs.declared.never.Never.TheVariants as never
-use Rattle.lab_conditions.specs.Losses.{Loses}
+use Rattle.lab_conditions.specs.declared.refusals.Refusal.{Refusal}
 use Rattle.lab_conditions.specs.Conditions.{Holds, HoldsOverAny, world_of}
 use Rattle.ipc_kernel.specs.Alike.{IsConsistent}
 use Rattle.lab_states.specs.Rows.{Row}
 use Rattle.lab_search.specs.declared.store.Store.{Store}
 use Rattle.lab_worlds.specs.Calls.{Both, Alongside}
 use Rattle.lab_worlds.specs.Untried.{untried, AskAgain}
-use Rattle.lab_worlds.specs.Reached.{LeadsTo, LeadsToLoss, Violates, IsKept, ViolatesIfSome, KeptIfNone, AreKept, AreReached}
+use Rattle.lab_worlds.specs.Reached.{LeadsTo, Breaks, LeadsToStep, Violates, IsKept, ViolatesIfSome, KeptIfNone, AreKept, AreReached}
 use Rattle.lab_states.specs.Shorts.{silent, IsButForOutput}
 use Rattle.lab_search.specs.Stored.{IsExactly, IsState, IsRow, IsAt, IsLike, IsSearched}
 use Rattle.lab_worlds.specs.declared.walking.Walk.{Walk}
 use Rattle.lab_worlds.specs.Walked.{IsWalk}
 use Rattle.lab_search.specs.Sparse.{IsSearchedIn}
-use Rattle.lab_explore.specs.Private.Judged.{IsUnseen, UnseenIfNone, JudgesFor}
+use Rattle.lab_explore.specs.Private.Judged.{NoneBreaks, IsUnseen, UnseenIfNone, JudgesFor}
 use Rattle.lab_worlds.proofs.AlikeWorlds.{consistent_run}
 use Rattle.lab_worlds.proofs.AfterLocalSteps.{same_some}
 use Rattle.lab_worlds.proofs.Pushes.{both_weaker, alongside_push}
 use Rattle.lab_explore.proofs.KeptConditions.{holds_alike, never_holds}
 use Rattle.lab_explore.proofs.KeptLosses.{never_loses}
+use Rattle.lab_explore.proofs.KeptRefusals.{never_refuses}
 use Rattle.lab_explore.proofs.Explorations.{whole_search}
 use Rattle.lab_states.proofs.SilentProcesses.{holds_silently}
 
@@ -63,7 +64,7 @@ states_more t states ss seen more n state k s row place at same so pushed =
     pushed ∙ ap (λ xs. xs ++ silent s ∷ []) so ∙ sym (take_next (map silent ss) n (silent s) there)
 
 -- as many as the row has places
-same_length : {A B : Type 0} (R : A → B → Type 0) (xs : List A) (ys : List B) → Alongside R xs ys → length ys ≤ length xs
+pub same_length : {A B : Type 0} (R : A → B → Type 0) (xs : List A) (ys : List B) → Alongside R xs ys → length ys ≤ length xs
 same_length R [] [] h = omega arith
 same_length R [] (y ∷ ys) h = absurd (h 0)
 same_length R (x ∷ xs) [] h = omega arith
@@ -116,9 +117,9 @@ pub violates_if : (n : Never) (start : WorldState) (o : Option (List Block)) →
 violates_if n start None h = tt
 violates_if n start (Some s) h = h
 
-pub unseen_if : (n : Never) (t : Store) (o : Option (List Block)) → (o ≡ None → IsUnseen t n) → UnseenIfNone t n o
-unseen_if n t None h = h refl
-unseen_if n t (Some s) h = tt
+pub unseen_if : (n : Never) (start : WorldState) (t : Store) (o : Option (List Block)) → (o ≡ None → IsUnseen start t n) → UnseenIfNone start t n o
+unseen_if n start t None h = h refl
+unseen_if n start t (Some s) h = tt
 
 -- the schedule of a walk
 pub walk_schedule : (start : WorldState) (t : Store) (at : ℕ) (w : Walk) (s : List Block) → s ≡ w.schedule → IsWalk start w → IsLike t at w.world
@@ -136,45 +137,63 @@ leads_to c ps t at s effective like holds =
       holds = holds_alike c like.0 (run start (steps_of s)) (consistent_run (steps_of s) start (consistent_empty (length ps))) like.2 (holds like.0 like.1);
     }
 
--- a walk that loses a message by its last step
-pub leads_to_loss : (start : WorldState) (old new : Walk) (p : ℕ) → IsWalk start old → IsWalk start new → Loses old.world p → steps_of new.schedule ≡ steps_of old.schedule ++ p ∷ [] → LeadsToLoss start new.schedule
-leads_to_loss start old new p h i loss more = record {
+-- a walk whose last step is what never must happen
+pub leads_to_step : (n : Never) (start : WorldState) (old new : Walk) (p : ℕ) → IsWalk start old → IsWalk start new → Breaks n old.world p → steps_of new.schedule ≡ steps_of old.schedule ++ p ∷ []
+    → LeadsToStep start n new.schedule
+leads_to_step n start old new p h i breaks more = record {
   before = steps_of old.schedule;
   last = p;
   steps = more;
   effective = i.effective;
-  loses = subst (λ w. Loses w p) (sym h.leads) loss;
+  breaks = subst (λ w. Breaks n w p) (sym h.leads) breaks;
 }
 
+pub step_violates : (n : Never) (start : WorldState) (s : List Block) → LeadsToStep start n s → Violates start n s
+step_violates (never.Holds c) start s h = absurd h.breaks
+step_violates never.Lost start s h = h
+step_violates (never.Refused r) start s h = h
+
+-- where no step was found, what no condition is has been seen nowhere
+pub lost_unseen : (n : Never) (start : WorldState) (t : Store) → n ≡ never.Lost → NoneBreaks start t n → IsUnseen start t n
+lost_unseen (never.Holds c) start t is h = absurd (cc)
+lost_unseen never.Lost start t is h = h
+lost_unseen (never.Refused r) start t is h = h
+
+pub refused_unseen : (n : Never) (r : Refusal) (start : WorldState) (t : Store) → n ≡ never.Refused r → NoneBreaks start t n → IsUnseen start t n
+refused_unseen (never.Holds c) r start t is h = absurd (cc)
+refused_unseen never.Lost r start t is h = h
+refused_unseen (never.Refused q) r start t is h = h
+
 -- what a whole search doesn't show never is so
-is_kept : (fresh start : WorldState) (t : Store) → fresh ≡ start → IsConsistent start.kernel → AskAgain start → untried start ≡ start → IsSearched start t → (n : Never) → IsUnseen t n → IsKept fresh n
+is_kept : (fresh start : WorldState) (t : Store) → fresh ≡ start → IsConsistent start.kernel → AskAgain start → untried start ≡ start → IsSearched start t → (n : Never) → IsUnseen start t n → IsKept fresh n
 is_kept fresh start t same consistent asks first searched (never.Holds c) none = never_holds c fresh start t same consistent asks first searched none
 is_kept fresh start t same consistent asks first searched never.Lost none = never_loses fresh start t same consistent asks first searched none
+is_kept fresh start t same consistent asks first searched (never.Refused r) none = never_refuses r fresh start t same consistent asks first searched none
 
-kept_if : (fresh start : WorldState) (t : Store) → fresh ≡ start → IsConsistent start.kernel → AskAgain start → untried start ≡ start → IsSearched start t → (n : Never) (o : Option (List Block)) → UnseenIfNone t n o → KeptIfNone fresh n o
+kept_if : (fresh start : WorldState) (t : Store) → fresh ≡ start → IsConsistent start.kernel → AskAgain start → untried start ≡ start → IsSearched start t → (n : Never) (o : Option (List Block)) → UnseenIfNone start t n o → KeptIfNone fresh n o
 kept_if fresh start t same consistent asks first searched n None none = is_kept fresh start t same consistent asks first searched n none
 kept_if fresh start t same consistent asks first searched n (Some s) none = tt
 
 -- where the search is whole, what is seen nowhere never is so
 pub are_kept : (fresh start : WorldState) (t : Store) (ns : List Never) (found : List (Option (List Block))) → fresh ≡ start → IsConsistent start.kernel → AskAgain start → untried start ≡ start → IsSearched start t
-    → Alongside (UnseenIfNone t) ns found → AreKept fresh ns found
+    → Alongside (UnseenIfNone start t) ns found → AreKept fresh ns found
 are_kept fresh start t ns found same consistent asks first searched none p =
-    both_weaker (UnseenIfNone t) (KeptIfNone fresh) (λ n o. kept_if fresh start t same consistent asks first searched n o) (slice_get ns p) (slice_get found p) (none p)
+    both_weaker (UnseenIfNone start t) (KeptIfNone fresh) (λ n o. kept_if fresh start t same consistent asks first searched n o) (slice_get ns p) (slice_get found p) (none p)
 
 -- where nothing is asked, nothing is reached
-none_asked : (fresh : WorldState) (t : Store) (found : List (Option (List Block))) → Alongside (UnseenIfNone t) [] found → AreKept fresh [] found
-none_asked fresh t found h p = by (slice_get found p) (h p)
+none_asked : (fresh start : WorldState) (t : Store) (found : List (Option (List Block))) → Alongside (UnseenIfNone start t) [] found → AreKept fresh [] found
+none_asked fresh start t found h p = by (slice_get found p) (h p)
   where
-    by : (o : Option (Option (List Block))) → Both (UnseenIfNone t) None o → Both (KeptIfNone fresh) None o
+    by : (o : Option (Option (List Block))) → Both (UnseenIfNone start t) None o → Both (KeptIfNone fresh) None o
     by None k = tt
     by (Some x) k = absurd k
 
 -- the same of a search that is sparse only where nothing is asked
 pub are_kept_in : (asked sparse : Bool) (fresh start : WorldState) (t : Store) (ns : List Never) (found : List (Option (List Block))) → fresh ≡ start → IsConsistent start.kernel → AskAgain start → untried start ≡ start
-    → (asked ≡ false → sparse ≡ false) → (asked ≡ true → ns ≡ []) → IsSearchedIn sparse start t → Alongside (UnseenIfNone t) ns found → AreKept fresh ns found
+    → (asked ≡ false → sparse ≡ false) → (asked ≡ true → ns ≡ []) → IsSearchedIn sparse start t → Alongside (UnseenIfNone start t) ns found → AreKept fresh ns found
 are_kept_in false sparse fresh start t ns found same consistent asks first dense none searched h = are_kept fresh start t ns found same consistent asks first (whole_search sparse start t (dense refl) searched) h
 are_kept_in true sparse fresh start t ns found same consistent asks first dense none searched h =
-    subst (λ xs. AreKept fresh xs found) (sym (none refl)) (none_asked fresh t found (subst (λ xs. Alongside (UnseenIfNone t) xs found) (none refl) h))
+    subst (λ xs. AreKept fresh xs found) (sym (none refl)) (none_asked fresh start t found (subst (λ xs. Alongside (UnseenIfNone start t) xs found) (none refl) h))
 
 pub same_reached : (fresh start : WorldState) (ns : List Never) (found : List (Option (List Block))) → fresh ≡ start → AreReached start ns found → AreReached fresh ns found
 same_reached fresh start ns found same each = subst (λ s. AreReached s ns found) (sym same) each

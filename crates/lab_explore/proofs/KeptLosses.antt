@@ -7,26 +7,26 @@ use Rattle.ipc_kernel.specs.declared.call.Answer.TheVariants.{Done, Wait}
 use Rattle.ipc_kernel.specs.Answer.{answer, is_receive}
 use Rattle.ipc_kernel.specs.Alike.{IsAlike, IsConsistent}
 use Rattle.ipc_store.proofs.Alikes.{alike_then}
-use Rattle.lab_sched.specs.Worlds.{Process, Running, Waiting, Ended, WorldState, NextAction, moves, calls, next_action, StepEffect, nothing, step_effect, step_effect_in, first_try, retry, kernel_after, after, step, run}
+use Rattle.lab_sched.specs.Worlds.{Process, Running, Waiting, Ended, WorldState, NextAction, moves, calls, next_action, StepEffect, nothing, local_step, kernel_step, step_effect_in, first_try, retry, kernel_after, after, step, run}
 use Rattle.lab_sched.proofs.ListPlaces.{get_past}
-use Rattle.lab_sched.proofs.Executions.{effect_local}
 use Rattle.lab_conditions.specs.Conditions.{option_any, call_next}
+use Rattle.lab_conditions.specs.declared.never.Never.TheVariants as never
 use Rattle.lab_conditions.specs.Losses.{messages, is_receiving, receives, Loses}
 use Rattle.lab_conditions.proofs.MessageCounts.{messages_alike}
 use Rattle.lab_states.specs.declared.edges.Edge.{Edge}
 use Rattle.lab_search.specs.declared.store.Store.{Store}
-use Rattle.lab_worlds.specs.Calls.{IsAtCall, IsAhead, Both, IsAdvance}
+use Rattle.lab_worlds.specs.Calls.{IsAdvance}
 use Rattle.lab_worlds.specs.Untried.{GoesOn, untried, AskAgain}
-use Rattle.lab_worlds.specs.Reached.{NeverLoses}
+use Rattle.lab_worlds.specs.Reached.{NeverBreaks}
 use Rattle.lab_search.specs.Stored.{IsAt, HasEdge, IsSearched}
 use Rattle.lab_explore.specs.Private.Judged.{IsLoss, NoEdgeLoses}
-use Rattle.lab_worlds.proofs.AlikeWorlds.{effect_alike, kernel_alike, consistent_run}
-use Rattle.lab_worlds.proofs.AfterLocalSteps.{stays}
+use Rattle.lab_worlds.proofs.AlikeWorlds.{kernel_alike, consistent_run}
 use Rattle.lab_worlds.proofs.Pushes.{all_at}
 use Rattle.lab_worlds.proofs.UntriedWorlds.{tells, same_step, still_untried}
 use Rattle.lab_worlds.proofs.HeldAdvances.{asks_run, reaches_world}
 use Rattle.lab_search.proofs.FirstWorlds.{at_unique}
 use Rattle.lab_explore.proofs.KeptConditions.{IsSomeRow, row_levels}
+use Rattle.lab_explore.proofs.CallSteps.{IsCall, effect_at, stands, same_in_advance}
 
 -- a step of this kind leaves fewer messages
 abbrev Fewer : WorldState → ℕ → StepEffect → Type 0
@@ -51,28 +51,14 @@ loss_untried w p asks h =
     let same = same_step w p asks (loss_goes w p h) in
     record { receives_none = ap receives same ∙ h.receives_none; fewer = subst (Fewer w p) (sym same) h.fewer }
 
-effect_at : (w : WorldState) (p : ℕ) (o : Option Process) → slice_get w.processes p ≡ o → step_effect_in w p ≡ step_effect w.kernel p o
-effect_at w p o a = ap (λ x. step_effect w.kernel p x) a
-
--- its process is at a call
-running_asks : (w : WorldState) (p : ℕ) (m : Machine) (a : NextAction) → next_action m ≡ a → slice_get w.processes p ≡ Some (Running m) → Loses w p → IsAtCall (Running m)
-running_asks w p m (calls c) e at h = (c, e)
-running_asks w p m (moves q) e at h = absurd (none_fewer w p (subst (Fewer w p) (effect_local w p m q at e) h.fewer))
-
-loss_at_call : (w : WorldState) (p : ℕ) (s : Process) → slice_get w.processes p ≡ Some s → Loses w p → IsAtCall s
-loss_at_call w p (Running m) at h = running_asks w p m (next_action m) refl at h
-loss_at_call w p (Waiting m c) at h = tt
-loss_at_call w p (Ended e) at h = tt
-
--- and stands there in the advance of the world, too
-stands : (w v : WorldState) (p : ℕ) → IsAdvance w v → Loses w p → (s : Process) × (slice_get w.processes p ≡ Some s) × (slice_get v.processes p ≡ Some s)
-stands w v p advance h = by (slice_get w.processes p) (slice_get v.processes p) refl refl (advance.processes p)
+-- and a call
+loss_calls : (w : WorldState) (p : ℕ) → Loses w p → IsCall (step_effect_in w p)
+loss_calls w p h = by (step_effect_in w p) refl
   where
-    by : (a b : Option Process) → slice_get w.processes p ≡ a → slice_get v.processes p ≡ b → Both IsAhead a b
-        → (s : Process) × (slice_get w.processes p ≡ Some s) × (slice_get v.processes p ≡ Some s)
-    by None b a c i = absurd (none_fewer w p (subst (Fewer w p) (effect_at w p None a) h.fewer))
-    by (Some s) None a c i = absurd i
-    by (Some s) (Some u) a c i = (s, a, c ∙ ap (λ x. Some x) (stays s u (loss_at_call w p s a h) i))
+    by : (t : StepEffect) → step_effect_in w p ≡ t → IsCall (step_effect_in w p)
+    by nothing is = absurd (none_fewer w p (subst (Fewer w p) is h.fewer))
+    by (local_step n) is = absurd (none_fewer w p (subst (Fewer w p) is h.fewer))
+    by (kernel_step m c a) is = subst IsCall (sym is) tt
 
 -- a process whose step receives no message isn't about to receive one
 retry_receives : (m : Machine) (c : Call) (a : Answer) → GoesOn (retry m c a) → receives (retry m c a) ≡ is_receive c
@@ -117,10 +103,10 @@ edge_loses start w t p consistent searched i v row advance h = (
     goes = loss_goes w p h
 
     there : (s : Process) × (slice_get w.processes p ≡ Some s) × (slice_get v.processes p ≡ Some s)
-    there = stands w v p advance h
+    there = stands w v p advance (loss_calls w p h)
 
     same_effect : step_effect_in v p ≡ step_effect_in w p
-    same_effect = effect_alike w.kernel v.kernel p (slice_get v.processes p) consistent advance.kernel ∙ ap (λ o. step_effect w.kernel p o) (there.2 ∙ sym there.1)
+    same_effect = same_in_advance w v p there.0 consistent advance there.1 there.2
 
     edge : HasEdge t i v p
     edge =
@@ -134,8 +120,8 @@ edge_loses start w t p consistent searched i v row advance h = (
         alike_then (step w p).kernel (after v p (step_effect_in w p)).kernel edge.2.kernel (kernel_alike w v p (step_effect_in w p) consistent advance.kernel) reached
 
 -- where no edge of a whole search loses a message, no step does
-pub never_loses : (fresh start : WorldState) (t : Store) → fresh ≡ start → IsConsistent start.kernel → AskAgain start → untried start ≡ start → IsSearched start t → NoEdgeLoses t → NeverLoses fresh
-never_loses fresh start t same consistent asks first searched none = subst (λ s. NeverLoses s) (sym same) (λ ps p h.
+pub never_loses : (fresh start : WorldState) (t : Store) → fresh ≡ start → IsConsistent start.kernel → AskAgain start → untried start ≡ start → IsSearched start t → NoEdgeLoses t → NeverBreaks fresh never.Lost
+never_loses fresh start t same consistent asks first searched none = subst (λ s. NeverBreaks s never.Lost) (sym same) (λ ps p h.
     let w = run start ps in
     let held = reaches_world start (IsSomeRow t) consistent asks (row_levels t start first searched) ps in
     let loss = edge_loses start (untried w) t p (consistent_run ps start consistent) searched held.1.1.0 held.1.0 held.1.1.1 held.1.2 (loss_untried w p (asks_run ps start asks) h) in

@@ -46,7 +46,8 @@ fn room_for_ends(limits: Limits, taken: usize) -> usize {
 /// whatever steps are taken, in any order, but for the numbers of places in the kernel, and none is
 /// reached by fewer calls; and if then no end is stuck, no such steps lead to a world that is. For each
 /// thing that must never be so, in order, there is a schedule of effective steps that leads to it (to
-/// a world of which the condition holds; the last step loses a message), or none; where the
+/// a world of which the condition holds; the last step loses a message or is a call that is refused),
+/// or none; where the
 /// exploration is complete and there is none, it never is so, whatever steps are taken, in any order.
 /// A round can be repeated as often as one likes, so some effective steps never end; where the
 /// exploration is complete and has no round, each list of effective steps ends, after no more than
@@ -152,8 +153,9 @@ impl Visited {
             IsNonDecreasingBy (λ e. e.calls) found.ends.items) }
         ensures reached { IfOk result (λ found.
             AreReached (initial_world processes.now) nevers.now found.reached.items) }
-        ensures unreached { IfOk result (λ found.
-            Alongside (UnseenIfNone self.now.store) nevers.now found.reached.items) }
+        ensures unreached { IfOk result (λ found. IsTrue self.now.complete
+            → Alongside (UnseenIfNone (initial_world processes.now) self.now.store)
+            nevers.now found.reached.items) }
         ensures round { IfOk result (λ found.
             IfSome found.round (λ r. IsRound (initial_world processes.now) r)) }
         ensures none { IfOk result (λ found.

@@ -1,6 +1,7 @@
 //! What a search of every interleaving of some programs tells.
 #![tactic(auto)]
 
+mod alone;
 mod depths;
 mod ends;
 mod exploring;
@@ -9,6 +10,7 @@ mod judging;
 mod losses;
 mod ranks;
 mod reached;
+mod refusals;
 mod rounds;
 mod tours;
 mod visited;

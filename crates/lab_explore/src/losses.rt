@@ -6,6 +6,7 @@ ghost use Rattle.lab_conditions.specs.Losses.{messages, is_receiving};
 ghost use Rattle.lab_search.specs.Stored.{IsAt};
 ghost use Rattle.lab_explore.specs.Private.Judged.{IsLoss, NoEdgeLoses};
 
+use crate::reached::Turn;
 use lab_conditions::{is_receiving, messages_in};
 use lab_search::Store;
 use lab_states::{Edge, place_of};
@@ -98,8 +99,8 @@ fn is_loss(
     Ok(!receives)
 }
 
-/// The first edge whose step loses a message.
-pub(crate) fn first_loss(store: &Store, alloc: Global) -> Result<Option<Edge>, ExploreFault>
+/// The first step along an edge that loses a message.
+pub(crate) fn first_loss(store: &Store, alloc: Global) -> Result<Option<Turn>, ExploreFault>
     ensures none { IfOk result (λ first. first ≡ None → NoEdgeLoses store.now) }
 {
     let counts = messages(store, alloc)?;
@@ -110,7 +111,11 @@ pub(crate) fn first_loss(store: &Store, alloc: Global) -> Result<Option<Edge>, E
             return Err(ExploreFault::Unvouched);
         };
         if is_loss(store, counts.as_slice(), receiving.as_slice(), &edge)? {
-            return Ok(Some(edge));
+            return Ok(Some(Turn {
+                row: Some(edge.from as usize),
+                pid: edge.pid as usize,
+                before: 0,
+            }));
         }
         row = edge.from as usize;
     }

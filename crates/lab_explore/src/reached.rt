@@ -1,24 +1,31 @@
 //! What must never be so and is found by a search, each with steps from the start.
-ghost use Rattle.std.specs.Prelude.{◌≡◌, None, IfOk, IfSome, OnOk};
+ghost use Rattle.std.specs.Prelude.{◌≡◌, None, IfOk, IfSome, IsTrue, OnOk};
 ghost use Rattle.lab_sched.specs.Worlds.{WorldState, run};
 ghost use Rattle.lab_sched.specs.Execution.{AreEffective};
 ghost use Rattle.lab_sched.specs.Schedules.{steps_of};
 ghost use Rattle.lab_sched.specs.Starts.{AreStarts, initial_world};
-ghost use Rattle.lab_worlds.specs.Walked.{IsWalk};
+ghost use Rattle.lab_worlds.specs.Walked.{IsWalk, KeepsStart};
 ghost use Rattle.lab_worlds.specs.Calls.{Alongside};
-ghost use Rattle.lab_worlds.specs.Reached.{LeadsTo, LeadsToLoss, Violates, AreReached};
+ghost use Rattle.lab_worlds.specs.Reached.{LeadsTo, LeadsToStep, Violates, AreReached};
 ghost use Rattle.lab_search.specs.Stored.{IsLike};
-ghost use Rattle.lab_explore.specs.Private.Judged.{NoRowHolds, NoEdgeLoses, IsUnseen, UnseenIfNone};
+ghost use Rattle.lab_explore.specs.Private.Judged.{NoRowHolds, NoneBreaks, IsUnseen, UnseenIfNone};
 
 use crate::judging::first_where;
 use crate::losses::first_loss;
 use crate::visited::Visited;
 use lab_conditions::{Condition, Never};
 use lab_sched::{Process, Schedule};
-use lab_states::Edge;
 use lab_worlds::{ExploreFault, Walk, Workers, discard};
 use std::alloc::Global;
 use std::thread::Threads;
+
+/// A step of a process, behind so many others of its own, from the world of a row or from the start.
+#[derive(Clone, Copy, Drop)]
+pub(crate) struct Turn {
+    pub row: Option<usize>,
+    pub pid: usize,
+    pub before: u32,
+}
 
 /// The schedule of a walk.
 fn schedule_of(walk: Walk) -> Schedule
@@ -79,28 +86,52 @@ impl Visited {
         Ok(Some(schedule))
     }
 
-    /// Goes the way to the row from which an edge leads, and then its step, which must lose a message.
-    fn go_to_loss(&self, alloc: Global, edge: Edge, walk: &mut Walk) -> Result<(), ExploreFault>
-        ensures loss { OnOk result ((start : WorldState) → IsWalk start walk.old
-            → LeadsToLoss start walk.new.schedule) }
+    /// Goes the way to a row, or stays at the start.
+    fn go_to_some(
+        &self,
+        alloc: Global,
+        row: Option<usize>,
+        walk: &mut Walk,
+    ) -> Result<(), ExploreFault>
+        ensures walk { OnOk result (KeepsStart walk.old walk.new) }
     {
-        self.go_to(alloc, edge.from as usize, walk)?;
-        walk.lose(alloc, edge.pid as usize)?;
+        match row {
+            Some(row) => self.go_to(alloc, row, walk),
+            None => Ok(()),
+        }
+    }
+
+    /// Goes to a step that was found, and takes it: it must be what never must happen.
+    fn go_against(
+        &self,
+        alloc: Global,
+        never: &Never,
+        turn: Turn,
+        walk: &mut Walk,
+    ) -> Result<(), ExploreFault>
+        ensures breaks { OnOk result ((start : WorldState) → IsWalk start walk.old
+            → LeadsToStep start never.now walk.new.schedule) }
+    {
+        self.go_to_some(alloc, turn.row, walk)?;
+        walk.go_on(turn.pid, turn.before)?;
+        walk.go_against(alloc, never, turn.pid)?;
         Ok(())
     }
 
-    /// The steps that lead from the start to an edge, and its step, which must lose a message.
-    fn schedule_to_loss(
+    /// The steps that lead from the start to one that was found, which must be what never must happen.
+    fn schedule_to_step(
         &self,
         alloc: Global,
         processes: &[Process],
-        edge: Edge,
+        never: &Never,
+        turn: Turn,
     ) -> Result<Schedule, ExploreFault>
         requires starts { AreStarts processes.now }
-        ensures loss { IfOk result (λ s. LeadsToLoss (initial_world processes.now) s) }
+        ensures breaks { IfOk result (λ s.
+            LeadsToStep (initial_world processes.now) never.now s) }
     {
         let mut walk = Walk::start(alloc, processes)?;
-        match self.go_to_loss(alloc, edge, &mut walk) {
+        match self.go_against(alloc, never, turn, &mut walk) {
             Ok(()) => Ok(schedule_of(walk)),
             Err(fault) => {
                 discard(walk);
@@ -109,22 +140,41 @@ impl Visited {
         }
     }
 
-    /// The steps that lead from the start to the first step that was found by which a message is
-    /// lost, if there is one, that step among them.
-    fn reach_loss(
+    /// The first step that was found which never must happen, if there is one.
+    fn first_step(
         &self,
         alloc: Global,
         processes: &[Process],
+        never: &Never,
+    ) -> Result<Option<Turn>, ExploreFault>
+        ensures none { IfOk result (λ turn. turn ≡ None → IsTrue self.now.complete
+            → NoneBreaks (initial_world processes.now) self.now.store never.now) }
+    {
+        match never {
+            Never::Holds(_) => Ok(None),
+            Never::Lost => first_loss(&self.store, alloc),
+            Never::Refused(refusal) => self.first_refusal(alloc, processes, refusal),
+        }
+    }
+
+    /// The steps that lead from the start to the first step that was found which never must happen, if
+    /// there is one, that step among them.
+    fn reach_step(
+        &self,
+        alloc: Global,
+        processes: &[Process],
+        never: &Never,
     ) -> Result<Option<Schedule>, ExploreFault>
         requires starts { AreStarts processes.now }
         ensures reached { IfOk result (λ found. IfSome found (λ s.
-            LeadsToLoss (initial_world processes.now) s)) }
-        ensures none { IfOk result (λ found. found ≡ None → NoEdgeLoses self.now.store) }
+            Violates (initial_world processes.now) never.now s)) }
+        ensures none { IfOk result (λ found. found ≡ None → IsTrue self.now.complete
+            → NoneBreaks (initial_world processes.now) self.now.store never.now) }
     {
-        let Some(edge) = first_loss(&self.store, alloc)? else {
+        let Some(turn) = self.first_step(alloc, processes, never)? else {
             return Ok(None);
         };
-        let schedule = self.schedule_to_loss(alloc, processes, edge)?;
+        let schedule = self.schedule_to_step(alloc, processes, never, turn)?;
         Ok(Some(schedule))
     }
 
@@ -140,11 +190,22 @@ impl Visited {
         requires starts { AreStarts processes.now }
         ensures reached { IfOk result (λ found. IfSome found (λ s.
             Violates (initial_world processes.now) never.now s)) }
-        ensures none { IfOk result (λ found. found ≡ None → IsUnseen self.now.store never.now) }
+        ensures none { IfOk result (λ found. found ≡ None → IsTrue self.now.complete
+            → IsUnseen (initial_world processes.now) self.now.store never.now) }
     {
         match never {
-            Never::Holds(condition) => self.reach_condition(alloc, processes, condition, workers),
-            Never::Lost => self.reach_loss(alloc, processes),
+            Never::Holds(condition) => {
+                let found = self.reach_condition(alloc, processes, condition, workers)?;
+                Ok(found)
+            }
+            Never::Lost => {
+                let lost = self.reach_step(alloc, processes, never)?;
+                Ok(lost)
+            }
+            Never::Refused(_) => {
+                let refused = self.reach_step(alloc, processes, never)?;
+                Ok(refused)
+            }
         }
     }
 
@@ -160,8 +221,8 @@ impl Visited {
         requires starts { AreStarts processes.now }
         ensures reached { IfOk result (λ found.
             AreReached (initial_world processes.now) nevers.now found.items) }
-        ensures none { IfOk result (λ found.
-            Alongside (UnseenIfNone self.now.store) nevers.now found.items) }
+        ensures none { IfOk result (λ found. IsTrue self.now.complete → Alongside
+            (UnseenIfNone (initial_world processes.now) self.now.store) nevers.now found.items) }
     {
         let mut found = Vec::with_capacity(alloc, nevers.len())?;
         for never in nevers {

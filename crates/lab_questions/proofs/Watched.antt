@@ -69,6 +69,7 @@ never_there : (start : WorldState) (o : Object) (n : Never) → AsksFor o n → 
 never_there start o (never.Holds c) asks kept ps there =
     kept ps (subst (All (λ part. PartHolds part (run start ps))) (sym asks) (all_one (λ part. PartHolds part (run start ps)) (presence o) there))
 never_there start o never.Lost asks kept ps there = absurd asks
+never_there start o (never.Refused r) asks kept ps there = absurd asks
 
 -- a schedule of the condition leads to the object
 opened : (start : WorldState) (o : Object) (n : Never) (s : List Block) → AsksFor o n → Violates start n s → IsOpened start o
@@ -78,6 +79,7 @@ opened start o (never.Holds c) s asks leads = record {
   there = the_one (λ part. PartHolds part (run start (steps_of s))) (presence o) (subst (All (λ part. PartHolds part (run start (steps_of s)))) asks leads.holds);
 }
 opened start o never.Lost s asks leads = absurd asks
+opened start o (never.Refused r) s asks leads = absurd asks
 
 unseen_never : (start : WorldState) (o : Object) (a : Option Object) (b : Option Never) (c : Option (Option (List Block))) → a ≡ Some o → c ≡ Some None
     → Both AsksFor a b → Both (KeptIfNone start) b c → IsNeverOpened start o

@@ -8,7 +8,7 @@ use Rattle.lab_conditions.specs.declared.condition.Part.{Part}
 use Rattle.lab_conditions.specs.declared.condition.Part.TheVariants.{Semaphore, Queue, Of, MoreThan}
 use Rattle.lab_conditions.specs.declared.condition.Relation.TheVariants.{Less}
 use Rattle.lab_conditions.specs.declared.never.Never.{Never}
-use Rattle.lab_conditions.specs.declared.never.Never.TheVariants.{Holds, Lost}
+use Rattle.lab_conditions.specs.declared.never.Never.TheVariants.{Holds, Lost, Refused}
 use Rattle.lab_conditions.specs.Conditions.{PartHolds}
 use Rattle.lab_questions.specs.declared.object.Object.{Object}
 use Rattle.lab_questions.specs.declared.object.Object.TheVariants as object
@@ -29,6 +29,7 @@ object_text (object.Queue name) = codes "mq " ++ name
 abbrev pub objects_of : Never → List Object
 objects_of (Holds c) = flat_map objects_in c.parts.items
 objects_of Lost = []
+objects_of (Refused r) = []
 
 -- the objects that conditions name
 abbrev pub named : List Never → List Object

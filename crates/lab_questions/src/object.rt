@@ -68,7 +68,7 @@ fn push_named(objects: &mut Vec<Object>, condition: &Never) -> Result<(), AllocE
 {
     match condition {
         Never::Holds(condition) => push_objects(objects, &condition.parts),
-        Never::Lost => Ok(()),
+        Never::Lost | Never::Refused(_) => Ok(()),
     }
 }
 

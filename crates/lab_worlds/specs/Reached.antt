@@ -9,6 +9,7 @@ use Rattle.lab_conditions.specs.declared.never.Never.{Never}
 use Rattle.lab_conditions.specs.declared.never.Never.TheVariants as never
 use Rattle.lab_conditions.specs.Conditions.{Holds}
 use Rattle.lab_conditions.specs.Losses.{Loses}
+use Rattle.lab_conditions.specs.Refusals.{Refuses}
 use Rattle.lab_worlds.specs.Calls.{Alongside}
 
 -- effective steps lead from the start to a world of which the condition holds
@@ -21,28 +22,35 @@ pub record LeadsTo (start : WorldState) (c : Condition) (s : List Block) : Type 
 abbrev pub NeverHolds : WorldState → Condition → Type 0
 NeverHolds start c = (ps : List ℕ) → Holds c (run start ps) → ⊥
 
--- the effective steps of the schedule lead from the start to a step, the last of them, that loses a
--- message
-pub record LeadsToLoss (start : WorldState) (s : List Block) : Type 0 where
+-- the step of process p is what never must happen; a condition is none that a step breaks
+abbrev pub Breaks : Never → WorldState → ℕ → Type 0
+Breaks (never.Holds c) w p = ⊥
+Breaks never.Lost w p = Loses w p
+Breaks (never.Refused r) w p = Refuses r w p
+
+-- the effective steps of the schedule lead from the start to such a step, the last of them
+pub record LeadsToStep (start : WorldState) (n : Never) (s : List Block) : Type 0 where
   pub before : List ℕ
   pub last : ℕ
   pub steps : steps_of s ≡ before ++ last ∷ []
   pub effective : AreEffective start (steps_of s)
-  pub loses : Loses (run start before) last
+  pub breaks : Breaks n (run start before) last
 
--- whatever steps are taken from the start, effective or not, no step after them loses a message
-abbrev pub NeverLoses : WorldState → Type 0
-NeverLoses start = (ps : List ℕ) (p : ℕ) → Loses (run start ps) p → ⊥
+-- whatever steps are taken from the start, effective or not, no step after them is such a one
+abbrev pub NeverBreaks : WorldState → Never → Type 0
+NeverBreaks start n = (ps : List ℕ) (p : ℕ) → Breaks n (run start ps) p → ⊥
 
 -- the steps of the schedule lead from the start to what must never be so
 abbrev pub Violates : WorldState → Never → List Block → Type 0
 Violates start (never.Holds c) s = LeadsTo start c s
-Violates start never.Lost s = LeadsToLoss start s
+Violates start never.Lost s = LeadsToStep start never.Lost s
+Violates start (never.Refused r) s = LeadsToStep start (never.Refused r) s
 
 -- no steps do
 abbrev pub IsKept : WorldState → Never → Type 0
 IsKept start (never.Holds c) = NeverHolds start c
-IsKept start never.Lost = NeverLoses start
+IsKept start never.Lost = NeverBreaks start never.Lost
+IsKept start (never.Refused r) = NeverBreaks start (never.Refused r)
 
 -- where there is a schedule, its steps lead to what must never be so
 abbrev pub ViolatesIfSome : WorldState → Never → Option (List Block) → Type 0

@@ -3,17 +3,19 @@ ghost use Rattle.std.specs.Prelude.{◌≡◌, ◌≤◌, ◌+◌, ◌++◌, ◌
 ghost use Rattle.ipc_traps.specs.Asked.{Request};
 ghost use Rattle.lab_sched.specs.Worlds.{StepEffect, IsEffective, entry_of, step_effect_in, step};
 ghost use Rattle.lab_sched.specs.Schedules.{steps_of};
-ghost use Rattle.lab_sched.specs.Held.{stepped_of};
+ghost use Rattle.lab_sched.specs.Held.{stepped_of, told_in};
 ghost use Rattle.lab_sched.specs.Starts.{AreStarts, initial_world};
 ghost use Rattle.lab_sched.specs.declared.stepped.Stepped.TheVariants.{Same};
 ghost use Rattle.lab_conditions.specs.Losses.{receives, Loses};
+ghost use Rattle.lab_conditions.specs.Refusals.{Refuses};
+ghost use Rattle.lab_worlds.specs.Reached.{Breaks};
 ghost use Rattle.lab_worlds.specs.Walked.{waiting, IsWalk, KeepsStart};
 
 use crate::fault::ExploreFault;
 use crate::trying::discard;
 use crate::waiting::count_waiting;
 use ipc_kernel::{Kernel, PROCESS_MAX};
-use lab_conditions::{is_receiving, messages_in};
+use lab_conditions::{Never, Refusal, is_receiving, messages_in};
 use lab_sched::{MOST_STEPS, Process, Schedule, Stepped, World};
 use std::alloc::{AllocError, Global};
 
@@ -88,10 +90,11 @@ impl Walk {
         Ok(Walk::at(alloc, world_of(alloc, processes)?))
     }
 
-    /// Takes a step, which must be effective.
-    pub fn go(&mut self, pid: usize) -> Result<(), ExploreFault>
+    /// Takes a step, which must be effective; with what is told of it.
+    fn go_told(&mut self, pid: usize) -> Result<Stepped, ExploreFault>
         ensures walk { OnOk result (KeepsStart self.old self.new) }
         ensures world { OnOk result (self.new.world ≡ step self.old.world pid) }
+        ensures told { IfOk result (λ stepped. stepped ≡ told_in self.old.world pid) }
         ensures steps { OnOk result (steps_of self.new.schedule
             ≡ steps_of self.old.schedule ++ pid ∷ []) }
     {
@@ -109,6 +112,17 @@ impl Walk {
         }
         self.calls = calls;
         self.schedule.push(pid, 1)?;
+        Ok(stepped)
+    }
+
+    /// Takes a step, which must be effective.
+    pub fn go(&mut self, pid: usize) -> Result<(), ExploreFault>
+        ensures walk { OnOk result (KeepsStart self.old self.new) }
+        ensures world { OnOk result (self.new.world ≡ step self.old.world pid) }
+        ensures steps { OnOk result (steps_of self.new.schedule
+            ≡ steps_of self.old.schedule ++ pid ∷ []) }
+    {
+        let _stepped = self.go_told(pid)?;
         Ok(())
     }
 
@@ -123,7 +137,7 @@ impl Walk {
     }
 
     /// Takes a step, which must be effective and lose a message.
-    pub fn lose(&mut self, alloc: Global, pid: usize) -> Result<(), ExploreFault>
+    fn lose(&mut self, alloc: Global, pid: usize) -> Result<(), ExploreFault>
         ensures walk { OnOk result (KeepsStart self.old self.new) }
         ensures loses { OnOk result (Loses self.old.world pid) }
         ensures steps { OnOk result (steps_of self.new.schedule
@@ -138,6 +152,39 @@ impl Walk {
             return Err(ExploreFault::Unvouched);
         }
         Ok(())
+    }
+
+    /// Takes a step, which must be a call that is refused so.
+    fn refuse(&mut self, refusal: &Refusal, pid: usize) -> Result<(), ExploreFault>
+        ensures walk { OnOk result (KeepsStart self.old self.new) }
+        ensures refuses { OnOk result (Refuses refusal.now self.old.world pid) }
+        ensures steps { OnOk result (steps_of self.new.schedule
+            ≡ steps_of self.old.schedule ++ pid ∷ []) }
+    {
+        let stepped = self.go_told(pid)?;
+        if !refusal.is_process(pid) || !refusal.is_refused(&stepped) {
+            return Err(ExploreFault::Unvouched);
+        }
+        Ok(())
+    }
+
+    /// Takes a step, which must be effective and what never must happen.
+    pub fn go_against(
+        &mut self,
+        alloc: Global,
+        never: &Never,
+        pid: usize,
+    ) -> Result<(), ExploreFault>
+        ensures walk { OnOk result (KeepsStart self.old self.new) }
+        ensures breaks { OnOk result (Breaks never.now self.old.world pid) }
+        ensures steps { OnOk result (steps_of self.new.schedule
+            ≡ steps_of self.old.schedule ++ pid ∷ []) }
+    {
+        match never {
+            Never::Holds(_) => Err(ExploreFault::Unvouched),
+            Never::Lost => self.lose(alloc, pid),
+            Never::Refused(refusal) => self.refuse(refusal, pid),
+        }
     }
 
     /// Stays where a process must have no effective step.

@@ -1,13 +1,17 @@
 -- What is judged of the rows and edges of a search.
-use Rattle.std.specs.Prelude.{ℕ, ◌≡◌, ◌↔◌, ◌<◌, false, List, Option, Some, None, All, Contains, IfSome, slice_get}
+use Rattle.std.specs.Prelude.{ℕ, ◌≡◌, ◌↔◌, ◌<◌, false, List, Option, Some, None, All, Contains, IfSome, IsTrue, slice_get}
 use Rattle.ipc_kernel.specs.Kernel.{KernelState}
 use Rattle.lab_sched.specs.Worlds.{Process, WorldState}
+use Rattle.lab_sched.specs.Held.{asked_by, local_told, step_of}
+use Rattle.lab_sched.specs.LocalRun.{IsLocalStep, AreLocal}
 use Rattle.lab_sched.specs.declared.schedule.block.Block.{Block}
 use Rattle.lab_conditions.specs.declared.condition.Condition.{Condition}
 use Rattle.lab_conditions.specs.declared.never.Never.{Never}
 use Rattle.lab_conditions.specs.declared.never.Never.TheVariants as never
 use Rattle.lab_conditions.specs.Conditions.{Holds, world_of}
 use Rattle.lab_conditions.specs.Losses.{messages, is_receiving}
+use Rattle.lab_conditions.specs.Refusals.{is_process, is_refused}
+use Rattle.lab_conditions.specs.declared.refusals.Refusal.{Refusal}
 use Rattle.lab_states.specs.declared.edges.Edge.{Edge}
 use Rattle.lab_search.specs.declared.store.Store.{Store}
 use Rattle.lab_search.specs.Stored.{IsExactly, IsAt}
@@ -58,12 +62,42 @@ pub record IsLoss (t : Store) (e : Edge) : Type 0 where
 abbrev pub NoEdgeLoses : Store → Type 0
 NoEdgeLoses t = All (λ e. IsLoss t e → ⊥) t.edges
 
--- no row, and no edge, shows what must never be so
-abbrev pub IsUnseen : Store → Never → Type 0
-IsUnseen t (never.Holds c) = NoRowHolds t c
-IsUnseen t never.Lost = NoEdgeLoses t
+-- none of the local steps of a process is a call that it refuses so itself
+abbrev pub IsQuiet : Refusal → Process → Type 0
+IsQuiet r s = (n : ℕ) (u v : Process) → AreLocal n s u → IsLocalStep u v → is_refused r (local_told (asked_by (Some u))) ≡ false
+
+-- the step of process p, which is s over a kernel, isn't refused so, and none of its local steps after it is
+pub record IsCalm (r : Refusal) (k : KernelState) (p : ℕ) (s : Process) : Type 0 where
+  pub step : is_refused r (step_of k p s).told ≡ false
+  pub after : IsQuiet r (step_of k p s).process
+
+-- the steps of process p from the world of row number i are so, if they are meant
+abbrev pub IsCalmAt : Refusal → Store → ℕ → ℕ → Type 0
+IsCalmAt r t i p = IsTrue (is_process r.process p) → (w : WorldState) (s : Process) → IsAt t i w → slice_get w.processes p ≡ Some s
+    → IsCalm r w.kernel p s
+
+-- no local step of process p is, from the start on, if its steps are meant
+abbrev pub BeginsQuietly : Refusal → WorldState → ℕ → Type 0
+BeginsQuietly r start p = IsTrue (is_process r.process p) → (s : Process) → slice_get start.processes p ≡ Some s → IsQuiet r s
+
+-- no call is refused so, from the start on and from no row
+pub record NoneRefuses (r : Refusal) (start : WorldState) (t : Store) : Type 0 where
+  pub begins : (p : ℕ) → BeginsQuietly r start p
+  pub rows : (i p : ℕ) → IsCalmAt r t i p
+
+-- no step that was found is what never must happen; a condition is none that a step breaks
+abbrev pub NoneBreaks : WorldState → Store → Never → Type 0
+NoneBreaks start t (never.Holds c) = Unit {0}
+NoneBreaks start t never.Lost = NoEdgeLoses t
+NoneBreaks start t (never.Refused r) = NoneRefuses r start t
+
+-- no row, and no step, shows what must never be so
+abbrev pub IsUnseen : WorldState → Store → Never → Type 0
+IsUnseen start t (never.Holds c) = NoRowHolds t c
+IsUnseen start t never.Lost = NoEdgeLoses t
+IsUnseen start t (never.Refused r) = NoneRefuses r start t
 
 -- where there is no schedule, none does
-abbrev pub UnseenIfNone : Store → Never → Option (List Block) → Type 0
-UnseenIfNone t n None = IsUnseen t n
-UnseenIfNone t n (Some s) = Unit {0}
+abbrev pub UnseenIfNone : WorldState → Store → Never → Option (List Block) → Type 0
+UnseenIfNone start t n None = IsUnseen start t n
+UnseenIfNone start t n (Some s) = Unit {0}

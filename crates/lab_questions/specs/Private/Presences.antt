@@ -2,7 +2,7 @@
 use Rattle.std.specs.Prelude.{ℕ, ◌≡◌, ◌⊎◌, Contains, List, [], ◌∷◌, ◌++◌, Option, Some, None, slice_get}
 use Rattle.lab_sched.specs.declared.schedule.block.Block.{Block}
 use Rattle.lab_conditions.specs.declared.never.Never.{Never}
-use Rattle.lab_conditions.specs.declared.never.Never.TheVariants.{Holds, Lost}
+use Rattle.lab_conditions.specs.declared.never.Never.TheVariants.{Holds, Lost, Refused}
 use Rattle.lab_questions.specs.declared.object.Object.{Object}
 use Rattle.lab_questions.specs.Objects.{presence}
 
@@ -10,6 +10,7 @@ use Rattle.lab_questions.specs.Objects.{presence}
 abbrev pub AsksFor : Object → Never → Type 0
 AsksFor o (Holds c) = c.parts.items ≡ presence o ∷ []
 AsksFor o Lost = ⊥
+AsksFor o (Refused r) = ⊥
 
 -- an object is added at the end of objects, unless it is one of them
 abbrev pub AddsNew : List Object → Object → List Object → Type 0

@@ -2,10 +2,12 @@ use Rattle.std.proofs.Common.{ℕ, List, IsTrue, ap, map, length, sym, subst, If
 use Rattle.lab_sched.specs.Worlds.{WorldState, run, entries}
 use Rattle.lab_sched.specs.Held.{process_view}
 use Rattle.lab_sched.specs.Starts.{AreStarts, initial_world}
+use Rattle.lab_worlds.specs.Calls.{Alongside}
 use Rattle.lab_worlds.specs.Closed.{AreAtRest}
 use Rattle.lab_worlds.specs.Rounds.{IsRound, AreBounded}
 use Rattle.lab_worlds.specs.Fairness.{IsFairRound, AreFairlyBounded}
 use Rattle.lab_worlds.proofs.FairRounds.{some_fairly_endless}
+use Rattle.lab_explore.specs.Private.Judged.{UnseenIfNone}
 use Rattle.lab_explore.proofs.Passes.{ranked_bounded}
 use Rattle.lab_explore.proofs.Cycles.{some_repeats, some_endless}
 use Rattle.lab_worlds.proofs.Beginnings.{started, starts_untried, starts_ask, fresh_consistent, fresh_named, starts_held}
@@ -55,7 +57,8 @@ returns-in-Ok g c =
       reached = same_reached c.args.fresh (initial_world c.deref-2.result.now) c.args.nevers.now c.in-Ok.found.reached.items first c.in-Ok.ensures.reached;
       unreached = λ is.
           are_kept_in asked sparse c.args.fresh start t c.args.nevers.now c.in-Ok.found.reached.items same consistent asks untried c.in_ok-visited.ensures.sparse c.may_be_sparse-sparse.ensures.none
-          (c.in_ok-visited.ensures.complete (c.in-Ok.ensures.complete is)) c.in-Ok.ensures.unreached;
+          (c.in_ok-visited.ensures.complete (c.in-Ok.ensures.complete is))
+          (subst (λ w. Alongside (UnseenIfNone w t) c.args.nevers.now c.in-Ok.found.reached.items) (sym first ∙ same) (c.in-Ok.ensures.unreached (c.in-Ok.ensures.complete is)));
       round = round;
       repeats = some_repeats c.args.fresh c.in-Ok.found.round (fresh_consistent c.args.fresh (length qs) empty) round;
       endless = some_endless c.args.fresh c.in-Ok.found.round (fresh_consistent c.args.fresh (length qs) empty) round;

@@ -16,5 +16,7 @@ loop-never-preserved g c =
     let schedule = c.in_ok-schedule.schedule in
     record {
       reached = next_along (ViolatesIfSome start) ns found more n never schedule c.loop-never.invariant.reached c.loop-never-test.true c.never-item.is (violates_if never start schedule c.in_ok-schedule.ensures.reached) c.in_ok-push.ensures.items;
-      none = next_along (UnseenIfNone t) ns found more n never schedule c.loop-never.invariant.none c.loop-never-test.true c.never-item.is (unseen_if never t schedule c.in_ok-schedule.ensures.none) c.in_ok-push.ensures.items;
+      none = λ is.
+          next_along (UnseenIfNone start t) ns found more n never schedule (c.loop-never.invariant.none is) c.loop-never-test.true c.never-item.is
+          (unseen_if never start t schedule (λ no. c.in_ok-schedule.ensures.none no is)) c.in_ok-push.ensures.items;
     }

@@ -2,7 +2,7 @@ use Rattle.std.proofs.Common.{arith, slice_get}
 use Rattle.lab_sched.specs.Held.{asked_by}
 use Rattle.lab_sched.specs.Worlds.{step_effect_in}
 use Rattle.lab_worlds.proofs.WalkLemmas.{walk_more}
-use Rattle.lab_worlds.proofs.walking.Walk.go.Goals as goal
+use Rattle.lab_worlds.proofs.walking.Walk.go_told.Goals as goal
 
 pub returns : goal.returns
 returns c = record {
@@ -14,4 +14,5 @@ returns c = record {
       (omega (arith, sum, one));
   world = c.in-Ok.ensures.world;
   steps = c.in_ok-push.ensures.steps;
+  told = c.in-Ok.ensures.told;
 }

@@ -1,0 +1,49 @@
+//! Reading which calls are refused.
+ghost use Rattle.std.specs.Prelude.{◌≡◌, map, Some};
+ghost use Rattle.std.specs.Option.{option_map};
+ghost use Rattle.lab_conditions.specs.Written.{refused_in, refusal_in};
+
+use super::numbers::process_in;
+use super::words::is_word;
+use ipc_errors::error_named;
+use ipc_names::Errno;
+
+/// `refused`, or behind it the name of an error
+fn refused_in(words: &[&str]) -> Option<Option<Errno>>
+    ensures value { result ≡ refused_in (map (λ word. word.now) words.now) }
+{
+    match words {
+        [word] => {
+            if !is_word("refused", word) {
+                return None;
+            }
+            Some(None)
+        }
+        [word, name] => {
+            if !is_word("refused", word) {
+                return None;
+            }
+            let error = error_named(name)?;
+            Some(Some(error))
+        }
+        _ => None,
+    }
+}
+
+/// The process whose call is refused and the error, where they are named.
+#[tactic(auto, unfolding(crate::specs::Written::refusal_in))]
+pub(crate) fn refusal_in(words: &[&str]) -> Option<(Option<usize>, Option<Errno>)>
+    ensures value { result ≡ refusal_in (map (λ word. word.now) words.now) }
+{
+    let (word, rest) = words.split_first()?;
+    match process_in(word) {
+        Some(process) => {
+            let error = refused_in(rest)?;
+            Some((Some(process), error))
+        }
+        None => {
+            let error = refused_in(words)?;
+            Some((None, error))
+        }
+    }
+}

@@ -1,0 +1,73 @@
+//! Steps by which a call is refused.
+ghost use Rattle.std.specs.Prelude.{◌≡◌};
+ghost use Rattle.lab_conditions.specs.Conditions.{option_any};
+ghost use Rattle.lab_conditions.specs.Refusals.{error_replied, error_told, is_error, is_process, is_refused};
+
+use ipc_kernel::Reply;
+use ipc_names::Errno;
+use lab_sched::Stepped;
+
+/// A call that is refused: of one process or of any, with one error or with any but EAGAIN, which a
+/// call that tries is there for. It is shown as it was written, with one blank between its words.
+#[derive(Drop)]
+pub struct Refusal {
+    pub text: String,
+    pub process: Option<usize>,
+    pub error: Option<Errno>,
+}
+
+fn error_replied(reply: &Reply) -> Option<u16>
+    ensures number { result ≡ error_replied reply.now }
+{
+    match reply {
+        Reply::Plain(word) => {
+            if *word >= 0x8000 {
+                Some(word.wrapping_neg())
+            } else {
+                None
+            }
+        }
+        Reply::Message { .. } | Reply::Attr(_) | Reply::Value(_) => None,
+    }
+}
+
+fn error_told(stepped: &Stepped) -> Option<u16>
+    ensures number { result ≡ error_told stepped.now }
+{
+    match stepped {
+        Stepped::Refused(error) => Some(error.number()),
+        Stepped::Called(reply) => error_replied(reply),
+        Stepped::Moved | Stepped::Waits | Stepped::Same => None,
+    }
+}
+
+fn is_error(error: Option<Errno>, number: u16) -> bool
+    ensures value { result ≡ is_error error number }
+{
+    match error {
+        Some(error) => number == error.number(),
+        None => number != Errno::Again.number(),
+    }
+}
+
+impl Refusal {
+    /// Whether the calls of process `pid` are meant.
+    pub fn is_process(&self, pid: usize) -> bool
+        ensures value { result ≡ is_process self.now.process pid }
+    {
+        match self.process {
+            Some(process) => pid == process,
+            None => true,
+        }
+    }
+
+    /// Whether a step of which this is told is a call that is refused so.
+    pub fn is_refused(&self, stepped: &Stepped) -> bool
+        ensures value { result ≡ is_refused self.now stepped.now }
+    {
+        match error_told(stepped) {
+            Some(number) => is_error(self.error, number),
+            None => false,
+        }
+    }
+}
