@@ -36,7 +36,7 @@ complete -c lc3lab -n '__fish_seen_subcommand_from explore' -x -l seed -d 'The s
 complete -c lc3lab -n '__fish_seen_subcommand_from explore' -x -l limit -d 'The most steps of a process without a call'
 complete -c lc3lab -n '__fish_seen_subcommand_from explore' -x -l require -a 'ended stuck halted empty same' -d 'Fails unless all ends are so'
 complete -c lc3lab -n '__fish_seen_subcommand_from explore' -x -l may-wait -d 'This process may wait for ever'
-complete -c lc3lab -n '__fish_seen_subcommand_from explore' -x -l never -a 'lost crashed' -d 'Fails unless this condition never holds, or no message is lost'
+complete -c lc3lab -n '__fish_seen_subcommand_from explore' -x -l never -a 'lost refused crashed' -d 'Fails unless this condition never holds, or no message is lost'
 complete -c lc3lab -n '__fish_seen_subcommand_from explore' -l fair -d 'Tells only rounds in which each process that can go on takes a step'
 complete -c lc3lab -n '__fish_seen_subcommand_from explore' -x -l show -a 'out left out,left' -d 'What is told of each end'
 complete -c lc3lab -n '__fish_seen_subcommand_from explore' -l first -d 'Ends the search where something is found that is not as it has to be'

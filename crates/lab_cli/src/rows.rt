@@ -266,7 +266,8 @@ const EXPLORE: &[Row] = &[
         name: "never",
         takes: Takes::Texts("CONDITION"),
         help: "Fails unless the search is complete and this condition never holds, \
-            or, with lost, no message is lost with its queue",
+            or, with lost, no message is lost with its queue, \
+            or, with refused, no call is answered with an error but EAGAIN",
     },
     Row {
         name: "fair",

@@ -132,9 +132,7 @@ fn nevers_of<'a>(
 /// What must never be so, as a word writes it, of so many processes.
 fn never_of<'a>(alloc: Global, word: &'a str, count: usize) -> Result<Never, Complaint<'a>> {
     match Never::read(alloc, word) {
-        Ok(Never::Holds(ref condition)) if !condition.names_only(count) => {
-            Err(Misuse::NoSuchProcess.of(word))
-        }
+        Ok(ref never) if !never.names_only(count) => Err(Misuse::NoSuchProcess.of(word)),
         Ok(never) => Ok(never),
         Err(ReadFault::NoCondition) => Err(Misuse::NoCondition.of(word)),
         Err(ReadFault::NoMemory) => Err(Reason::NoMemory.at("run")),
