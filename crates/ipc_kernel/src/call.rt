@@ -1,10 +1,11 @@
 //! Calls, replies and answers.
-ghost use Rattle.std.specs.Prelude.{◌≡◌};
+ghost use Rattle.std.specs.Prelude.{◌≡◌, IfOk};
 ghost use Rattle.ipc_kernel.specs.Operands.{handle_of};
 ghost use Rattle.ipc_kernel.specs.OwnCalls.{is_unlink};
 
 use ipc_names::Name;
 use ipc_objects::Words;
+use std::alloc::AllocError;
 
 /// What a call on an open object names: a descriptor or a slot of its process.
 #[derive(Clone, Copy, Drop)]
@@ -109,6 +110,13 @@ pub enum Answer {
 }
 
 impl Call {
+    /// The same call, as a clone is. Takes no memory: an error is that its name or its words are shared 2^63 times.
+    pub fn copy(&self) -> Result<Call, AllocError>
+        ensures equal { IfOk result (λ copy. copy ≡ self.now) }
+    {
+        self.clone()
+    }
+
     /// Whether the call takes a name away.
     pub fn is_unlink(&self) -> bool
         ensures unlink { result ≡ is_unlink self.now }
@@ -131,5 +139,23 @@ impl Call {
             | Call::SemGetvalue { slot } => Some(Handle::Slot(*slot)),
             _ => None,
         }
+    }
+}
+
+impl Reply {
+    /// The same reply, as a clone is. Takes no memory: an error is that its words are shared 2^63 times.
+    pub fn copy(&self) -> Result<Reply, AllocError>
+        ensures equal { IfOk result (λ copy. copy ≡ self.now) }
+    {
+        self.clone()
+    }
+}
+
+impl Answer {
+    /// The same answer, as a clone is. Takes no memory: an error is that its words are shared 2^63 times.
+    pub fn copy(&self) -> Result<Answer, AllocError>
+        ensures equal { IfOk result (λ copy. copy ≡ self.now) }
+    {
+        self.clone()
     }
 }

@@ -97,6 +97,13 @@ impl Name {
     {
         self.text.as_str()
     }
+
+    /// The same name, as a clone is. Takes no memory: an error is that it is shared 2^63 times.
+    pub fn copy(&self) -> Result<Name, AllocError>
+        ensures equal { IfOk result (λ copy. copy ≡ self.now) }
+    {
+        self.clone()
+    }
 }
 
 /// The same name, which is shared. Takes no memory: an error is that it is shared 2^63 times.
