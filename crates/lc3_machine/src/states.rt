@@ -1,13 +1,15 @@
 //! The states of a process, a type each.
 
+mod call;
 mod copies;
 mod end;
 mod outputs;
+mod readers;
 mod run;
 mod wait;
 
 use crate::machine::Machine;
-use crate::want::How;
+use crate::want::{How, Want};
 use std::marker::Model;
 
 /// A process that runs.
@@ -29,33 +31,54 @@ impl Model for Running {
     ghost view = { λ r. r.machine.value };
 }
 
-/// A process that waits for the answer of the trap of the kernel that it stands before. Nothing of that instruction is
-/// done.
-pub struct Waiting {
+/// A process that stands before a trap of the kernel, or its end. Nothing of that instruction is done.
+pub struct AtCall {
     running: Running,
-    vector: u8,
+    want: Want,
 }
 
-impl Drop for Waiting {
+impl Drop for AtCall {
     fn drop(self) {
-        let Waiting {
+        let AtCall {
             running: _,
-            vector: _,
+            want: _,
         } = self;
     }
 }
 
-impl Model for Waiting {
+impl Model for AtCall {
     ghost use Rattle.std.specs.Prelude.{◌≡◌};
-    ghost use Rattle.lc3_machine.specs.declared.want.Want.TheVariants.{Trap};
     ghost use Rattle.lc3_machine.specs.Process.{Held, Stops};
     ghost use Rattle.lc3_machine.specs.Effects.{next_step};
 
     ghost Value = { Held };
 
-    ghost view = { λ w. w.running };
+    ghost view = { λ a. a.running };
 
-    ghost invariant = { λ w. next_step w.running.process ≡ Stops (Trap w.vector) };
+    ghost invariant = { λ a. next_step a.running.process ≡ Stops a.want };
+}
+
+/// A process that waits for the answer of the trap of the kernel that it stands before. Nothing of that instruction is
+/// done.
+pub struct Waiting {
+    call: AtCall,
+}
+
+impl Drop for Waiting {
+    fn drop(self) {
+        let Waiting { call: _ } = self;
+    }
+}
+
+impl Model for Waiting {
+    ghost use Rattle.lc3_machine.specs.Process.{Held};
+    ghost use Rattle.lc3_machine.specs.Steps.{AsksTrap};
+
+    ghost Value = { Held };
+
+    ghost view = { λ w. w.call };
+
+    ghost invariant = { λ w. AsksTrap w.call.process };
 }
 
 /// A process that has ended.
@@ -76,4 +99,15 @@ impl Model for Ended {
     ghost Value = { EndedProcess };
 
     ghost view = { λ e. record { process = e.machine.value.process; how = e.how } };
+}
+
+/// What local steps of a process lead to.
+#[derive(Drop)]
+pub enum Local {
+    /// All steps are done.
+    Running(Running),
+    /// The next instruction is a trap of the kernel or an end: it isn't done, and no step is counted for it.
+    AtCall(AtCall),
+    /// Memory was refused to the next instruction: it isn't done, and may be tried again.
+    Short(Running),
 }

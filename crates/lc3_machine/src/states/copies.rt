@@ -2,7 +2,7 @@
 
 ghost use Rattle.std.specs.Prelude.{◌≡◌, ◌↔◌, IfOk, IsTrue};
 
-use super::{Ended, Running, Waiting};
+use super::{AtCall, Ended, Running, Waiting};
 use crate::want::How;
 use std::alloc::{AllocError, Global};
 use std::hash::{FoldHasher, Hasher};
@@ -29,15 +29,25 @@ impl Running {
     }
 }
 
+impl AtCall {
+    /// An equal process, which stands before the same call or end.
+    fn copy(&self, alloc: Global) -> Result<AtCall, AllocError>
+        ensures equal { IfOk result (λ copy. copy ≡ self.now) }
+    {
+        Ok(AtCall {
+            running: self.running.copy(alloc)?,
+            want: self.want,
+        })
+    }
+}
+
 impl Waiting {
     /// An equal process, of which the same can be written without taking memory.
     pub fn copy(&self, alloc: Global) -> Result<Waiting, AllocError>
         ensures equal { IfOk result (λ copy. copy ≡ self.now) }
     {
-        let running = self.running.copy(alloc)?;
         Ok(Waiting {
-            running,
-            vector: self.vector,
+            call: self.call.copy(alloc)?,
         })
     }
 
@@ -45,12 +55,12 @@ impl Waiting {
     pub fn is_same(&self, other: &Waiting) -> bool
         ensures same { IsTrue result ↔ (self.now.process ≡ other.now.process) }
     {
-        self.running.is_same(&other.running)
+        self.call.running.is_same(&other.call.running)
     }
 
     /// A number that is the same for equal processes and, as a rule, another for others.
     pub fn digest(&self) -> u64 {
-        self.running.digest()
+        self.call.running.digest()
     }
 }
 

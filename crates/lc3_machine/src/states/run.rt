@@ -9,10 +9,10 @@ ghost use Rattle.lc3_machine.specs.Effects.{next_step};
 ghost use Rattle.lc3_machine.specs.Reply.{CanTake, process_after_effect, process_after_end};
 ghost use Rattle.lc3_machine.specs.Steps.{AsksTrap, HasRun};
 
-use super::{Ended, Running, Waiting};
+use super::{AtCall, Ended, Running, Waiting};
 use crate::effect::Effect;
 use crate::machine::{Machine, Progress};
-use crate::want::How;
+use crate::want::{How, Want};
 use lc3_table::Profile;
 use lc3_word::Image;
 use std::alloc::{AllocError, Global};
@@ -84,8 +84,10 @@ impl Running {
         ensures same { result ≡ self }
     {
         Waiting {
-            running: self,
-            vector,
+            call: AtCall {
+                running: self,
+                want: Want::Trap(vector),
+            },
         }
     }
 
