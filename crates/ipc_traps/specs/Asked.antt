@@ -122,3 +122,14 @@ next_request p = outcome_request p (next_step p)
 abbrev pub request_of : Asked → Request
 request_of (asked_for.Kernel call) = Calls call
 request_of (asked_for.Refused e) = Refuses e
+
+-- what the kernel is asked for where a process ends: that all it has open is closed
+abbrev pub exit_at_end : Request → Request
+exit_at_end (Local p) = Local p
+exit_at_end (Refuses e) = Refuses e
+exit_at_end (Calls call) = Calls call
+exit_at_end (Ends how) = Calls Exit
+
+-- what a process that stands before a call or its end asks of the kernel
+unfoldable pub kernel_request : Process → Request
+kernel_request p = exit_at_end (next_request p)

@@ -6,27 +6,39 @@ ghost use Rattle.lc3_machine.specs.Effects.{next_step};
 ghost use Rattle.lc3_machine.specs.declared.want.Want.TheVariants.{Trap};
 ghost use Rattle.ipc_kernel.specs.declared.call.Call.TheVariants.{MqUnlink, SemUnlink};
 ghost use Rattle.ipc_traps.specs.Names.{is_in_memory, words_at};
-ghost use Rattle.ipc_traps.specs.Asked.{request_of, next_request, service_request, name_at, request_by_name, has_attributes, attributes, mq_open_request, sem_open_request, mq_send_request, mq_receive_request, mq_getattr_request, mq_setattr_request, sem_getvalue_request};
+ghost use Rattle.ipc_traps.specs.Asked.{request_of, next_request, kernel_request, service_request, name_at, request_by_name, has_attributes, attributes, mq_open_request, sem_open_request, mq_send_request, mq_receive_request, mq_getattr_request, mq_setattr_request, sem_getvalue_request};
 
 use crate::memory::{is_in_memory, name_length, read_few, read_four, read_words, register};
 use crate::{Asked, Service};
 use ipc_kernel::Call;
 use ipc_names::{Errno, Name, O_CREAT};
 use ipc_objects::{FEW_WORDS, Words};
-use lc3_machine::Machine;
+use lc3_machine::{AtCall, Machine, Want};
 use std::alloc::{AllocError, Global};
 
 /// What a process asks of the kernel by the trap with this vector, which it stands before, or the refusal. The arguments
 /// are as they stand in the registers and in memory, not yet tested. An error is want of memory.
 #[tactic(auto, unfolding(crate::specs::Asked::next_request))]
 #[inline(always)]
-pub fn read_call(alloc: Global, machine: &Machine, vector: u8) -> Result<Asked, AllocError>
+pub fn read_by_vector(alloc: Global, machine: &Machine, vector: u8) -> Result<Asked, AllocError>
     requires trap { next_step machine.now.process ≡ Stops (Trap vector) }
     ensures asked { IfOk result (λ a. next_request machine.now.process ≡ request_of a) }
 {
     match Service::of_vector(vector) {
         Some(service) => read_service(alloc, machine, service),
         None => Ok(Asked::Kernel(Call::Exit)),
+    }
+}
+
+/// What a process asks of the kernel by the call that it stands before, or the refusal; its end asks for `Exit`. An error
+/// is want of memory.
+#[tactic(auto, unfolding(crate::specs::Asked::next_request, crate::specs::Asked::kernel_request))]
+pub fn read_call(alloc: Global, call: &AtCall) -> Result<Asked, AllocError>
+    ensures asked { IfOk result (λ a. kernel_request call.now.process ≡ request_of a) }
+{
+    match call.want() {
+        Want::Trap(vector) => read_by_vector(alloc, call.machine(), vector),
+        Want::End(_) => Ok(Asked::Kernel(Call::Exit)),
     }
 }
 

@@ -6,6 +6,7 @@ ghost use Rattle.lc3_machine.specs.Effects.{next_step};
 ghost use Rattle.lc3_machine.specs.declared.want.Want.TheVariants.{Trap};
 ghost use Rattle.lc3_machine.specs.Memory.{StaysReady};
 ghost use Rattle.lc3_machine.specs.Reply.{CanTake, process_after_effect};
+ghost use Rattle.lc3_machine.specs.Steps.{AsksTrap};
 ghost use Rattle.ipc_traps.specs.declared.service.Service.TheVariants.{MqReceive, MqGetattr, MqSetattr, SemGetvalue};
 ghost use Rattle.ipc_traps.specs.Services.{service_in};
 ghost use Rattle.ipc_traps.specs.Asked.{mq_receive_request, mq_getattr_request, mq_setattr_request, sem_getvalue_request};
@@ -15,7 +16,7 @@ use crate::Service;
 use crate::memory::{is_in_memory, register};
 use ipc_kernel::Reply;
 use ipc_objects::MQ_MSGSIZE_MAX;
-use lc3_machine::{Effect, Machine, Running};
+use lc3_machine::{AtCall, Effect, Machine, Running, Want};
 use std::alloc::AllocError;
 
 /// An address, of which 0 stands for none.
@@ -39,7 +40,7 @@ fn four_words_address(machine: &Machine, vector: u8) -> Option<u16>
 /// effect is the reply.
 #[tactic(auto, unfolding(crate::specs::Reply::process_after_reply, crate::specs::Reply::HasRoom))]
 #[inline(always)]
-pub fn effect_of<'a>(machine: &Machine, vector: u8, reply: &'a Reply) -> Effect<'a>
+pub fn effect_by_vector<'a>(machine: &Machine, vector: u8, reply: &'a Reply) -> Effect<'a>
     requires trap { next_step machine.now.process ≡ Stops (Trap vector) }
     ensures effect { process_after_effect machine.now.process result
         ≡ process_after_reply machine.now.process reply.now }
@@ -61,6 +62,19 @@ pub fn effect_of<'a>(machine: &Machine, vector: u8, reply: &'a Reply) -> Effect<
             at: register(machine, 1),
             word: *word,
         },
+    }
+}
+
+/// What a reply does to the process whose call it answers: `AtCall::finish` with this effect is the reply.
+pub fn effect_of<'a>(call: &AtCall, reply: &'a Reply) -> Effect<'a>
+    requires trap { AsksTrap call.now.process }
+    ensures effect { process_after_effect call.now.process result
+        ≡ process_after_reply call.now.process reply.now }
+    ensures room { HasRoom call.now reply.now → CanTake call.now.ready result }
+{
+    match call.want() {
+        Want::Trap(vector) => effect_by_vector(call.machine(), vector, reply),
+        Want::End(_) => unreachable!(),
     }
 }
 
