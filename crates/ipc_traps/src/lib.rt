@@ -10,7 +10,7 @@ use ipc_kernel::Call;
 use ipc_names::Errno;
 pub use memory::{WINDOW_MAX, is_in_memory, name_length, read_words};
 pub use reading::{read_by_vector, read_call};
-pub use replying::{effect_by_vector, effect_of, prepare};
+pub use replying::{effect_by_vector, effect_of, prepare, prepare_by_vector};
 pub use service::{MQ_RECEIVE, MQ_SEND, SEM_POST, SEM_WAIT, Service};
 
 /// What a process that stands before a call asks for.

@@ -11,7 +11,10 @@ ghost use Rattle.lab_sched.specs.Private.Calling.{HasAsked, HasGoneOn, HasRoomFo
 
 use ipc_kernel::{Answer, Call, Kernel, Reply};
 use ipc_names::Errno;
-use ipc_traps::{Asked, MQ_RECEIVE, MQ_SEND, SEM_POST, SEM_WAIT, effect_of, prepare, read_call};
+use ipc_traps::{
+    Asked, MQ_RECEIVE, MQ_SEND, SEM_POST, SEM_WAIT, effect_by_vector, prepare_by_vector,
+    read_by_vector,
+};
 use lc3_machine::{Effect, Running};
 use std::alloc::{AllocError, Global};
 
@@ -45,7 +48,7 @@ pub(crate) fn give_reply(running: &mut Running, vector: u8, reply: &Reply)
     requires room { HasRoom running.old reply.now }
     ensures replied { running.new.process ≡ process_after_reply running.old.process reply.now }
 {
-    let effect = effect_of(running.machine(), vector, reply);
+    let effect = effect_by_vector(running.machine(), vector, reply);
     running.answer(effect);
 }
 
@@ -58,7 +61,7 @@ pub(crate) fn ask(alloc: Global, running: &mut Running, vector: u8) -> Result<As
     ensures asked { IfOk result (λ asked. HasAsked running.old.process asked running.new.process) }
     ensures err { OnErr result (running.new.process ≡ running.old.process) }
 {
-    match read_call(alloc, running.machine(), vector)? {
+    match read_by_vector(alloc, running.machine(), vector)? {
         Asked::Kernel(call) => Ok(Asked::Kernel(call)),
         Asked::Refused(e) => {
             give_word(running, e.reply());
@@ -81,7 +84,7 @@ pub(crate) fn ask_with_room(
 {
     match ask(alloc, running, vector)? {
         Asked::Kernel(call) => {
-            prepare(running, vector)?;
+            prepare_by_vector(running, vector)?;
             Ok(Asked::Kernel(call))
         }
         Asked::Refused(e) => Ok(Asked::Refused(e)),
