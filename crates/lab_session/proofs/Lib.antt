@@ -5,3 +5,4 @@ pub mod WatchLemmas
 pub mod StopLemmas
 pub mod TakenLemmas
 pub mod PlayLemmas
+pub mod CopyLemmas

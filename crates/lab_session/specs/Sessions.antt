@@ -3,7 +3,6 @@ use Rattle.std.specs.Prelude.{ℕ, ◌-◌, Option, if◌then◌else◌, List, [
 use Rattle.lab_sched.specs.Worlds.{WorldState, step_effect_in, step, run}
 use Rattle.lab_sched.specs.Verdicts.{is_nothing}
 use Rattle.lab_sched.specs.Schedules.{steps_of}
-use Rattle.lab_sched.specs.Starts.{fresh}
 use Rattle.lab_sources.specs.declared.listing.Listing.{Listing}
 use Rattle.lab_session.specs.declared.marks.Mark.{Mark}
 use Rattle.lab_session.specs.declared.state.Session.{Session}
@@ -53,4 +52,4 @@ back n s = with_steps s (steps_before n s) (run s.start (steps_before n s))
 
 -- the state of a session, as the code keeps it
 abbrev pub state_of : Session → SessionState
-state_of s = record { listings = s.listings.items; help = s.help.now; marks = s.marks.items; start = fresh s.profile s.programs.items; steps = steps_of s.taken.items; world = s.world }
+state_of s = record { listings = s.listings.items; help = s.help.now; marks = s.marks.items; start = s.start; steps = steps_of s.taken.items; world = s.world }

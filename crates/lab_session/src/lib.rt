@@ -2,6 +2,7 @@
 //! were taken, the world after them, and where a process stands in its source.
 #![tactic(auto)]
 
+mod copies;
 mod mark_texts;
 mod marks;
 mod places;

@@ -1,4 +1,4 @@
-//! The state of a session: its programs, the steps that were taken, and the world after them.
+//! The state of a session: the world that it began with, the steps that were taken, and the world after them.
 ghost use Rattle.std.specs.Prelude.{◌≡◌, ◌↔◌, Err, IfOk, OnOk, OnErr, [], ◌∷◌, length, option_map, replicate};
 ghost use Rattle.lab_sched.specs.Schedules.{steps_of};
 ghost use Rattle.lab_sched.specs.Starts.{IsCount, fresh};
@@ -9,6 +9,7 @@ ghost use Rattle.lab_session.specs.Stops.{steps_to_stop, stopped_process, steps_
 ghost use Rattle.lab_session.specs.Listings.{listing_of, has_labels};
 ghost use Rattle.lab_session.specs.Sessions.{session_from, with_marks, effective, after_steps, back, state_of};
 
+use crate::copies::copy_of_world;
 use crate::marks::{Mark, MarkKind, break_at, is_at_break, of_kind, with_mark, without_mark};
 use crate::stepping::{advance, first_steps, step_count};
 use crate::watches::{Watched, watched_words};
@@ -17,14 +18,13 @@ use lab_sources::Listing;
 use lc3_table::Profile;
 use std::alloc::{AllocError, Global};
 
-/// A session of the debugger. It keeps its programs and the steps that were taken, so that it can
-/// go back, and the sources of the programs that were given as such.
+/// A session of the debugger. It keeps the world that it began with and the steps that were taken,
+/// so that it can go back, and the sources of the programs that were given as such.
 pub struct Session {
-    programs: Vec<Program>,
     listings: Vec<Option<Listing>>,
     help: &'static str,
-    profile: Profile,
     marks: Vec<Mark>,
+    start: World,
     taken: Vec<Block>,
     world: World,
 }
@@ -32,24 +32,13 @@ pub struct Session {
 impl Drop for Session {
     fn drop(self) {
         let Session {
-            programs: _,
             listings: _,
             help: _,
-            profile: _,
             marks: _,
+            start: _,
             taken: _,
             world: _,
         } = self;
-    }
-}
-
-/// The world of programs before their first step.
-fn start_of(alloc: Global, programs: &[Program], profile: Profile) -> Result<World, AllocError>
-    ensures world { IfOk result (λ w. w ≡ fresh profile programs.now) }
-{
-    match Fresh::new(alloc, programs, profile) {
-        Ok(fresh) => Ok(World::from(fresh)),
-        Err(_) => Err(AllocError),
     }
 }
 
@@ -67,7 +56,6 @@ impl Session {
     /// The session of 1 to 64 programs, process 0 with the first of them, on machines of this
     /// profile, before the first step. The listings are those of the programs' sources in the same
     /// order; a program without one is an object file. `help` is what the command of that name writes.
-    #[tactic(auto, unfolding(lab_sched::specs::Schedules::steps_of))]
     pub fn new(
         alloc: Global,
         programs: Vec<Program>,
@@ -81,15 +69,41 @@ impl Session {
             ≡ session_from listings.items help.now (fresh profile programs.items)) }
     {
         let fresh = Fresh::new(alloc, programs.as_slice(), profile)?;
+        let mut session = Session::of_world(alloc, World::from(fresh), help)?;
+        session.listings = listings;
+        Ok(session)
+    }
+
+    /// The session of a world, without sources, before the first step. `help` is what the command of
+    /// that name writes.
+    #[tactic(auto, unfolding(lab_sched::specs::Schedules::steps_of))]
+    pub fn of_world(alloc: Global, world: World, help: &'static str) -> Result<Session, AllocError>
+        ensures start { IfOk result (λ s. state_of s ≡ session_from [] help.now world) }
+    {
+        let start = copy_of_world(alloc, &world)?;
         Ok(Session {
-            programs,
-            listings,
+            listings: Vec::new(alloc),
             help,
-            profile,
             marks: Vec::new(alloc),
+            start,
             taken: Vec::new(alloc),
-            world: World::from(fresh),
+            world,
         })
+    }
+
+    /// The world that the steps lead to, where the session is over.
+    pub fn into_world(self) -> World
+        ensures world { result ≡ (state_of self).world }
+    {
+        let Session {
+            listings: _,
+            help: _,
+            marks: _,
+            start: _,
+            taken: _,
+            world,
+        } = self;
+        world
     }
 
     /// The world that the steps lead to.
@@ -233,19 +247,19 @@ impl Session {
         self.taken.extend_from_slice(schedule.blocks())
     }
 
-    /// The steps that had an effect. The programs are run again from their start.
+    /// The steps that had an effect. The steps are taken again from the start.
     #[tactic(auto, using(crate::proofs::PlayLemmas::no_marks_no_stop))]
     pub fn effective(&self, alloc: Global) -> Result<Vec<Block>, AllocError>
         ensures steps { IfOk result (λ kept. steps_of kept.items
             ≡ effective (state_of self.now).start (state_of self.now).steps) }
     {
-        let mut world = start_of(alloc, self.programs.as_slice(), self.profile)?;
+        let mut world = copy_of_world(alloc, &self.start)?;
         let taken = advance(alloc, &mut world, &[], self.taken.as_slice())?;
         Ok(taken.effective)
     }
 
     /// Goes back before the last `count` steps that had an effect, or to the start where there are
-    /// fewer; with how many are left. The programs are run again from their start. Where memory is
+    /// fewer; with how many are left. The steps are taken again from the start. Where memory is
     /// refused nothing has changed.
     #[tactic(auto, using(crate::proofs::PlayLemmas::no_marks_no_stop))]
     pub fn back(&mut self, alloc: Global, count: u32) -> Result<u64, AllocError>
@@ -256,7 +270,7 @@ impl Session {
         let kept = self.effective(alloc)?;
         let left = step_count(&kept)?.saturating_sub(u64::from(count));
         let taken = first_steps(alloc, &kept, left)?;
-        let mut world = start_of(alloc, self.programs.as_slice(), self.profile)?;
+        let mut world = copy_of_world(alloc, &self.start)?;
         advance(alloc, &mut world, &[], &taken)?;
         self.taken = taken;
         self.world = world;
