@@ -1,7 +1,7 @@
 -- Labels as addresses.
-use Rattle.std.specs.Prelude.{ℕ, ◌+◌, ◌-◌, ◌==◌, ◌||◌, nat_le, if◌then◌else◌, Bool, true, false, Option, Some, None, Result, Ok, Err, List, ◌∷◌, codes, length, take, drop, position, slice_index}
+use Rattle.std.specs.Prelude.{ℕ, ◌+◌, ◌-◌, ◌==◌, ◌||◌, nat_le, if◌then◌else◌, Bool, true, false, Option, Some, None, is_some, Result, Ok, Err, List, ◌∷◌, codes, length, take, drop, position, slice_index}
 use Rattle.std.specs.Option.{option_map, option_and_then}
-use Rattle.lc3_word.specs.Numbers.{unsigned_number}
+use Rattle.lc3_word.specs.Numbers.{number, unsigned_number}
 use Rattle.lc3_table.specs.Words.{is_label}
 use Rattle.lab_sched.specs.ScheduleTexts.{in_range}
 use Rattle.lab_sources.specs.Labels.{address_of}
@@ -36,9 +36,9 @@ label_split None word = named word false 0
 label_split (Some sign) word =
     option_and_then (λ n. named (take sign word) (slice_index word sign == 45) n) (distance_of (drop (sign + 1) word))
 
--- a label, or a label, a sign and 1 to 5 decimal digits
+-- a label, or a label, a sign and 1 to 5 decimal digits; a word that is a number is none
 unfoldable pub label_in : List ℕ → Option LabelSeen
-label_in word = label_split (position is_sign word) word
+label_in word = if is_some (number word) then None else label_split (position is_sign word) word
 
 -- the address so many words before another one, or behind it
 abbrev pub moved : Bool → ℕ → ℕ → Option ℕ

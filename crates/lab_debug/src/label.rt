@@ -8,7 +8,7 @@ ghost use Rattle.lab_session.specs.Sessions.{state_of};
 use crate::command::Refusal;
 use lab_session::Session;
 use lc3_asm::is_label;
-use lc3_word::unsigned;
+use lc3_word::{number_of, unsigned};
 use std::alloc::{AllocError, Global};
 
 /// A label of a source, and a number of words before it or behind it.
@@ -60,11 +60,14 @@ fn named(name: &[u8], is_before: bool, count: u32) -> Option<Label<'_>>
     }
 }
 
-/// A label, or a label, a sign and 1 to 5 decimal digits.
+/// A label, or a label, a sign and 1 to 5 decimal digits. A word that is a number is none.
 #[tactic(auto, unfolding(crate::specs::Labels::label_in))]
 fn label_in(word: &[u8]) -> Option<Label<'_>>
     ensures value { option_map label_seen result ≡ label_in word.now }
 {
+    if number_of(word).is_some() {
+        return None;
+    }
     let Some(sign) = sign(word) else {
         return named(word, false, 0);
     };
