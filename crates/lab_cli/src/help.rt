@@ -29,5 +29,6 @@ mqs             the queues\n\
 sems            the semaphores\n\
 fds P           the descriptors and slots of P\n\
 profile         the machine that the processes are\n\
+help            lists the commands\n\
 quit            ends the session\n\
 P is a process, as 0. ADDR is an address, as x3000; of a program given as a source also a label, as LOOP or LOOP+2.\n";
