@@ -6,7 +6,7 @@ use crate::job::Job;
 use crate::programs::{Programs, fault_of, read_programs};
 use crate::progress::Progress;
 use lab_arguments::Setup;
-use lab_debug::{Session, session};
+use lab_debug::{Session, session_over};
 use lab_io::{Input, Output};
 use lab_sources::{Listing, Source};
 use lc3_table::Profile;
@@ -56,6 +56,6 @@ pub fn debug_programs<'a, T: Files, R: Read, W: Write, P: Progress>(
 {
     let given = read_programs(job, setup.programs.as_slice())?;
     let start = session_on(job.alloc, given, job.texts.help, setup.profile)?;
-    session(job.alloc, start, input, output).at(job.alloc, "session")?;
+    session_over(job.alloc, start, input, output).at(job.alloc, "session")?;
     Ok(())
 }

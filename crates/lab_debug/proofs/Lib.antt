@@ -3,3 +3,4 @@ pub mod PendingLemmas
 pub mod ScriptLemmas
 pub mod NumberLemmas
 pub mod LawLemmas
+pub mod WorldSessions

@@ -21,8 +21,8 @@ use Rattle.lab_session.specs.Stops.{steps_to_stop, stopped_process, steps_until}
 use Rattle.lab_session.specs.Played.{play_text}
 use Rattle.lab_session.specs.Taken.{taken_text}
 use Rattle.std.specs.Fmt.{decimal}
-use Rattle.lab_session.specs.Sessions.{SessionState, with_marks, after_steps, effective, back}
-use Rattle.lab_debug.specs.Script.{Effect, Script, script}
+use Rattle.lab_session.specs.Sessions.{SessionState, session_from, with_marks, after_steps, effective, back}
+use Rattle.lab_debug.specs.Script.{Effect, Script, script, seen_script}
 use Rattle.lab_texts.specs.Texts.{status_text, procs_text, profile_text, regs_text, mem_text, dis_text, out_text}
 use Rattle.lab_texts.specs.Objects.{mqs_text, sems_text, fds_text}
 use Rattle.lab_texts.specs.Verdicts.{verdict_text}
@@ -195,3 +195,7 @@ line_effect s line = words_effect s (words_of line)
 -- the session of a script of these bytes on a world
 abbrev pub session : SessionState → List ℕ → Script SessionState
 session s bytes = script line_effect s bytes
+
+-- the same of a session that begins with this world, without sources; `help` writes nothing
+abbrev pub world_session : WorldState → List ℕ → Script WorldState
+world_session w bytes = seen_script (λ s. s.world) (session (session_from [] (codes "") w) bytes)

@@ -17,7 +17,8 @@ mod showing;
 
 pub use fault::SessionFault;
 pub use lab_session::Session;
-pub use script::session;
+pub use lab_texts::{dis_text, mem_text, mqs_text, procs_text, regs_text, sems_text, status_text};
+pub use script::{session, session_over};
 
 /// The most bytes of a line, without its line feed.
 pub const LINE_LIMIT: usize = 65_536;

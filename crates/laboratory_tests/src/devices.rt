@@ -3,7 +3,7 @@
 ghost use Rattle.std.specs.Prelude.{◌≤◌};
 
 use crate::programs::{FIRST, SECOND, start_session};
-use lab_debug::{SessionFault, session};
+use lab_debug::{SessionFault, session_over};
 use lab_io::{Input, Output, SlowIn, SlowOut};
 use lab_sched::FreshFault;
 use std::alloc::Global;
@@ -47,7 +47,7 @@ fn is_so_far(text: &[u8], end: usize) -> bool {
 fn read_once(alloc: Global, before: usize) -> Result<Option<Vec<u8>>, FreshFault> {
     let start = start_session(alloc, &[FIRST, SECOND])?;
     let mut text = Vec::with_capacity(alloc, 1024)?;
-    let end = session(
+    let end = session_over(
         alloc,
         start,
         &mut Input::new(SlowIn::new(SCRIPT, 1, before)),
@@ -86,7 +86,7 @@ fn write_once(
     requires moves { 1 ≤ most }
 {
     let start = start_session(alloc, &[FIRST, SECOND])?;
-    let end = session(
+    let end = session_over(
         alloc,
         start,
         &mut Input::new(SCRIPT),
