@@ -1,2 +1,3 @@
 -- Definitions that only contracts inside the crate cite.
 pub mod Plain
+pub mod Runs

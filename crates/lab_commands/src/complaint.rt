@@ -1,4 +1,6 @@
 //! What the program says of a fault.
+ghost use Rattle.std.specs.Prelude.{◌≡◌, Ok, IfOk};
+
 use lab_arguments::Shown;
 use lab_io::Output;
 use lab_questions::Word;
@@ -83,11 +85,17 @@ impl Reason {
 
 /// An outcome whose fault can be told with a place.
 pub trait At<T> {
+    /// The outcome has this value.
+    ghost gives: { Self → T → Type 0 };
+
     /// The outcome, where a fault becomes the complaint about it at a place.
-    fn at(self, alloc: Global, place: &str) -> Result<T, Complaint<'_>>;
+    fn at(self, alloc: Global, place: &str) -> Result<T, Complaint<'_>>
+        ensures value { IfOk result (λ value. gives self value) };
 }
 
 impl<T, E: Display + Drop> At<T> for Result<T, E> {
+    ghost gives = { λ outcome value. outcome ≡ Ok value };
+
     fn at(self, alloc: Global, place: &str) -> Result<T, Complaint<'_>> {
         match self {
             Ok(value) => Ok(value),

@@ -1,4 +1,9 @@
 //! The command `dis`.
+ghost use Rattle.std.specs.Prelude.{OnOk};
+ghost use Rattle.std.specs.Io.KnownBytes.{Appends};
+ghost use Rattle.lc3_word.specs.Segment.{Segment};
+ghost use Rattle.lc3_table.specs.Text.{image_lines};
+
 use crate::complaint::Complaint;
 use crate::files::write_text;
 use crate::job::Job;
@@ -14,7 +19,10 @@ pub fn disassemble_file<'a, T: Files, W: Write, P: Progress>(
     job: &Job<'_, T, P>,
     object: &'a str,
     output: &mut Output<W>,
-) -> Result<(), Complaint<'a>> {
+) -> Result<(), Complaint<'a>>
+    ensures lines { OnOk result ((image : Segment)
+        × Appends (W.contents output.old.device) (W.contents output.new.device) (image_lines image)) }
+{
     let (image, _) = read_image_file(job, object)?;
     write_text(&image_text(job.alloc, &image)?, output)
 }

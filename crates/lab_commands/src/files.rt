@@ -1,4 +1,8 @@
 //! Files that are read or written whole.
+ghost use Rattle.std.specs.Prelude.{◌≡◌, IsTrue, OnOk, OnErr};
+ghost use Rattle.std.specs.Io.KnownBytes.{Appends};
+ghost use Rattle.lab_io.specs.Device.{AppendsPrefix};
+
 use crate::complaint::{At, Complaint, Reason};
 use lab_arguments::Shown;
 use lab_hex::{CliFault, read_whole};
@@ -140,7 +144,14 @@ fn write_file<W: Write + Drop>(file: W, bytes: &[u8]) -> Result<(), CliFault> {
 }
 
 /// Writes a text to the output of the program.
-pub fn write_text<W: Write>(text: &str, output: &mut Output<W>) -> Result<(), Complaint<'static>> {
+pub fn write_text<W: Write>(text: &str, output: &mut Output<W>) -> Result<(), Complaint<'static>>
+    ensures written { OnOk result
+        (Appends (W.contents output.old.device) (W.contents output.new.device) text.now) }
+    ensures prefix { OnErr result
+        (AppendsPrefix (W.contents output.old.device) (W.contents output.new.device) text.now) }
+    ensures failed { OnErr result (IsTrue output.new.failed) }
+    ensures healthy { OnOk result (output.new.failed ≡ output.old.failed) }
+{
     write_bytes(text.as_bytes(), output)
 }
 
@@ -148,8 +159,16 @@ pub fn write_text<W: Write>(text: &str, output: &mut Output<W>) -> Result<(), Co
 pub fn write_bytes<W: Write>(
     bytes: &[u8],
     output: &mut Output<W>,
-) -> Result<(), Complaint<'static>> {
-    output
-        .write_all(bytes)
-        .map_err(|_| Reason::CannotWrite.at("run"))
+) -> Result<(), Complaint<'static>>
+    ensures written { OnOk result
+        (Appends (W.contents output.old.device) (W.contents output.new.device) bytes.now) }
+    ensures prefix { OnErr result
+        (AppendsPrefix (W.contents output.old.device) (W.contents output.new.device) bytes.now) }
+    ensures failed { OnErr result (IsTrue output.new.failed) }
+    ensures healthy { OnOk result (output.new.failed ≡ output.old.failed) }
+{
+    match output.write_all(bytes) {
+        Ok(()) => Ok(()),
+        Err(_) => Err(Reason::CannotWrite.at("run")),
+    }
 }

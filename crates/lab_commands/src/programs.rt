@@ -1,5 +1,7 @@
 //! The programs of a laboratory, as the command line names them.
-ghost use Rattle.std.specs.Prelude.{◌≡◌, false};
+ghost use Rattle.std.specs.Prelude.{◌≡◌, false, IfOk};
+ghost use Rattle.lab_sched.specs.Starts.{fresh};
+ghost use Rattle.lab_commands.specs.Private.Runs.{IsStart};
 
 use crate::asm::assemble_bytes;
 use crate::check::messages_if;
@@ -162,8 +164,13 @@ pub fn laboratory(
     alloc: Global,
     programs: &[Program],
     profile: Profile,
-) -> Result<Fresh, Complaint<'static>> {
-    Fresh::new(alloc, programs, profile).map_err(|fault| fault_of(alloc, fault))
+) -> Result<Fresh, Complaint<'static>>
+    ensures start { IfOk result (λ f. f ≡ fresh profile programs.now) }
+{
+    match Fresh::new(alloc, programs, profile) {
+        Ok(fresh) => Ok(fresh),
+        Err(fault) => Err(fault_of(alloc, fault)),
+    }
 }
 
 /// The laboratory of the programs in files, and of what standard input holds for one of them, before its first step.
@@ -173,6 +180,7 @@ pub fn read_laboratory<'a, T: Files, R: Read, P: Progress>(
     input: &mut Input<R>,
 ) -> Result<Fresh, Complaint<'a>>
     requires input_healthy { input.old.failed ≡ false }
+    ensures start { IfOk result (λ f. IsStart setup.now.profile f) }
 {
     let given = read_with_input(job, setup.programs.as_slice(), input)?;
     laboratory(job.alloc, given.programs.as_slice(), setup.profile)

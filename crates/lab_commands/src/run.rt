@@ -1,9 +1,13 @@
 //! The command `run`.
-ghost use Rattle.std.specs.Prelude.{◌≡◌, ◌≤◌, false};
+ghost use Rattle.std.specs.Prelude.{◌≡◌, ◌≤◌, ◌++◌, ℕ, List, false, IfOk, OnOk, string_bytes};
+ghost use Rattle.std.specs.Io.KnownBytes.{Appends};
+ghost use Rattle.lab_sched.specs.Worlds.{run};
+ghost use Rattle.lab_sched.specs.Schedules.{steps_of};
+ghost use Rattle.lab_commands.specs.Private.Runs.{behind_blank, run_text, run_bytes, IsToldRun};
 ghost use Rattle.lab_threads.specs.Limits.{most_steps_each};
 
 use crate::complaint::{At, Complaint};
-use crate::files::{write_bytes, write_text};
+use crate::files::write_bytes;
 use crate::job::Job;
 use crate::plain::plain_output;
 use crate::programs::read_laboratory;
@@ -31,6 +35,9 @@ pub fn run_programs<'a, T: Files + Threads + Wait + Clock + Sync, R: Read, W: Wr
 ) -> Result<(), Complaint<'a>>
     requires input_healthy { input.old.failed ≡ false }
     requires output_healthy { output.old.failed ≡ false }
+    ensures told { OnOk result ((bytes : List ℕ)
+        × IsToldRun setup.now.profile manner.entry.plain bytes
+        × Appends (W.contents output.old.device) (W.contents output.new.device) bytes) }
 {
     let fresh = read_laboratory(job, setup, input)?;
     tell_run(
@@ -47,7 +54,9 @@ pub fn run_fresh<T: Threads + Wait + Clock + Sync, P: Progress>(
     job: &Job<'_, T, P>,
     fresh: Fresh,
     manner: Manner<'_>,
-) -> Result<Report, Complaint<'static>> {
+) -> Result<Report, Complaint<'static>>
+    ensures world { IfOk result (λ r. run fresh (steps_of r.schedule) ≡ r.world) }
+{
     let limit = manner.limit.clamp(1, MOST_STEPS_EACH);
     let outcome = match manner.mix {
         None => report_of(job, fresh, limit, &NoGate),
@@ -65,12 +74,23 @@ pub fn tell_run<W: Write>(
     output: &mut Output<W>,
 ) -> Result<(), Complaint<'static>>
     requires output_healthy { output.old.failed ≡ false }
+    ensures told { OnOk result (Appends (W.contents output.old.device)
+        (W.contents output.new.device) (run_bytes plain report.now.world report.now.schedule)) }
 {
-    write_text(&text_of(alloc, report)?, output)?;
+    write_bytes(&bytes_of(alloc, report, plain)?, output)
+}
+
+/// What is written of a run.
+fn bytes_of(alloc: Global, report: &Report, plain: bool) -> Result<Vec<u8>, AllocError>
+    ensures bytes { IfOk result (λ bytes. bytes.items
+        ≡ run_bytes plain report.now.world report.now.schedule) }
+{
+    let mut bytes = Vec::new(alloc);
+    bytes.extend_from_slice(text_of(alloc, report)?.as_bytes())?;
     if plain {
-        write_bytes(&plain_output(alloc, &report.world)?, output)?;
+        bytes.extend_from_slice(&plain_output(alloc, &report.world)?)?;
     }
-    Ok(())
+    Ok(bytes)
 }
 
 /// The report on a run through this gate, which shows meanwhile how many calls were made.
@@ -82,6 +102,7 @@ fn report_of<T: Threads + Wait + Sync, G: Gate, P: Progress>(
 ) -> Result<Report, RunFault>
     requires at_least { 1 ≤ limit }
     requires at_most { limit ≤ most_steps_each }
+    ensures world { IfOk result (λ r. run fresh (steps_of r.schedule) ≡ r.world) }
 {
     let count = CallCount::new(job.alloc, job.progress, gate);
     let outcome = run_threads(job.rt, job.alloc, fresh, limit, &count);
@@ -90,14 +111,25 @@ fn report_of<T: Threads + Wait + Sync, G: Gate, P: Progress>(
 }
 
 /// The report on a run, and a line with its schedule.
-fn text_of(alloc: Global, report: &Report) -> Result<String, AllocError> {
+fn text_of(alloc: Global, report: &Report) -> Result<String, AllocError>
+    ensures text { IfOk result (λ text. string_bytes text
+        ≡ run_text report.now.world report.now.schedule) }
+{
     let mut text = report_text(alloc, &report.world)?;
-    let schedule = report.schedule.text(alloc)?;
     text.push_str("schedule")?;
-    if !schedule.is_empty() {
-        text.push_str(" ")?;
-        text.push_str(&schedule)?;
-    }
+    push_behind_blank(&mut text, &report.schedule.text(alloc)?)?;
     text.push_str("\n")?;
     Ok(text)
+}
+
+/// Adds a text behind a blank, or nothing where it is empty.
+fn push_behind_blank(text: &mut String, more: &str) -> Result<(), AllocError>
+    ensures text { OnOk result (string_bytes text.new
+        ≡ string_bytes text.old ++ behind_blank more.now) }
+{
+    if more.is_empty() {
+        return Ok(());
+    }
+    text.push(' ')?;
+    text.push_str(more)
 }

@@ -1,5 +1,11 @@
 //! The command `step`.
-ghost use Rattle.std.specs.Prelude.{◌≡◌, false};
+ghost use Rattle.std.specs.Prelude.{◌≡◌, ℕ, List, false, IfOk, OnOk, string_bytes};
+ghost use Rattle.std.specs.Io.KnownBytes.{Appends};
+ghost use Rattle.lab_sched.specs.Starts.{fresh};
+ghost use Rattle.lab_sched.specs.Worlds.{run};
+ghost use Rattle.lab_sched.specs.Schedules.{steps_of};
+ghost use Rattle.lab_texts.specs.Reports.{report_text};
+ghost use Rattle.lab_commands.specs.Private.Runs.{IsReport};
 
 use crate::complaint::{At, Complaint, Reason};
 use crate::files::write_text;
@@ -26,6 +32,8 @@ pub fn step_programs<'a, T: Files, R: Read, W: Write, P: Progress>(
 ) -> Result<(), Complaint<'a>>
     requires input_healthy { input.old.failed ≡ false }
     requires output_healthy { output.old.failed ≡ false }
+    ensures report { OnOk result ((text : List ℕ) × IsReport setup.now.profile text
+        × Appends (W.contents output.old.device) (W.contents output.new.device) text) }
 {
     write_text(&report_in(job, setup, input)?, output)
 }
@@ -37,6 +45,7 @@ fn report_in<'a, T: Files, R: Read, P: Progress>(
     input: &mut Input<R>,
 ) -> Result<String, Complaint<'a>>
     requires input_healthy { input.old.failed ≡ false }
+    ensures report { IfOk result (λ text. IsReport setup.now.profile (string_bytes text)) }
 {
     let given = read_programs(job, setup.programs.as_slice())?;
     let schedule = read_schedule(job.alloc, input)?;
@@ -48,7 +57,10 @@ fn report_on<T, P: Progress>(
     programs: &[Program],
     profile: Profile,
     schedule: &Schedule,
-) -> Result<String, Complaint<'static>> {
+) -> Result<String, Complaint<'static>>
+    ensures report { IfOk result (λ text. string_bytes text
+        ≡ report_text (run (fresh profile programs.now) (steps_of schedule.now))) }
+{
     let mut world = World::from(laboratory(job.alloc, programs, profile)?);
     run(job, &mut world, schedule).at(job.alloc, "run")?;
     Ok(report_text(job.alloc, &world)?)
@@ -59,7 +71,9 @@ fn run<T, P: Progress>(
     job: &Job<'_, T, P>,
     world: &mut World,
     schedule: &Schedule,
-) -> Result<(), RunStop> {
+) -> Result<(), RunStop>
+    ensures world { OnOk result (world.new ≡ run world.old (steps_of schedule.now)) }
+{
     let mut count = StepCount::new(job.alloc, job.progress, schedule.total());
     let outcome = world.run_watched(schedule, &mut count);
     count.clear();

@@ -1,0 +1,37 @@
+-- What `step` and `run` write.
+use Rattle.std.specs.Prelude.{ℕ, ◌≡◌, Bool, cond, List, [], ◌∷◌, ◌++◌, codes, length, ◌==◌}
+use Rattle.lc3_table.specs.declared.profile.Profile.{Profile}
+use Rattle.lab_sched.specs.declared.fresh.Program.{Program}
+use Rattle.lab_sched.specs.declared.schedule.block.Block.{Block}
+use Rattle.lab_sched.specs.Starts.{fresh}
+use Rattle.lab_sched.specs.Worlds.{WorldState, run}
+use Rattle.lab_sched.specs.Schedules.{steps_of}
+use Rattle.lab_sched.specs.ScheduleTexts.{schedule_text}
+use Rattle.lab_texts.specs.Reports.{report_text}
+use Rattle.lab_commands.specs.Private.Plain.{plain_output}
+
+-- the report on some programs, on machines of this profile, after the steps of some schedule
+abbrev pub IsReport : Profile → List ℕ → Type 0
+IsReport profile text = (programs : List Program) × (steps : List ℕ)
+    × (text ≡ report_text (run (fresh profile programs) steps))
+
+-- a text behind a blank, or nothing where it is empty
+abbrev pub behind_blank : List ℕ → List ℕ
+behind_blank text = cond (length text == 0) [] (32 ∷ text)
+
+-- the report on a run, and a line with its schedule
+abbrev pub run_text : WorldState → List Block → List ℕ
+run_text w schedule = report_text w ++ codes "schedule" ++ behind_blank (schedule_text schedule) ++ codes "\n"
+
+-- the same, and behind it, where that is wanted, what the processes have written, as it is
+abbrev pub run_bytes : Bool → WorldState → List Block → List ℕ
+run_bytes plain w schedule = run_text w schedule ++ cond plain (plain_output w) []
+
+-- a laboratory is the start of some programs, on machines of this profile
+abbrev pub IsStart : Profile → WorldState → Type 0
+IsStart profile w = (programs : List Program) × (w ≡ fresh profile programs)
+
+-- what is written of the run of some programs by some schedule, from their start to the world after its steps
+abbrev pub IsToldRun : Profile → Bool → List ℕ → Type 0
+IsToldRun profile plain bytes = (programs : List Program) × (schedule : List Block)
+    × (bytes ≡ run_bytes plain (run (fresh profile programs) (steps_of schedule)) schedule)
