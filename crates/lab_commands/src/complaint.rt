@@ -194,10 +194,10 @@ impl Display for Complaint<'_> {
     fn fmt<W: fmt::Write>(&self, f: &mut fmt::Formatter<W>) -> fmt::Result {
         let place = Shown(self.place);
         let text = &self.text;
-        if self.is_of_words() {
-            return writeln!(f, "error: {text}: {place}");
-        }
         let lines = self.explanation.as_deref().unwrap_or("");
+        if self.is_of_words() {
+            return write!(f, "error: {text}: {place}\n{lines}");
+        }
         write!(f, "lc3lab: {place}: {text}\n{lines}")
     }
 }

@@ -1,5 +1,7 @@
 //! What is asked of an exploration, read from words.
+use crate::advice::{line_on, meant_by};
 use crate::complaint::{Complaint, Misuse, Reason};
+use crate::places::Place;
 use lab_arguments::{Choice, Question, Requirements, Rest};
 use lab_conditions::{Condition, Never, Part, ReadFault, State};
 use lab_questions::{Asked, Reach, Show, Waiter, Word};
@@ -107,7 +109,11 @@ fn waiters_of<'a>(
 /// The process that may wait, of so many.
 fn waiter_of<'a>(alloc: Global, word: &'a str, count: usize) -> Result<Waiter, Complaint<'a>> {
     let Some(waiter) = read_waiter(alloc, word)? else {
-        return Err(Misuse::NoWaiter.of(word));
+        return Err(
+            Misuse::NoWaiter
+                .of(word)
+                .followed(waiter_advice(alloc, word, count)),
+        );
     };
     if waiter.process < count {
         Ok(waiter)
@@ -134,8 +140,46 @@ fn never_of<'a>(alloc: Global, word: &'a str, count: usize) -> Result<Never, Com
     match Never::read(alloc, word) {
         Ok(ref never) if !never.names_only(count) => Err(Misuse::NoSuchProcess.of(word)),
         Ok(never) => Ok(never),
-        Err(ReadFault::NoCondition) => Err(Misuse::NoCondition.of(word)),
+        Err(ReadFault::NoCondition) => {
+            Err(
+                Misuse::NoCondition
+                    .of(word)
+                    .followed(never_advice(alloc, word, count)),
+            )
+        }
         Err(ReadFault::NoMemory) => Err(Reason::NoMemory.at("run")),
+    }
+}
+
+/// The line that says why a text is no condition on so many processes, where memory allows it.
+fn never_advice(alloc: Global, text: &str, count: usize) -> Option<String> {
+    let meant = meant_by(alloc, Place::Start, text).ok()?;
+    let taken = meant
+        .as_deref()
+        .filter(|meant| is_never(alloc, meant, count));
+    line_on(alloc, Place::Start, text, taken).ok()?
+}
+
+fn is_never(alloc: Global, text: &str, count: usize) -> bool {
+    match Never::read(alloc, text) {
+        Ok(never) => never.names_only(count),
+        Err(_) => false,
+    }
+}
+
+/// The line that says why a text names none of so many processes that may wait, where memory allows it.
+fn waiter_advice(alloc: Global, text: &str, count: usize) -> Option<String> {
+    let meant = meant_by(alloc, Place::Waiter, text).ok()?;
+    let taken = meant
+        .as_deref()
+        .filter(|meant| is_waiter(alloc, meant, count));
+    line_on(alloc, Place::Waiter, text, taken).ok()?
+}
+
+fn is_waiter(alloc: Global, text: &str, count: usize) -> bool {
+    match read_waiter(alloc, text) {
+        Ok(Some(waiter)) => waiter.process < count,
+        Ok(None) | Err(_) => false,
     }
 }
 

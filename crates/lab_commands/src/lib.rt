@@ -1,7 +1,9 @@
 //! The commands over files and programs: all but the trace, which waits for its page.
 #![tactic(auto)]
 
+mod advice;
 mod asm;
+mod blocks;
 mod check;
 mod complaint;
 mod debug;
@@ -10,6 +12,7 @@ mod explore;
 mod files;
 mod inquiry;
 mod job;
+mod places;
 mod plain;
 mod programs;
 mod progress;

@@ -7,6 +7,7 @@ ghost use Rattle.lab_sched.specs.Schedules.{steps_of};
 ghost use Rattle.lab_texts.specs.Reports.{report_text};
 ghost use Rattle.lab_commands.specs.Private.Runs.{IsReport};
 
+use crate::blocks::block_advice;
 use crate::complaint::{At, Complaint, Reason};
 use crate::files::write_text;
 use crate::job::Job;
@@ -18,7 +19,6 @@ use lab_io::{Input, Output};
 use lab_sched::{Program, RunStop, Schedule, World};
 use lab_texts::report_text;
 use lc3_table::Profile;
-use std::alloc::Global;
 use std::io::{Read, Write};
 use std::rt::Files;
 
@@ -48,7 +48,7 @@ fn report_in<'a, T: Files, R: Read, P: Progress>(
     ensures report { IfOk result (λ text. IsReport setup.now.profile (string_bytes text)) }
 {
     let given = read_programs(job, setup.programs.as_slice())?;
-    let schedule = read_schedule(job.alloc, input)?;
+    let schedule = read_schedule(job, input)?;
     report_on(job, given.programs.as_slice(), setup.profile, &schedule)
 }
 
@@ -80,16 +80,22 @@ fn run<T, P: Progress>(
     outcome
 }
 
-/// The schedule that a whole input writes.
-pub fn read_schedule<R: Read>(
-    alloc: Global,
+/// The schedule that a whole input writes. Where a word of it is no block, and somebody looks, a line says what one is.
+pub fn read_schedule<T, R: Read, P: Progress>(
+    job: &Job<'_, T, P>,
     input: &mut Input<R>,
 ) -> Result<Schedule, Complaint<'static>>
     requires input_healthy { input.old.failed ≡ false }
 {
-    let bytes = read_whole(alloc, input).at(alloc, "schedule")?;
+    let bytes = read_whole(job.alloc, input).at(job.alloc, "schedule")?;
     let Ok(text) = str::from_utf8(bytes.as_slice()) else {
         return Err(Reason::NotUtf8.at("schedule"));
     };
-    Schedule::read(alloc, text).at(alloc, "schedule")
+    match Schedule::read(job.alloc, text) {
+        Ok(schedule) => Ok(schedule),
+        Err(fault) => {
+            let complaint = Complaint::new(job.alloc, "schedule", fault);
+            Err(complaint.followed(block_advice(job, text, fault)))
+        }
+    }
 }

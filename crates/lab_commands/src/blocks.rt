@@ -1,0 +1,75 @@
+//! What is advised where a word is no block of a schedule.
+use crate::job::Job;
+use crate::progress::Progress;
+use lab_arguments::Shown;
+use lab_sched::{SchedFault, Schedule};
+use lc3_word::{WHITE_SPACE, words_between};
+use std::alloc::{AllocError, Global};
+use std::fmt::Write;
+
+/// How long a word may be that is shown.
+const MOST_SHOWN: usize = 80;
+
+/// The line that says what a block of a schedule is, for the word of a text that is none, where somebody looks.
+pub(crate) fn block_advice<T, P: Progress>(
+    job: &Job<'_, T, P>,
+    text: &str,
+    fault: SchedFault,
+) -> Option<String> {
+    if !job.progress.is_shown() {
+        return None;
+    }
+    match fault {
+        SchedFault::BadBlock { at } => {
+            let word = word_at(job.alloc, text, at)?;
+            line_on(job.alloc, word).ok()
+        }
+        SchedFault::TooLong { .. } | SchedFault::NoMemory => None,
+    }
+}
+
+/// The word of a text with this number, from 1, where it is short enough to be shown.
+fn word_at(alloc: Global, text: &str, number: usize) -> Option<&str> {
+    let words = words_between(alloc, WHITE_SPACE, text.as_bytes()).ok()?;
+    let word = *words.get(number.checked_sub(1)?)?;
+    if word.len() > MOST_SHOWN {
+        return None;
+    }
+    str::from_utf8(word).ok()
+}
+
+fn line_on(alloc: Global, word: &str) -> Result<String, AllocError> {
+    let shown = Shown(word);
+    let mut line = format!(in alloc;
+        "lc3lab: {shown}: isn't understood; a block is P*N, with P from 0 to 63 and N from 1 to 999999999, or P alone"
+    )?;
+    if let Some(meant) = meant_by(alloc, word)? {
+        write!(line, "; did you mean {meant}?")?;
+    }
+    line.push_str("\n")?;
+    Ok(line)
+}
+
+/// The block that was meant by a word, if that is known.
+fn meant_by(alloc: Global, word: &str) -> Result<Option<String>, AllocError> {
+    let Some(block) = block_of(alloc, word)? else {
+        return Ok(None);
+    };
+    match Schedule::read(alloc, &block) {
+        Ok(_) => Ok(Some(block)),
+        Err(_) => Ok(None),
+    }
+}
+
+/// The block of the numbers in a word.
+fn block_of(alloc: Global, word: &str) -> Result<Option<String>, AllocError> {
+    let numbers: Vec<&str> = word
+        .split(|character: char| !character.is_ascii_digit())
+        .filter(|piece| !piece.is_empty())
+        .collect(alloc)?;
+    match numbers.as_slice() {
+        [process] if !word.contains('*') => Ok(Some(String::from_str(alloc, process)?)),
+        [process, steps] => Ok(Some(format!(in alloc; "{process}*{steps}")?)),
+        _ => Ok(None),
+    }
+}

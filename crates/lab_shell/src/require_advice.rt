@@ -1,0 +1,112 @@
+//! What is advised where the words of `--require` are refused.
+use lab_arguments::Shown;
+use lab_io::Output;
+use std::alloc::{AllocError, Global};
+use std::io::Write;
+
+/// The words that `--require` has.
+const WORDS: [&str; 5] = ["ended", "stuck", "halted", "empty", "same"];
+
+/// Says what is wrong with the words of `--require`, where a text refuses them.
+pub fn advise_require<E: Write>(
+    alloc: Global,
+    words: &[String],
+    text: &str,
+    errors: &mut Output<E>,
+) {
+    if !text.starts_with("error: invalid value '") || !text.contains("' for '--require <WORDS>'") {
+        return;
+    }
+    let Some(value) = required_in(words) else {
+        return;
+    };
+    if let Ok(line) = line_on(alloc, value) {
+        let _ = errors.write_all(line.as_bytes());
+    }
+}
+
+/// The value of `--require` among words.
+fn required_in(words: &[String]) -> Option<&str> {
+    let mut is_next = false;
+    for word in words {
+        if is_next {
+            return Some(word.as_str());
+        }
+        if let Some(value) = word.strip_prefix("--require=") {
+            return Some(value);
+        }
+        is_next = word.as_str() == "--require";
+    }
+    None
+}
+
+fn line_on(alloc: Global, value: &str) -> Result<String, AllocError> {
+    let meant = meant_by(alloc, value)?;
+    let mut line = match value.split(',').find(|word| !WORDS.contains(word)) {
+        Some(word) => {
+            let word = Shown(word);
+            format!(in alloc;
+                "lc3lab: {word}: isn't understood; here stand ended, stuck, halted, empty and same, with commas between"
+            )?
+        }
+        None => format!(in alloc;
+            "lc3lab: {value}: each word stands once, and ended, stuck and halted exclude each other"
+        )?,
+    };
+    if let Some(meant) = meant {
+        write!(line, "; did you mean {meant}?")?;
+    }
+    line.push_str("\n")?;
+    Ok(line)
+}
+
+/// The words that were meant, with commas between them, if that is known.
+fn meant_by(alloc: Global, value: &str) -> Result<Option<String>, AllocError> {
+    let mut text = String::new(alloc);
+    for piece in value
+        .split(|character: char| character == ',' || character == ' ')
+        .filter(|piece| !piece.is_empty())
+    {
+        match word_of(piece) {
+            Some(word) => push_once(&mut text, word)?,
+            None => return Ok(None),
+        }
+    }
+    if is_one_way(&text) {
+        Ok(Some(text))
+    } else {
+        Ok(None)
+    }
+}
+
+/// The word of `--require` that this is, in either case of its letters.
+fn word_of(piece: &str) -> Option<&'static str> {
+    WORDS
+        .iter()
+        .copied()
+        .find(|word| word.eq_ignore_ascii_case(piece))
+}
+
+/// Adds a word behind a comma, unless it is there.
+fn push_once(text: &mut String, word: &str) -> Result<(), AllocError> {
+    if has(text, word) {
+        return Ok(());
+    }
+    if !text.is_empty() {
+        text.push_str(",")?;
+    }
+    text.push_str(word)
+}
+
+fn has(text: &str, word: &str) -> bool {
+    text.split(',').any(|other| other == word)
+}
+
+/// Whether there are words, and no two ways in which processes come to rest.
+fn is_one_way(text: &str) -> bool {
+    match (has(text, "ended"), has(text, "stuck"), has(text, "halted")) {
+        (true, false, false) | (false, true, false) | (false, false, true) => true,
+        (false, false, false) => !text.is_empty(),
+        _ => false,
+    }
+}
