@@ -12,6 +12,7 @@ mod explore;
 mod files;
 mod inquiry;
 mod job;
+mod limits;
 mod places;
 mod plain;
 mod programs;

@@ -6,6 +6,7 @@ use crate::explore::Search;
 use crate::files::write_text;
 use crate::inquiry::Inquiry;
 use crate::job::Job;
+use crate::limits::tell_limit;
 use crate::progress::Progress;
 use lab_arguments::Choice;
 use lab_io::Output;
@@ -13,8 +14,8 @@ use lab_questions::{Answers, Failure, Object, Word, answers_json};
 use std::alloc::{AllocError, Global};
 use std::io::Write;
 
-/// Writes what was found, says which objects that conditions name nobody opens, and complains where memory was refused on the
-/// way, or not all is as it has to be.
+/// Writes what was found, says which objects that conditions name nobody opens, and which limit was met, and complains where
+/// memory was refused on the way, or not all is as it has to be.
 pub fn tell_ends<T, W: Write, P: Progress>(
     job: &Job<'_, T, P>,
     search: &Search,
@@ -28,6 +29,7 @@ pub fn tell_ends<T, W: Write, P: Progress>(
         None => write_answers(job.alloc, found, &search.inquiry, output)?,
     }
     tell_unopened(job, &found.unopened)?;
+    tell_limit(job, search)?;
     complain(job.alloc, found)
 }
 
