@@ -30,7 +30,7 @@ pub fn tell_ends<T, W: Write, P: Progress>(
     }
     tell_unopened(job, &found.unopened)?;
     tell_limit(job, search)?;
-    complain(job.alloc, found)
+    complain(job.alloc, search)
 }
 
 /// The text of a schedule that is chosen, if there is one: what isn't as it has to be has none where all is so, and an end, which
@@ -98,21 +98,47 @@ fn write_answers<W: Write>(
     write_text(&json, output)
 }
 
-/// That an end isn't as a word requires; of an end alone, its verdict.
-fn unmet(word: Word, plain: bool) -> Reason {
+/// Whether no more is required than that each end has one verdict, be what is told of the ends as it may.
+fn is_of_verdict(search: &Search) -> bool {
+    let asked = &search.answers.asked;
+    search.inquiry.reach.walks.is_none()
+        && asked.waiters.is_empty()
+        && asked.never.is_empty()
+        && matches!(asked.words.as_slice(), [Word::Ended] | [Word::Stuck])
+}
+
+/// Why not all is shown to be as it is required. Of a verdict alone what wasn't visited counts first, and then what never ends;
+/// but a search that ended with what it found was to visit no more.
+fn failure_of(search: &Search) -> Option<Failure> {
+    let found = &search.answers.exploration;
+    if !is_of_verdict(search) {
+        return search.answers.failure;
+    }
+    if !found.complete && !search.inquiry.reach.is_stage {
+        return Some(Failure::Incomplete);
+    }
+    match found.round {
+        Some(_) => Some(Failure::Endless),
+        None => search.answers.failure,
+    }
+}
+
+/// That an end isn't as a word requires; where a verdict alone is required, its verdict.
+fn unmet(word: Word, is_of_verdict: bool) -> Reason {
     match word {
-        Word::Ended if plain => Reason::Stuck,
-        Word::Stuck if plain => Reason::Ended,
+        Word::Ended if is_of_verdict => Reason::Stuck,
+        Word::Stuck if is_of_verdict => Reason::Ended,
         _ => Reason::Not(word),
     }
 }
 
 /// Complains where something has to be so and isn't, or where memory was refused on the way.
-fn complain(alloc: Global, found: &Answers) -> Result<(), Complaint<'static>> {
+fn complain(alloc: Global, search: &Search) -> Result<(), Complaint<'static>> {
+    let found = &search.answers;
     let refused = found.exploration.refused;
     let judges = found.asked.judges();
-    match found.failure {
-        Some(Failure::Not(word)) => Err(unmet(word, found.asked.plain).at("explore")),
+    match failure_of(search) {
+        Some(Failure::Not(word)) => Err(unmet(word, is_of_verdict(search)).at("explore")),
         Some(Failure::Reached(number)) => Err(match found.asked.never.get(number) {
             Some(condition) => {
                 Complaint::new(alloc, "explore", format_args!("reached {condition}"))
