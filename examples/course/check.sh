@@ -33,9 +33,10 @@ name_programs() {
     done
 }
 
-# exercise FOLDER: assembles its sources.
+# exercise FOLDER: assembles its sources. At a terminal it is said that it is under way.
 exercise() {
     exercise=$1
+    [ ! -t 2 ] || echo "$exercise: threaded runs" >&2
     for source in "$here/$exercise"/*.asm; do
         "$LC3LAB" asm "$source" "$made/$(basename "$source" .asm).obj" || fail "$exercise: asm $source"
     done
@@ -99,6 +100,7 @@ table() {
 
 # The first call of the launcher builds the program, which takes longer than a case may.
 "$LC3LAB" --help >/dev/null || exit 1
+[ ! -t 2 ] || echo "the commands without threads" >&2
 "$here/../../tests/run" "$LC3LAB" course >"$made/cases"
 cat "$made/cases"
 read -r passed _ failed _ <<END

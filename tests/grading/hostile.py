@@ -152,6 +152,9 @@ def look_at_parts(check, grader):
     for folder, said in (own, "first.asm isn't there; it is in the folder a\n"), (linked, "first.asm isn't there\n"):
         printed, _, _ = grader.call("--", inner, folder)
         check(said in printed, f"a folder inside a folder: {printed}")
+    misnamed = {"First__asm": HALT, "b__asm__txt": HALT, "c__asm": HALT, "d__asm": HALT, "notes__txt": ""}
+    printed, _, _ = grader.call("--", inner, grader.folder("misnamed", **misnamed))
+    check("first.asm isn't there; here is First.asm, b.asm.txt, c.asm, 1 more\n" in printed, f"misnamed: {printed}")
     for name in "../own/a/first.asm", "/etc/passwd", "a//first.asm", "./a", "":
         _, complained, status = grader.call(grader.task(f'[[run]]\nprograms = [{{ asked = "{name}" }}]\n'), own)
         check(status == 2 and "no path within a folder" in complained, f"asked {name}: status {status}: {complained}")

@@ -23,7 +23,7 @@ REFUSED = {
     '[[run]]\nprograms = [{ asked = "a.asm", must-call = ["sem_wat"] }]\n': "must-call: no call: sem_wat",
     '[[run]]\nprograms = [{ asked = "a.asm", must-call = ["sem_wait a"] }]\n': "no call: sem_wait a",
     '[[run]]\nprograms = [{ asked = "a.asm", must-hold = "/a" }]\n': "must-hold: this must be a list",
-    ONE + "outputs = []\n": "one for each of the 1 programs",
+    ONE + "outputs = []\n": "one for each program, so 1",
     ONE + 'outputs = [{ lines = ["("] }]\n': "no regular expression",
     ONE + "outputs = [{ colour = 1 }]\n": "neither a text",
     ONE + "alternatives = []\n": "there is none",
@@ -205,7 +205,7 @@ def look(check, grader):
     _, complained, status = grader.call(grader.task(both), folder)
     check(status == 2 and "given.asm: " in complained, f"a given program that isn't accepted: {complained}")
     for words in (["missing.toml", folder], [grader.task(ONE), folder, "--part", "3/2"], [grader.task(ONE), folder, "-j", "0"],
-                  [grader.task(ONE)], ["--colour", grader.task(ONE), folder]):
+                  [grader.task(ONE)], ["--colour", grader.task(ONE), folder], [grader.task(ONE), folder, "nobody"]):
         check(grader.call(*words)[2] == 2, f"words: {words}")
     for wanted, verdict in OUTPUTS.items():
         found = grader.marks(grader.task(f"{ONE}outputs = [{wanted}]\n"), [folder])

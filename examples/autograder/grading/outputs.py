@@ -92,7 +92,7 @@ def wanted(word):
 def wanted_of_all(words, count):
     """What stands for all processes of a run."""
     if not isinstance(words, list) or len(words) != count:
-        raise TaskFault(f"outputs: there must be one for each of the {count} programs")
+        raise TaskFault(f"outputs: there must be one for each program, so {count}")
     return [wanted(it) for it in words]
 
 

@@ -9,6 +9,8 @@ from .faults import NoMark
 LARGEST = 4_000_000
 # of so many folders inside one that was handed in it is told that a missing file is there
 MOST_FOLDERS = 100
+# so many other sources of the folder are named where one is missing
+MOST_OTHERS = 3
 STEPS = os.O_RDONLY | os.O_NOFOLLOW | os.O_NONBLOCK | os.O_CLOEXEC
 
 
@@ -43,15 +45,18 @@ def read_up_to(file, most):
 
 
 def beside(folder, name):
-    """Which folder inside this one has a file of the name, where one has it."""
+    """Which folder inside this one has a file of the name, where one has it; else which sources this one has."""
     try:
-        inside = sorted(it.name for it in os.scandir(folder) if it.is_dir(follow_symlinks=False))
+        inside = sorted(os.scandir(folder), key=lambda it: it.name)
     except OSError:
         return ""
-    for it in inside[:MOST_FOLDERS]:
+    folders = [it.name for it in inside if it.is_dir(follow_symlinks=False)]
+    for it in folders[:MOST_FOLDERS]:
         if os.path.lexists(os.path.join(folder, it, name)):
             return f"; it is in the folder {shown.name(it)}"
-    return ""
+    others = [shown.name(it.name) for it in inside if ".asm" in it.name.lower() and it.is_file(follow_symlinks=False)]
+    more = [f"{len(others) - MOST_OTHERS} more"] if len(others) > MOST_OTHERS else []
+    return f"; here is {', '.join(others[:MOST_OTHERS] + more)}" if others else ""
 
 
 def take(folder, name):
