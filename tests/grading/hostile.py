@@ -37,7 +37,7 @@ def look(check, grader):
     right = grader.folder("right", **RIGHT)
     make_others(grader, right)
     expected = {name: ["pass"] * 3 for name in ("right", "hard")}
-    expected |= dict.fromkeys(["link", "whole", "parts", "none", "nobody"], NO_PROGRAM)
+    expected |= dict.fromkeys(["link", "whole", "parts", "none"], NO_PROGRAM) | {"nobody": ["no mark"] * 3}
     # their first program is right, and the second one is none; and the other way round
     expected |= dict.fromkeys(["fifo", "device", "folders", "huge"], ["no program", "pass", "no program"])
     expected |= dict.fromkeys(["text", "bytes"], ["no program", "no program", "missing call"])

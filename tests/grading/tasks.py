@@ -205,7 +205,7 @@ def look(check, grader):
     _, complained, status = grader.call(grader.task(both), folder)
     check(status == 2 and "given.asm: " in complained, f"a given program that isn't accepted: {complained}")
     for words in (["missing.toml", folder], [grader.task(ONE), folder, "--part", "3/2"], [grader.task(ONE), folder, "-j", "0"],
-                  [grader.task(ONE)], ["--colour", grader.task(ONE), folder], [grader.task(ONE), folder, "nobody"]):
+                  [grader.task(ONE)], ["--colour", grader.task(ONE), folder]):
         check(grader.call(*words)[2] == 2, f"words: {words}")
     for wanted, verdict in OUTPUTS.items():
         found = grader.marks(grader.task(f"{ONE}outputs = [{wanted}]\n"), [folder])

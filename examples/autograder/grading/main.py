@@ -55,15 +55,6 @@ def part_of(folders, word):
     return folders[int(place) - 1::int(count)]
 
 
-def find_all(folders):
-    """A folder that isn't there is a slip of who calls, and no mark of a student."""
-    for it in folders:
-        try:
-            os.lstat(it)
-        except OSError as fault:
-            raise TaskFault(f"{it}: {fault.strerror}") from None
-
-
 def keep_out(said):
     """What is written has a place, and none in a folder that was handed in. A link isn't read, so it is none."""
     inside = {os.path.realpath(it) for it in said.folders if not os.path.islink(it.rstrip("/"))}
@@ -142,7 +133,6 @@ def grade(said, place, ear):
         raise TaskFault("--gradescope is for one folder")
     if said.pending and not said.results:
         raise TaskFault("--pending is asked of --results")
-    find_all(folders)
     keep_out(said)
     records = Records(said.results) if said.results else None
     if said.pending:

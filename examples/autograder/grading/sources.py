@@ -68,6 +68,8 @@ def take(folder, name):
             return Taken(None, f"{name} is no file of this folder")
         file = open_below(folder, name)
     except (FileNotFoundError, NotADirectoryError) as it:
+        if it.errno == 2 and not os.path.lexists(folder):
+            raise NoMark("there is no such folder") from None
         there = os.path.lexists(folder) and not os.path.isdir(folder) or os.path.islink(folder) or it.errno == 20
         return Taken(None, f"{name} is no file of this folder" if there else f"{name} isn't there{beside(folder, name)}")
     except OSError as it:
