@@ -156,10 +156,7 @@ pub fn write_text<W: Write>(text: &str, output: &mut Output<W>) -> Result<(), Co
 }
 
 /// Writes bytes to the output of the program.
-pub fn write_bytes<W: Write>(
-    bytes: &[u8],
-    output: &mut Output<W>,
-) -> Result<(), Complaint<'static>>
+pub fn write_bytes<W: Write>(bytes: &[u8], output: &mut Output<W>) -> Result<(), Complaint<'static>>
     ensures written { OnOk result
         (Appends (W.contents output.old.device) (W.contents output.new.device) bytes.now) }
     ensures prefix { OnErr result

@@ -1,4 +1,7 @@
 //! What is asked of an exploration, read from words.
+ghost use Rattle.std.specs.Prelude.{◌≡◌, IfOk};
+ghost use Rattle.lab_commands.specs.Private.Inquiries.{required_words};
+
 use crate::advice::{line_on, meant_by};
 use crate::complaint::{Complaint, Misuse, Reason};
 use crate::places::Place;
@@ -52,7 +55,10 @@ pub fn asked_of<'a>(
     alloc: Global,
     question: &Question<'a>,
     count: usize,
-) -> Result<Asked, Complaint<'a>> {
+) -> Result<Asked, Complaint<'a>>
+    ensures words { IfOk result (λ asked. asked.words.items
+        ≡ required_words question.now.required) }
+{
     Ok(Asked {
         words: words_of(alloc, question.required)?,
         waiters: waiters_of(alloc, question.waiters.as_slice(), count)?,
@@ -77,7 +83,9 @@ pub fn refuse_question<'a>(
 }
 
 /// The words that requirements are, in the order in which they are answered.
-fn words_of(alloc: Global, required: Requirements) -> Result<Vec<Word>, AllocError> {
+fn words_of(alloc: Global, required: Requirements) -> Result<Vec<Word>, AllocError>
+    ensures words { IfOk result (λ words. words.items ≡ required_words required) }
+{
     let mut words = Vec::new(alloc);
     match required.rest {
         Some(Rest::Ended) => words.push(Word::Ended)?,
