@@ -34,5 +34,5 @@ pub use job::{Job, Texts};
 pub use programs::{Programs, laboratory, read_programs, read_with_input};
 pub use progress::Progress;
 pub use run::{run_fresh, run_programs, tell_run};
-pub use step::{read_schedule, step_programs};
+pub use step::{read_schedule, report_on, step_programs};
 pub use telling::{chosen_schedule, tell_ends};

@@ -52,7 +52,8 @@ fn report_in<'a, T: Files, R: Read, P: Progress>(
     report_on(job, given.programs.as_slice(), setup.profile, &schedule)
 }
 
-fn report_on<T, P: Progress>(
+/// The report on programs after the steps of a schedule.
+pub fn report_on<T, P: Progress>(
     job: &Job<'_, T, P>,
     programs: &[Program],
     profile: Profile,
