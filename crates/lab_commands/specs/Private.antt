@@ -1,4 +1,3 @@
 -- Definitions that only contracts inside the crate cite.
-pub mod Plain
-pub mod Runs
 pub mod Inquiries
+pub mod Starts

@@ -1,6 +1,6 @@
 //! What processes have written, as it is.
 ghost use Rattle.std.specs.Prelude.{◌≡◌, ◌++◌, OnOk, IfOk, string_bytes};
-ghost use Rattle.lab_commands.specs.Private.Plain.{as_lines, name_line, plain_part, plain_output};
+ghost use Rattle.lab_commands.specs.Plain.{as_lines, name_line, plain_part, plain_output};
 
 use lab_sched::World;
 use std::alloc::{AllocError, Global};

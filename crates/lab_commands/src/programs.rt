@@ -1,7 +1,7 @@
 //! The programs of a laboratory, as the command line names them.
 ghost use Rattle.std.specs.Prelude.{◌≡◌, false, IfOk};
 ghost use Rattle.lab_sched.specs.Starts.{fresh};
-ghost use Rattle.lab_commands.specs.Private.Runs.{IsStart};
+ghost use Rattle.lab_commands.specs.Private.Starts.{IsStart};
 
 use crate::asm::assemble_bytes;
 use crate::check::messages_if;

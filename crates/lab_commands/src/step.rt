@@ -5,7 +5,7 @@ ghost use Rattle.lab_sched.specs.Starts.{fresh};
 ghost use Rattle.lab_sched.specs.Worlds.{run};
 ghost use Rattle.lab_sched.specs.Schedules.{steps_of};
 ghost use Rattle.lab_texts.specs.Reports.{report_text};
-ghost use Rattle.lab_commands.specs.Private.Runs.{IsReport};
+ghost use Rattle.lab_commands.specs.Runs.{IsReport};
 
 use crate::blocks::block_advice;
 use crate::complaint::{At, Complaint, Reason};

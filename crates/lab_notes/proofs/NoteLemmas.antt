@@ -8,7 +8,7 @@ use Rattle.lab_told.specs.declared.told.Told.TheVariants.{Nothing}
 use Rattle.lab_told.proofs.SceneLemmas.{renumbered, told-still}
 use Rattle.lab_told.proofs.TellingLemmas.{told-stands}
 use Rattle.lab_notes.specs.Notes.{rows_by, rows_after}
-use Rattle.lab_notes.specs.Private.{NotesStep}
+use Rattle.lab_notes.specs.Private.Noting.{NotesStep}
 use Rattle.lab_notes.specs.declared.rows.Noted.{Noted}
 
 -- a step, and the others for which it stands

@@ -1,3 +1,2 @@
 pub mod Notes
-pub mod Texts
 pub mod Private

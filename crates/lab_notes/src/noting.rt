@@ -3,7 +3,7 @@ ghost use Rattle.std.specs.Prelude.{◌≡◌, IfOk};
 ghost use Rattle.lab_sched.specs.Schedules.{steps_of};
 ghost use Rattle.lab_told.specs.Tellings.{AreThere};
 ghost use Rattle.lab_notes.specs.Notes.{notes};
-ghost use Rattle.lab_notes.specs.Private.{NotesStep, Fails};
+ghost use Rattle.lab_notes.specs.Private.Noting.{NotesStep, Fails};
 
 use crate::rows::{Noted, Rows};
 use lab_sched::{Schedule, World};

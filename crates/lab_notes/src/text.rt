@@ -1,6 +1,6 @@
 //! A note in words.
 ghost use Rattle.std.specs.Prelude.{◌≡◌, ◌++◌, OnOk, string_bytes};
-ghost use Rattle.lab_notes.specs.Texts.{why, more_text, call_text, why_text};
+ghost use Rattle.lab_notes.specs.Private.Texts.{why, more_text, call_text, why_text};
 
 use crate::rows::Refusal;
 use ipc_errors::error_name;
@@ -35,7 +35,7 @@ fn why(service: Service, error: Errno) -> &'static str
 }
 
 /// Adds how many more were refused, where there are more.
-#[tactic(auto, unfolding(crate::specs::Texts::more_text))]
+#[tactic(auto, unfolding(crate::specs::Private::Texts::more_text))]
 fn push_more(text: &mut String, more: u32) -> Result<(), AllocError>
     ensures text { OnOk result (string_bytes text.new ≡ string_bytes text.old ++ more_text more) }
 {
@@ -46,7 +46,7 @@ fn push_more(text: &mut String, more: u32) -> Result<(), AllocError>
 }
 
 /// Adds a call and the error that it had.
-#[tactic(auto, unfolding(crate::specs::Texts::call_text))]
+#[tactic(auto, unfolding(crate::specs::Private::Texts::call_text))]
 fn push_call(text: &mut String, service: Service, error: Errno) -> Result<(), AllocError>
     ensures text { OnOk result (string_bytes text.new ≡ string_bytes text.old
         ++ call_text service error) }
@@ -57,7 +57,7 @@ fn push_call(text: &mut String, service: Service, error: Errno) -> Result<(), Al
 }
 
 /// Adds what the error of a call means.
-#[tactic(auto, unfolding(crate::specs::Texts::why_text))]
+#[tactic(auto, unfolding(crate::specs::Private::Texts::why_text))]
 fn push_why(text: &mut String, service: Service, error: Errno) -> Result<(), AllocError>
     ensures text { OnOk result (string_bytes text.new ≡ string_bytes text.old
         ++ why_text service error) }

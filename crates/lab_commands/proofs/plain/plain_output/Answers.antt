@@ -1,5 +1,5 @@
 use Rattle.std.proofs.Common.{ℕ, List, [], ◌++◌, ap, sym, ◌∙◌}
-use Rattle.lab_commands.specs.Private.Plain.{plain_part}
+use Rattle.lab_commands.specs.Plain.{plain_part}
 use Rattle.lab_texts.proofs.RowLemmas.{texts_below_none, texts_below_more}
 use Rattle.lab_commands.proofs.plain.plain_output.Goals as goal
 

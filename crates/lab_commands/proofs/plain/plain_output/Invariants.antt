@@ -1,5 +1,5 @@
 use Rattle.std.proofs.Common.{◌≡◌}
-use Rattle.lab_commands.specs.Private.Plain.{plain_part}
+use Rattle.lab_commands.specs.Plain.{plain_part}
 use Rattle.lab_texts.specs.Rows.{texts_below}
 use Rattle.lab_commands.proofs.plain.plain_output.Given as goal
 

@@ -8,7 +8,7 @@ use Rattle.lab_sched.specs.Worlds.{WorldState, run}
 use Rattle.lab_sched.specs.Schedules.{steps_of}
 use Rattle.lab_sched.specs.ScheduleTexts.{schedule_text}
 use Rattle.lab_texts.specs.Reports.{report_text}
-use Rattle.lab_commands.specs.Private.Plain.{plain_output}
+use Rattle.lab_commands.specs.Plain.{plain_output}
 
 -- the report on some programs, on machines of this profile, after the steps of some schedule
 abbrev pub IsReport : Profile → List ℕ → Type 0
@@ -26,10 +26,6 @@ run_text w schedule = report_text w ++ codes "schedule" ++ behind_blank (schedul
 -- the same, and behind it, where that is wanted, what the processes have written, as it is
 abbrev pub run_bytes : Bool → WorldState → List Block → List ℕ
 run_bytes plain w schedule = run_text w schedule ++ cond plain (plain_output w) []
-
--- a laboratory is the start of some programs, on machines of this profile
-abbrev pub IsStart : Profile → WorldState → Type 0
-IsStart profile w = (programs : List Program) × (w ≡ fresh profile programs)
 
 -- what is written of the run of some programs by some schedule, from their start to the world after its steps
 abbrev pub IsToldRun : Profile → Bool → List ℕ → Type 0
