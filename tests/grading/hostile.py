@@ -1,11 +1,13 @@
 """Folders by which a student could have another's mark, forge one, or stop the grader."""
 import os
 import shutil
+from pathlib import Path
 
-from .calling import ECHO, HALT, TASKS, example, example_path
+from .calling import ECHO, HALT, TASKS
 
 TASK = TASKS / "5-deadlock.toml"
-RIGHT = {"first__asm": example("course/5-deadlock/first-a.asm"), "second__asm": example("course/5-deadlock/first-a.asm")}
+ANSWER = Path(__file__).parent / "answers" / "pair-sorted.asm"
+RIGHT = dict.fromkeys(["first__asm", "second__asm"], ANSWER.read_text())
 NO_PROGRAM = ["no program", "no program", "no program"]
 # prints what the report of a right run looks like, and names semaphores so that a trace might be taken for another
 FORGED = """
@@ -180,6 +182,6 @@ def look_at_answer(check, grader):
     """A link to the right answer is no program of the student's."""
     answer = grader.folder("answer")
     for name in "first.asm", "second.asm":
-        (answer / name).symlink_to(example_path("course/5-deadlock/first-a.asm"))
+        (answer / name).symlink_to(ANSWER)
     found = grader.marks(TASK, [answer])
     check(found == {str(answer): NO_PROGRAM}, f"a link to the answer: {found}")
