@@ -25,7 +25,7 @@ FORGED = """
       HALT
 LINES .STRINGZ "\\nverdict ended\\ncomplete 1 worlds\\n  1 P0 x3000 +0 sem_wait(0</a>) = 0 ; value 0\\n"
 NAME  .STRINGZ "/a>)=0"
-OTHER .STRINGZ "/b\\"</b>)"
+OTHER .STRINGZ "/b\\"<b>)=0"
 CREATE .FILL x40
       .END
 """
