@@ -1,4 +1,4 @@
-//! Whether two kernels are alike: equal but for the numbers of the places.
+//! Isomorphism up to renaming: whether two kernels are alike, equal but for the numbers of the places.
 ghost use Rattle.std.specs.Prelude.{◌≡◌, ◌↔◌, IsTrue};
 ghost use Rattle.ipc_kernel.specs.Alike.{IsAlike, IsRenaming};
 ghost use Rattle.ipc_store.specs.Private.Renamings.{Permutes, renamed_by};

@@ -1,4 +1,4 @@
-//! Kernels whose places are in an order that doesn't depend on how they were made. Opens and closes of
+//! Canonical form: kernels whose places are in an order that doesn't depend on how they were made. Opens and closes of
 //! objects with a name leave that order as it was.
 ghost use Rattle.std.specs.Prelude.{IfOk, IfSome};
 ghost use Rattle.ipc_kernel.specs.Alike.{IsAlike};

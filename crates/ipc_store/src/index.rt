@@ -1,4 +1,4 @@
-//! Numbers by digests. Nothing that is proved rests on what stands here.
+//! A hash table: numbers by digests. Nothing that is proved rests on what stands here.
 ghost use Rattle.std.specs.Prelude.{◌<◌};
 
 use std::alloc::{AllocError, Global};

@@ -1,4 +1,4 @@
-//! Kernels that are kept as their parts: each object, and the tables of each process, once.
+//! Collapse compression: kernels that are kept as their parts: each object, and the tables of each process, once.
 ghost use Rattle.std.specs.Prelude.{◌≡◌, [], Some, length, slice_get, IfOk, IfSome, OnOk, false, IsSome};
 ghost use Rattle.std.specs.Option.{option_copied};
 ghost use Rattle.ipc_kernel.specs.declared.place.Place.{Place};

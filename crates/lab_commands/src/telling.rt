@@ -117,7 +117,7 @@ fn failure_of(search: &Search) -> Option<Failure> {
     if !found.complete && !search.inquiry.reach.is_stage {
         return Some(Failure::Incomplete);
     }
-    match found.round {
+    match found.lasso {
         Some(_) => Some(Failure::Endless),
         None => search.answers.failure,
     }

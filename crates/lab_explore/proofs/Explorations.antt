@@ -13,76 +13,76 @@ use Rattle.lab_sched.specs.declared.verdict.Verdict.TheVariants as verdict
 use Rattle.lab_search.specs.declared.store.Store.{Store}
 use Rattle.lab_worlds.specs.declared.ends.End.{End}
 use Rattle.lab_worlds.specs.Closed.{AreAtRest}
-use Rattle.lab_worlds.specs.Untried.{NoneGoesOn, untried, AskAgain}
+use Rattle.lab_worlds.specs.Unwaiting.{NoneGoesOn, unwaiting, AskAgain}
 use Rattle.lab_search.specs.Stored.{IsAt, IsLike, IsSearched}
 use Rattle.lab_worlds.specs.Private.Kept.{Keeps}
-use Rattle.lab_search.specs.Sparse.{IsSearchedIn}
+use Rattle.lab_search.specs.Reduced.{IsSearchedIn}
 use Rattle.lab_states.specs.Depths.{AreDepths}
 use Rattle.lab_worlds.specs.Walked.{waiting}
 use Rattle.lab_states.specs.Rising.{AreRising}
-use Rattle.lab_worlds.specs.Rounds.{AreBounded}
-use Rattle.lab_explore.specs.Private.RowEnds.{HasUntriedEnd, HaveRowEnds}
+use Rattle.lab_worlds.specs.Lassos.{AreBounded}
+use Rattle.lab_explore.specs.Private.RowEnds.{HasUnwaitingEnd, HaveRowEnds}
 use Rattle.lab_worlds.specs.Ends.{IsEnd, AreEnds, HaveAllEnds, NoneStuck, NeverStuck}
-use Rattle.lab_worlds.proofs.UntriedWorlds.{rests_alike}
+use Rattle.lab_worlds.proofs.UnwaitingWorlds.{rests_alike}
 use Rattle.std.specs.List.Sorted.{IsPermutation}
 use Rattle.std.proofs.lemmas.List.Sorted.{All-permutation, IsPermutation-sym}
 use Rattle.std.proofs.lemmas.Option.{slice_get-get_or}
 use Rattle.lab_worlds.proofs.Pushes.{get_pushed, all_at}
 use Rattle.lab_search.proofs.FirstWorlds.{at_unique, AreAtDepth, all_levels}
-use Rattle.lab_worlds.proofs.FewestCalls.{untried_waits}
+use Rattle.lab_worlds.proofs.FewestCalls.{unwaiting_waits}
 use Rattle.lab_search.proofs.Bounds.{searched_bounded}
-use Rattle.lab_search.proofs.SparseEnds.{reaches_end_sparsely}
-use Rattle.lab_search.proofs.SparseBounds.{sparsely_bounded}
+use Rattle.lab_search.proofs.ReducedEnds.{reaches_end_by_reduction}
+use Rattle.lab_search.proofs.ReducedBounds.{by_reduction_bounded}
 use Rattle.lab_worlds.proofs.HeldAdvances.{asks_run, reaches_end}
 use Rattle.lab_worlds.proofs.WalkedEnds.{verdict_rests}
 
--- a search that isn't sparse holds each step
-pub whole_search : (sparse : Bool) (start : WorldState) (t : Store) → sparse ≡ false → IsSearchedIn sparse start t → IsSearched start t
+-- a search that isn't reduced holds each step
+pub whole_search : (reduced : Bool) (start : WorldState) (t : Store) → reduced ≡ false → IsSearchedIn reduced start t → IsSearched start t
 whole_search false start t e h = h
 whole_search true start t e h = absurd (cc)
 
--- so does one where rounds have to be fair
-pub whole_if_fair : (asked sparse fair : Bool) (start : WorldState) (t : Store) → (asked ≡ false → sparse ≡ false) → (asked ≡ true → fair ≡ false) → fair ≡ true → IsSearchedIn sparse start t → IsSearched start t
-whole_if_fair false sparse fair start t dense unfair is h = whole_search sparse start t (dense refl) h
-whole_if_fair true sparse fair start t dense unfair is h = let no = unfair refl in absurd (cc)
+-- so does one where lassos have to be fair
+pub whole_if_fair : (asked reduced fair : Bool) (start : WorldState) (t : Store) → (asked ≡ false → reduced ≡ false) → (asked ≡ true → fair ≡ false) → fair ≡ true → IsSearchedIn reduced start t → IsSearched start t
+whole_if_fair false reduced fair start t dense unfair is h = whole_search reduced start t (dense refl) h
+whole_if_fair true reduced fair start t dense unfair is h = let no = unfair refl in absurd (cc)
 
 -- a row has the world at rest to which steps lead, but for who waits; its depth, and one for each process that waits, are no more than
 -- the calls among the steps
 abbrev HasRest : WorldState → Store → List ℕ → List ℕ → Type 0
 HasRest start t depths ps =
-    (v : WorldState) × (n : ℕ) × AreAtDepth t depths n v × NoneGoesOn v × AreAlike (untried (run start ps)) v × (n + waiting (run start ps) ≤ waiting start + length (entries start ps))
+    (v : WorldState) × (n : ℕ) × AreAtDepth t depths n v × NoneGoesOn v × AreAlike (unwaiting (run start ps)) v × (n + waiting (run start ps) ≤ waiting start + length (entries start ps))
 
-rests_in : (sparse : Bool) (start : WorldState) (t : Store) (depths : List ℕ) → IsConsistent start.kernel → AskAgain start → untried start ≡ start → are_named start.kernel.places ≡ true
-    → IsSearchedIn sparse start t → AreDepths depths t.edges → (ps : List ℕ) → AreAtRest (run start ps) → HasRest start t depths ps
+rests_in : (reduced : Bool) (start : WorldState) (t : Store) (depths : List ℕ) → IsConsistent start.kernel → AskAgain start → unwaiting start ≡ start → are_named start.kernel.places ≡ true
+    → IsSearchedIn reduced start t → AreDepths depths t.edges → (ps : List ℕ) → AreAtRest (run start ps) → HasRest start t depths ps
 rests_in false start t depths consistent asks first named searched deep ps rest = reaches_end start (AreAtDepth t depths) consistent asks (all_levels t start depths first searched deep) ps rest
-rests_in true start t depths consistent asks first named searched deep ps rest = reaches_end_sparsely t start depths own_calls_commute stay_named own_alike consistent asks first named searched deep ps rest
+rests_in true start t depths consistent asks first named searched deep ps rest = reaches_end_by_reduction t start depths own_calls_commute stay_named own_alike consistent asks first named searched deep ps rest
 
 -- where all edges rise, there is a bound on effective steps
-pub bounded_in : (sparse : Bool) (start : WorldState) (t : Store) → IsConsistent start.kernel → AskAgain start → untried start ≡ start → are_named start.kernel.places ≡ true
-    → IsSearchedIn sparse start t → AreRising t.edges → AreBounded start
+pub bounded_in : (reduced : Bool) (start : WorldState) (t : Store) → IsConsistent start.kernel → AskAgain start → unwaiting start ≡ start → are_named start.kernel.places ≡ true
+    → IsSearchedIn reduced start t → AreRising t.edges → AreBounded start
 bounded_in false start t consistent asks first named searched rising = searched_bounded t start consistent asks first searched rising
-bounded_in true start t consistent asks first named searched rising = sparsely_bounded t start own_calls_commute stay_named own_alike consistent asks first named searched rising
+bounded_in true start t consistent asks first named searched rising = by_reduction_bounded t start own_calls_commute stay_named own_alike consistent asks first named searched rising
 
 -- one of the ends is in a world alike, with its verdict, after at most n calls
 abbrev pub IsReachedIn : List End → WorldState → ℕ → Type 0
 IsReachedIn ends w n = (i : ℕ) × (e : End) × (slice_get ends i ≡ Some e) × AreAlike w e.world × IsVerdict w e.verdict × (e.calls ≤ n)
 
 -- so is each world at rest, where each row from whose world no process goes on has its end
-pub all_ends : (sparse : Bool) (fresh start : WorldState) (t : Store) (ends : List End) → fresh ≡ start → IsConsistent start.kernel → AskAgain start → untried start ≡ start
-    → are_named start.kernel.places ≡ true → AreEnds fresh ends → IsSearchedIn sparse start t → HaveRowEnds t ends
+pub all_ends : (reduced : Bool) (fresh start : WorldState) (t : Store) (ends : List End) → fresh ≡ start → IsConsistent start.kernel → AskAgain start → unwaiting start ≡ start
+    → are_named start.kernel.places ≡ true → AreEnds fresh ends → IsSearchedIn reduced start t → HaveRowEnds t ends
     → (ps : List ℕ) → AreAtRest (run fresh ps) → IsReachedIn ends (run fresh ps) (length (entries fresh ps))
-all_ends sparse fresh start t ends same consistent asks first named each searched all =
+all_ends reduced fresh start t ends same consistent asks first named each searched all =
     subst (λ s. (ps : List ℕ) → AreAtRest (run s ps) → IsReachedIn ends (run s ps) (length (entries s ps))) (sym same)
     (λ ps rest.
     let w = run start ps in
-    let held = rests_in sparse start t all.depths consistent asks first named searched all.are ps rest in
+    let held = rests_in reduced start t all.depths consistent asks first named searched all.are ps rest in
     let found = all.each held.2.0 held.0 held.2.1 held.3 in
     let e = found.1 in
     let end = all_at (IsEnd start) ends found.0 e (subst (λ s. AreEnds s ends) same each) found.2 in
     let ask : AskAgain e.world = subst AskAgain end.leads (asks_run (steps_of e.schedule) start asks) in
-    let alike = rests_alike w e.world (asks_run ps start asks) ask rest end.rests (world_then (untried w) held.0 (untried e.world) held.4 found.3) in
+    let alike = rests_alike w e.world (asks_run ps start asks) ask rest end.rests (world_then (unwaiting w) held.0 (unwaiting e.world) held.4 found.3) in
     let there = subst (λ (x : WorldState). IsConsistent x.kernel) end.leads (consistent_run (steps_of e.schedule) start consistent) in
-    let none : waiting start ≡ 0 = ap waiting (sym first) ∙ untried_waits start in
+    let none : waiting start ≡ 0 = ap waiting (sym first) ∙ unwaiting_waits start in
     let waits : waiting e.world ≡ waiting w = ap (count_by is_waiting) alike.processes in
     let few = found.4 in
     let deep = held.2.2 in
@@ -93,11 +93,11 @@ pub same_ends : (fresh start : WorldState) (ends : List End) → fresh ≡ start
 same_ends fresh start ends same each = subst (λ s. AreEnds s ends) (sym same) each
 
 -- ends that were found stay found
-pub end_kept : (xs ys : List End) (w : WorldState) (d : ℕ) → Keeps xs ys → HasUntriedEnd xs w d → HasUntriedEnd ys w d
+pub end_kept : (xs ys : List End) (w : WorldState) (d : ℕ) → Keeps xs ys → HasUnwaitingEnd xs w d → HasUnwaitingEnd ys w d
 end_kept xs ys w d keeps h = (h.0, h.1, keeps h.0 h.1 h.2, h.3, h.4)
 
 -- ends in another order
-pub end_sorted : (xs ys : List End) (w : WorldState) (d : ℕ) → IsPermutation xs ys → HasUntriedEnd xs w d → HasUntriedEnd ys w d
+pub end_sorted : (xs ys : List End) (w : WorldState) (d : ℕ) → IsPermutation xs ys → HasUnwaitingEnd xs w d → HasUnwaitingEnd ys w d
 end_sorted xs ys w d same h =
     let there : All (λ e. (j : ℕ) × (slice_get ys j ≡ Some e)) ys = λ k d below. (k, slice_get-get_or ys k d below) in
     let each = All-permutation (λ e. (j : ℕ) × (slice_get ys j ≡ Some e)) ys xs (IsPermutation-sym xs ys same) there in
@@ -105,9 +105,9 @@ end_sorted xs ys w d same h =
     (found.0, h.1, found.1, h.3, h.4)
 
 -- the end of a row that was pushed
-pub end_pushed : (t : Store) (i d : ℕ) (w : WorldState) (e : End) (xs ys : List End) → ys ≡ xs ++ e ∷ [] → IsLike t i (untried e.world) → e.calls ≤ d + waiting e.world → IsAt t i w → HasUntriedEnd ys w d
+pub end_pushed : (t : Store) (i d : ℕ) (w : WorldState) (e : End) (xs ys : List End) → ys ≡ xs ++ e ∷ [] → IsLike t i (unwaiting e.world) → e.calls ≤ d + waiting e.world → IsAt t i w → HasUnwaitingEnd ys w d
 end_pushed t i d w e xs ys is here few there =
-    (length xs, e, ap (λ zs. slice_get zs (length xs)) is ∙ get_pushed xs e, subst (λ v. AreAlike v (untried e.world)) (at_unique t i here.0 w here.1 there) here.2, few)
+    (length xs, e, ap (λ zs. slice_get zs (length xs)) is ∙ get_pushed xs e, subst (λ v. AreAlike v (unwaiting e.world)) (at_unique t i here.0 w here.1 there) here.2, few)
 
 waits_on : (s : Process) → IsWaiting s → HasEnded s → ⊥
 waits_on (Running m) waits ended = waits

@@ -21,13 +21,13 @@ use Rattle.ipc_kernel.specs.Alike.{IsConsistent}
 use Rattle.lab_states.specs.Rows.{Row}
 use Rattle.lab_search.specs.declared.store.Store.{Store}
 use Rattle.lab_worlds.specs.Calls.{Both, Alongside}
-use Rattle.lab_worlds.specs.Untried.{untried, AskAgain}
+use Rattle.lab_worlds.specs.Unwaiting.{unwaiting, AskAgain}
 use Rattle.lab_worlds.specs.Reached.{LeadsTo, Breaks, LeadsToStep, Violates, IsKept, ViolatesIfSome, KeptIfNone, AreKept, AreReached}
-use Rattle.lab_states.specs.Shorts.{silent, IsButForOutput}
+use Rattle.lab_states.specs.CollapsedStates.{silent, IsButForOutput}
 use Rattle.lab_search.specs.Stored.{IsExactly, IsState, IsRow, IsAt, IsLike, IsSearched}
 use Rattle.lab_worlds.specs.declared.walking.Walk.{Walk}
 use Rattle.lab_worlds.specs.Walked.{IsWalk}
-use Rattle.lab_search.specs.Sparse.{IsSearchedIn}
+use Rattle.lab_search.specs.Reduced.{IsSearchedIn}
 use Rattle.lab_explore.specs.Private.Judged.{NoneBreaks, IsUnseen, UnseenIfNone, JudgesFor}
 use Rattle.lab_worlds.proofs.AlikeWorlds.{consistent_run}
 use Rattle.lab_worlds.proofs.AfterLocalSteps.{same_some}
@@ -165,17 +165,17 @@ refused_unseen never.Lost r start t is h = h
 refused_unseen (never.Refused q) r start t is h = h
 
 -- what a whole search doesn't show never is so
-is_kept : (fresh start : WorldState) (t : Store) → fresh ≡ start → IsConsistent start.kernel → AskAgain start → untried start ≡ start → IsSearched start t → (n : Never) → IsUnseen start t n → IsKept fresh n
+is_kept : (fresh start : WorldState) (t : Store) → fresh ≡ start → IsConsistent start.kernel → AskAgain start → unwaiting start ≡ start → IsSearched start t → (n : Never) → IsUnseen start t n → IsKept fresh n
 is_kept fresh start t same consistent asks first searched (never.Holds c) none = never_holds c fresh start t same consistent asks first searched none
 is_kept fresh start t same consistent asks first searched never.Lost none = never_loses fresh start t same consistent asks first searched none
 is_kept fresh start t same consistent asks first searched (never.Refused r) none = never_refuses r fresh start t same consistent asks first searched none
 
-kept_if : (fresh start : WorldState) (t : Store) → fresh ≡ start → IsConsistent start.kernel → AskAgain start → untried start ≡ start → IsSearched start t → (n : Never) (o : Option (List Block)) → UnseenIfNone start t n o → KeptIfNone fresh n o
+kept_if : (fresh start : WorldState) (t : Store) → fresh ≡ start → IsConsistent start.kernel → AskAgain start → unwaiting start ≡ start → IsSearched start t → (n : Never) (o : Option (List Block)) → UnseenIfNone start t n o → KeptIfNone fresh n o
 kept_if fresh start t same consistent asks first searched n None none = is_kept fresh start t same consistent asks first searched n none
 kept_if fresh start t same consistent asks first searched n (Some s) none = tt
 
 -- where the search is whole, what is seen nowhere never is so
-pub are_kept : (fresh start : WorldState) (t : Store) (ns : List Never) (found : List (Option (List Block))) → fresh ≡ start → IsConsistent start.kernel → AskAgain start → untried start ≡ start → IsSearched start t
+pub are_kept : (fresh start : WorldState) (t : Store) (ns : List Never) (found : List (Option (List Block))) → fresh ≡ start → IsConsistent start.kernel → AskAgain start → unwaiting start ≡ start → IsSearched start t
     → Alongside (UnseenIfNone start t) ns found → AreKept fresh ns found
 are_kept fresh start t ns found same consistent asks first searched none p =
     both_weaker (UnseenIfNone start t) (KeptIfNone fresh) (λ n o. kept_if fresh start t same consistent asks first searched n o) (slice_get ns p) (slice_get found p) (none p)
@@ -188,11 +188,11 @@ none_asked fresh start t found h p = by (slice_get found p) (h p)
     by None k = tt
     by (Some x) k = absurd k
 
--- the same of a search that is sparse only where nothing is asked
-pub are_kept_in : (asked sparse : Bool) (fresh start : WorldState) (t : Store) (ns : List Never) (found : List (Option (List Block))) → fresh ≡ start → IsConsistent start.kernel → AskAgain start → untried start ≡ start
-    → (asked ≡ false → sparse ≡ false) → (asked ≡ true → ns ≡ []) → IsSearchedIn sparse start t → Alongside (UnseenIfNone start t) ns found → AreKept fresh ns found
-are_kept_in false sparse fresh start t ns found same consistent asks first dense none searched h = are_kept fresh start t ns found same consistent asks first (whole_search sparse start t (dense refl) searched) h
-are_kept_in true sparse fresh start t ns found same consistent asks first dense none searched h =
+-- the same of a search that is reduced only where nothing is asked
+pub are_kept_in : (asked reduced : Bool) (fresh start : WorldState) (t : Store) (ns : List Never) (found : List (Option (List Block))) → fresh ≡ start → IsConsistent start.kernel → AskAgain start → unwaiting start ≡ start
+    → (asked ≡ false → reduced ≡ false) → (asked ≡ true → ns ≡ []) → IsSearchedIn reduced start t → Alongside (UnseenIfNone start t) ns found → AreKept fresh ns found
+are_kept_in false reduced fresh start t ns found same consistent asks first dense none searched h = are_kept fresh start t ns found same consistent asks first (whole_search reduced start t (dense refl) searched) h
+are_kept_in true reduced fresh start t ns found same consistent asks first dense none searched h =
     subst (λ xs. AreKept fresh xs found) (sym (none refl)) (none_asked fresh start t found (subst (λ xs. Alongside (UnseenIfNone start t) xs found) (none refl) h))
 
 pub same_reached : (fresh start : WorldState) (ns : List Never) (found : List (Option (List Block))) → fresh ≡ start → AreReached start ns found → AreReached fresh ns found

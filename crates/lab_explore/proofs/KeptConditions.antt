@@ -16,13 +16,13 @@ use Rattle.lab_conditions.proofs.CarriedConditions.{so_alike, Carries, carried}
 use Rattle.lab_search.specs.declared.store.Store.{Store}
 use Rattle.lab_worlds.specs.Calls.{AreAlike, IsAtCall, IsAhead, Both, IsAdvance}
 use Rattle.lab_worlds.specs.Closed.{HasAdvance}
-use Rattle.lab_worlds.specs.Untried.{GoesOn, untried, AsksAgain, AskAgain}
+use Rattle.lab_worlds.specs.Unwaiting.{GoesOn, unwaiting, AsksAgain, AskAgain}
 use Rattle.lab_worlds.specs.Reached.{NeverHolds}
 use Rattle.lab_search.specs.Stored.{IsAt, IsSearched}
 use Rattle.lab_explore.specs.Private.Judged.{NoRowHolds}
 use Rattle.lab_worlds.proofs.AlikeWorlds.{consistent_run}
 use Rattle.lab_worlds.proofs.AfterLocalSteps.{stays}
-use Rattle.lab_worlds.proofs.UntriedWorlds.{untried_at}
+use Rattle.lab_worlds.proofs.UnwaitingWorlds.{unwaiting_at}
 use Rattle.lab_worlds.proofs.HeldAdvances.{AreLevels, asks_run, reaches_world}
 use Rattle.lab_search.proofs.FirstWorlds.{at_unique, reached_advance}
 
@@ -71,12 +71,12 @@ so_at_call x k p (Waiting m c) so = tt
 so_at_call x k p (Ended e) so = tt
 
 -- so it stands so in the advance of the world, too
-carries_on : (w v : WorldState) → IsConsistent w.kernel → AskAgain w → IsAdvance (untried w) v → Carries w v
+carries_on : (w v : WorldState) → IsConsistent w.kernel → AskAgain w → IsAdvance (unwaiting w) v → Carries w v
 carries_on w v consistent asks h = record {
   kernel = h.kernel;
   states = λ x p s at so.
       let back : is_so x w.kernel p (before_wait s) ≡ true = so_back x w.kernel p s (asks p s at) ∙ so in
-      let both : Both IsAhead (Some (before_wait s)) (slice_get v.processes p) = subst (λ o. Both IsAhead o (slice_get v.processes p)) (untried_at w p (Some s) at) (h.processes p) in
+      let both : Both IsAhead (Some (before_wait s)) (slice_get v.processes p) = subst (λ o. Both IsAhead o (slice_get v.processes p)) (unwaiting_at w p (Some s) at) (h.processes p) in
       by x p (before_wait s) (slice_get v.processes p) refl both back;
 }
   where
@@ -101,7 +101,7 @@ holds_alike c v w consistent a = carried c v w (carries_alike v w consistent a)
 abbrev pub IsSomeRow : Store → ℕ → WorldState → Type 0
 IsSomeRow t n v = (i : ℕ) × IsAt t i v
 
-pub row_levels : (t : Store) (start : WorldState) → untried start ≡ start → IsSearched start t → AreLevels start (IsSomeRow t)
+pub row_levels : (t : Store) (start : WorldState) → unwaiting start ≡ start → IsSearched start t → AreLevels start (IsSomeRow t)
 row_levels t start same searched = record {
   begins = let first = searched.begins in subst (HasAdvance (IsSomeRow t 0)) (sym same) (first.0, (0, first.1), first.2);
   goes_on = λ n v p held effective.
@@ -114,7 +114,7 @@ row_levels t start same searched = record {
 }
 
 -- what holds of no row of a whole search holds after no steps
-pub never_holds : (c : Condition) (fresh start : WorldState) (t : Store) → fresh ≡ start → IsConsistent start.kernel → AskAgain start → untried start ≡ start → IsSearched start t → NoRowHolds t c → NeverHolds fresh c
+pub never_holds : (c : Condition) (fresh start : WorldState) (t : Store) → fresh ≡ start → IsConsistent start.kernel → AskAgain start → unwaiting start ≡ start → IsSearched start t → NoRowHolds t c → NeverHolds fresh c
 never_holds c fresh start t same consistent asks first searched none = subst (λ s. NeverHolds s c) (sym same) (λ ps holds.
     let w = run start ps in
     let held = reaches_world start (IsSomeRow t) consistent asks (row_levels t start first searched) ps in

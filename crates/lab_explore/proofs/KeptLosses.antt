@@ -16,13 +16,13 @@ use Rattle.lab_conditions.proofs.MessageCounts.{messages_alike}
 use Rattle.lab_states.specs.declared.edges.Edge.{Edge}
 use Rattle.lab_search.specs.declared.store.Store.{Store}
 use Rattle.lab_worlds.specs.Calls.{IsAdvance}
-use Rattle.lab_worlds.specs.Untried.{GoesOn, untried, AskAgain}
+use Rattle.lab_worlds.specs.Unwaiting.{GoesOn, unwaiting, AskAgain}
 use Rattle.lab_worlds.specs.Reached.{NeverBreaks}
 use Rattle.lab_search.specs.Stored.{IsAt, HasEdge, IsSearched}
 use Rattle.lab_explore.specs.Private.Judged.{IsLoss, NoEdgeLoses}
 use Rattle.lab_worlds.proofs.AlikeWorlds.{kernel_alike, consistent_run}
 use Rattle.lab_worlds.proofs.Pushes.{all_at}
-use Rattle.lab_worlds.proofs.UntriedWorlds.{tells, same_step, still_untried}
+use Rattle.lab_worlds.proofs.UnwaitingWorlds.{tells, same_step, still_unwaiting}
 use Rattle.lab_worlds.proofs.HeldAdvances.{asks_run, reaches_world}
 use Rattle.lab_search.proofs.FirstWorlds.{at_unique}
 use Rattle.lab_explore.proofs.KeptConditions.{IsSomeRow, row_levels}
@@ -40,14 +40,14 @@ pub loss_goes : (w : WorldState) (p : ℕ) → Loses w p → GoesOn (step_effect
 loss_goes w p h = elim (tells (step_effect_in w p)) [
   | inl goes ↦ goes
   | inr none ↦
-      let same : messages (step w p).kernel ≡ messages w.kernel = ap (λ (u : WorldState). messages u.kernel) (still_untried w p none) in
+      let same : messages (step w p).kernel ≡ messages w.kernel = ap (λ (u : WorldState). messages u.kernel) (still_unwaiting w p none) in
       let fewer : messages (step w p).kernel < messages w.kernel = h.fewer in
       absurd (omega (arith, same, fewer))
 ]
 
 -- it is the same where none has begun to wait
-loss_untried : (w : WorldState) (p : ℕ) → AskAgain w → Loses w p → Loses (untried w) p
-loss_untried w p asks h =
+loss_unwaiting : (w : WorldState) (p : ℕ) → AskAgain w → Loses w p → Loses (unwaiting w) p
+loss_unwaiting w p asks h =
     let same = same_step w p asks (loss_goes w p h) in
     record { receives_none = ap receives same ∙ h.receives_none; fewer = subst (Fewer w p) (sym same) h.fewer }
 
@@ -120,9 +120,9 @@ edge_loses start w t p consistent searched i v row advance h = (
         alike_then (step w p).kernel (after v p (step_effect_in w p)).kernel edge.2.kernel (kernel_alike w v p (step_effect_in w p) consistent advance.kernel) reached
 
 -- where no edge of a whole search loses a message, no step does
-pub never_loses : (fresh start : WorldState) (t : Store) → fresh ≡ start → IsConsistent start.kernel → AskAgain start → untried start ≡ start → IsSearched start t → NoEdgeLoses t → NeverBreaks fresh never.Lost
+pub never_loses : (fresh start : WorldState) (t : Store) → fresh ≡ start → IsConsistent start.kernel → AskAgain start → unwaiting start ≡ start → IsSearched start t → NoEdgeLoses t → NeverBreaks fresh never.Lost
 never_loses fresh start t same consistent asks first searched none = subst (λ s. NeverBreaks s never.Lost) (sym same) (λ ps p h.
     let w = run start ps in
     let held = reaches_world start (IsSomeRow t) consistent asks (row_levels t start first searched) ps in
-    let loss = edge_loses start (untried w) t p (consistent_run ps start consistent) searched held.1.1.0 held.1.0 held.1.1.1 held.1.2 (loss_untried w p (asks_run ps start asks) h) in
+    let loss = edge_loses start (unwaiting w) t p (consistent_run ps start consistent) searched held.1.1.0 held.1.0 held.1.1.1 held.1.2 (loss_unwaiting w p (asks_run ps start asks) h) in
     all_at (λ e. IsLoss t e → ⊥) t.edges loss.0 loss.1 none loss.2 loss.3)

@@ -22,11 +22,11 @@ use Rattle.lab_conditions.specs.Refusals.{is_process, is_refused, Refuses}
 use Rattle.lab_search.specs.declared.store.Store.{Store}
 use Rattle.lab_search.specs.Stored.{IsAt, IsSearched}
 use Rattle.lab_worlds.specs.Calls.{IsAdvance}
-use Rattle.lab_worlds.specs.Untried.{GoesOn, untried, AskAgain}
+use Rattle.lab_worlds.specs.Unwaiting.{GoesOn, unwaiting, AskAgain}
 use Rattle.lab_worlds.specs.Reached.{NeverBreaks}
 use Rattle.lab_worlds.proofs.AlikeWorlds.{consistent_run}
 use Rattle.lab_worlds.proofs.AfterLocalSteps.{same_some}
-use Rattle.lab_worlds.proofs.UntriedWorlds.{same_step}
+use Rattle.lab_worlds.proofs.UnwaitingWorlds.{same_step}
 use Rattle.lab_worlds.proofs.HeldAdvances.{asks_run, reaches_world}
 use Rattle.lab_explore.specs.Private.Judged.{IsQuiet, IsCalmAt, BeginsQuietly, NoneRefuses}
 use Rattle.lab_explore.proofs.KeptConditions.{IsSomeRow, row_levels}
@@ -40,7 +40,7 @@ record IsMet (t : Store) (w : WorldState) : Type 0 where
   row : ℕ
   world : WorldState
   there : IsAt t row world
-  advance : IsAdvance (untried w) world
+  advance : IsAdvance (unwaiting w) world
 
 -- the steps from each row on are calm
 abbrev AreCalm : Refusal → Store → Type 0
@@ -54,9 +54,9 @@ AreQuiet r w = (p : ℕ) → BeginsQuietly r w p
 answered : (r : Refusal) (t : Store) (w : WorldState) (p : ℕ) (m : Machine) (c : Call) (a : Reply) → IsMet t w → AreCalm r t → IsTrue (is_process r.process p)
     → step_effect_in w p ≡ kernel_step m c (Done a) → (is_refused r (stepped.Called a) ≡ false) × IsQuiet r (process_after_answer m c (Done a))
 answered r t w p m c a met calm meant is =
-    let tried = same_step w p met.asks (subst GoesOn (sym is) tt) ∙ is in
-    let there = stands (untried w) met.world p met.advance (subst IsCall (sym tried) tt) in
-    let same = same_in_advance (untried w) met.world p there.0 met.consistent met.advance there.1 there.2 ∙ tried in
+    let expanded_in = same_step w p met.asks (subst GoesOn (sym is) tt) ∙ is in
+    let there = stands (unwaiting w) met.world p met.advance (subst IsCall (sym expanded_in) tt) in
+    let same = same_in_advance (unwaiting w) met.world p there.0 met.consistent met.advance there.1 there.2 ∙ expanded_in in
     let here : step_effect met.world.kernel p (Some there.0) ≡ kernel_step m c (Done a) = sym (effect_at met.world p (Some there.0) there.2) ∙ same in
     let found = calm met.row p meant met.world there.0 met.there there.2 in (
       subst (λ e. is_refused r (stepped_of (asked_by (Some there.0)) e) ≡ false) here found.step,
@@ -83,19 +83,19 @@ stepped_quiet r t w p met calm quiet meant s at = by (slice_get w.processes p) r
     stays : step_effect_in w p ≡ nothing → IsQuiet r s
     stays is = quiet p meant s (kept w p is ∙ at)
 
-    tried : (m : Machine) (c : Call) (a : Answer) (x : Process) → slice_get w.processes p ≡ Some x → step_effect_in w p ≡ kernel_step m c a → IsQuiet r s
-    tried m c Wait x here is = becomes (process_after_answer m c Wait) (made w p x (process_after_answer m c Wait) (kernel_step m c Wait) here is refl) (quiet_waiting r m c)
-    tried m c (Done a) x here is =
+    expanded_in : (m : Machine) (c : Call) (a : Answer) (x : Process) → slice_get w.processes p ≡ Some x → step_effect_in w p ≡ kernel_step m c a → IsQuiet r s
+    expanded_in m c Wait x here is = becomes (process_after_answer m c Wait) (made w p x (process_after_answer m c Wait) (kernel_step m c Wait) here is refl) (quiet_waiting r m c)
+    expanded_in m c (Done a) x here is =
         becomes (process_after_answer m c (Done a)) (made w p x (process_after_answer m c (Done a)) (kernel_step m c (Done a)) here is refl) (answered r t w p m c a met calm meant is).1
 
     running : (m : Machine) (a : NextAction) → next_action m ≡ a → slice_get w.processes p ≡ Some (Running m) → IsQuiet r s
     running m (moves n) acts here =
         becomes (Running n) (made w p (Running m) (Running n) (local_step n) here (effect_local w p m n here acts) refl) (quiet_on r m n acts (quiet p meant (Running m) here))
-    running m (calls c) acts here = tried m c (answer w.kernel p c).0 (Running m) here (effect_at w p (Some (Running m)) here ∙ ap (first_try w.kernel p m) acts)
+    running m (calls c) acts here = expanded_in m c (answer w.kernel p c).0 (Running m) here (effect_at w p (Some (Running m)) here ∙ ap (first_try w.kernel p m) acts)
 
     again : (m : Machine) (c : Call) (a : Answer) → slice_get w.processes p ≡ Some (Waiting m c) → step_effect_in w p ≡ retry m c a → IsQuiet r s
     again m c Wait here is = stays is
-    again m c (Done a) here is = tried m c (Done a) (Waiting m c) here is
+    again m c (Done a) here is = expanded_in m c (Done a) (Waiting m c) here is
 
     by : (o : Option Process) → slice_get w.processes p ≡ o → IsQuiet r s
     by None here = stays (effect_at w p None here)
@@ -127,21 +127,21 @@ none_refused r t w p met calm quiet h = by (slice_get w.processes p) refl
     told_at : (o : Option Process) → slice_get w.processes p ≡ o → told_in w p ≡ stepped_of (asked_by o) (step_effect w.kernel p o)
     told_at o here = ap (λ x. stepped_of (asked_by x) (step_effect w.kernel p x)) here
 
-    tried : (m : Machine) (c : Call) (a : Answer) (q : Option Request) → step_effect_in w p ≡ kernel_step m c a → told_in w p ≡ stepped_of q (kernel_step m c a) → ⊥
-    tried m c Wait q is told = no stepped.Waits told refl
-    tried m c (Done a) q is told = no (stepped.Called a) told (answered r t w p m c a met calm h.0 is).0
+    expanded_in : (m : Machine) (c : Call) (a : Answer) (q : Option Request) → step_effect_in w p ≡ kernel_step m c a → told_in w p ≡ stepped_of q (kernel_step m c a) → ⊥
+    expanded_in m c Wait q is told = no stepped.Waits told refl
+    expanded_in m c (Done a) q is told = no (stepped.Called a) told (answered r t w p m c a met calm h.0 is).0
 
     running : (m : Machine) (a : NextAction) → next_action m ≡ a → slice_get w.processes p ≡ Some (Running m) → ⊥
     running m (moves n) acts here =
         no (stepped_of (Some (next_request m)) (local_step n)) (told_at (Some (Running m)) here ∙ ap (λ x. stepped_of (Some (next_request m)) (first_try w.kernel p m x)) acts)
         (quiet p h.0 (Running m) here 0 (Running m) (Running n) refl (n, acts, refl))
     running m (calls c) acts here =
-        tried m c (answer w.kernel p c).0 (Some (next_request m)) (effect_at w p (Some (Running m)) here ∙ ap (first_try w.kernel p m) acts)
+        expanded_in m c (answer w.kernel p c).0 (Some (next_request m)) (effect_at w p (Some (Running m)) here ∙ ap (first_try w.kernel p m) acts)
         (told_at (Some (Running m)) here ∙ ap (λ x. stepped_of (Some (next_request m)) (first_try w.kernel p m x)) acts)
 
     again : (m : Machine) (c : Call) (a : Answer) → step_effect_in w p ≡ retry m c a → told_in w p ≡ stepped_of (Some (next_request m)) (retry m c a) → ⊥
     again m c Wait is told = no stepped.Same told refl
-    again m c (Done a) is told = tried m c (Done a) (Some (next_request m)) is told
+    again m c (Done a) is told = expanded_in m c (Done a) (Some (next_request m)) is told
 
     by : (o : Option Process) → slice_get w.processes p ≡ o → ⊥
     by None here = no stepped.Same (told_at None here) refl
@@ -150,7 +150,7 @@ none_refused r t w p met calm quiet h = by (slice_get w.processes p) refl
     by (Some (Ended e)) here = no stepped.Same (told_at (Some (Ended e)) here) refl
 
 -- where no call is refused from the start on and from no row of a whole search, none is
-pub never_refuses : (r : Refusal) (fresh start : WorldState) (t : Store) → fresh ≡ start → IsConsistent start.kernel → AskAgain start → untried start ≡ start → IsSearched start t
+pub never_refuses : (r : Refusal) (fresh start : WorldState) (t : Store) → fresh ≡ start → IsConsistent start.kernel → AskAgain start → unwaiting start ≡ start → IsSearched start t
     → NoneRefuses r start t → NeverBreaks fresh (never.Refused r)
 never_refuses r fresh start t same consistent asks first searched none =
     subst (λ s. NeverBreaks s (never.Refused r)) (sym same) (λ ps p h. none_refused r t (run start ps) p (met ps) none.rows (quiet_run r t none.rows start met none.begins ps) h)

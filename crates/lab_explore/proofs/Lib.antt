@@ -1,5 +1,5 @@
 pub mod Explorations
-mod Passes
+mod FairSegments
 mod Cycles
 mod KeptConditions
 mod CallSteps

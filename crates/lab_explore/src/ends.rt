@@ -3,7 +3,7 @@ ghost use Rattle.std.specs.Prelude.{◌≡◌, ◌≤◌, ◌+◌, IsTrue, false
 ghost use Rattle.std.specs.List.Sorted.{IsPermutation, IsNonDecreasingBy};
 ghost use Rattle.lab_sched.specs.Worlds.{WorldState};
 ghost use Rattle.lab_sched.specs.Starts.{AreStarts, initial_world};
-ghost use Rattle.lab_worlds.specs.Untried.{untried, NoneGoesOn};
+ghost use Rattle.lab_worlds.specs.Unwaiting.{unwaiting, NoneGoesOn};
 ghost use Rattle.lab_worlds.specs.Private.Kept.{Keeps};
 ghost use Rattle.lab_worlds.specs.Walked.{waiting};
 ghost use Rattle.lab_worlds.specs.Ends.{IsEnd, AreEnds};
@@ -74,7 +74,7 @@ impl Visited {
     ) -> Result<End, ExploreFault>
         requires starts { AreStarts processes.now }
         ensures end { IfOk result (λ e. IsEnd (initial_world processes.now) e) }
-        ensures row { IfOk result (λ e. IsLike self.now.store at (untried e.world)) }
+        ensures row { IfOk result (λ e. IsLike self.now.store at (unwaiting e.world)) }
         ensures few { IfOk result (λ e. e.calls ≤ depth + waiting e.world) }
     {
         let mut walk = Walk::start(alloc, processes)?;

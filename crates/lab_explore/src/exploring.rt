@@ -5,8 +5,8 @@ ghost use Rattle.lab_sched.specs.Starts.{AreStarts, initial_world};
 ghost use Rattle.lab_worlds.specs.Ends.{AreEnds, HaveAllEnds, HaveFewestCalls, NoneStuck, NeverStuck};
 ghost use Rattle.lab_worlds.specs.Reached.{AreReached, AreKept};
 ghost use Rattle.lab_worlds.specs.Calls.{Alongside};
-ghost use Rattle.lab_worlds.specs.Rounds.{IsRound, CanBeRepeated, AreEndless, AreBounded};
-ghost use Rattle.lab_worlds.specs.Fairness.{IsFairRound, AreFairlyEndless, AreFairlyBounded};
+ghost use Rattle.lab_worlds.specs.Lassos.{IsLasso, CanBeRepeated, AreEndless, AreBounded};
+ghost use Rattle.lab_worlds.specs.Fairness.{IsFairLasso, AreFairlyEndless, AreFairlyBounded};
 ghost use Rattle.lab_states.specs.Rising.{AreRising};
 ghost use Rattle.lab_search.specs.Stored.{IsStore};
 ghost use Rattle.lab_explore.specs.Private.RowEnds.{HaveRowEnds};
@@ -14,7 +14,7 @@ ghost use Rattle.lab_explore.specs.Private.Judged.{UnseenIfNone};
 ghost use Rattle.lab_explore.specs.Private.Ranked.{HaveRanks};
 
 use crate::ends::Collected;
-use crate::fair::Rounds;
+use crate::fair::Lassos;
 use crate::visited::{Visited, visit};
 use ipc_kernel::Kernel;
 use lab_conditions::Never;
@@ -25,7 +25,7 @@ use std::alloc::Global;
 use std::thread::Threads;
 
 /// Whether a search may leave out worlds that no end needs: where nothing is asked of each world.
-fn may_be_sparse(nevers: &[Never], fair: bool) -> bool
+fn may_be_reduced(nevers: &[Never], fair: bool) -> bool
     ensures none { IsTrue result → nevers.now ≡ [] }
     ensures unfair { IsTrue result → fair ≡ false }
 {
@@ -49,11 +49,11 @@ fn room_for_ends(limits: Limits, taken: usize) -> usize {
 /// a world of which the condition holds; the last step loses a message or is a call that is refused),
 /// or none; where the
 /// exploration is complete and there is none, it never is so, whatever steps are taken, in any order.
-/// A round can be repeated as often as one likes, so some effective steps never end; where the
-/// exploration is complete and has no round, each list of effective steps ends, after no more than
-/// some number of them. If only fair rounds are asked for, each process takes a step in a round or has
+/// A lasso can be repeated as often as one likes, so some effective steps never end; where the
+/// exploration is complete and has no lasso, each list of effective steps ends, after no more than
+/// some number of them. If only fair lassos are asked for, each process takes a step in a lasso or has
 /// no effective one at some world along it; where the exploration is complete and has none, no more
-/// than some number of such passes can follow each other. The observer is told of the worlds as they
+/// than some number of such segments can follow each other. The observer is told of the worlds as they
 /// are visited; workers judge conditions side by side, and what is found doesn't depend on them.
 pub fn explore<O: Observer, R: Threads + Sync>(
     alloc: Global,
@@ -75,23 +75,23 @@ pub fn explore<O: Observer, R: Threads + Sync>(
     ensures reached { IfOk result (λ found. AreReached fresh nevers.now found.reached.items) }
     ensures unreached { IfOk result (λ found. IsTrue found.complete
         → AreKept fresh nevers.now found.reached.items) }
-    ensures round { IfOk result (λ found. IfSome found.round (λ r. IsRound fresh r)) }
-    ensures repeats { IfOk result (λ found. IfSome found.round (λ r. CanBeRepeated fresh r)) }
-    ensures endless { IfOk result (λ found. IfSome found.round (λ r. AreEndless fresh)) }
+    ensures lasso { IfOk result (λ found. IfSome found.lasso (λ r. IsLasso fresh r)) }
+    ensures repeats { IfOk result (λ found. IfSome found.lasso (λ r. CanBeRepeated fresh r)) }
+    ensures endless { IfOk result (λ found. IfSome found.lasso (λ r. AreEndless fresh)) }
     ensures bounded { IfOk result (λ found. fair ≡ false → IsTrue found.complete
-        → found.round ≡ None → AreBounded fresh) }
+        → found.lasso ≡ None → AreBounded fresh) }
     ensures fair { IfOk result (λ found. found.fair ≡ fair) }
-    ensures fair_round { IfOk result (λ found. IsTrue fair
-        → IfSome found.round (λ r. IsFairRound fresh r)) }
+    ensures fair_lasso { IfOk result (λ found. IsTrue fair
+        → IfSome found.lasso (λ r. IsFairLasso fresh r)) }
     ensures fairly_endless { IfOk result (λ found. IsTrue fair
-        → IfSome found.round (λ r. AreFairlyEndless fresh)) }
+        → IfSome found.lasso (λ r. AreFairlyEndless fresh)) }
     ensures fairly_bounded { IfOk result (λ found. IsTrue fair → IsTrue found.complete
-        → found.round ≡ None → AreFairlyBounded fresh) }
+        → found.lasso ≡ None → AreFairlyBounded fresh) }
 {
     let processes = fresh.processes();
     let kernel = Kernel::new(alloc, processes.len())?;
-    let sparse = may_be_sparse(nevers, fair);
-    let visited = visit(alloc, &processes, &kernel, limits, observer, sparse)?;
+    let reduced = may_be_reduced(nevers, fair);
+    let visited = visit(alloc, &processes, &kernel, limits, observer, reduced)?;
     let room = room_for_ends(limits, visited.size());
     match visited.report(alloc, &processes, room, nevers, fair, workers) {
         Ok(found) => {
@@ -106,34 +106,34 @@ pub fn explore<O: Observer, R: Threads + Sync>(
 }
 
 impl Visited {
-    /// A round among the worlds that were visited, if there is one; one that is fair, if that is asked.
-    fn rounds(
+    /// A lasso among the worlds that were visited, if there is one; one that is fair, if that is asked.
+    fn lassos(
         &self,
         alloc: Global,
         processes: &[Process],
         fair: bool,
-    ) -> Result<Rounds, ExploreFault>
+    ) -> Result<Lassos, ExploreFault>
         requires starts { AreStarts processes.now }
         requires store { IsTrue self.now.complete → IsStore self.now.store }
-        ensures round { IfOk result (λ found.
-            IfSome found.round (λ r. IsRound (initial_world processes.now) r)) }
+        ensures lasso { IfOk result (λ found.
+            IfSome found.lasso (λ r. IsLasso (initial_world processes.now) r)) }
         ensures none { IfOk result (λ found.
-            fair ≡ false → found.round ≡ None → AreRising self.now.store.edges) }
-        ensures fair_round { IfOk result (λ found. IsTrue fair
-            → IfSome found.round (λ r. IsFairRound (initial_world processes.now) r)) }
-        ensures no_fair_round { IfOk result (λ found. IsTrue fair → IsTrue found.shown
-            → found.round ≡ None → HaveRanks self.now.store) }
+            fair ≡ false → found.lasso ≡ None → AreRising self.now.store.edges) }
+        ensures fair_lasso { IfOk result (λ found. IsTrue fair
+            → IfSome found.lasso (λ r. IsFairLasso (initial_world processes.now) r)) }
+        ensures no_fair_lasso { IfOk result (λ found. IsTrue fair → IsTrue found.shown
+            → found.lasso ≡ None → HaveRanks self.now.store) }
     {
         if fair {
-            let found = self.fair_rounds(alloc, processes)?;
+            let found = self.fair_lassos(alloc, processes)?;
             return Ok(found);
         }
-        let round = self.round(alloc, processes)?;
-        Ok(Rounds { round, shown: true })
+        let lasso = self.lasso(alloc, processes)?;
+        Ok(Lassos { lasso, shown: true })
     }
 
     /// What was found, with the ends, as long as they take about so many bytes, steps to what must
-    /// never be so, and a round, if there is one.
+    /// never be so, and a lasso, if there is one.
     pub(crate) fn report<R: Threads + Sync>(
         &self,
         alloc: Global,
@@ -156,24 +156,24 @@ impl Visited {
         ensures unreached { IfOk result (λ found. IsTrue self.now.complete
             → Alongside (UnseenIfNone (initial_world processes.now) self.now.store)
             nevers.now found.reached.items) }
-        ensures round { IfOk result (λ found.
-            IfSome found.round (λ r. IsRound (initial_world processes.now) r)) }
+        ensures lasso { IfOk result (λ found.
+            IfSome found.lasso (λ r. IsLasso (initial_world processes.now) r)) }
         ensures none { IfOk result (λ found.
-            fair ≡ false → found.round ≡ None → AreRising self.now.store.edges) }
+            fair ≡ false → found.lasso ≡ None → AreRising self.now.store.edges) }
         ensures fair { IfOk result (λ found. found.fair ≡ fair) }
-        ensures fair_round { IfOk result (λ found. IsTrue fair
-            → IfSome found.round (λ r. IsFairRound (initial_world processes.now) r)) }
-        ensures no_fair_round { IfOk result (λ found. IsTrue fair → IsTrue found.complete
-            → found.round ≡ None → HaveRanks self.now.store) }
+        ensures fair_lasso { IfOk result (λ found. IsTrue fair
+            → IfSome found.lasso (λ r. IsFairLasso (initial_world processes.now) r)) }
+        ensures no_fair_lasso { IfOk result (λ found. IsTrue fair → IsTrue found.complete
+            → found.lasso ≡ None → HaveRanks self.now.store) }
         ensures complete { IfOk result (λ found. IsTrue found.complete → IsTrue self.now.complete) }
     {
         let Collected { ends, whole } = self.ends(alloc, processes, room)?;
         let reached = self.reached(alloc, processes, nevers, workers)?;
-        let Rounds { round, shown } = self.rounds(alloc, processes, fair)?;
+        let Lassos { lasso, shown } = self.lassos(alloc, processes, fair)?;
         Ok(Exploration {
             ends,
             reached,
-            round,
+            lasso,
             fair,
             worlds: u32::try_from(self.store.rows.len()).unwrap_or(u32::MAX),
             complete: both(self.complete, both(whole, shown)),

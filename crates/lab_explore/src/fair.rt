@@ -1,45 +1,55 @@
-//! Fair rounds, and what shows that there is none.
+//! Fair lassos, and what shows that there is none.
 ghost use Rattle.std.specs.Prelude.{◌≡◌, None, IsTrue, IfOk, IfSome, OnOk};
 ghost use Rattle.lab_sched.specs.Worlds.{WorldState, run};
 ghost use Rattle.lab_sched.specs.Schedules.{steps_of};
 ghost use Rattle.lab_sched.specs.Starts.{AreStarts, initial_world};
 ghost use Rattle.lab_worlds.specs.Calls.{AreAlike};
-ghost use Rattle.lab_worlds.specs.Fairness.{IsPass, IsFairRound};
-ghost use Rattle.lab_worlds.specs.Passing.{IsPassing, KeepsPassing};
+ghost use Rattle.lab_worlds.specs.Fairness.{IsFairSegment, IsFairLasso};
+ghost use Rattle.lab_worlds.specs.Segments.{IsSegmentSoFar, KeepsSegment};
 ghost use Rattle.lab_worlds.specs.Walked.{IsWalk, KeepsStart};
 ghost use Rattle.lab_search.specs.Stored.{IsStore};
 ghost use Rattle.lab_explore.specs.Private.Ranked.{HaveRanks};
 
-use crate::tours::tour;
+use crate::closed_walks::closed_walk;
 use crate::visited::Visited;
 use lab_sched::{Process, Schedule, World};
 use lab_states::{Sets, place_of};
-use lab_worlds::{ExploreFault, Pass, Round, Tour, Walk, are_alike, discard};
+use lab_worlds::{ClosedWalk, ExploreFault, FairSegment, Lasso, Walk, are_alike, discard};
 use std::alloc::Global;
 
-/// A round, if there is one, and whether it is shown that there is none if it isn't told.
+/// A lasso, if there is one, and whether it is shown that there is none if it isn't told.
 #[derive(Drop)]
-pub(crate) struct Rounds {
-    pub round: Option<Round>,
+pub(crate) struct Lassos {
+    pub lasso: Option<Lasso>,
     pub shown: bool,
 }
 
 impl Visited {
-    /// Goes to the row of a tour, and along its first part.
-    fn go_to_tour(&self, alloc: Global, tour: &Tour, walk: &mut Walk) -> Result<(), ExploreFault>
+    /// Goes to the row of a closed walk, and along its first part.
+    fn go_to_closed_walk(
+        &self,
+        alloc: Global,
+        closed_walk: &ClosedWalk,
+        walk: &mut Walk,
+    ) -> Result<(), ExploreFault>
         ensures walk { OnOk result (KeepsStart walk.old walk.new) }
     {
-        self.go_to(alloc, tour.at, walk)?;
-        walk.go_legs(tour.first.as_slice())
+        self.go_to(alloc, closed_walk.at, walk)?;
+        walk.go_walk_parts(closed_walk.first.as_slice())
     }
 
-    /// The walk to the row of a tour, and along its first part.
-    fn lead(&self, alloc: Global, processes: &[Process], tour: &Tour) -> Result<Walk, ExploreFault>
+    /// The walk to the row of a closed walk, and along its first part.
+    fn lead(
+        &self,
+        alloc: Global,
+        processes: &[Process],
+        closed_walk: &ClosedWalk,
+    ) -> Result<Walk, ExploreFault>
         requires starts { AreStarts processes.now }
         ensures walk { IfOk result (λ w. IsWalk (initial_world processes.now) w) }
     {
         let mut walk = Walk::start(alloc, processes)?;
-        match self.go_to_tour(alloc, tour, &mut walk) {
+        match self.go_to_closed_walk(alloc, closed_walk, &mut walk) {
             Ok(()) => Ok(walk),
             Err(fault) => {
                 discard(walk);
@@ -49,26 +59,30 @@ impl Visited {
     }
 }
 
-/// Goes along a tour, which must serve each process, and lead to a world that another is alike.
-fn go_pass(pass: &mut Pass, tour: &Tour, world: &World) -> Result<(), ExploreFault>
-    ensures passing { OnOk result (KeepsPassing pass.old pass.new) }
-    ensures whole { OnOk result ((start : WorldState) → IsPassing start pass.new
-        → IsPass start (steps_of pass.new.walk.schedule)) }
-    ensures alike { OnOk result (AreAlike world.now pass.new.walk.world) }
+/// Goes along a closed walk, which must serve each process, and lead to a world that another is alike.
+fn go_segment(
+    segment: &mut FairSegment,
+    closed_walk: &ClosedWalk,
+    world: &World,
+) -> Result<(), ExploreFault>
+    ensures segments { OnOk result (KeepsSegment segment.old segment.new) }
+    ensures whole { OnOk result ((start : WorldState) → IsSegmentSoFar start segment.new
+        → IsFairSegment start (steps_of segment.new.walk.schedule)) }
+    ensures alike { OnOk result (AreAlike world.now segment.new.walk.world) }
 {
-    pass.go_round(tour)?;
-    if !pass.is_whole() || !are_alike(world, &pass.walk.world) {
+    segment.go_lasso(closed_walk)?;
+    if !segment.is_whole() || !are_alike(world, &segment.walk.world) {
         return Err(ExploreFault::Unvouched);
     }
     Ok(())
 }
 
-/// The steps of a pass.
-fn schedule_of(pass: Pass) -> Schedule
-    ensures schedule { result ≡ pass.walk.schedule }
+/// The steps of a fair segment.
+fn schedule_of(segment: FairSegment) -> Schedule
+    ensures schedule { result ≡ segment.walk.schedule }
 {
-    let Pass { walk, served } = pass;
-    discard(served);
+    let FairSegment { walk, fair_to } = segment;
+    discard(fair_to);
     let Walk {
         world,
         schedule,
@@ -78,40 +92,45 @@ fn schedule_of(pass: Pass) -> Schedule
     schedule
 }
 
-/// The steps along a tour from a world, which must serve each process, and lead to a world that another
+/// The steps along a closed walk from a world, which must serve each process, and lead to a world that another
 /// is alike.
-fn pass_from(
+fn segment_from(
     alloc: Global,
-    begun: World,
-    tour: &Tour,
+    initial: World,
+    closed_walk: &ClosedWalk,
     world: &World,
 ) -> Result<Schedule, ExploreFault>
-    ensures pass { IfOk result (λ s. IsPass begun (steps_of s)) }
-    ensures returns { IfOk result (λ s. AreAlike world.now (run begun (steps_of s))) }
+    ensures segment { IfOk result (λ s. IsFairSegment initial (steps_of s)) }
+    ensures returns { IfOk result (λ s. AreAlike world.now (run initial (steps_of s))) }
 {
-    let mut pass = Pass::at(alloc, begun)?;
-    match go_pass(&mut pass, tour, world) {
-        Ok(()) => Ok(schedule_of(pass)),
+    let mut segment = FairSegment::at(alloc, initial)?;
+    match go_segment(&mut segment, closed_walk, world) {
+        Ok(()) => Ok(schedule_of(segment)),
         Err(fault) => {
-            discard(pass);
+            discard(segment);
             Err(fault)
         }
     }
 }
 
-/// The round by a walk, and the steps along a tour from its world, which another is alike.
-fn round_of(alloc: Global, walk: Walk, tour: &Tour, world: &World) -> Result<Round, ExploreFault>
+/// The lasso by a walk, and the steps along a closed walk from its world, which another is alike.
+fn lasso_of(
+    alloc: Global,
+    walk: Walk,
+    closed_walk: &ClosedWalk,
+    world: &World,
+) -> Result<Lasso, ExploreFault>
     requires alike { AreAlike world.now walk.world }
-    ensures round { IfOk result (λ r. (start : WorldState)
-        → IsWalk start walk → IsFairRound start r) }
+    ensures lasso { IfOk result (λ r. (start : WorldState)
+        → IsWalk start walk → IsFairLasso start r) }
 {
     let Walk {
-        world: begun,
+        world: initial,
         schedule,
         calls: _,
     } = walk;
-    match pass_from(alloc, begun, tour, world) {
-        Ok(steps) => Ok(Round { schedule, steps }),
+    match segment_from(alloc, initial, closed_walk, world) {
+        Ok(steps) => Ok(Lasso { schedule, steps }),
         Err(fault) => {
             discard(schedule);
             Err(fault)
@@ -120,42 +139,42 @@ fn round_of(alloc: Global, walk: Walk, tour: &Tour, world: &World) -> Result<Rou
 }
 
 impl Visited {
-    /// The round along a tour, where a walk along its first part led to this world.
-    fn round_beside(
+    /// The lasso along a closed walk, where a walk along its first part led to this world.
+    fn lasso_beside(
         &self,
         alloc: Global,
         processes: &[Process],
-        tour: &Tour,
+        closed_walk: &ClosedWalk,
         world: &World,
-    ) -> Result<Round, ExploreFault>
+    ) -> Result<Lasso, ExploreFault>
         requires starts { AreStarts processes.now }
-        ensures round { IfOk result (λ r. IsFairRound (initial_world processes.now) r) }
+        ensures lasso { IfOk result (λ r. IsFairLasso (initial_world processes.now) r) }
     {
-        let walk = self.lead(alloc, processes, tour)?;
+        let walk = self.lead(alloc, processes, closed_walk)?;
         if !are_alike(world, &walk.world) {
             discard(walk);
             return Err(ExploreFault::Unvouched);
         }
-        let round = round_of(alloc, walk, tour, world)?;
-        Ok(round)
+        let lasso = lasso_of(alloc, walk, closed_walk, world)?;
+        Ok(lasso)
     }
 
-    /// The round along a tour. The walk along its first part is taken twice: from its end the pass goes
+    /// The lasso along a closed walk. The walk along its first part is taken twice: from its end the segment goes
     /// on, which must come to a world alike.
-    fn round_along(
+    fn lasso_along(
         &self,
         alloc: Global,
         processes: &[Process],
-        tour: &Tour,
-    ) -> Result<Round, ExploreFault>
+        closed_walk: &ClosedWalk,
+    ) -> Result<Lasso, ExploreFault>
         requires starts { AreStarts processes.now }
-        ensures round { IfOk result (λ r. IsFairRound (initial_world processes.now) r) }
+        ensures lasso { IfOk result (λ r. IsFairLasso (initial_world processes.now) r) }
     {
-        let walk = self.lead(alloc, processes, tour)?;
-        match self.round_beside(alloc, processes, tour, &walk.world) {
-            Ok(round) => {
+        let walk = self.lead(alloc, processes, closed_walk)?;
+        match self.lasso_beside(alloc, processes, closed_walk, &walk.world) {
+            Ok(lasso) => {
                 discard(walk);
-                Ok(round)
+                Ok(lasso)
             }
             Err(fault) => {
                 discard(walk);
@@ -164,30 +183,30 @@ impl Visited {
         }
     }
 
-    /// The fair round in the set of a row, if it can be taken.
-    fn fair_round(
+    /// The fair lasso in the set of a row, if it can be taken.
+    fn fair_lasso(
         &self,
         alloc: Global,
         processes: &[Process],
         sets: &Sets,
         at: usize,
-    ) -> Result<Option<Round>, ExploreFault>
+    ) -> Result<Option<Lasso>, ExploreFault>
         requires starts { AreStarts processes.now }
-        ensures round { IfOk result (λ round.
-            IfSome round (λ r. IsFairRound (initial_world processes.now) r)) }
+        ensures lasso { IfOk result (λ lasso.
+            IfSome lasso (λ r. IsFairLasso (initial_world processes.now) r)) }
     {
         let count = place_of(processes.len())?;
-        let Some(tour) = tour(sets, alloc, self, at, count)? else {
+        let Some(closed_walk) = closed_walk(sets, alloc, self, at, count)? else {
             return Ok(None);
         };
-        match self.round_along(alloc, processes, &tour) {
-            Ok(round) => Ok(Some(round)),
+        match self.lasso_along(alloc, processes, &closed_walk) {
+            Ok(lasso) => Ok(Some(lasso)),
             Err(ExploreFault::Unvouched) => Ok(None),
             Err(fault) => Err(fault),
         }
     }
 
-    /// Whether the ranks by sets show that there is no fair round.
+    /// Whether the ranks by sets show that there is no fair lasso.
     fn shows_none(&self, alloc: Global, sets: &Sets) -> Result<bool, ExploreFault>
         requires store { IsTrue self.now.complete → IsStore self.now.store }
         ensures ranks { IfOk result (λ shown. IsTrue shown → HaveRanks self.now.store) }
@@ -195,30 +214,30 @@ impl Visited {
         if !self.complete {
             return Ok(false);
         }
-        let keepers = sets.keepers(alloc)?;
-        Ok(self.are_ranked(sets.of_rows.as_slice(), keepers.as_slice()))
+        let starved_processes = sets.starved_processes(alloc)?;
+        Ok(self.are_ranked(sets.of_rows.as_slice(), starved_processes.as_slice()))
     }
 
-    /// A fair round among the worlds that were visited, if there is one.
-    pub(crate) fn fair_rounds(
+    /// A fair lasso among the worlds that were visited, if there is one.
+    pub(crate) fn fair_lassos(
         &self,
         alloc: Global,
         processes: &[Process],
-    ) -> Result<Rounds, ExploreFault>
+    ) -> Result<Lassos, ExploreFault>
         requires starts { AreStarts processes.now }
         requires store { IsTrue self.now.complete → IsStore self.now.store }
-        ensures round { IfOk result (λ found.
-            IfSome found.round (λ r. IsFairRound (initial_world processes.now) r)) }
-        ensures none { IfOk result (λ found. IsTrue found.shown → found.round ≡ None
+        ensures lasso { IfOk result (λ found.
+            IfSome found.lasso (λ r. IsFairLasso (initial_world processes.now) r)) }
+        ensures none { IfOk result (λ found. IsTrue found.shown → found.lasso ≡ None
             → HaveRanks self.now.store) }
     {
         let sets = Sets::new(alloc, &self.store.edges, self.store.rows.len())?;
         if let Some(at) = sets.first_fair() {
-            let round = self.fair_round(alloc, processes, &sets, at)?;
-            let shown = round.is_some();
-            return Ok(Rounds { round, shown });
+            let lasso = self.fair_lasso(alloc, processes, &sets, at)?;
+            let shown = lasso.is_some();
+            return Ok(Lassos { lasso, shown });
         }
         let shown = self.shows_none(alloc, &sets)?;
-        Ok(Rounds { round: None, shown })
+        Ok(Lassos { lasso: None, shown })
     }
 }

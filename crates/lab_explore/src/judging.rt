@@ -1,10 +1,10 @@
-//! Conditions that are judged of the worlds that a search keeps.
+//! Invariants: conditions that are judged of the worlds that a search keeps.
 ghost use Rattle.std.specs.Prelude.{◌≡◌, ◌↔◌, ◌<◌, ◌≤◌, ◌⊎◌, false, ℕ, List, Some, Ok, All, Contains, IsTrue, is_ok, map, IfOk, IfSome, OnOk};
 ghost use Rattle.lab_sched.specs.Worlds.{Process as Seen, WorldState};
 ghost use Rattle.lab_sched.specs.Held.{process_view};
 ghost use Rattle.lab_conditions.specs.Conditions.{Holds};
 ghost use Rattle.lab_worlds.specs.Calls.{Alongside};
-ghost use Rattle.lab_states.specs.Shorts.{silent};
+ghost use Rattle.lab_states.specs.CollapsedStates.{silent};
 ghost use Rattle.lab_search.specs.Stored.{IsExactly, IsState, IsAt};
 ghost use Rattle.lab_explore.specs.Private.Judged.{RowHolds, JudgesFor, StandsBefore, FailsBefore, IsFirst};
 
@@ -83,7 +83,7 @@ fn processes_in<'a>(
 {
     let mut processes = Vec::new(alloc);
     for state in states {
-        let Some(process) = store.states.short(*state as usize) else {
+        let Some(process) = store.states.collapsed(*state as usize) else {
             return Err(ExploreFault::Unvouched);
         };
         processes.push(process)?;

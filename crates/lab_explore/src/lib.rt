@@ -2,17 +2,17 @@
 #![tactic(auto)]
 
 mod alone;
+mod closed_walks;
 mod depths;
 mod ends;
 mod exploring;
 mod fair;
 mod judging;
+mod lassos;
 mod losses;
 mod ranks;
 mod reached;
 mod refusals;
-mod rounds;
-mod tours;
 mod visited;
 mod ways;
 

@@ -37,7 +37,7 @@ fn receiving(store: &Store, alloc: Global) -> Result<Vec<bool>, ExploreFault>
 {
     let mut receiving = Vec::with_capacity(alloc, store.states.len())?;
     for number in 0..store.states.len() {
-        let Some(process) = store.states.short(number) else {
+        let Some(process) = store.states.collapsed(number) else {
             return Err(ExploreFault::Unvouched);
         };
         let receives = is_receiving(alloc, process)?;

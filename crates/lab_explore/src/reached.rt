@@ -1,4 +1,4 @@
-//! What must never be so and is found by a search, each with steps from the start.
+//! Counterexamples of safety: what must never be so and is found by a search, each with steps from the start.
 ghost use Rattle.std.specs.Prelude.{◌≡◌, None, IfOk, IfSome, IsTrue, OnOk};
 ghost use Rattle.lab_sched.specs.Worlds.{WorldState, run};
 ghost use Rattle.lab_sched.specs.Execution.{AreEffective};

@@ -1,7 +1,7 @@
 //! What a search visited.
 ghost use Rattle.std.specs.Prelude.{◌≡◌, All, IsTrue, false, map, IfOk};
 ghost use Rattle.lab_sched.specs.Held.{process_view, IsHeld};
-ghost use Rattle.lab_search.specs.Sparse.{IsSearchedIn};
+ghost use Rattle.lab_search.specs.Reduced.{IsSearchedIn};
 ghost use Rattle.lab_search.specs.Stored.{IsStore};
 
 use ipc_kernel::Kernel;
@@ -11,13 +11,13 @@ use lab_worlds::{ExploreFault, Limits, Observer};
 use std::alloc::Global;
 
 /// What a search found, of which is told what it shows: the worlds and the moves between them, the
-/// local steps of each process before them, and whether these are all, or in a sparse search as many as
+/// local steps of each process before them, and whether these are all, or in a reduced search as many as
 /// show every end. If they aren't, memory may have been refused.
 #[derive(Drop)]
 pub struct Visited {
     pub store: Store,
     pub firsts: Vec<u32>,
-    pub sparse: bool,
+    pub reduced: bool,
     pub complete: bool,
     pub refused: bool,
 }
@@ -38,25 +38,25 @@ pub fn visit<O: Observer>(
     kernel: &Kernel,
     limits: Limits,
     observer: &mut O,
-    sparse: bool,
+    reduced: bool,
 ) -> Result<Visited, ExploreFault>
     requires held { All IsHeld processes.now }
-    ensures sparse { IfOk result (λ s. sparse ≡ false → s.sparse ≡ false) }
+    ensures reduced { IfOk result (λ s. reduced ≡ false → s.reduced ≡ false) }
     ensures store { IfOk result (λ s. IsTrue s.complete → IsStore s.store) }
-    ensures complete { IfOk result (λ s. IsTrue s.complete → IsSearchedIn s.sparse
+    ensures complete { IfOk result (λ s. IsTrue s.complete → IsSearchedIn s.reduced
         (record { processes = map process_view processes.now; kernel = kernel.now }) s.store) }
 {
     let Search {
         store,
         firsts,
-        sparse,
+        reduced,
         complete,
         refused,
-    } = search_all(alloc, processes, kernel, limits, observer, sparse)?;
+    } = search_all(alloc, processes, kernel, limits, observer, reduced)?;
     Ok(Visited {
         store,
         firsts,
-        sparse,
+        reduced,
         complete,
         refused,
     })

@@ -1,6 +1,6 @@
 //! Ways to the rows of a search, which are walked again.
 ghost use Rattle.std.specs.Prelude.{◌≤◌, ◌+◌, OnOk};
-ghost use Rattle.lab_worlds.specs.Untried.{untried};
+ghost use Rattle.lab_worlds.specs.Unwaiting.{unwaiting};
 ghost use Rattle.lab_worlds.specs.Walked.{waiting, KeepsStart};
 ghost use Rattle.lab_search.specs.Stored.{IsLike};
 
@@ -33,7 +33,7 @@ impl Visited {
             way.push(WayCall {
                 pid: parent.pid as usize,
                 taken,
-                late: self.sparse && self.store.opens_own(row, parent.pid as u32),
+                late: self.reduced && self.store.opens_own(row, parent.pid as u32),
             })?;
             now = row;
         }
@@ -78,12 +78,12 @@ impl Visited {
         walk: &mut Walk,
     ) -> Result<(), ExploreFault>
         ensures walk { OnOk result (KeepsStart walk.old walk.new) }
-        ensures row { OnOk result (IsLike self.now.store at (untried walk.new.world)) }
+        ensures row { OnOk result (IsLike self.now.store at (unwaiting walk.new.world)) }
         ensures few { OnOk result (walk.new.calls ≤ depth + waiting walk.new.world) }
     {
         let local = self.go_calls(alloc, at, walk)?;
         walk.go_to_rest(local.as_slice())?;
-        if !walk.is_within(depth) || !self.store.is_untried_row(alloc, at, &walk.world)? {
+        if !walk.is_within(depth) || !self.store.is_unwaiting_row(alloc, at, &walk.world)? {
             return Err(ExploreFault::Unvouched);
         }
         Ok(())

@@ -52,5 +52,5 @@ explains-page NoMemory w s p r h = tt
 pub endless-plain : (o : Option Endless) → IsPlain (or_null (option_map endless_shown o))
 endless-plain None = refl
 endless-plain (Some e) =
-    both (has_float (schedule_data e.schedule.now)) (has_float (schedule_data e.round.now) || false) (schedule-plain e.schedule.now)
-    (both (has_float (schedule_data e.round.now)) false (schedule-plain e.round.now) refl)
+    both (has_float (schedule_data e.schedule.now)) (has_float (schedule_data e.lasso.now) || false) (schedule-plain e.schedule.now)
+    (both (has_float (schedule_data e.lasso.now)) false (schedule-plain e.lasso.now) refl)

@@ -34,11 +34,11 @@ with_end l e = if has_room l e then record { json = json_with l e; count = l.cou
 
 -- an interleaving that never ends: what leads to a world, and what leads from there to itself or to one alike
 abbrev pub endless_data : List Block → List Block → Data
-endless_data s round = list (schedule_data s ∷ schedule_data round ∷ [])
+endless_data s lasso = list (schedule_data s ∷ schedule_data lasso ∷ [])
 
 -- the same where it is kept
 abbrev pub endless_shown : HeldEndless → Data
-endless_shown e = endless_data e.schedule.now e.round.now
+endless_shown e = endless_data e.schedule.now e.lasso.now
 
 -- how far an exploration went
 abbrev pub extent_data : Extent → Data

@@ -28,7 +28,7 @@ pub struct Endless<'a> {
     /// What leads to a world.
     pub schedule: &'a Schedule,
     /// What leads from that world to itself, or to one alike.
-    pub round: &'a Schedule,
+    pub lasso: &'a Schedule,
 }
 
 /// How far an exploration went.
@@ -159,7 +159,7 @@ fn endless_value(alloc: Global, endless: &Option<Endless<'_>>) -> Result<Value, 
     };
     json!(in alloc; [
         schedule_value(alloc, endless.schedule)?,
-        schedule_value(alloc, endless.round)?
+        schedule_value(alloc, endless.lasso)?
     ])
 }
 

@@ -19,7 +19,7 @@ use Rattle.lab_sched.specs.Schedules.{steps_of}
 use Rattle.lab_worlds.specs.Calls.{IsAtCall, IsAhead, Both, Alongside, AreAlike, IsAdvance}
 use Rattle.lab_worlds.specs.Closed.{HasAdvance}
 use Rattle.lab_worlds.specs.Ends.{IsEnd}
-use Rattle.lab_worlds.specs.Untried.{GoesOn, NoneGoesOn, untried}
+use Rattle.lab_worlds.specs.Unwaiting.{GoesOn, NoneGoesOn, unwaiting}
 use Rattle.lab_pictures.specs.Pictures.{AreAtCalls, IsNode, IsStep, HaveAllSteps, BeginsAt, IsNearer, HaveFewestNodeCalls}
 use Rattle.lab_states.specs.Depths.{depth_of, IsNear, AreDepths}
 use Rattle.lab_pictures.specs.Private.Drawn.{IsNodeOfRow, AreNodesOfRows, arrow_of, IsPictureOf}
@@ -61,14 +61,14 @@ both_like t i w v a b =
     let same : b.0 ≡ a.0 = at_unique t i b.0 a.0 b.1 a.1 in
     world_then w a.0 v (world_back a.0 w a.2) (subst (λ x. AreAlike x v) same b.2)
 
-end_of_node : (start : WorldState) (t : Store) (i : ℕ) (w : WorldState) (o : Option End) → IsLike t i w → IfSome o (λ e. IsEnd start e) → IfSome o (λ e. IsLike t i (untried e.world))
-    → IfSome o (λ e. IsEnd start e × AreAlike w (untried e.world))
+end_of_node : (start : WorldState) (t : Store) (i : ℕ) (w : WorldState) (o : Option End) → IsLike t i w → IfSome o (λ e. IsEnd start e) → IfSome o (λ e. IsLike t i (unwaiting e.world))
+    → IfSome o (λ e. IsEnd start e × AreAlike w (unwaiting e.world))
 end_of_node start t i w None like end row = tt
-end_of_node start t i w (Some e) like end row = (end, both_like t i w (untried e.world) like row)
+end_of_node start t i w (Some e) like end row = (end, both_like t i w (unwaiting e.world) like row)
 
 -- the node that a walk to a row came to
 pub node_made : (start : WorldState) (t : Store) (depth i : ℕ) (walk : Walk) (n : Node) → IsConsistent start.kernel → IsStore t → IsWalk start walk → IsLike t i walk.world → walk.calls ≡ depth
-    → n.world ≡ walk.world → n.calls ≡ walk.calls → IfSome n.end (λ e. IsEnd start e) → IfSome n.end (λ e. IsLike t i (untried e.world))
+    → n.world ≡ walk.world → n.calls ≡ walk.calls → IfSome n.end (λ e. IsEnd start e) → IfSome n.end (λ e. IsLike t i (unwaiting e.world))
     → (n.end ≡ None → (w : WorldState) → IsAt t i w → NoneGoesOn w → ⊥) → IsNodeOfRow start t depth i n
 node_made start t depth i walk n consistent is h like deep world calls end row none =
     let leads = h.leads ∙ sym world in

@@ -5,7 +5,7 @@ use Rattle.lab_sched.specs.Execution.{AreEffective}
 use Rattle.lab_worlds.specs.Calls.{AreAlike, IsAtCall, IsAdvance}
 use Rattle.lab_worlds.specs.Closed.{HasAdvance}
 use Rattle.lab_worlds.specs.Ends.{IsEnd}
-use Rattle.lab_worlds.specs.Untried.{GoesOn, NoneGoesOn, untried}
+use Rattle.lab_worlds.specs.Unwaiting.{GoesOn, NoneGoesOn, unwaiting}
 use Rattle.lab_pictures.specs.declared.picture.Node.{Node}
 use Rattle.lab_pictures.specs.declared.picture.Arrow.{Arrow}
 
@@ -25,7 +25,7 @@ pub record IsNode (start : WorldState) (n : Node) : Type 0 where
 -- the end of the node, if it has one, is an end from the start, in the world of the node but for who
 -- waits
 abbrev pub IsEndOfNode : WorldState → Node → Type 0
-IsEndOfNode start n = IfSome n.end (λ e. IsEnd start e × AreAlike n.world (untried e.world))
+IsEndOfNode start n = IfSome n.end (λ e. IsEnd start e × AreAlike n.world (unwaiting e.world))
 
 -- a node from which no process goes on has an end
 abbrev pub HasEndAtRest : Node → Type 0

@@ -3,7 +3,7 @@ ghost use Rattle.std.specs.Prelude.{◌≡◌, ◌≤◌, IsTrue, None, IfOk, If
 ghost use Rattle.lab_sched.specs.Worlds.{WorldState};
 ghost use Rattle.lab_sched.specs.Starts.{AreStarts, initial_world};
 ghost use Rattle.lab_worlds.specs.Ends.{IsEnd};
-ghost use Rattle.lab_worlds.specs.Untried.{untried, NoneGoesOn};
+ghost use Rattle.lab_worlds.specs.Unwaiting.{unwaiting, NoneGoesOn};
 ghost use Rattle.lab_worlds.specs.Walked.{IsWalk};
 ghost use Rattle.lab_search.specs.Stored.{IsAt, IsLike, IsStore, AreExpanded};
 ghost use Rattle.lab_pictures.specs.Private.Drawn.{IsNodeOfRow, AreNodesOfRows, arrow_of, IsPictureOf};
@@ -74,7 +74,7 @@ fn end_at(
     ensures end { IfOk result (λ end. IfSome end (λ e.
         IsEnd (initial_world processes.now) e)) }
     ensures row { IfOk result (λ end. IfSome end (λ e.
-        IsLike visited.now.store at (untried e.world))) }
+        IsLike visited.now.store at (unwaiting e.world))) }
     ensures none { IfOk result (λ end. end ≡ None → (w : WorldState)
         → IsAt visited.now.store at w → NoneGoesOn w → ⊥) }
 {

@@ -14,7 +14,7 @@ use Rattle.lab_conditions.specs.Written.{never_text}
 use Rattle.lab_texts.specs.Verdicts.{verdict_line, verdict_text}
 use Rattle.lab_texts.specs.Reports.{report_text, process_reports}
 use Rattle.lab_worlds.specs.declared.ends.End.{End}
-use Rattle.lab_worlds.specs.declared.rounds.Round.{Round}
+use Rattle.lab_worlds.specs.declared.lassos.Lasso.{Lasso}
 use Rattle.lab_worlds.specs.declared.exploration.Exploration.{Exploration}
 use Rattle.lab_worlds.specs.Closed.{AreAtRest}
 use Rattle.lab_worlds.specs.Ends.{IsEnd, AreEnds, HaveAllEnds, NoneStuck, HaveFewestCalls}
@@ -23,7 +23,7 @@ use Rattle.lab_questions.specs.declared.asked.Asked.{Asked}
 use Rattle.lab_questions.specs.declared.asked.Show.{Show}
 use Rattle.lab_questions.specs.declared.asked.Word.{Word}
 use Rattle.lab_questions.specs.Claims.{SaysComplete, SaysEndless, SaysStuck, TellsEveryEnd}
-use Rattle.lab_questions.specs.EndTexts.{text_of, told_ends, schedule_line, end_lines, ends_text, endless_line, round_text, extent_line}
+use Rattle.lab_questions.specs.EndTexts.{text_of, told_ends, schedule_line, end_lines, ends_text, endless_line, lasso_text, extent_line}
 use Rattle.lab_questions.specs.Left.{left_text}
 use Rattle.lab_questions.specs.Lines.{AreLines, StandIn}
 use Rattle.lab_questions.specs.Shown.{outputs_text, outcome_text, head_text, with_left, shown_text}
@@ -32,7 +32,7 @@ use Rattle.lab_questions.proofs.LineLemmas.{lines-append, lines-feed, lines-onto
 use Rattle.lab_questions.proofs.OneText.{same_text}
 use Rattle.lab_questions.proofs.Reports.{report_lines, output_lines, same_verdict}
 use Rattle.lab_questions.proofs.ToldEnds.{Has, told_some, told_all, has_at}
-use Rattle.lab_questions.proofs.TextLemmas.{stand_behind, stand_before, stand_within, ends_whole, end_stands, round_whole, endless_stands, extent_is_line, extent_tells}
+use Rattle.lab_questions.proofs.TextLemmas.{stand_behind, stand_before, stand_within, ends_whole, end_stands, lasso_whole, endless_stands, extent_is_line, extent_tells}
 
 all_has : (P : End → Type 0) (es : List End) (e : End) → All P es → Has es e → P e
 all_has P es e all has = subst P (get_or_from_slice_get es has.0 e e has.1) (all has.0 e (slice_get_within es has.0 e has.1))
@@ -103,43 +103,43 @@ module _ (asked : Asked) (found : Exploration) (answers : List Answer) (text : L
   last = extent_line found.complete found.worlds
 
   -- the last line, and what is above it
-  whole : text ≡ (ends ++ words ++ (reached ++ round_text found.round)) ++ last
-  whole = is ∙ sym (append_assoc (ends ++ words) (reached ++ round_text found.round) last)
+  whole : text ≡ (ends ++ words ++ (reached ++ lasso_text found.lasso)) ++ last
+  whole = is ∙ sym (append_assoc (ends ++ words) (reached ++ lasso_text found.lasso) last)
 
   front_whole : AreLines (ends ++ words)
   front_whole = lines-append ends words (ends_whole asked.show 1 (told_ends asked.show found.ends.items)) (words_whole asked.plain found.ends.items answers)
 
-  above_whole : AreLines (ends ++ words ++ (reached ++ round_text found.round))
+  above_whole : AreLines (ends ++ words ++ (reached ++ lasso_text found.lasso))
   above_whole =
-      lines-append (ends ++ words) (reached ++ round_text found.round) front_whole
-      (lines-append reached (round_text found.round) (reached_whole asked.never.items found.reached.items) (round_whole found.round))
+      lines-append (ends ++ words) (reached ++ lasso_text found.lasso) front_whole
+      (lines-append reached (lasso_text found.lasso) (reached_whole asked.never.items found.reached.items) (lasso_whole found.lasso))
 
   -- a text that says `complete` tells an exploration that is
   pub is_complete : SaysComplete text → found.complete ≡ true
   is_complete says =
       extent_tells found.complete found.worlds says.0
-      (same_last (ends ++ words ++ (reached ++ round_text found.round)) says.1.above last (extent_line true says.0) above_whole says.1.whole
+      (same_last (ends ++ words ++ (reached ++ lasso_text found.lasso)) says.1.above last (extent_line true says.0) above_whole says.1.whole
       (extent_is_line found.complete found.worlds) (extent_is_line true says.0) (sym whole ∙ says.1.ends))
 
   -- what stands among the ends stands in the text
   in_text : (these : List ℕ) → StandIn these ends → StandIn these text
   in_text these stands =
       subst (StandIn these) (sym whole)
-      (stand_before these (ends ++ words ++ (reached ++ round_text found.round)) last
-      (stand_before these (ends ++ words) (reached ++ round_text found.round) (stand_before these ends words stands)))
+      (stand_before these (ends ++ words ++ (reached ++ lasso_text found.lasso)) last
+      (stand_before these (ends ++ words) (reached ++ lasso_text found.lasso) (stand_before these ends words stands)))
 
-  -- a text that doesn't say `endless` tells an exploration without a round
-  pub has_no_round : (SaysEndless text → ⊥) → found.round ≡ None
-  has_no_round quiet = by found.round refl
+  -- a text that doesn't say `endless` tells an exploration without a lasso
+  pub has_no_lasso : (SaysEndless text → ⊥) → found.lasso ≡ None
+  has_no_lasso quiet = by found.lasso refl
     where
-      by : (r : Option Round) → found.round ≡ r → found.round ≡ None
+      by : (r : Option Lasso) → found.lasso ≡ r → found.lasso ≡ None
       by None at = at
       by (Some r) at =
-          let stands = subst (StandIn endless_line) (ap round_text (sym at)) (endless_stands r) in
+          let stands = subst (StandIn endless_line) (ap lasso_text (sym at)) (endless_stands r) in
           absurd (quiet (subst (StandIn endless_line) (sym whole)
-          (stand_before endless_line (ends ++ words ++ (reached ++ round_text found.round)) last
-          (stand_behind (ends ++ words) endless_line (reached ++ round_text found.round) front_whole
-          (stand_behind reached endless_line (round_text found.round) (reached_whole asked.never.items found.reached.items) stands)))))
+          (stand_before endless_line (ends ++ words ++ (reached ++ lasso_text found.lasso)) last
+          (stand_behind (ends ++ words) endless_line (reached ++ lasso_text found.lasso) front_whole
+          (stand_behind reached endless_line (lasso_text found.lasso) (reached_whole asked.never.items found.reached.items) stands)))))
 
   -- where all ends were found, by the fewest calls, the text tells each
   pub tells_every_end : (start : WorldState) → AreEnds start found.ends.items

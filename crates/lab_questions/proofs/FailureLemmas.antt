@@ -10,7 +10,7 @@ use Rattle.lab_sched.specs.Verdicts.{IsVerdict, HasEnded, HaveEnded, AreStuck}
 use Rattle.lab_worlds.specs.declared.ends.End.{End}
 use Rattle.lab_worlds.specs.declared.exploration.Exploration.{Exploration}
 use Rattle.lab_worlds.specs.Ends.{IsEnd, AreEnds}
-use Rattle.lab_worlds.specs.Rounds.{AreBounded}
+use Rattle.lab_worlds.specs.Lassos.{AreBounded}
 use Rattle.lab_questions.specs.declared.answers.Answer.{Answer}
 use Rattle.lab_questions.specs.declared.asked.Waiter.{Waiter}
 use Rattle.lab_questions.specs.declared.asked.Word.{Word}
@@ -31,7 +31,7 @@ none_reached found answers i (s, at) passes =
     absurd (cc)
 
 none_endless : (found : Exploration) (answers : List Answer) → IsEndless found answers → Passes found answers → ⊥
-none_endless found answers (asks, round) passes = round (passes.ends asks)
+none_endless found answers (asks, lasso) passes = lasso (passes.ends asks)
 
 none_open : (found : Exploration) (answers : List Answer) → found.complete ≡ false → Passes found answers → ⊥
 none_open found answers ajar passes = let both : true ≡ false = sym passes.complete ∙ ajar in cc
@@ -104,7 +104,7 @@ comes Empty waiters start none meet bounded = tt
 comes Same waiters start none meet bounded = tt
 
 pub all_come : (waiters : List Waiter) (start : WorldState) (found : Exploration) (answers : List Answer) → waiters ≡ [] → Passes found answers
-    → All (λ a. a.fault ≡ None → AlwaysMeet a.word waiters start) answers → (found.round ≡ None → AreBounded start)
+    → All (λ a. a.fault ≡ None → AlwaysMeet a.word waiters start) answers → (found.lasso ≡ None → AreBounded start)
     → All (λ a. IfSome (verdict_asked a.word) (λ v. ComeTo v start)) answers
 all_come waiters start found answers none passes meet bounded k d within =
     let a = get_or answers k d in

@@ -3,10 +3,10 @@ use Rattle.std.proofs.Common.{ℕ, zero, suc, ◌≡◌, ◌+◌, Bool, true, fa
 use Rattle.lab_sched.specs.declared.schedule.block.Block.{Block}
 use Rattle.lab_sched.specs.ScheduleTexts.{schedule_text}
 use Rattle.lab_worlds.specs.declared.ends.End.{End}
-use Rattle.lab_worlds.specs.declared.rounds.Round.{Round}
+use Rattle.lab_worlds.specs.declared.lassos.Lasso.{Lasso}
 use Rattle.lab_questions.specs.declared.asked.Show.{Show}
 use Rattle.lab_questions.specs.Lines.{AreLines, StandIn}
-use Rattle.lab_questions.specs.EndTexts.{text_of, schedule_line, end_lines, ends_text, endless_line, round_line, round_text, extent_text, extent_line}
+use Rattle.lab_questions.specs.EndTexts.{text_of, schedule_line, end_lines, ends_text, endless_line, lasso_line, lasso_text, extent_text, extent_line}
 use Rattle.lab_questions.proofs.LineLemmas.{HasNoFeed, IsLine, lines-append, lines-onto, line-onto, no_feed_from, no_feed-append, decimal_no_feed}
 
 -- lines that stand in a text do so where whole lines are put before it
@@ -75,18 +75,18 @@ end_stands show n (e ∷ es) (suc i) t at =
     let later = subst (λ k. StandIn (end_lines k (text_of show t) t.schedule) (ends_text show (n + 1) es)) number (end_stands show (n + 1) es i t at) in
     stand_behind (end_lines n (text_of show e) e.schedule) (end_lines (n + suc i) (text_of show t) t.schedule) (ends_text show (n + 1) es) (end_whole n (text_of show e) e.schedule) later
 
-pub round_whole : (r : Option Round) → AreLines (round_text r)
-unfolding round_line
-round_whole None = tt
-round_whole (Some r) = lines-onto (endless_line ++ schedule_line r.schedule) (codes "round " ++ schedule_text r.steps)
+pub lasso_whole : (r : Option Lasso) → AreLines (lasso_text r)
+unfolding lasso_line
+lasso_whole None = tt
+lasso_whole (Some r) = lines-onto (endless_line ++ schedule_line r.schedule) (codes "round " ++ schedule_text r.steps)
 
--- the line above a round
-pub endless_stands : (r : Round) → StandIn endless_line (round_text (Some r))
+-- the line above a lasso
+pub endless_stands : (r : Lasso) → StandIn endless_line (lasso_text (Some r))
 endless_stands r = record {
   above = [];
-  below = schedule_line r.schedule ++ round_line r.steps;
+  below = schedule_line r.schedule ++ lasso_line r.steps;
   whole = tt;
-  stand = append_assoc endless_line (schedule_line r.schedule) (round_line r.steps);
+  stand = append_assoc endless_line (schedule_line r.schedule) (lasso_line r.steps);
 }
 
 extent_no_feed : (complete : Bool) → HasNoFeed (extent_text complete)

@@ -1,11 +1,11 @@
--- The lines of ends, of a round, and the last one.
+-- The lines of ends, of a lasso, and the last one.
 use Rattle.std.specs.Prelude.{ℕ, ◌+◌, ◌≡◌, Bool, true, false, not, Option, Some, None, List, [], ◌∷◌, ◌++◌, codes, filter, bytes_eq, slice_get}
 use Rattle.std.specs.Fmt.{decimal}
 use Rattle.std.specs.Option.{option_and_then}
 use Rattle.lab_sched.specs.declared.schedule.block.Block.{Block}
 use Rattle.lab_sched.specs.ScheduleTexts.{schedule_text}
 use Rattle.lab_worlds.specs.declared.ends.End.{End}
-use Rattle.lab_worlds.specs.declared.rounds.Round.{Round}
+use Rattle.lab_worlds.specs.declared.lassos.Lasso.{Lasso}
 use Rattle.lab_worlds.specs.Calls.{Alongside}
 use Rattle.lab_questions.specs.declared.asked.Show.{Show}
 use Rattle.lab_questions.specs.Shown.{shown_text}
@@ -48,18 +48,18 @@ unfoldable pub ends_text : Show → ℕ → List End → List ℕ
 ends_text show n [] = []
 ends_text show n (e ∷ es) = end_lines n (text_of show e) e.schedule ++ ends_text show (n + 1) es
 
--- the line above a round
+-- the line above a lasso
 abbrev pub endless_line : List ℕ
 endless_line = codes "endless\n"
 
--- the line of the steps of a round
-unfoldable pub round_line : List Block → List ℕ
-round_line blocks = codes "round " ++ schedule_text blocks ++ codes "\n"
+-- the line of the steps of a lasso
+unfoldable pub lasso_line : List Block → List ℕ
+lasso_line blocks = codes "round " ++ schedule_text blocks ++ codes "\n"
 
--- the lines of a round, if there is one
-abbrev pub round_text : Option Round → List ℕ
-round_text None = []
-round_text (Some r) = endless_line ++ schedule_line r.schedule ++ round_line r.steps
+-- the lines of a lasso, if there is one
+abbrev pub lasso_text : Option Lasso → List ℕ
+lasso_text None = []
+lasso_text (Some r) = endless_line ++ schedule_line r.schedule ++ lasso_line r.steps
 
 -- whether an exploration is complete
 abbrev pub extent_text : Bool → List ℕ

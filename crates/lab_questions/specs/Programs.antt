@@ -9,7 +9,7 @@ use Rattle.lab_sched.specs.Execution.{AreEffective}
 use Rattle.lab_worlds.specs.declared.exploration.Exploration.{Exploration}
 use Rattle.lab_worlds.specs.declared.ends.End.{End}
 use Rattle.lab_worlds.specs.Closed.{AreAtRest}
-use Rattle.lab_worlds.specs.Rounds.{AreBounded}
+use Rattle.lab_worlds.specs.Lassos.{AreBounded}
 use Rattle.lab_questions.specs.declared.asked.Show.{Show}
 use Rattle.lab_questions.specs.Shown.{shown_text}
 use Rattle.lab_questions.specs.EndTexts.{text_of}
@@ -65,12 +65,12 @@ AsksRest Same = ⊥
 pub record Passes (found : Exploration) (answers : List Answer) : Type 0 where
   pub met : All (λ a. a.fault ≡ None) answers
   pub unreached : All (λ s. s ≡ None) found.reached.items
-  pub ends : Any (λ a. AsksRest a.word) answers → found.round ≡ None
+  pub ends : Any (λ a. AsksRest a.word) answers → found.lasso ≡ None
   pub complete : IsTrue found.complete
 
 -- some interleaving never ends, and a word asks that each run comes to rest
 abbrev pub IsEndless : Exploration → List Answer → Type 0
-IsEndless found answers = Any (λ a. AsksRest a.word) answers × (found.round ≢ None)
+IsEndless found answers = Any (λ a. AsksRest a.word) answers × (found.lasso ≢ None)
 
 -- one of the answers tells that the word isn't so
 abbrev pub IsUnmet : List Answer → Word → Type 0
@@ -87,16 +87,16 @@ IsFirst found answers (Reached i) = All (λ a. a.fault ≡ None) answers × IsRe
 IsFirst found answers Endless =
     All (λ a. a.fault ≡ None) answers × All (λ s. s ≡ None) found.reached.items × IsEndless found answers
 IsFirst found answers Incomplete =
-    All (λ a. a.fault ≡ None) answers × All (λ s. s ≡ None) found.reached.items × (Any (λ a. AsksRest a.word) answers → found.round ≡ None)
+    All (λ a. a.fault ≡ None) answers × All (λ s. s ≡ None) found.reached.items × (Any (λ a. AsksRest a.word) answers → found.lasso ≡ None)
     × (found.complete ≡ false)
 
 -- the first of the same where what wasn't visited counts before what was found
 abbrev pub IsFirstOfAll : Exploration → List Answer → Failure → Type 0
 IsFirstOfAll found answers Incomplete = found.complete ≡ false
 IsFirstOfAll found answers Endless = IsTrue found.complete × IsEndless found answers
-IsFirstOfAll found answers (Not word) = IsTrue found.complete × (Any (λ a. AsksRest a.word) answers → found.round ≡ None) × IsUnmet answers word
+IsFirstOfAll found answers (Not word) = IsTrue found.complete × (Any (λ a. AsksRest a.word) answers → found.lasso ≡ None) × IsUnmet answers word
 IsFirstOfAll found answers (Reached i) =
-    IsTrue found.complete × (Any (λ a. AsksRest a.word) answers → found.round ≡ None) × All (λ a. a.fault ≡ None) answers × IsReached found i
+    IsTrue found.complete × (Any (λ a. AsksRest a.word) answers → found.lasso ≡ None) × All (λ a. a.fault ≡ None) answers × IsReached found i
 
 -- the first that is so, in the one order or the other
 abbrev pub IsFailure : Bool → Exploration → List Answer → Failure → Type 0

@@ -5,12 +5,12 @@ use Rattle.lab_sched.specs.ScheduleTexts.{schedule_text, reading}
 use Rattle.lab_texts.specs.Rows.{texts_below}
 use Rattle.lab_conditions.specs.declared.never.Never.{Never}
 use Rattle.lab_conditions.specs.Written.{never_text}
-use Rattle.lab_worlds.specs.declared.rounds.Round.{Round}
+use Rattle.lab_worlds.specs.declared.lassos.Lasso.{Lasso}
 use Rattle.lab_sched.specs.declared.schedule.block.Block.{Block}
 use Rattle.lab_worlds.specs.declared.ends.End.{End}
 use Rattle.lab_worlds.specs.declared.exploration.Exploration.{Exploration}
 use Rattle.lab_questions.specs.declared.asked.Asked.{Asked}
-use Rattle.lab_questions.specs.EndTexts.{told_ends, ends_text, schedule_line, round_text, extent_line}
+use Rattle.lab_questions.specs.EndTexts.{told_ends, ends_text, schedule_line, lasso_text, extent_line}
 use Rattle.lab_questions.specs.declared.asked.Word.{Word}
 use Rattle.lab_questions.specs.declared.asked.Word.TheVariants.{Ended, Stuck, Halted, Empty, Same}
 use Rattle.lab_questions.specs.declared.answers.Answer.{Answer}
@@ -69,11 +69,11 @@ word_lines false ends answers = flat_map (answer_lines ends) answers
 unfoldable pub walks_line : ℕ → List ℕ
 walks_line walks = codes "incomplete " ++ decimal walks ++ codes " walks\n"
 
--- the last lines: of walks how many were taken; else what was reached, a round, if there is one, and whether the ends are all
+-- the last lines: of walks how many were taken; else what was reached, a lasso, if there is one, and whether the ends are all
 abbrev pub last_lines : Bool → List Never → Exploration → List ℕ
 last_lines true never found = walks_line found.worlds
 last_lines false never found =
-    reached_lines never found.reached.items ++ round_text found.round ++ extent_line found.complete found.worlds
+    reached_lines never found.reached.items ++ lasso_text found.lasso ++ extent_line found.complete found.worlds
 
 -- the ends that are told, the answers, and the last lines
 abbrev pub answers_text : Bool → Asked → Exploration → List Answer → List ℕ
@@ -94,11 +94,11 @@ IsBeyond count a = (i : ℕ) × (a.fault ≡ Some i) × (count ≤ i)
 abbrev pub ShowsReached : List (Option (List Block)) → ℕ → List ℕ → Type 0
 ShowsReached reached i text = (s : List Block) × (slice_get reached i ≡ Some (Some s)) × (text ≡ schedule_text s)
 
--- the text of the schedule that those of a round, one behind the other, are read as
-abbrev pub ShowsRound : Round → List ℕ → Type 0
-ShowsRound r text = (blocks : List Block) × (text ≡ schedule_text blocks)
+-- the text of the schedule that those of a lasso, one behind the other, are read as
+abbrev pub ShowsLasso : Lasso → List ℕ → Type 0
+ShowsLasso r text = (blocks : List Block) × (text ≡ schedule_text blocks)
     × (reading (schedule_text r.schedule ++ codes " " ++ schedule_text r.steps) ≡ Ok blocks)
 
--- those of a round, one behind the other, are too long for one schedule
-abbrev pub IsTooLong : Round → Type 0
+-- those of a lasso, one behind the other, are too long for one schedule
+abbrev pub IsTooLong : Lasso → Type 0
 IsTooLong r = (blocks : List Block) → reading (schedule_text r.schedule ++ codes " " ++ schedule_text r.steps) ≡ Ok blocks → ⊥

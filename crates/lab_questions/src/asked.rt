@@ -62,7 +62,7 @@ pub struct Asked {
     pub waiters: Vec<Waiter>,
     /// What must never be so.
     pub never: Vec<Never>,
-    /// Whether only rounds that are fair are told.
+    /// Whether only lassos that are fair are told.
     pub fair: bool,
     /// What is told of each end.
     pub show: Show,

@@ -3,8 +3,8 @@ ghost use Rattle.std.specs.Prelude.{◌≡◌, ◌↔◌, None, false, [], map, 
 ghost use Rattle.std.specs.List.Sorted.{IsNonDecreasingBy};
 ghost use Rattle.lab_worlds.specs.Ends.{AreEnds, HaveAllEnds, HaveFewestCalls, NeverStuck};
 ghost use Rattle.lab_worlds.specs.Reached.{AreReached, AreKept};
-ghost use Rattle.lab_worlds.specs.Rounds.{IsRound, CanBeRepeated, AreBounded};
-ghost use Rattle.lab_worlds.specs.Fairness.{IsFairRound, AreFairlyEndless, AreFairlyBounded};
+ghost use Rattle.lab_worlds.specs.Lassos.{IsLasso, CanBeRepeated, AreBounded};
+ghost use Rattle.lab_worlds.specs.Fairness.{IsFairLasso, AreFairlyEndless, AreFairlyBounded};
 ghost use Rattle.lab_questions.specs.Claims.{SaysComplete, SaysEndless, SaysStuck, TellsEveryEnd};
 ghost use Rattle.lab_questions.specs.EndTexts.{told_ends, AreTold};
 ghost use Rattle.lab_questions.specs.Judgments.{IsAnswer, HasOtherVerdict, verdict_asked};
@@ -28,8 +28,8 @@ use std::thread::Threads;
 /// is as the word requires. The schedule of what must never be so leads to it; where the exploration is
 /// complete and there is none, no steps do. Where it is complete, exactly those of the semaphores and
 /// queues that conditions name are unopened which no steps lead to. They are told once, in the order in
-/// which the conditions name them first. If only fair rounds are asked for, a
-/// round that is told is fair; where the exploration is complete and has none, no more than some number
+/// which the conditions name them first. If only fair lassos are asked for, a
+/// lasso that is told is fair; where the exploration is complete and has none, no more than some number
 /// of passes that serve each process can follow each other. Workers judge conditions side by side.
 pub fn ask<O: Observer, R: Threads + Sync>(
     alloc: Global,
@@ -52,9 +52,9 @@ pub fn ask<O: Observer, R: Threads + Sync>(
     ensures sound { IfOk result (λ a. AreEnds fresh a.exploration.ends.items) }
     ensures ordered { IfOk result (λ a.
         IsNonDecreasingBy (λ e. e.calls) a.exploration.ends.items) }
-    ensures round { IfOk result (λ a. IfSome a.exploration.round (λ r. IsRound fresh r)) }
+    ensures lasso { IfOk result (λ a. IfSome a.exploration.lasso (λ r. IsLasso fresh r)) }
     ensures repeats { IfOk result (λ a.
-        IfSome a.exploration.round (λ r. CanBeRepeated fresh r)) }
+        IfSome a.exploration.lasso (λ r. CanBeRepeated fresh r)) }
     ensures complete { IfOk result (λ a. IsTrue a.exploration.complete
         → HaveAllEnds fresh a.exploration.ends.items) }
     ensures fewest { IfOk result (λ a. IsTrue a.exploration.complete
@@ -62,7 +62,7 @@ pub fn ask<O: Observer, R: Threads + Sync>(
     ensures told { IfOk result (λ a. IsTrue a.exploration.complete
         → TellEveryEnd asked.show fresh (told_ends asked.show a.exploration.ends.items)) }
     ensures bounded { IfOk result (λ a. asked.fair ≡ false → IsTrue a.exploration.complete
-        → a.exploration.round ≡ None → AreBounded fresh) }
+        → a.exploration.lasso ≡ None → AreBounded fresh) }
     ensures says_all { IfOk result (λ a. SaysComplete (string_bytes a.text)
         → TellsEveryEnd asked.show fresh (string_bytes a.text)) }
     ensures says_free { IfOk result (λ a. SaysComplete (string_bytes a.text)
@@ -71,12 +71,12 @@ pub fn ask<O: Observer, R: Threads + Sync>(
         → SaysComplete (string_bytes a.text) → (SaysEndless (string_bytes a.text) → ⊥)
         → AreBounded fresh) }
     ensures fair { IfOk result (λ a. a.exploration.fair ≡ asked.fair) }
-    ensures fair_round { IfOk result (λ a. IsTrue asked.fair
-        → IfSome a.exploration.round (λ r. IsFairRound fresh r)) }
+    ensures fair_lasso { IfOk result (λ a. IsTrue asked.fair
+        → IfSome a.exploration.lasso (λ r. IsFairLasso fresh r)) }
     ensures fairly_endless { IfOk result (λ a. IsTrue asked.fair
-        → IfSome a.exploration.round (λ r. AreFairlyEndless fresh)) }
+        → IfSome a.exploration.lasso (λ r. AreFairlyEndless fresh)) }
     ensures fairly_bounded { IfOk result (λ a. IsTrue asked.fair → IsTrue a.exploration.complete
-        → a.exploration.round ≡ None → AreFairlyBounded fresh) }
+        → a.exploration.lasso ≡ None → AreFairlyBounded fresh) }
     ensures refuted { IfOk result (λ a. All (λ x. IfSome x.fault (λ i.
         IsRefuted x.word asked.waiters.items fresh (schedule_at a.exploration.ends.items 0)
         (schedule_at a.exploration.ends.items i))) a.answers.items) }

@@ -77,9 +77,9 @@ fn ask_rest(answers: &[Answer]) -> bool
 fn is_endless(found: &Exploration, answers: &[Answer]) -> bool
     ensures yes { IsTrue result → IsEndless found.now answers.now }
     ensures no { result ≡ false → Any (λ a. AsksRest a.word) answers.now
-        → found.now.round ≡ None }
+        → found.now.lasso ≡ None }
 {
-    found.round.is_some() && ask_rest(answers)
+    found.lasso.is_some() && ask_rest(answers)
 }
 
 /// Why an exploration doesn't show that all is as it is required, if it doesn't: what was found, or else what wasn't visited,

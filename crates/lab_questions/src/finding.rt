@@ -3,8 +3,8 @@ ghost use Rattle.std.specs.Prelude.{◌≡◌, None, false, [], AllPairs, IfOk, 
 ghost use Rattle.std.specs.List.Sorted.{IsNonDecreasingBy};
 ghost use Rattle.lab_worlds.specs.Ends.{AreEnds, HaveAllEnds, HaveFewestCalls, NoneStuck, NeverStuck};
 ghost use Rattle.lab_worlds.specs.Reached.{AreReached, AreKept};
-ghost use Rattle.lab_worlds.specs.Rounds.{IsRound, CanBeRepeated, AreBounded};
-ghost use Rattle.lab_worlds.specs.Fairness.{IsFairRound, AreFairlyEndless, AreFairlyBounded};
+ghost use Rattle.lab_worlds.specs.Lassos.{IsLasso, CanBeRepeated, AreBounded};
+ghost use Rattle.lab_worlds.specs.Fairness.{IsFairLasso, AreFairlyEndless, AreFairlyBounded};
 ghost use Rattle.lab_questions.specs.Objects.{named, AreUnopened, StandsBefore};
 
 use crate::Object;
@@ -47,18 +47,18 @@ pub(crate) fn find<O: Observer, R: Threads + Sync>(
         AreReached fresh never.old.items f.exploration.reached.items) }
     ensures unreached { IfOk result (λ f. IsTrue f.exploration.complete
         → AreKept fresh never.old.items f.exploration.reached.items) }
-    ensures round { IfOk result (λ f. IfSome f.exploration.round (λ r. IsRound fresh r)) }
+    ensures lasso { IfOk result (λ f. IfSome f.exploration.lasso (λ r. IsLasso fresh r)) }
     ensures repeats { IfOk result (λ f.
-        IfSome f.exploration.round (λ r. CanBeRepeated fresh r)) }
+        IfSome f.exploration.lasso (λ r. CanBeRepeated fresh r)) }
     ensures bounded { IfOk result (λ f. fair ≡ false → IsTrue f.exploration.complete
-        → f.exploration.round ≡ None → AreBounded fresh) }
+        → f.exploration.lasso ≡ None → AreBounded fresh) }
     ensures fair { IfOk result (λ f. f.exploration.fair ≡ fair) }
-    ensures fair_round { IfOk result (λ f. IsTrue fair
-        → IfSome f.exploration.round (λ r. IsFairRound fresh r)) }
+    ensures fair_lasso { IfOk result (λ f. IsTrue fair
+        → IfSome f.exploration.lasso (λ r. IsFairLasso fresh r)) }
     ensures fairly_endless { IfOk result (λ f. IsTrue fair
-        → IfSome f.exploration.round (λ r. AreFairlyEndless fresh)) }
+        → IfSome f.exploration.lasso (λ r. AreFairlyEndless fresh)) }
     ensures fairly_bounded { IfOk result (λ f. IsTrue fair → IsTrue f.exploration.complete
-        → f.exploration.round ≡ None → AreFairlyBounded fresh) }
+        → f.exploration.lasso ≡ None → AreFairlyBounded fresh) }
     ensures unopened { IfOk result (λ f. IsTrue f.exploration.complete
         → AreUnopened fresh never.old.items f.unopened.items) }
     ensures unknown { IfOk result (λ f. f.exploration.complete ≡ false

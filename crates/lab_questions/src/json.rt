@@ -125,7 +125,7 @@ fn push_findings(
 }
 
 /// The answers as one line, by how far the exploration was to go. Its last members tell which objects
-/// nobody opens, whether only fair rounds are told, a round, and whether all is as it has to be.
+/// nobody opens, whether only fair lassos are told, a lasso, and whether all is as it has to be.
 pub fn answers_json(alloc: Global, answers: &Answers, reach: Reach) -> Result<String, AllocError>
     ensures members { IfOk result (λ line. (front : List ℕ)
         × (string_bytes line ≡ front ++ last_members answers.now)) }

@@ -1,9 +1,9 @@
 //! The lines of the text.
 ghost use Rattle.std.specs.Prelude.{◌≡◌, ◌++◌, OnOk, string_bytes};
-ghost use Rattle.lab_questions.specs.EndTexts.{schedule_line, end_lines, round_line, round_text, extent_text, extent_line};
+ghost use Rattle.lab_questions.specs.EndTexts.{schedule_line, end_lines, lasso_line, lasso_text, extent_text, extent_line};
 
 use lab_sched::Schedule;
-use lab_worlds::Round;
+use lab_worlds::Lasso;
 use std::alloc::{AllocError, Global};
 use std::fmt::Write;
 
@@ -39,11 +39,11 @@ pub(crate) fn push_end(
     push_schedule(alloc, text, schedule)
 }
 
-/// Adds the line of the steps of a round.
-#[tactic(auto, unfolding(crate::specs::EndTexts::round_line))]
+/// Adds the line of the steps of a lasso.
+#[tactic(auto, unfolding(crate::specs::EndTexts::lasso_line))]
 fn push_steps(alloc: Global, text: &mut String, steps: &Schedule) -> Result<(), AllocError>
     ensures text { OnOk result (string_bytes text.new
-        ≡ string_bytes text.old ++ round_line steps.now) }
+        ≡ string_bytes text.old ++ lasso_line steps.now) }
 {
     let steps = steps.text(alloc)?;
     match write!(text, "round {steps}\n") {
@@ -52,21 +52,21 @@ fn push_steps(alloc: Global, text: &mut String, steps: &Schedule) -> Result<(), 
     }
 }
 
-/// Adds the lines of a round, if there is one.
-pub(crate) fn push_round(
+/// Adds the lines of a lasso, if there is one.
+pub(crate) fn push_lasso(
     alloc: Global,
     text: &mut String,
-    round: &Option<Round>,
+    lasso: &Option<Lasso>,
 ) -> Result<(), AllocError>
     ensures text { OnOk result (string_bytes text.new
-        ≡ string_bytes text.old ++ round_text round.now) }
+        ≡ string_bytes text.old ++ lasso_text lasso.now) }
 {
-    let Some(round) = round else {
+    let Some(lasso) = lasso else {
         return Ok(());
     };
     text.push_str("endless\n")?;
-    push_schedule(alloc, text, &round.schedule)?;
-    push_steps(alloc, text, &round.steps)
+    push_schedule(alloc, text, &lasso.schedule)?;
+    push_steps(alloc, text, &lasso.steps)
 }
 
 /// Whether an exploration is complete, in a word.

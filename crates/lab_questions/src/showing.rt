@@ -4,11 +4,11 @@ ghost use Rattle.lab_sched.specs.ScheduleTexts.{schedule_text};
 ghost use Rattle.lab_sched.specs.declared.schedule.block.Block.{Block};
 ghost use Rattle.lab_questions.specs.declared.failure.Failure.TheVariants.{Not, Reached, Endless, Incomplete};
 ghost use Rattle.lab_questions.specs.declared.asked.Word.{Word};
-ghost use Rattle.lab_questions.specs.Texts.{IsBeyond, IsTooLong, ShowsFault, ShowsReached, ShowsRound};
+ghost use Rattle.lab_questions.specs.Texts.{IsBeyond, IsTooLong, ShowsFault, ShowsReached, ShowsLasso};
 
 use crate::{Answer, Answers, Failure};
 use lab_sched::{SchedFault, Schedule};
-use lab_worlds::{Exploration, Round};
+use lab_worlds::{Exploration, Lasso};
 use std::alloc::{AllocError, Global};
 
 /// The number of the first end that isn't as the first word that isn't so requires.
@@ -62,24 +62,24 @@ fn reached_schedule(
     }
 }
 
-/// The texts of the schedule of a round and of its steps, with a blank between.
-fn round_text(alloc: Global, round: &Round) -> Result<String, AllocError>
-    ensures text { IfOk result (λ text. string_bytes text ≡ schedule_text round.now.schedule
-        ++ codes " " ++ schedule_text round.now.steps) }
+/// The texts of the schedule of a lasso and of its steps, with a blank between.
+fn lasso_text(alloc: Global, lasso: &Lasso) -> Result<String, AllocError>
+    ensures text { IfOk result (λ text. string_bytes text ≡ schedule_text lasso.now.schedule
+        ++ codes " " ++ schedule_text lasso.now.steps) }
 {
-    let mut text = round.schedule.text(alloc)?;
+    let mut text = lasso.schedule.text(alloc)?;
     text.push_str(" ")?;
-    text.push_str(&round.steps.text(alloc)?)?;
+    text.push_str(&lasso.steps.text(alloc)?)?;
     Ok(text)
 }
 
-/// The text of the schedule of a round with its steps behind it, as one schedule, unless they are too many for one.
-fn round_schedule(alloc: Global, round: &Round) -> Result<Option<String>, AllocError>
-    ensures round { IfOk result (λ shown. IfSome shown (λ text.
-        ShowsRound round.now (string_bytes text))) }
-    ensures none { IfOk result (λ shown. shown ≡ None → IsTooLong round.now) }
+/// The text of the schedule of a lasso with its steps behind it, as one schedule, unless they are too many for one.
+fn lasso_schedule(alloc: Global, lasso: &Lasso) -> Result<Option<String>, AllocError>
+    ensures lasso { IfOk result (λ shown. IfSome shown (λ text.
+        ShowsLasso lasso.now (string_bytes text))) }
+    ensures none { IfOk result (λ shown. shown ≡ None → IsTooLong lasso.now) }
 {
-    match Schedule::read(alloc, &round_text(alloc, round)?) {
+    match Schedule::read(alloc, &lasso_text(alloc, lasso)?) {
         Ok(whole) => Ok(Some(whole.text(alloc)?)),
         Err(SchedFault::NoMemory) => Err(AllocError),
         Err(SchedFault::BadBlock { .. }) | Err(SchedFault::TooLong { .. }) => Ok(None),
@@ -88,7 +88,7 @@ fn round_schedule(alloc: Global, round: &Round) -> Result<Option<String>, AllocE
 
 impl Answers {
     /// The text of the schedule that shows the failure, if it has one: that of the first end that isn't as it is required,
-    /// that of the first condition that was reached, or that of a round with its steps behind it.
+    /// that of the first condition that was reached, or that of a lasso with its steps behind it.
     pub fn bad_schedule(&self, alloc: Global) -> Result<Option<String>, AllocError>
         ensures fault { IfOk result (λ shown. (word : Word) → self.now.failure ≡ Some (Not word)
             → IfSome shown (λ text. ShowsFault self.now.exploration.ends.items
@@ -96,9 +96,9 @@ impl Answers {
         ensures reached { IfOk result (λ shown. (i : ℕ) → self.now.failure ≡ Some (Reached i)
             → IfSome shown (λ text. ShowsReached self.now.exploration.reached.items i
             (string_bytes text))) }
-        ensures round { IfOk result (λ shown. self.now.failure ≡ Some Endless
-            → IfSome shown (λ text. IfSome self.now.exploration.round (λ r.
-            ShowsRound r (string_bytes text)))) }
+        ensures lasso { IfOk result (λ shown. self.now.failure ≡ Some Endless
+            → IfSome shown (λ text. IfSome self.now.exploration.lasso (λ r.
+            ShowsLasso r (string_bytes text)))) }
         ensures no_fault { IfOk result (λ shown. (word : Word)
             → self.now.failure ≡ Some (Not word) → shown ≡ None
             → All (λ a. a.fault ≡ None) self.now.answers.items
@@ -107,7 +107,7 @@ impl Answers {
             → self.now.failure ≡ Some (Reached i) → shown ≡ None → (s : List Block)
             → slice_get self.now.exploration.reached.items i ≡ Some (Some s) → ⊥) }
         ensures too_long { IfOk result (λ shown. self.now.failure ≡ Some Endless
-            → shown ≡ None → IfSome self.now.exploration.round (λ r. IsTooLong r)) }
+            → shown ≡ None → IfSome self.now.exploration.lasso (λ r. IsTooLong r)) }
         ensures nothing { IfOk result (λ shown. self.now.failure ≡ None → shown ≡ None) }
         ensures incomplete { IfOk result (λ shown.
             self.now.failure ≡ Some Incomplete → shown ≡ None) }
@@ -116,8 +116,8 @@ impl Answers {
         match self.failure {
             Some(Failure::Not(_)) => fault_schedule(alloc, found, &self.answers),
             Some(Failure::Reached(number)) => reached_schedule(alloc, &found.reached, number),
-            Some(Failure::Endless) => match &found.round {
-                Some(round) => round_schedule(alloc, round),
+            Some(Failure::Endless) => match &found.lasso {
+                Some(lasso) => lasso_schedule(alloc, lasso),
                 None => Ok(None),
             },
             Some(Failure::Incomplete) | None => Ok(None),

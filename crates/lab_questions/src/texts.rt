@@ -3,7 +3,7 @@ ghost use Rattle.std.specs.Prelude.{◌≡◌, ◌<◌, ◌++◌, Some, length, 
 ghost use Rattle.lab_questions.specs.EndTexts.{schedule_line, AreTold};
 ghost use Rattle.lab_questions.specs.Texts.{schedule_at, first_lines, fault_lines, answer_lines, condition_lines, reached_lines, word_lines, walks_line, last_lines, answers_text};
 
-use crate::lines::{push_extent, push_round, push_schedule};
+use crate::lines::{push_extent, push_lasso, push_schedule};
 use crate::told::{Told, told_of};
 use crate::{Answer, Asked, Word};
 use lab_conditions::Never;
@@ -168,7 +168,7 @@ fn push_words(
     push_answers(alloc, text, ends, answers)
 }
 
-/// Adds the last lines: of walks how many were taken; else what was reached, a round, and whether everything was visited.
+/// Adds the last lines: of walks how many were taken; else what was reached, a lasso, and whether everything was visited.
 fn push_last(
     alloc: Global,
     text: &mut String,
@@ -183,7 +183,7 @@ fn push_last(
         return push_walks(text, found.worlds);
     }
     push_conditions(alloc, text, never, &found.reached)?;
-    push_round(alloc, text, &found.round)?;
+    push_lasso(alloc, text, &found.lasso)?;
     push_extent(text, found.complete, found.worlds)
 }
 

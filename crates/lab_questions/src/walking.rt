@@ -37,7 +37,7 @@ pub fn ask_walks<O: Observer>(
         (schedule_at a.exploration.ends.items i))) a.answers.items) }
     ensures unopened { IfOk result (λ a. a.unopened.items ≡ []) }
     ensures open { IfOk result (λ a. a.exploration.complete ≡ false) }
-    ensures round { IfOk result (λ a. a.exploration.round ≡ None) }
+    ensures lasso { IfOk result (λ a. a.exploration.lasso ≡ None) }
     ensures fails { IfOk result (λ a. a.failure ≡ None → ⊥) }
     ensures failure { IfOk result (λ a.
         IfSome a.failure (λ f. IsFailure asked.plain a.exploration a.answers.items f)) }

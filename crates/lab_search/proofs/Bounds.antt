@@ -4,13 +4,13 @@ use Rattle.lab_sched.specs.Worlds.{WorldState, step_effect_in, step}
 use Rattle.lab_sched.specs.Execution.{AreEffective}
 use Rattle.ipc_kernel.specs.Alike.{IsConsistent}
 use Rattle.lab_search.specs.declared.store.Store.{Store}
-use Rattle.lab_worlds.specs.Untried.{GoesOn, untried, AskAgain}
+use Rattle.lab_worlds.specs.Unwaiting.{GoesOn, unwaiting, AskAgain}
 use Rattle.lab_search.specs.Stored.{IsSearched}
-use Rattle.lab_worlds.specs.Rounds.{AreBounded}
+use Rattle.lab_worlds.specs.Lassos.{AreBounded}
 use Rattle.lab_states.specs.Rising.{IsRising, Rises, AreRising}
 use Rattle.lab_worlds.proofs.Pushes.{all_at}
 use Rattle.lab_search.proofs.StandingWorlds.{Place, Stands, GoesNearer, GoesAlong, total, total_set, running, running_goes, running_waits, step_stands, start_stands}
-use Rattle.lab_worlds.proofs.UntriedWorlds.{tells, same_step, still_untried, goes_untried, asks_on}
+use Rattle.lab_worlds.proofs.UnwaitingWorlds.{tells, same_step, still_unwaiting, goes_unwaiting, asks_on}
 
 -- so many steps may follow a row with such a number
 abbrev pub rank : ℕ → Option ℕ → ℕ
@@ -60,15 +60,15 @@ module _ (t : Store) (order : List ℕ) (start : WorldState) (searched : IsSearc
 
   -- a step by which a process goes on leaves less where none has begun to wait, and one process more
   -- may begin to; another step is the beginning of a wait
-  within : (ps : List ℕ) (w : WorldState) (n : ℕ) → AskAgain w → HasLeft t order (untried w) n → AreEffective w ps → length ps ≤ 2 * n + running w
+  within : (ps : List ℕ) (w : WorldState) (n : ℕ) → AskAgain w → HasLeft t order (unwaiting w) n → AreEffective w ps → length ps ≤ 2 * n + running w
   within [] w n asks left h = omega arith
   within (p ∷ ps) w n asks left h = elim (tells (step_effect_in w p)) [
     | inl goes ↦
-        let next = step_left (untried w) p n (subst GoesOn (sym (same_step w p asks goes)) goes) left in
-        let rest = within ps (step w p) next.0 (asks_on w p asks) (subst (λ x. HasLeft t order x next.0) (sym (goes_untried w p asks goes)) next.2) h.1 in
+        let next = step_left (unwaiting w) p n (subst GoesOn (sym (same_step w p asks goes)) goes) left in
+        let rest = within ps (step w p) next.0 (asks_on w p asks) (subst (λ x. HasLeft t order x next.0) (sym (goes_unwaiting w p asks goes)) next.2) h.1 in
         more next.0 n (running w) (running (step w p)) (length ps) next.1 (running_goes w p) rest
     | inr none ↦
-        let rest = within ps (step w p) n (asks_on w p asks) (subst (λ x. HasLeft t order x n) (sym (still_untried w p none)) left) h.1 in
+        let rest = within ps (step w p) n (asks_on w p asks) (subst (λ x. HasLeft t order x n) (sym (still_unwaiting w p none)) left) h.1 in
         fewer n (running w) (running (step w p)) (length ps) (running_waits w p h.0 none) rest
   ]
     where
@@ -78,12 +78,12 @@ module _ (t : Store) (order : List ℕ) (start : WorldState) (searched : IsSearc
       fewer : (n r s l : ℕ) → s + 1 ≡ r → l ≤ 2 * n + s → suc l ≤ 2 * n + r
       fewer n r s l a b = omega arith
 
-  bounded : IsConsistent start.kernel → AskAgain start → untried start ≡ start → AreBounded start
+  bounded : IsConsistent start.kernel → AskAgain start → unwaiting start ≡ start → AreBounded start
   bounded consistent asks same =
-      let begun = start_stands t start searched consistent in
-      let n = left_at order begun.0 in
-      (2 * n + running start, λ ps h. within ps start n asks (subst (λ x. HasLeft t order x n) (sym same) (begun.0, begun.1, refl)) h)
+      let initial = start_stands t start searched consistent in
+      let n = left_at order initial.0 in
+      (2 * n + running start, λ ps h. within ps start n asks (subst (λ x. HasLeft t order x n) (sym same) (initial.0, initial.1, refl)) h)
 
 -- where the rows are searched, and all edges rise, each list of effective steps has at most so many
-pub searched_bounded : (t : Store) (start : WorldState) → IsConsistent start.kernel → AskAgain start → untried start ≡ start → IsSearched start t → AreRising t.edges → AreBounded start
+pub searched_bounded : (t : Store) (start : WorldState) → IsConsistent start.kernel → AskAgain start → unwaiting start ≡ start → IsSearched start t → AreRising t.edges → AreBounded start
 searched_bounded t start consistent asks same searched rising = bounded t rising.0 start searched rising.1 consistent asks same

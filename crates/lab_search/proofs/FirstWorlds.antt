@@ -11,9 +11,9 @@ use Rattle.lab_states.specs.Rows.{Row}
 use Rattle.lab_search.specs.declared.store.Store.{Store}
 use Rattle.lab_worlds.specs.Calls.{IsAhead, Both, Alongside, IsAdvance}
 use Rattle.lab_worlds.specs.Closed.{HasAdvance}
-use Rattle.lab_worlds.specs.Untried.{GoesOn, untried}
+use Rattle.lab_worlds.specs.Unwaiting.{GoesOn, unwaiting}
 use Rattle.lab_search.specs.Stored.{IsState, IsKernel, IsRow, IsAt, IsSearched}
-use Rattle.lab_search.specs.Private.Stored.{Grows, IsCome, IsBegun}
+use Rattle.lab_search.specs.Private.Stored.{Grows, IsLocalSuccessor, AreInitialStates}
 use Rattle.lab_worlds.specs.Stepped.{IsReached, AreReached}
 use Rattle.lab_worlds.proofs.AfterLocalSteps.{same_by_gets, same_some}
 use Rattle.lab_states.specs.Depths.{depth_of, IsNear, AreDepths}
@@ -21,43 +21,43 @@ use Rattle.lab_worlds.proofs.HeldAdvances.{AreLevels}
 use Rattle.lab_worlds.proofs.Pushes.{alongside_cons, alongside_push, both_weaker, all_at}
 use Rattle.lab_search.proofs.Growths.{state_grows}
 
-pub come_grows : (t u : Store) (i : ℕ) (s : Process) → Grows t u → IsCome t i s → IsCome u i s
-come_grows t u i s g h = (h.0, state_grows t u i h.0 g h.1, h.2)
+pub successor_grows : (t u : Store) (i : ℕ) (s : Process) → Grows t u → IsLocalSuccessor t i s → IsLocalSuccessor u i s
+successor_grows t u i s g h = (h.0, state_grows t u i h.0 g h.1, h.2)
 
-pub begun_grows : (t u : Store) (is : List ℕ) (ss : List Process) → Grows t u → IsBegun t is ss → IsBegun u is ss
-begun_grows t u is ss g h p = both_weaker (IsCome t) (IsCome u) (λ i s. come_grows t u i s g) (slice_get is p) (slice_get ss p) (h p)
+pub initial_grows : (t u : Store) (is : List ℕ) (ss : List Process) → Grows t u → AreInitialStates t is ss → AreInitialStates u is ss
+initial_grows t u is ss g h p = both_weaker (IsLocalSuccessor t) (IsLocalSuccessor u) (λ i s. successor_grows t u i s g) (slice_get is p) (slice_get ss p) (h p)
 
 -- one process more
-pub begun_more : (t u : Store) (is js : List ℕ) (ps : List Kept) (n i : ℕ) (k : Kept) → Grows t u → IsBegun t is (map process_view (take n ps)) → n < length ps → k ≡ get_or ps n k
-    → IsCome u i (process_view k) → js ≡ is ++ i ∷ [] → IsBegun u js (map process_view (take (n + 1) ps))
-begun_more t u is js ps n i k g h within read come js-is =
+pub initial_more : (t u : Store) (is js : List ℕ) (ps : List Kept) (n i : ℕ) (k : Kept) → Grows t u → AreInitialStates t is (map process_view (take n ps)) → n < length ps → k ≡ get_or ps n k
+    → IsLocalSuccessor u i (process_view k) → js ≡ is ++ i ∷ [] → AreInitialStates u js (map process_view (take (n + 1) ps))
+initial_more t u is js ps n i k g h within read successor js-is =
     let more : map process_view (take (n + 1) ps) ≡ map process_view (take n ps) ++ process_view k ∷ [] =
     ap (map process_view) (take_more ps n k within ∙ ap (λ x. take n ps ++ x ∷ []) (sym read)) ∙ map-append process_view (take n ps) (k ∷ []) in
-    subst (λ xs. IsBegun u xs (map process_view (take (n + 1) ps))) (sym js-is)
-    (subst (λ ss. IsBegun u (is ++ i ∷ []) ss) (sym more) (alongside_push (IsCome u) is (map process_view (take n ps)) i (process_view k) (begun_grows t u is (map process_view (take n ps)) g h) come))
+    subst (λ xs. AreInitialStates u xs (map process_view (take (n + 1) ps))) (sym js-is)
+    (subst (λ ss. AreInitialStates u (is ++ i ∷ []) ss) (sym more) (alongside_push (IsLocalSuccessor u) is (map process_view (take n ps)) i (process_view k) (initial_grows t u is (map process_view (take n ps)) g h) successor))
 
 -- the states that the processes begin with
-chosen : (t : Store) (is : List ℕ) (ss : List Process) → IsBegun t is ss → (us : List Process) × Alongside (IsState t) is us × Alongside IsAhead ss us
+chosen : (t : Store) (is : List ℕ) (ss : List Process) → AreInitialStates t is ss → (us : List Process) × Alongside (IsState t) is us × Alongside IsAhead ss us
 chosen t [] [] h = ([], λ p. tt, λ p. tt)
 chosen t [] (s ∷ ss) h = absurd (h 0)
 chosen t (i ∷ is) [] h = absurd (h 0)
 chosen t (i ∷ is) (s ∷ ss) h =
-    let first : IsCome t i s = h 0 in
+    let first : IsLocalSuccessor t i s = h 0 in
     let rest = chosen t is ss (λ p. h (suc p)) in
     (first.0 ∷ rest.0, alongside_cons (IsState t) i first.0 is rest.0 first.1 rest.1, alongside_cons IsAhead s first.0 ss rest.0 first.2 rest.2)
 
 -- the world at its first calls, by its row
-pub begins : (t : Store) (r : Row) (k : KernelState) (ss : List Process) → IsKernel t r.kernel k → IsBegun t r.states ss
+pub begins : (t : Store) (r : Row) (k : KernelState) (ss : List Process) → IsKernel t r.kernel k → AreInitialStates t r.states ss
     → (v : WorldState) × IsRow t r v × IsAdvance (record { processes = ss; kernel = k }) v
-begins t r k ss kernel begun =
-    let us = chosen t r.states ss begun in
+begins t r k ss kernel initial =
+    let us = chosen t r.states ss initial in
     (record { processes = us.0; kernel = kernel.0 }, record { kernel = kernel.1; settled = kernel.3; states = us.1 }, record { kernel = kernel.2; processes = us.2 })
 
 -- the same by the parts of the row
-pub begins_row : (t : Store) (r : Row) (kernel : ℕ) (states : List ℕ) (k : KernelState) (ss : List Process) → r.kernel ≡ kernel → r.states ≡ states → IsKernel t kernel k → IsBegun t states ss
+pub begins_row : (t : Store) (r : Row) (kernel : ℕ) (states : List ℕ) (k : KernelState) (ss : List Process) → r.kernel ≡ kernel → r.states ≡ states → IsKernel t kernel k → AreInitialStates t states ss
     → (v : WorldState) × IsRow t r v × IsAdvance (record { processes = ss; kernel = k }) v
-begins_row t r kernel states k ss kernel-is states-is here begun =
-    begins t r k ss (subst (λ n. IsKernel t n k) (sym kernel-is) here) (subst (λ ns. IsBegun t ns ss) (sym states-is) begun)
+begins_row t r kernel states k ss kernel-is states-is here initial =
+    begins t r k ss (subst (λ n. IsKernel t n k) (sym kernel-is) here) (subst (λ ns. AreInitialStates t ns ss) (sym states-is) initial)
 
 same_state : (t : Store) (o : Option ℕ) (a b : Option Process) → Both (IsState t) o a → Both (IsState t) o b → a ≡ b
 same_state t None None None h k = refl
@@ -91,7 +91,7 @@ abbrev pub AreAtDepth : Store → List ℕ → ℕ → WorldState → Type 0
 AreAtDepth t depths n v = (i : ℕ) × IsAt t i v × (depth_of depths i ≤ n)
 
 -- where each row was expanded, they are levels of worlds
-pub all_levels : (t : Store) (start : WorldState) (depths : List ℕ) → untried start ≡ start → IsSearched start t → AreDepths depths t.edges → AreLevels start (AreAtDepth t depths)
+pub all_levels : (t : Store) (start : WorldState) (depths : List ℕ) → unwaiting start ≡ start → IsSearched start t → AreDepths depths t.edges → AreLevels start (AreAtDepth t depths)
 all_levels t start depths same searched deep = record {
   begins =
       let first = searched.begins in

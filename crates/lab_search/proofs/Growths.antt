@@ -10,19 +10,19 @@ use Rattle.lab_states.specs.declared.edges.Edge.{Edge}
 use Rattle.lab_search.specs.declared.store.Store.{Store}
 use Rattle.lab_search.specs.declared.store.Next.{Next}
 use Rattle.lab_search.specs.declared.store.Next.TheVariants.{Nothing, Limit, To}
-use Rattle.lab_search.specs.declared.touches.Touch.{Touch}
-use Rattle.lab_search.specs.declared.touches.Touched.{Touched}
-use Rattle.lab_search.specs.declared.touches.Effect.{Effect}
-use Rattle.lab_search.specs.declared.touches.Effect.TheVariants as effect
+use Rattle.lab_search.specs.declared.footprints.Footprint.{Footprint}
+use Rattle.lab_search.specs.declared.footprints.FootprintEffect.{FootprintEffect}
+use Rattle.lab_search.specs.declared.footprints.Effect.{Effect}
+use Rattle.lab_search.specs.declared.footprints.Effect.TheVariants as effect
 use Rattle.lab_search.specs.declared.known.Move.{Move}
 use Rattle.lab_search.specs.declared.known.Moves.{Moves}
 use Rattle.lab_search.specs.declared.known.Mover.{Mover}
 use Rattle.ipc_store.specs.Kept.{GrowsKept}
 use Rattle.ipc_kernel.specs.declared.place.Place.{Place}
 use Rattle.ipc_kernel.specs.declared.process.OpenTables.{OpenTables}
-use Rattle.lab_states.specs.Shorts.{Sharing, IsSameOrMore}
-use Rattle.lab_search.specs.Sparse.{IsTriedAlone, IsTriedIn}
-use Rattle.lab_search.specs.Stored.{IsState, IsKernel, IsRow, IsAt, LeadsTo, IsStore, IsNext, IsMove, AreMoves, AreParts, IsEffect, IsTouched, AreTouched, AreKnown, HasEdge, IsTried, IsExpanded}
+use Rattle.lab_states.specs.CollapsedStates.{Sharing, IsSameOrMore}
+use Rattle.lab_search.specs.Reduced.{HasAmpleStep, IsExpandedIn}
+use Rattle.lab_search.specs.Stored.{IsState, IsKernel, IsRow, IsAt, LeadsTo, IsStore, IsNext, IsMove, AreMoves, AreParts, IsEffect, IsFootprintEffect, AreFootprintEffects, AreKnown, HasEdge, HasEdgeIfEnabled, IsExpanded}
 use Rattle.lab_worlds.specs.Stepped.{IsReady}
 use Rattle.lab_search.specs.Private.Stored.{Grows, IsLater}
 use Rattle.std.proofs.lemmas.List.Elements.{All-push, All-weaker}
@@ -93,21 +93,21 @@ moves_grow t u ms g h = All-weaker (λ (m : Move). IsMove t m.mover m.next) (λ 
 edge_grows : (t u : Store) (i : ℕ) (w : WorldState) (p : ℕ) → Grows t u → HasEdge t i w p → HasEdge u i w p
 edge_grows t u i w p g h = (h.0, h.1, h.2, g.edges h.0 h.1 h.3, h.4, at_grows t u h.1.to h.2 g h.5, h.6, h.7)
 
-pub tried_grows : (t u : Store) (i : ℕ) (w : WorldState) (p : ℕ) → Grows t u → IsTried t i w p → IsTried u i w p
-tried_grows t u i w p g h e = edge_grows t u i w p g (h e)
+pub expanded_in_grows : (t u : Store) (i : ℕ) (w : WorldState) (p : ℕ) → Grows t u → HasEdgeIfEnabled t i w p → HasEdgeIfEnabled u i w p
+expanded_in_grows t u i w p g h e = edge_grows t u i w p g (h e)
 
 pub expanded_grows : (t u : Store) (i : ℕ) → Grows t u → IsExpanded t i → IsExpanded u i
-expanded_grows t u i g h = (h.0, at_grows t u i h.0 g h.1, λ p. tried_grows t u i h.0 p g (h.2 p))
+expanded_grows t u i g h = (h.0, at_grows t u i h.0 g h.1, λ p. expanded_in_grows t u i h.0 p g (h.2 p))
 
 -- an edge to a later row stays one
-pub alone_grows : (t u : Store) (i : ℕ) → Grows t u → IsTriedAlone t i → IsTriedAlone u i
+pub alone_grows : (t u : Store) (i : ℕ) → Grows t u → HasAmpleStep t i → HasAmpleStep u i
 unfolding edge_grows
 alone_grows t u i g (w, at, p, own, x, later) = (w, at_grows t u i w g at, p, own, edge_grows t u i w p g x, later)
 
-pub tried_in_grows : (sparse : Bool) (t u : Store) (i : ℕ) → Grows t u → IsTriedIn sparse t i → IsTriedIn sparse u i
-tried_in_grows false t u i g h = expanded_grows t u i g h
-tried_in_grows true t u i g (inl h) = inl (expanded_grows t u i g h)
-tried_in_grows true t u i g (inr h) = inr (alone_grows t u i g h)
+pub are_expanded_in_grows : (reduced : Bool) (t u : Store) (i : ℕ) → Grows t u → IsExpandedIn reduced t i → IsExpandedIn reduced u i
+are_expanded_in_grows false t u i g h = expanded_grows t u i g h
+are_expanded_in_grows true t u i g (inl h) = inl (expanded_grows t u i g h)
+are_expanded_in_grows true t u i g (inr h) = inr (alone_grows t u i g h)
 
 -- where a row leads, it still does
 pub leads_grow : (t u : Store) (i p j : ℕ) → Grows t u → LeadsTo t i p j → LeadsTo u i p j
@@ -132,19 +132,19 @@ effect_grows t u k p s i effect.Limit g h = h
 effect_grows t u k p s i (effect.To tables object state taken) g h =
     (h.0, h.1, h.2, parts_grow t u tables object h.0 h.1 g h.3, state_grows t u state h.2 g h.4, h.5, h.6, h.7)
 
-pub touched_grows : (t u : Store) (x : Touch) (e : Effect) → Grows t u → IsTouched t x e → IsTouched u x e
-touched_grows t u x e g h =
+pub footprint_effect_grows : (t u : Store) (x : Footprint) (e : Effect) → Grows t u → IsFootprintEffect t x e → IsFootprintEffect u x e
+footprint_effect_grows t u x e g h =
     (h.0, h.1, h.2, h.3, state_grows t u x.state h.0 g h.4, parts_grow t u x.tables x.object h.1 h.2 g h.5, h.6, λ k p settled at works. effect_grows t u k p h.0 x.place e g (h.7 k p settled at works))
 
-touches_grow : (t u : Store) (ts : List Touched) → Grows t u → AreTouched t ts → AreTouched u ts
-touches_grow t u ts g h =
-    All-weaker (λ (m : Touched). IsTouched t m.touch m.effect) (λ (m : Touched). IsTouched u m.touch m.effect) (λ m old. touched_grows t u m.touch m.effect g old) ts h
+footprints_grow : (t u : Store) (ts : List FootprintEffect) → Grows t u → AreFootprintEffects t ts → AreFootprintEffects u ts
+footprints_grow t u ts g h =
+    All-weaker (λ (m : FootprintEffect). IsFootprintEffect t m.footprint m.effect) (λ (m : FootprintEffect). IsFootprintEffect u m.footprint m.effect) (λ m old. footprint_effect_grows t u m.footprint m.effect g old) ts h
 
 -- what is known stays so
 known_grows : (t u : Store) → Grows t u → u.moves ≡ t.moves → AreKnown t → AreKnown u
 known_grows t u g same h = record {
   moves = subst (λ (ms : Moves). AreMoves u ms.made.items) (sym same) (moves_grow t u t.moves.made.items g h.moves);
-  touches = subst (λ (ms : Moves). AreTouched u ms.touches.made.items) (sym same) (touches_grow t u t.moves.touches.made.items g h.touches);
+  footprints = subst (λ (ms : Moves). AreFootprintEffects u ms.footprints.made.items) (sym same) (footprints_grow t u t.moves.footprints.made.items g h.footprints);
 }
 
 -- a store that has more kernels, or more states
@@ -251,9 +251,9 @@ edges_pushed t u e s leads edges kernels states rows moves =
     }
 
 -- more moves, or more steps
-pub moves_kept : (t u : Store) → IsStore t → u.kernels ≡ t.kernels → u.states ≡ t.states → u.rows ≡ t.rows → u.edges ≡ t.edges → AreMoves t u.moves.made.items → AreTouched t u.moves.touches.made.items
+pub moves_kept : (t u : Store) → IsStore t → u.kernels ≡ t.kernels → u.states ≡ t.states → u.rows ≡ t.rows → u.edges ≡ t.edges → AreMoves t u.moves.made.items → AreFootprintEffects t u.moves.footprints.made.items
     → IsLater t u
-moves_kept t u s kernels states rows edges moves touches =
+moves_kept t u s kernels states rows edges moves footprints =
     let g : Grows t u = record {
       kernels = same_kernels t u kernels;
       states = λ i x e. subst (λ (xs : Sharing). slice_get xs.processes i ≡ Some x) (sym states) e;
@@ -266,6 +266,6 @@ moves_kept t u s kernels states rows edges moves touches =
         states = subst (λ (xs : Sharing). All IsReady xs.processes) (sym states) s.states;
         rows = subst (λ xs. All (λ r. (w : WorldState) × IsRow u r w) xs) (sym rows) (rows_grow t u s g);
         edges = subst (λ xs. All (λ (e : Edge). LeadsTo u e.from e.pid e.to) xs) (sym edges) (edges_lead t u s g);
-        known = record { moves = moves_grow t u u.moves.made.items g moves; touches = touches_grow t u u.moves.touches.made.items g touches };
+        known = record { moves = moves_grow t u u.moves.made.items g moves; footprints = footprints_grow t u u.moves.footprints.made.items g footprints };
       };
     }

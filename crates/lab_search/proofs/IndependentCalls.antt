@@ -13,7 +13,7 @@ use Rattle.lab_search.specs.declared.store.Store.{Store}
 use Rattle.lab_states.specs.Rows.{Row}
 use Rattle.lab_search.specs.Stored.{IsState, IsExactly, IsRow, IsAt}
 use Rattle.lab_worlds.specs.Independent.{IsIndependent, unlinks, KeepsNames}
-use Rattle.lab_search.specs.Private.Sparse.{StatesKeepNames}
+use Rattle.lab_search.specs.Private.Reduced.{StatesKeepNames}
 use Rattle.lab_worlds.proofs.AfterLocalSteps.{same_some}
 use Rattle.lab_search.proofs.Growths.{state_kept}
 use Rattle.lab_worlds.proofs.Pushes.{all_at}
@@ -21,7 +21,7 @@ use Rattle.lab_search.proofs.StepsOfRows.{process_at}
 use Rattle.lab_worlds.proofs.OwnCalls.{standing_independent}
 use Rattle.lab_sched.specs.declared.process.Process.TheVariants as kept
 use Rattle.lab_worlds.specs.Closed.{HasAdvance}
-use Rattle.lab_search.specs.Sparse.{AreTriedIn, IsSearchedIn}
+use Rattle.lab_search.specs.Reduced.{AreExpandedIn, IsSearchedIn}
 
 -- the same of a process in a state over a kernel that are kept
 pub independent_over : (t : Store) (w : WorldState) (p kernel state : ℕ) (s : Process) (c : Call) → (x : Kept) × (slice_get t.states.processes state ≡ Some x) × StandsAt (process_view x) c
@@ -54,6 +54,6 @@ worlds_keep t all i w p here s at =
     by (Some n) h = (n, h)
 
 -- what a search holds whose rows were tried
-pub searched_in : (sparse : Bool) (start : WorldState) (t : Store) → HasAdvance (IsAt t 0) start → AreTriedIn sparse t → (IsTrue sparse → StatesKeepNames t) → IsSearchedIn sparse start t
-searched_in false start t first tried keep = record { begins = first; expanded = tried }
-searched_in true start t first tried keep = record { begins = first; tried = tried; keep_names = worlds_keep t (keep refl) }
+pub searched_in : (reduced : Bool) (start : WorldState) (t : Store) → HasAdvance (IsAt t 0) start → AreExpandedIn reduced t → (IsTrue reduced → StatesKeepNames t) → IsSearchedIn reduced start t
+searched_in false start t first expanded_in keep = record { begins = first; expanded = expanded_in }
+searched_in true start t first expanded_in keep = record { begins = first; expanded_in = expanded_in; keep_names = worlds_keep t (keep refl) }

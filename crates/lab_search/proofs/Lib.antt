@@ -2,12 +2,12 @@ pub mod Growths
 pub mod StepsOfRows
 pub mod StepCounts
 mod StepsBehind
-mod TouchLemmas
+mod FootprintLemmas
 pub mod FirstWorlds
 pub mod StandingWorlds
 pub mod Bounds
 mod IndependentCalls
-mod SparseSearches
-mod SparsePaths
-pub mod SparseEnds
-pub mod SparseBounds
+mod ReducedSearches
+mod ReducedPaths
+pub mod ReducedEnds
+pub mod ReducedBounds

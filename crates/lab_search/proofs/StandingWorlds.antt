@@ -7,7 +7,7 @@ use Rattle.ipc_kernel.specs.declared.call.Call.{Call}
 use Rattle.ipc_kernel.specs.declared.call.Answer.{Answer}
 use Rattle.ipc_kernel.specs.declared.call.Answer.TheVariants.{Done, Wait}
 use Rattle.ipc_kernel.specs.Answer.{answer}
-use Rattle.lab_worlds.specs.Untried.{GoesOn}
+use Rattle.lab_worlds.specs.Unwaiting.{GoesOn}
 use Rattle.lab_sched.specs.Verdicts.{is_running}
 use Rattle.lab_sched.specs.LocalRun.{AreLocal}
 use Rattle.lab_sched.proofs.ListPlaces.{get-set_same, get-set_other, get_past}
@@ -63,11 +63,11 @@ running_waits w p h g = by (slice_get w.processes p) refl
     effect_at : (o : Option Process) → slice_get w.processes p ≡ o → step_effect_in w p ≡ step_effect w.kernel p o
     effect_at o a = ap (λ x. step_effect w.kernel p x) a
 
-    tried : (m : Machine) (c : Call) (a : Answer) → slice_get w.processes p ≡ Some (Running m) → step_effect_in w p ≡ kernel_step m c a → running (step w p) + 1 ≡ running w
-    tried m c Wait at e =
+    expanded_in : (m : Machine) (c : Call) (a : Answer) → slice_get w.processes p ≡ Some (Running m) → step_effect_in w p ≡ kernel_step m c a → running (step w p) + 1 ≡ running w
+    expanded_in m c Wait at e =
         let sums = count_set is_running w.processes p (Running m) (Waiting m c) at in
         ap (λ t. running (after w p t) + 1) e ∙ (omega (arith, sums))
-    tried m c (Done r) at e = absurd (g (subst GoesOn (sym e) tt))
+    expanded_in m c (Done r) at e = absurd (g (subst GoesOn (sym e) tt))
 
     again : (m : Machine) (c : Call) (a : Answer) → step_effect_in w p ≡ retry m c a → running (step w p) + 1 ≡ running w
     again m c Wait e = absurd (subst IsEffective e h)
@@ -75,7 +75,7 @@ running_waits w p h g = by (slice_get w.processes p) refl
 
     runs : (m : Machine) (a : NextAction) → next_action m ≡ a → slice_get w.processes p ≡ Some (Running m) → running (step w p) + 1 ≡ running w
     runs m (moves q) e at = absurd (g (subst GoesOn (sym (effect_at (Some (Running m)) at ∙ ap (first_try w.kernel p m) e)) tt))
-    runs m (calls c) e at = tried m c (answer w.kernel p c).0 at (effect_at (Some (Running m)) at ∙ ap (first_try w.kernel p m) e)
+    runs m (calls c) e at = expanded_in m c (answer w.kernel p c).0 at (effect_at (Some (Running m)) at ∙ ap (first_try w.kernel p m) e)
 
     by : (o : Option Process) → slice_get w.processes p ≡ o → running (step w p) + 1 ≡ running w
     by None a = absurd (subst IsEffective (effect_at None a) h)
@@ -194,13 +194,13 @@ StandsAfter t w p s = (u : Place) × Stands t (step w p) u × (GoesNearer s u p 
 
 -- before the first step
 pub begins_stands : (t : Store) (start : WorldState) → HasAdvance (IsAt t 0) start → IsConsistent start.kernel → (s : Place) × Stands t start s × (length s.taken ≡ length start.processes)
-begins_stands t start begun consistent =
-    let taken = taken_of start.processes begun.0.processes begun.2.processes in
-    (record { at = 0; advance = begun.0; taken = taken.0 }, record { here = begun.1; kernel = begun.2.kernel; consistent = consistent; processes = taken.1 }, taken.2)
+begins_stands t start initial consistent =
+    let taken = taken_of start.processes initial.0.processes initial.2.processes in
+    (record { at = 0; advance = initial.0; taken = taken.0 }, record { here = initial.1; kernel = initial.2.kernel; consistent = consistent; processes = taken.1 }, taken.2)
 
-pub begins_first : (t : Store) (start : WorldState) (begun : HasAdvance (IsAt t 0) start) (consistent : IsConsistent start.kernel) → (begins_stands t start begun consistent).0.at ≡ 0
+pub begins_first : (t : Store) (start : WorldState) (initial : HasAdvance (IsAt t 0) start) (consistent : IsConsistent start.kernel) → (begins_stands t start initial consistent).0.at ≡ 0
 unfolding begins_stands
-begins_first t start begun consistent = refl
+begins_first t start initial consistent = refl
 
 -- a process at a call is the same there
 pub standing_same : (t : Store) (w : WorldState) (p : ℕ) (x : Process) (s : Place) → slice_get w.processes p ≡ Some x → IsAtCall x → Stands t w s → slice_get s.advance.processes p ≡ Some x

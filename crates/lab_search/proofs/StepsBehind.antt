@@ -28,12 +28,12 @@ use Rattle.lab_sched.specs.Worlds.{Process, Running, Waiting, Ended, NextAction,
 use Rattle.lab_sched.specs.Held.{process_view, IsHeld, step_of}
 use Rattle.lab_sched.specs.LocalRun.{IsLocalStep, AreLocal}
 use Rattle.lab_worlds.specs.Calls.{IsAtCall}
-use Rattle.lab_worlds.specs.Untried.{GoesOn}
+use Rattle.lab_worlds.specs.Unwaiting.{GoesOn}
 use Rattle.lab_worlds.specs.declared.trying.Made.{Made}
-use Rattle.lab_worlds.specs.declared.trying.Tried.TheVariants.{Came}
-use Rattle.lab_states.specs.declared.shorts.Short.{Short}
+use Rattle.lab_worlds.specs.declared.trying.Attempt.TheVariants.{Came}
+use Rattle.lab_states.specs.declared.collapsed_states.CollapsedState.{CollapsedState}
 use Rattle.lab_search.specs.declared.store.Store.{Store}
-use Rattle.lab_states.specs.Shorts.{behind, kept_behind, whole_of}
+use Rattle.lab_states.specs.CollapsedStates.{behind, kept_behind, whole_of}
 use Rattle.lab_search.specs.Private.Stored.{output_at}
 use Rattle.lab_search.specs.Stored.{IsState, IsStore}
 use Rattle.lab_worlds.specs.Stepped.{IsReady, IsReached, IsStepped}
@@ -297,8 +297,8 @@ stepped_behind k p s made o h = (
 )
 
 -- the state behind an output that is kept
-pub state_behind : (t : Store) (i : ℕ) (s : Short) → slice_get t.states.processes i ≡ Some (whole_of t.states.outputs s) → IsState t i (behind (output_at t s.before) (process_view s.process))
+pub state_behind : (t : Store) (i : ℕ) (s : CollapsedState) → slice_get t.states.processes i ≡ Some (whole_of t.states.outputs s) → IsState t i (behind (output_at t s.before) (process_view s.process))
 state_behind t i s at = ap (option_map process_view) at ∙ ap (λ x. Some x) (seen_behind s.process (output_at t s.before))
 
-pub held_apart : (t : Store) (i : ℕ) (s : Short) → IsStore t → slice_get t.states.processes i ≡ Some (whole_of t.states.outputs s) → IsHeld s.process
+pub held_apart : (t : Store) (i : ℕ) (s : CollapsedState) → IsStore t → slice_get t.states.processes i ≡ Some (whole_of t.states.outputs s) → IsHeld s.process
 held_apart t i s is at = was_held s.process (output_at t s.before) (all_at IsReady t.states.processes i (whole_of t.states.outputs s) is.states at).0

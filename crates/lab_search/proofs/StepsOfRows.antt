@@ -16,9 +16,9 @@ use Rattle.lab_states.specs.declared.edges.Edge.{Edge}
 use Rattle.lab_search.specs.declared.store.Next.{Next}
 use Rattle.lab_search.specs.declared.store.Next.TheVariants.{Nothing, Limit, To}
 use Rattle.lab_worlds.specs.Calls.{IsAtCall, IsAhead, Both, Alongside}
-use Rattle.lab_worlds.specs.Untried.{GoesOn, NoneGoesOn}
+use Rattle.lab_worlds.specs.Unwaiting.{GoesOn, NoneGoesOn}
 use Rattle.lab_worlds.specs.Stepped.{IsReady, IsReached, AreReached}
-use Rattle.lab_search.specs.Stored.{IsState, IsRow, IsAt, LeadsTo, IsStore, IsExactly, IsNext, IsMove, IsNextAt, HasEdge, IsTried, IsExpanded}
+use Rattle.lab_search.specs.Stored.{IsState, IsRow, IsAt, LeadsTo, IsStore, IsExactly, IsNext, IsMove, IsNextAt, HasEdge, HasEdgeIfEnabled, IsExpanded}
 use Rattle.lab_search.specs.Private.Stored.{Grows, IsMoveFrom, IsStep, changed}
 use Rattle.lab_worlds.proofs.Pushes.{alongside_set, get_pushed, all_at}
 use Rattle.lab_worlds.proofs.AfterLocalSteps.{same_some}
@@ -107,7 +107,7 @@ moved t r r' w p kernel state taken s is row here next kernel-is states-is = (v,
     })
 
 -- a process that isn't there does nothing
-pub absent : (t : Store) (r : Row) (w : WorldState) (at p : ℕ) → IsRow t r w → slice_get r.states p ≡ None → IsTried t at w p
+pub absent : (t : Store) (r : Row) (w : WorldState) (at p : ℕ) → IsRow t r w → slice_get r.states p ≡ None → HasEdgeIfEnabled t at w p
 absent t r w at p row e effective =
     let gone : slice_get w.processes p ≡ None = left (slice_get w.processes p) (subst (λ o. Both (IsState t) o (slice_get w.processes p)) e (row.states p)) in
     absurd (subst (λ o. GoesOn (step_effect w.kernel p o)) gone effective)
@@ -127,16 +127,16 @@ moved_at t w at p kernel state taken next r' is here m next-is kernel-is states 
     moved t r r' w p kernel state taken n.0 is here.2 n.1 (subst (λ n'. IsNext t w.kernel p n.0 n') next-is n.2) kernel-is (states.2 ∙ ap (λ (x : Row). set x.states p state) row)
 
 -- each process of a world was tried
-pub all_tried : (t u : Store) (at count pid : ℕ) → IsStore t → Grows t u → ((r : Row) × (slice_get t.rows at ≡ Some r) × (count ≡ length r.states)) → count ≤ pid
-    → ((w : WorldState) → IsAt t at w → (p : ℕ) → p < pid → IsTried u at w p) → IsExpanded u at
-all_tried t u at count pid is g row all tried =
+pub all_expanded_in : (t u : Store) (at count pid : ℕ) → IsStore t → Grows t u → ((r : Row) × (slice_get t.rows at ≡ Some r) × (count ≡ length r.states)) → count ≤ pid
+    → ((w : WorldState) → IsAt t at w → (p : ℕ) → p < pid → HasEdgeIfEnabled u at w p) → IsExpanded u at
+all_expanded_in t u at count pid is g row all expanded_in =
     let w = all_at (λ r. (v : WorldState) × IsRow t r v) t.rows at row.0 is.rows row.1 in
     let here : IsAt t at w.0 = (row.0, row.1, w.1) in
     let there = at_grows t u at w.0 g here in (
       w.0,
       there,
       λ p. elim (cases_lt p pid) [
-        | inl below ↦ tried w.0 here p below
+        | inl below ↦ expanded_in w.0 here p below
         | inr above ↦
             let past : length row.0.states ≤ p = let count-is = row.2 in omega arith in
             absent u row.0 w.0 at p (row_grows t u row.0 w.0 g w.1) (slice_get_past row.0.states p past)

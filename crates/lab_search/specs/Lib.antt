@@ -1,3 +1,3 @@
 pub mod Stored
-pub mod Sparse
+pub mod Reduced
 pub mod Private

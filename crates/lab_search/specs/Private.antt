@@ -1,4 +1,4 @@
 -- Definitions that no public contract cites.
 pub mod Stored
-pub mod Touched
-pub mod Sparse
+pub mod FootprintEffect
+pub mod Reduced

@@ -12,7 +12,7 @@ use Rattle.lab_sched.specs.Held.{process_view, step_of}
 use Rattle.lab_conditions.specs.Conditions.{StandsAt}
 use Rattle.lab_worlds.specs.Calls.{AreAlike, Alongside}
 use Rattle.lab_worlds.specs.Closed.{HasAdvance}
-use Rattle.lab_worlds.specs.Untried.{GoesOn}
+use Rattle.lab_worlds.specs.Unwaiting.{GoesOn}
 use Rattle.lab_worlds.specs.Stepped.{IsReady, IsReached, AreReached}
 use Rattle.lab_states.specs.Rows.{Row}
 use Rattle.lab_states.specs.declared.edges.Edge.{Edge}
@@ -21,10 +21,10 @@ use Rattle.lab_search.specs.declared.known.Mover.{Mover}
 use Rattle.lab_search.specs.declared.store.Store.{Store}
 use Rattle.lab_search.specs.declared.store.Next.{Next}
 use Rattle.lab_search.specs.declared.store.Next.TheVariants.{Nothing, Limit, To}
-use Rattle.lab_search.specs.declared.touches.Effect.{Effect}
-use Rattle.lab_search.specs.declared.touches.Effect.TheVariants as outcome
-use Rattle.lab_search.specs.declared.touches.Touch.{Touch}
-use Rattle.lab_search.specs.declared.touches.Touched.{Touched}
+use Rattle.lab_search.specs.declared.footprints.Effect.{Effect}
+use Rattle.lab_search.specs.declared.footprints.Effect.TheVariants as outcome
+use Rattle.lab_search.specs.declared.footprints.Footprint.{Footprint}
+use Rattle.lab_search.specs.declared.footprints.FootprintEffect.{FootprintEffect}
 
 -- the state at a place
 abbrev pub IsState : Store → ℕ → Process → Type 0
@@ -93,21 +93,21 @@ IsEffect t k p s i (outcome.To tables object state taken) =
     × GoesOn (step_effect k p (Some s))
 
 -- that comes of a step at the call, over whatever kernel in which it works on the object in the place
-abbrev pub IsTouched : Store → Touch → Effect → Type 0
-IsTouched t touch effect =
-    (s : Process) × (x : OpenTables) × (o : Place) × (c : Call) × IsState t touch.state s
-    × AreParts t touch.tables touch.object x o × StandsAt s c
-    × ((k : KernelState) (p : ℕ) → IsSettled k → HasOperand k p touch.place x o
-    → operand_in k x c ≡ Some touch.place → IsEffect t k p s touch.place effect)
+abbrev pub IsFootprintEffect : Store → Footprint → Effect → Type 0
+IsFootprintEffect t footprint effect =
+    (s : Process) × (x : OpenTables) × (o : Place) × (c : Call) × IsState t footprint.state s
+    × AreParts t footprint.tables footprint.object x o × StandsAt s c
+    × ((k : KernelState) (p : ℕ) → IsSettled k → HasOperand k p footprint.place x o
+    → operand_in k x c ≡ Some footprint.place → IsEffect t k p s footprint.place effect)
 
 -- each step is such a one
-abbrev pub AreTouched : Store → List Touched → Type 0
-AreTouched t ts = All (λ (m : Touched). IsTouched t m.touch m.effect) ts
+abbrev pub AreFootprintEffects : Store → List FootprintEffect → Type 0
+AreFootprintEffects t ts = All (λ (m : FootprintEffect). IsFootprintEffect t m.footprint m.effect) ts
 
 -- the moves that were made are such, and so are the steps at calls that work on one object
 pub record AreKnown (t : Store) : Type 0 where
   pub moves : AreMoves t t.moves.made.items
-  pub touches : AreTouched t t.moves.touches.made.items
+  pub footprints : AreFootprintEffects t t.moves.footprints.made.items
 
 -- each row stands for a world, each edge leads to where it says, and the moves are those of the processes
 pub record IsStore (t : Store) : Type 0 where
@@ -130,12 +130,12 @@ HasEdge t i w p =
     × IsAt t e.to v × AreReached (step w p) v × (e.pid ≡ p)
 
 -- the step of process p from the world of row number i, if the process goes on, has an edge
-abbrev pub IsTried : Store → ℕ → WorldState → ℕ → Type 0
-IsTried t i w p = GoesOn (step_effect_in w p) → HasEdge t i w p
+abbrev pub HasEdgeIfEnabled : Store → ℕ → WorldState → ℕ → Type 0
+HasEdgeIfEnabled t i w p = GoesOn (step_effect_in w p) → HasEdge t i w p
 
 -- row number i stands for a world from which each step by which a process goes on has an edge
 abbrev pub IsExpanded : Store → ℕ → Type 0
-IsExpanded t i = (w : WorldState) × IsAt t i w × ((p : ℕ) → IsTried t i w p)
+IsExpanded t i = (w : WorldState) × IsAt t i w × ((p : ℕ) → HasEdgeIfEnabled t i w p)
 
 -- the same of each row
 abbrev pub AreExpanded : Store → Type 0

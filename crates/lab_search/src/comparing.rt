@@ -4,7 +4,7 @@ ghost use Rattle.ipc_kernel.specs.Alike.{IsAlike};
 ghost use Rattle.ipc_kernel.specs.Kernel.{KernelState, IsSettled};
 ghost use Rattle.lab_sched.specs.Held.{process_view};
 ghost use Rattle.lab_sched.specs.Stepping.{before_wait};
-ghost use Rattle.lab_worlds.specs.Untried.{untried};
+ghost use Rattle.lab_worlds.specs.Unwaiting.{unwaiting};
 ghost use Rattle.lab_search.specs.Stored.{IsExactly, IsState, IsLike};
 
 use crate::store::Store;
@@ -40,14 +40,14 @@ impl Store {
 
     /// Whether a row stands for a world that is alike this one, with each process that waits before
     /// its call.
-    pub fn is_untried_row(
+    pub fn is_unwaiting_row(
         &self,
         alloc: Global,
         at: usize,
         world: &World,
     ) -> Result<bool, AllocError>
         ensures alike { IfOk result (λ alike. IsTrue alike
-            → IsLike self.now at (untried world.now)) }
+            → IsLike self.now at (unwaiting world.now)) }
     {
         let Some((kernel, states)) = self.rows.get(at) else {
             return Ok(false);
@@ -74,6 +74,6 @@ impl Store {
         if !none_waits(world) {
             return Ok(false);
         }
-        self.is_untried_row(alloc, at, world)
+        self.is_unwaiting_row(alloc, at, world)
     }
 }

@@ -1,10 +1,10 @@
-//! The moves that a search has made.
+//! Memoized transitions: the moves that a search has made.
 ghost use Rattle.std.specs.Prelude.{◌≡◌, ◌<◌, [], IfSome, IsTrue, OnOk};
 ghost use Rattle.lab_search.specs.declared.store.Store.{Store as Kept};
 ghost use Rattle.lab_search.specs.Stored.{IsMove, AreMoves};
 
+use crate::footprints::Footprints;
 use crate::store::Next;
-use crate::touches::Touches;
 use ipc_store::Index;
 use lab_states::place_of as number_of;
 use std::alloc::{AllocError, Global};
@@ -32,7 +32,7 @@ pub struct Move {
 #[derive(Drop)]
 pub struct Moves {
     pub made: Vec<Move>,
-    pub touches: Touches,
+    pub footprints: Footprints,
     /// The numbers of the newest moves, from 1, kernel by kernel, so that those of the processes over
     /// one kernel stand beside each other.
     newest: Vec<u32>,
@@ -72,11 +72,11 @@ impl Move {
 impl Moves {
     pub(crate) fn new(alloc: Global, index: Index) -> Moves
         ensures moves { result.made.items ≡ [] }
-        ensures touches { result.touches.made.items ≡ [] }
+        ensures footprints { result.footprints.made.items ≡ [] }
     {
         Moves {
             made: Vec::new(alloc),
-            touches: Touches::new(alloc, index),
+            footprints: Footprints::new(alloc, index),
             newest: Vec::new(alloc),
         }
     }
@@ -106,7 +106,7 @@ impl Moves {
     /// Puts the number of the next move, as the newest, at a place.
     fn put_next(&mut self, place: usize) -> Result<(), AllocError>
         ensures made { self.new.made ≡ self.old.made }
-        ensures touches { self.new.touches ≡ self.old.touches }
+        ensures footprints { self.new.footprints ≡ self.old.footprints }
     {
         let number = number_of(self.made.len())?.saturating_add(1);
         if place >= self.newest.len() {
@@ -120,7 +120,7 @@ impl Moves {
     }
 
     pub(crate) fn keep(&mut self, mover: Mover, next: Next) -> Result<(), AllocError>
-        ensures touches { OnOk result (self.new.touches ≡ self.old.touches) }
+        ensures footprints { OnOk result (self.new.footprints ≡ self.old.footprints) }
         ensures known { OnOk result ((t : Kept) → AreMoves t self.old.made.items
             → IsMove t mover next → AreMoves t self.new.made.items) }
     {
@@ -135,6 +135,6 @@ impl Moves {
         size_of::<Move>()
             .saturating_mul(self.made.len())
             .saturating_add(size_of::<u32>().saturating_mul(self.newest.len()))
-            .saturating_add(self.touches.size())
+            .saturating_add(self.footprints.size())
     }
 }

@@ -1,16 +1,16 @@
-//! The search of every world that programs can come to.
+//! Breadth-first search of every state that programs can reach, with partial-order reduction.
 #![tactic(auto)]
 
 mod comparing;
+mod footprint_steps;
+mod footprints;
 mod known;
 mod making;
 mod moves;
+mod reduced;
 mod rows;
 mod search;
-mod sparse;
 mod store;
-mod touches;
-mod touching;
 
 pub use moves::both;
 pub use search::{Search, search_all};

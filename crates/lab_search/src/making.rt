@@ -1,31 +1,31 @@
-//! Steps that a search makes, and what it keeps of them.
+//! Successors that a search makes, and what it keeps of them.
 ghost use Rattle.std.specs.Prelude.{ℕ, ◌<◌, IfOk, IfSome, OnOk, length};
 ghost use Rattle.ipc_kernel.specs.Kernel.{KernelState};
 ghost use Rattle.lab_sched.specs.Worlds.{Process as Seen};
 ghost use Rattle.lab_sched.specs.Held.{process_view, IsHeld};
-ghost use Rattle.lab_worlds.specs.declared.trying.Tried.TheVariants.{Came};
+ghost use Rattle.lab_worlds.specs.declared.trying.Attempt.TheVariants.{Came};
 ghost use Rattle.lab_worlds.specs.Stepped.{IsReady, IsStepped};
-ghost use Rattle.lab_states.specs.Shorts.{behind};
-ghost use Rattle.lab_search.specs.Stored.{IsExactly, IsStore, IsNext, IsMove, IsTouched};
+ghost use Rattle.lab_states.specs.CollapsedStates.{behind};
+ghost use Rattle.lab_search.specs.Stored.{IsExactly, IsStore, IsNext, IsMove, IsFootprintEffect};
 ghost use Rattle.lab_search.specs.Private.Stored.{IsLater, IsMoveFrom, IsKeptStep, output_at};
-ghost use Rattle.lab_search.specs.Private.Touched.{HasTouch, IsOutcome};
+ghost use Rattle.lab_search.specs.Private.FootprintEffect.{HasFootprint, IsOutcome};
 
+use crate::footprints::{Effect, Footprint};
 use crate::known::Mover;
 use crate::store::{Next, Store};
-use crate::touches::{Effect, Touch};
 use lab_sched::Process;
-use lab_states::Short;
-use lab_worlds::{ExploreFault, Made, Tried, discard, try_step};
+use lab_states::CollapsedState;
+use lab_worlds::{Attempt, ExploreFault, Made, discard, try_step};
 use std::alloc::AllocError;
 
 /// How many worlds there are at least for each kernel where kernels are come to often.
 const RETURNS: usize = 4;
 
 impl Store {
-    fn try_next(&self, mover: Mover, process: &Process, most: u32) -> Result<Tried, ExploreFault>
+    fn try_next(&self, mover: Mover, process: &Process, most: u32) -> Result<Attempt, ExploreFault>
         requires held { IsHeld process.now }
-        ensures tried { IfOk result (λ tried.
-            IsKeptStep self.now mover.kernel mover.pid (process_view process.now) tried) }
+        ensures expanded_in { IfOk result (λ expanded_in.
+            IsKeptStep self.now mover.kernel mover.pid (process_view process.now) expanded_in) }
     {
         let Some(kernel) = self.kernels.get(self.alloc, mover.kernel)? else {
             return Err(ExploreFault::Unvouched);
@@ -55,7 +55,7 @@ impl Store {
             process,
             taken,
         } = made;
-        match self.keep_behind(Short { before, process }) {
+        match self.keep_behind(CollapsedState { before, process }) {
             Err(_) => {
                 discard(kernel);
                 Err(ExploreFault::NoMemory)
@@ -77,14 +77,14 @@ impl Store {
         ensures later { OnOk result (IsLater self.old self.new) }
         ensures next { IfOk result (IsMove self.new mover) }
     {
-        let Some(short) = self.states.parts(mover.state as usize) else {
+        let Some(collapsed) = self.states.parts(mover.state as usize) else {
             return Err(ExploreFault::Unvouched);
         };
-        let before = short.before;
-        match self.try_next(mover, &short.process, most) {
-            Ok(Tried::Still) => Ok(Next::Nothing),
-            Ok(Tried::Runs) => Ok(Next::Limit),
-            Ok(Tried::Came(made)) => {
+        let before = collapsed.before;
+        match self.try_next(mover, &collapsed.process, most) {
+            Ok(Attempt::Still) => Ok(Next::Nothing),
+            Ok(Attempt::Runs) => Ok(Next::Limit),
+            Ok(Attempt::Came(made)) => {
                 let next = self.keep_made(before, made)?;
                 Ok(next)
             }
@@ -114,7 +114,7 @@ impl Store {
             process,
             taken,
         } = made;
-        match self.keep_behind(Short { before, process }) {
+        match self.keep_behind(CollapsedState { before, process }) {
             Err(_) => {
                 discard(kernel);
                 Err(ExploreFault::NoMemory)
@@ -139,22 +139,27 @@ impl Store {
         }
     }
 
-    fn make_effect(&mut self, mover: Mover, touch: Touch, most: u32) -> Result<Effect, ExploreFault>
+    fn make_effect(
+        &mut self,
+        mover: Mover,
+        footprint: Footprint,
+        most: u32,
+    ) -> Result<Effect, ExploreFault>
         requires store { IsStore self.old }
         requires operand { (k : KernelState) → IsExactly self.old mover.kernel k
-            → HasTouch self.old k mover.pid touch }
+            → HasFootprint self.old k mover.pid footprint }
         ensures later { OnOk result (IsLater self.old self.new) }
-        ensures touched { IfOk result (IsTouched self.new touch) }
+        ensures footprint_effect { IfOk result (IsFootprintEffect self.new footprint) }
     {
-        let Some(short) = self.states.parts(touch.state as usize) else {
+        let Some(collapsed) = self.states.parts(footprint.state as usize) else {
             return Err(ExploreFault::Unvouched);
         };
-        let before = short.before;
-        match self.try_next(mover, &short.process, most) {
-            Ok(Tried::Still) => Ok(Effect::Nothing),
-            Ok(Tried::Runs) => Ok(Effect::Limit),
-            Ok(Tried::Came(made)) => {
-                let effect = self.keep_parts(before, made, mover.pid, touch.place)?;
+        let before = collapsed.before;
+        match self.try_next(mover, &collapsed.process, most) {
+            Ok(Attempt::Still) => Ok(Effect::Nothing),
+            Ok(Attempt::Runs) => Ok(Effect::Limit),
+            Ok(Attempt::Came(made)) => {
+                let effect = self.keep_parts(before, made, mover.pid, footprint.place)?;
                 Ok(effect)
             }
             Err(fault) => Err(fault),
@@ -163,33 +168,42 @@ impl Store {
 
     /// What comes of a step of a process at its call that works on one object. It is made if it wasn't
     /// made before.
-    fn effect_of(&mut self, mover: Mover, touch: Touch, most: u32) -> Result<Effect, ExploreFault>
+    fn effect_of(
+        &mut self,
+        mover: Mover,
+        footprint: Footprint,
+        most: u32,
+    ) -> Result<Effect, ExploreFault>
         requires store { IsStore self.old }
         requires operand { (k : KernelState) → IsExactly self.old mover.kernel k
-            → HasTouch self.old k mover.pid touch }
+            → HasFootprint self.old k mover.pid footprint }
         ensures later { OnOk result (IsLater self.old self.new) }
-        ensures touched { IfOk result (IsTouched self.new touch) }
+        ensures footprint_effect { IfOk result (IsFootprintEffect self.new footprint) }
     {
-        if let Some(effect) = self.moves.touches.find(touch) {
+        if let Some(effect) = self.moves.footprints.find(footprint) {
             return Ok(effect);
         }
-        let effect = self.make_effect(mover, touch, most)?;
-        self.moves.touches.keep(touch, effect)?;
+        let effect = self.make_effect(mover, footprint, most)?;
+        self.moves.footprints.keep(footprint, effect)?;
         Ok(effect)
     }
 
     /// What a process does next, if it stands at a call that works on one object.
-    fn make_touched(&mut self, mover: Mover, most: u32) -> Result<Option<Next>, ExploreFault>
+    fn make_footprint_effect(
+        &mut self,
+        mover: Mover,
+        most: u32,
+    ) -> Result<Option<Next>, ExploreFault>
         requires store { IsStore self.old }
         requires kernel { (k : KernelState) × IsExactly self.old mover.kernel k }
         ensures later { OnOk result (IsLater self.old self.new) }
         ensures next { IfOk result (λ found. IfSome found (IsMoveFrom self.new mover)) }
     {
-        let Some(touch) = self.touch_at(mover) else {
+        let Some(footprint) = self.footprint_at(mover) else {
             return Ok(None);
         };
-        let effect = self.effect_of(mover, touch, most)?;
-        let next = self.keep_next_by(mover, touch.place, effect)?;
+        let effect = self.effect_of(mover, footprint, most)?;
+        let next = self.keep_next_by(mover, footprint.place, effect)?;
         Ok(next)
     }
 
@@ -201,7 +215,7 @@ impl Store {
         ensures later { OnOk result (IsLater self.old self.new) }
         ensures next { OnOk result (IsMoveFrom self.new mover next) }
     {
-        let Some(_) = self.states.short(mover.state as usize) else {
+        let Some(_) = self.states.collapsed(mover.state as usize) else {
             return Ok(());
         };
         let worlds = self.rows.len();
@@ -220,7 +234,7 @@ impl Store {
         ensures later { OnOk result (IsLater self.old self.new) }
         ensures next { IfOk result (IsMoveFrom self.new mover) }
     {
-        if let Some(next) = self.make_touched(mover, most)? {
+        if let Some(next) = self.make_footprint_effect(mover, most)? {
             self.keep_move(mover, next)?;
             return Ok(next);
         }

@@ -2,7 +2,7 @@
 ghost use Rattle.std.specs.Prelude.{◌≡◌, IsTrue, IfOk, IfSome, OnOk};
 ghost use Rattle.lab_sched.specs.Worlds.{WorldState};
 ghost use Rattle.lab_search.specs.declared.store.Next.TheVariants.{Limit};
-ghost use Rattle.lab_search.specs.Stored.{IsStore, AreKnown, LeadsTo, HasEdge, IsNextAt, IsAt, IsTried, IsExpanded};
+ghost use Rattle.lab_search.specs.Stored.{IsStore, AreKnown, LeadsTo, HasEdge, IsNextAt, IsAt, HasEdgeIfEnabled, IsExpanded};
 ghost use Rattle.lab_search.specs.Private.Stored.{IsLater, IsStep};
 
 use crate::known::Mover;
@@ -12,7 +12,7 @@ use lab_states::Edge;
 use lab_worlds::{ExploreFault, Limits};
 use std::alloc::AllocError;
 
-/// Whether both are so.
+/// `first && second`, which is a branch that what stands behind it would be proved twice for.
 pub fn both(first: bool, second: bool) -> bool
     ensures first { IsTrue result → IsTrue first }
     ensures second { IsTrue result → IsTrue second }
@@ -48,8 +48,8 @@ impl Store {
     pub fn known_steps(&self, at: usize, pid: u32) -> Option<u32> {
         let (kernel, state) = self.places(at, pid)?;
         let mover = Mover { kernel, pid, state };
-        if let Some(touch) = self.touch_at(mover) {
-            if let Some(effect) = self.moves.touches.find(touch) {
+        if let Some(footprint) = self.footprint_at(mover) {
+            if let Some(effect) = self.moves.footprints.find(footprint) {
                 return effect.steps();
             }
         }
@@ -135,8 +135,8 @@ impl Store {
         requires store { IsStore self.old }
         requires next { IsNextAt self.old at pid next }
         ensures later { OnOk result (IsLater self.old self.new) }
-        ensures tried { IfOk result (λ whole. IsTrue whole → (w : WorldState)
-            → IsAt self.old at w → IsTried self.new at w pid) }
+        ensures expanded_in { IfOk result (λ whole. IsTrue whole → (w : WorldState)
+            → IsAt self.old at w → HasEdgeIfEnabled self.new at w pid) }
     {
         match next {
             Next::Nothing => Ok(true),
@@ -159,12 +159,12 @@ impl Store {
     fn try_process(&mut self, at: usize, pid: u32, limits: Limits) -> Result<bool, ExploreFault>
         requires store { IsStore self.old }
         ensures later { OnOk result (IsLater self.old self.new) }
-        ensures tried { IfOk result (λ whole. IsTrue whole → (w : WorldState)
-            → IsAt self.old at w → IsTried self.new at w pid) }
+        ensures expanded_in { IfOk result (λ whole. IsTrue whole → (w : WorldState)
+            → IsAt self.old at w → HasEdgeIfEnabled self.new at w pid) }
     {
         let next = self.next(at, pid, limits.steps)?;
-        let tried = self.go_to(at, pid, next, limits.worlds)?;
-        Ok(tried)
+        let expanded_in = self.go_to(at, pid, next, limits.worlds)?;
+        Ok(expanded_in)
     }
 
     /// Tries each process from the world of a row; with whether that could be done.
@@ -178,8 +178,8 @@ impl Store {
         };
         let mut whole = true;
         for pid in 0..count {
-            let tried = self.try_process(at, pid, limits)?;
-            whole = both(whole, tried);
+            let expanded_in = self.try_process(at, pid, limits)?;
+            whole = both(whole, expanded_in);
         }
         Ok(whole)
     }

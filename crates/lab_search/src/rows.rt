@@ -1,4 +1,4 @@
-//! The worlds that a search keeps.
+//! The hash table of worlds: each is kept once.
 ghost use Rattle.std.specs.Prelude.{◌≡◌, Some, IsTrue, length, slice_get, slice_set, IfOk, IfSome, OnOk};
 ghost use Rattle.lab_sched.specs.Worlds.{WorldState};
 ghost use Rattle.lab_states.specs.Rows.{Row, row_of};

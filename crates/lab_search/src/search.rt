@@ -1,13 +1,13 @@
-//! The search of every world.
+//! Breadth-first search of the state space.
 ghost use Rattle.std.specs.Prelude.{◌≡◌, All, IsTrue, false, map, IfOk, IfSome, OnOk};
 ghost use Rattle.lab_sched.specs.Held.{process_view, IsHeld};
 ghost use Rattle.lab_worlds.specs.Closed.{HasAdvance};
 ghost use Rattle.lab_worlds.specs.Stepped.{IsReady};
 ghost use Rattle.lab_states.specs.Rows.{row_of};
-ghost use Rattle.lab_search.specs.Sparse.{AreTriedIn, IsSearchedIn};
-ghost use Rattle.lab_search.specs.Private.Sparse.{StatesKeepNames};
+ghost use Rattle.lab_search.specs.Reduced.{AreExpandedIn, IsSearchedIn};
+ghost use Rattle.lab_search.specs.Private.Reduced.{StatesKeepNames};
 ghost use Rattle.lab_search.specs.Stored.{IsState, IsAt, IsStore};
-ghost use Rattle.lab_search.specs.Private.Stored.{IsLater, IsCome, IsBegun};
+ghost use Rattle.lab_search.specs.Private.Stored.{IsLater, IsLocalSuccessor, AreInitialStates};
 
 use crate::moves::both;
 use crate::store::Store;
@@ -18,41 +18,41 @@ use std::alloc::{AllocError, Global};
 
 /// The state that a process comes to by so many local steps, by its place.
 #[derive(Clone, Copy, Drop)]
-pub struct Come {
+pub struct LocalSuccessor {
     pub state: u32,
     pub taken: u32,
 }
 
 /// The states that processes begin with, at their first calls, and the local steps to them.
 #[derive(Drop)]
-pub struct Begun {
+pub struct InitialStates {
     pub states: Vec<u32>,
     pub firsts: Vec<u32>,
 }
 
 /// What a search found: the worlds and the moves between them, the local steps of each process before
-/// them, and whether these are all, or in a sparse search as many as show every end. If they aren't,
+/// them, and whether these are all, or in a reduced search as many as show every end. If they aren't,
 /// memory may have been refused.
 #[derive(Drop)]
 pub struct Search {
     pub store: Store,
     pub firsts: Vec<u32>,
-    pub sparse: bool,
+    pub reduced: bool,
     pub complete: bool,
     pub refused: bool,
 }
 
 /// After how many worlds it is looked once more how much memory is taken.
-const OFTEN: usize = 16;
+const MEMORY_CHECK_PERIOD: usize = 16;
 
 impl Store {
     /// Keeps the state of a process that stands at its call, if it does.
-    fn keep_ahead(&mut self, ahead: Ahead) -> Result<Option<Come>, ExploreFault>
+    fn keep_ahead(&mut self, ahead: Ahead) -> Result<Option<LocalSuccessor>, ExploreFault>
         requires store { IsStore self.old }
         requires held { IsHeld ahead.process }
         requires at_call { IsTrue ahead.at_call → IsReady ahead.process }
         ensures later { OnOk result (IsLater self.old self.new) }
-        ensures kept { IfOk result (λ come. IfSome come (λ x.
+        ensures kept { IfOk result (λ successor. IfSome successor (λ x.
             IsTrue ahead.at_call × IsState self.new x.state (process_view ahead.process))) }
     {
         let Ahead {
@@ -65,79 +65,89 @@ impl Store {
             return Ok(None);
         }
         let state = self.keep_state(process)?;
-        Ok(Some(Come { state, taken }))
+        Ok(Some(LocalSuccessor { state, taken }))
     }
 
     /// Keeps the state that a process comes to by all its local steps, if it may take so many.
-    fn keep_first(&mut self, process: &Process, most: u32) -> Result<Option<Come>, ExploreFault>
+    fn keep_first(
+        &mut self,
+        process: &Process,
+        most: u32,
+    ) -> Result<Option<LocalSuccessor>, ExploreFault>
         requires store { IsStore self.old }
         requires held { IsHeld process.now }
         ensures later { OnOk result (IsLater self.old self.new) }
-        ensures come { IfOk result (λ come. IfSome come (λ x.
-            IsCome self.new x.state (process_view process.now))) }
+        ensures successor { IfOk result (λ successor. IfSome successor (λ x.
+            IsLocalSuccessor self.new x.state (process_view process.now))) }
     {
         let process = process.copy(self.alloc)?;
         let ahead = advance(self.alloc, process, most)?;
-        let come = self.keep_ahead(ahead)?;
-        Ok(come)
+        let successor = self.keep_ahead(ahead)?;
+        Ok(successor)
     }
 
     /// Keeps the states that processes come to by all their local steps, if they may take so many.
-    fn begin(&mut self, processes: &[Process], most: u32) -> Result<Option<Begun>, ExploreFault>
+    fn begin(
+        &mut self,
+        processes: &[Process],
+        most: u32,
+    ) -> Result<Option<InitialStates>, ExploreFault>
         requires store { IsStore self.old }
         requires held { All IsHeld processes.now }
         ensures later { OnOk result (IsLater self.old self.new) }
-        ensures begun { IfOk result (λ begun. IfSome begun (λ x.
-            IsBegun self.new x.states.items (map process_view processes.now))) }
+        ensures initial { IfOk result (λ initial. IfSome initial (λ x.
+            AreInitialStates self.new x.states.items (map process_view processes.now))) }
     {
         let mut states = Vec::new(self.alloc);
         let mut firsts = Vec::new(self.alloc);
         for process in processes {
-            let Some(come) = self.keep_first(process, most)? else {
+            let Some(successor) = self.keep_first(process, most)? else {
                 return Ok(None);
             };
-            states.push(come.state)?;
-            firsts.push(come.taken)?;
+            states.push(successor.state)?;
+            firsts.push(successor.taken)?;
         }
-        Ok(Some(Begun { states, firsts }))
+        Ok(Some(InitialStates { states, firsts }))
     }
 
     /// Whether no process is about to take a name away in a state that is kept, where that matters.
-    fn keeps_names(&self, sparse: bool) -> bool
-        ensures names { IsTrue result → IsTrue sparse → StatesKeepNames self.now }
+    fn keeps_names(&self, reduced: bool) -> bool
+        ensures names { IsTrue result → IsTrue reduced → StatesKeepNames self.now }
     {
-        !sparse || !self.states.unlinks()
+        !reduced || !self.states.unlinks()
     }
 
-    /// Tries what is to be tried from each world, in a search that is sparse or isn't; with whether that
-    /// could be done, and no process is about to take a name away where the search is sparse.
+    /// Tries what is to be tried from each world, in a search that is reduced or isn't; with whether that
+    /// could be done, and no process is about to take a name away where the search is reduced.
     fn expand_all<O: Observer>(
         &mut self,
         limits: Limits,
         observer: &mut O,
-        sparse: bool,
+        reduced: bool,
     ) -> Result<bool, ExploreFault>
         requires store { IsStore self.old }
         ensures later { OnOk result (IsLater self.old self.new) }
-        ensures all { IfOk result (λ whole. IsTrue whole → AreTriedIn sparse self.new) }
-        ensures names { IfOk result (λ whole. IsTrue whole → IsTrue sparse
+        ensures all { IfOk result (λ whole. IsTrue whole → AreExpandedIn reduced self.new) }
+        ensures names { IfOk result (λ whole. IsTrue whole → IsTrue reduced
             → StatesKeepNames self.new) }
     {
         let most = limits.worlds as usize;
         let mut whole = true;
         for at in 0..most {
             if at >= self.rows.len() {
-                return Ok(both(whole, self.keeps_names(sparse)));
+                return Ok(both(whole, self.keeps_names(reduced)));
             }
-            if !self.keeps_names(sparse) || at % OFTEN == 0 && self.size() > limits.memory {
+            if !self.keeps_names(reduced)
+                || at % MEMORY_CHECK_PERIOD == 0 && self.size() > limits.memory
+            {
                 return Ok(false);
             }
             observer.see(at, self.rows.len() - at);
-            let tried = self.expand_in(at, limits, sparse)?;
-            whole = both(whole, tried);
+            let expanded_in = self.expand_in(at, limits, reduced)?;
+            whole = both(whole, expanded_in);
         }
         let within = both(whole, self.rows.len() <= most);
-        Ok(both(within, self.keeps_names(sparse)))
+        Ok(both(within, self.keeps_names(reduced)))
     }
 }
 
@@ -151,15 +161,15 @@ fn first_row(alloc: Global, kernel: u32, states: &[u32]) -> Result<Vec<u32>, All
 }
 
 impl Search {
-    fn new(alloc: Global, processes: usize, sparse: bool) -> Result<Search, AllocError>
-        ensures sparse { IfOk result (λ s. s.sparse ≡ sparse) }
+    fn new(alloc: Global, processes: usize, reduced: bool) -> Result<Search, AllocError>
+        ensures reduced { IfOk result (λ s. s.reduced ≡ reduced) }
         ensures store { IfOk result (λ s. IsStore s.store) }
         ensures open { IfOk result (λ s. s.complete ≡ false) }
     {
         Ok(Search {
             store: Store::new(alloc, processes)?,
             firsts: Vec::new(alloc),
-            sparse,
+            reduced,
             complete: false,
             refused: false,
         })
@@ -178,15 +188,15 @@ impl Search {
         requires held { All IsHeld processes.now }
         ensures store { OnOk result (IsStore self.new.store) }
         ensures open { OnOk result (self.new.complete ≡ false) }
-        ensures sparse { OnOk result (self.new.sparse ≡ self.old.sparse) }
+        ensures reduced { OnOk result (self.new.reduced ≡ self.old.reduced) }
         ensures begins { IfOk result (λ kept. IsTrue kept → HasAdvance (IsAt self.new.store 0)
             (record { processes = map process_view processes.now; kernel = kernel.now })) }
     {
         let kernel = self.store.keep_alike(kernel)?;
-        let Some(begun) = self.store.begin(processes, limits.steps)? else {
+        let Some(initial) = self.store.begin(processes, limits.steps)? else {
             return Ok(false);
         };
-        let Begun { states, firsts } = begun;
+        let InitialStates { states, firsts } = initial;
         self.firsts = firsts;
         let first = first_row(self.store.alloc, kernel, states.as_slice())?;
         let kept = self.store.keep_first_row(first.as_slice(), limits.worlds)?;
@@ -199,13 +209,13 @@ impl Search {
         requires open { self.old.complete ≡ false }
         ensures later { OnOk result (IsTrue self.new.complete
             → IsLater self.old.store self.new.store) }
-        ensures sparse { OnOk result (self.new.sparse ≡ self.old.sparse) }
-        ensures tried { OnOk result (IsTrue self.new.complete
-            → AreTriedIn self.old.sparse self.new.store) }
-        ensures names { OnOk result (IsTrue self.new.complete → IsTrue self.old.sparse
+        ensures reduced { OnOk result (self.new.reduced ≡ self.old.reduced) }
+        ensures expanded_in { OnOk result (IsTrue self.new.complete
+            → AreExpandedIn self.old.reduced self.new.store) }
+        ensures names { OnOk result (IsTrue self.new.complete → IsTrue self.old.reduced
             → StatesKeepNames self.new.store) }
     {
-        match self.store.expand_all(limits, observer, self.sparse) {
+        match self.store.expand_all(limits, observer, self.reduced) {
             Ok(true) => {
                 self.store.close();
                 self.complete = true;
@@ -237,8 +247,8 @@ impl Search {
         requires open { self.old.complete ≡ false }
         requires held { All IsHeld processes.now }
         ensures store { OnOk result (IsTrue self.new.complete → IsStore self.new.store) }
-        ensures sparse { OnOk result (self.new.sparse ≡ self.old.sparse) }
-        ensures complete { OnOk result (IsTrue self.new.complete → IsSearchedIn self.old.sparse
+        ensures reduced { OnOk result (self.new.reduced ≡ self.old.reduced) }
+        ensures complete { OnOk result (IsTrue self.new.complete → IsSearchedIn self.old.reduced
             (record { processes = map process_view processes.now; kernel = kernel.now })
             self.new.store) }
     {
@@ -252,22 +262,22 @@ impl Search {
 }
 
 /// Searches the worlds that processes over a kernel can come to, as far as the limits allow, in a search
-/// that is sparse or isn't.
+/// that is reduced or isn't.
 fn search_in<O: Observer>(
     alloc: Global,
     processes: &[Process],
     kernel: &Kernel,
     limits: Limits,
     observer: &mut O,
-    sparse: bool,
+    reduced: bool,
 ) -> Result<Search, ExploreFault>
     requires held { All IsHeld processes.now }
-    ensures sparse { IfOk result (λ s. s.sparse ≡ sparse) }
+    ensures reduced { IfOk result (λ s. s.reduced ≡ reduced) }
     ensures store { IfOk result (λ s. IsTrue s.complete → IsStore s.store) }
-    ensures complete { IfOk result (λ s. IsTrue s.complete → IsSearchedIn sparse
+    ensures complete { IfOk result (λ s. IsTrue s.complete → IsSearchedIn reduced
         (record { processes = map process_view processes.now; kernel = kernel.now }) s.store) }
 {
-    let mut search = Search::new(alloc, processes.len(), sparse)?;
+    let mut search = Search::new(alloc, processes.len(), reduced)?;
     match search.fill(processes, kernel, limits, observer) {
         Ok(()) => Ok(search),
         Err(fault) => {
@@ -285,16 +295,16 @@ pub fn search_all<O: Observer>(
     kernel: &Kernel,
     limits: Limits,
     observer: &mut O,
-    sparse: bool,
+    reduced: bool,
 ) -> Result<Search, ExploreFault>
     requires held { All IsHeld processes.now }
-    ensures sparse { IfOk result (λ s. sparse ≡ false → s.sparse ≡ false) }
+    ensures reduced { IfOk result (λ s. reduced ≡ false → s.reduced ≡ false) }
     ensures store { IfOk result (λ s. IsTrue s.complete → IsStore s.store) }
-    ensures complete { IfOk result (λ s. IsTrue s.complete → IsSearchedIn s.sparse
+    ensures complete { IfOk result (λ s. IsTrue s.complete → IsSearchedIn s.reduced
         (record { processes = map process_view processes.now; kernel = kernel.now }) s.store) }
 {
-    let search = search_in(alloc, processes, kernel, limits, observer, sparse)?;
-    if !sparse || !search.store.states.unlinks() {
+    let search = search_in(alloc, processes, kernel, limits, observer, reduced)?;
+    if !reduced || !search.store.states.unlinks() {
         return Ok(search);
     }
     discard(search);

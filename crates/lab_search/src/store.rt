@@ -1,9 +1,9 @@
-//! What a search keeps.
+//! The state space as it is stored.
 ghost use Rattle.std.specs.Prelude.{◌≡◌, false, IsTrue, IfOk, OnOk};
 ghost use Rattle.ipc_kernel.specs.Kernel.{IsSettled};
 ghost use Rattle.lab_sched.specs.Held.{process_view};
 ghost use Rattle.lab_worlds.specs.Stepped.{IsReady};
-ghost use Rattle.lab_states.specs.Shorts.{whole_of, IsWithin};
+ghost use Rattle.lab_states.specs.CollapsedStates.{whole_of, IsWithin};
 ghost use Rattle.lab_search.specs.declared.store.Next.TheVariants.{Nothing};
 ghost use Rattle.lab_search.specs.Stored.{IsExactly, IsState, IsKernel, IsStore};
 ghost use Rattle.lab_search.specs.Private.Stored.{IsLater};
@@ -12,7 +12,7 @@ use crate::known::Moves;
 use ipc_kernel::Kernel;
 use ipc_store::{Index, Kernels, arranged};
 use lab_sched::Process;
-use lab_states::{Edges, Parents, Rows, Short, States};
+use lab_states::{CollapsedState, Edges, Parents, Rows, States};
 use std::alloc::{AllocError, Global};
 
 /// What a process does next.
@@ -112,15 +112,15 @@ impl Store {
 
     /// Keeps the state of a process at a call, which has written an output that is kept and its own
     /// behind that; with its place.
-    pub(crate) fn keep_behind(&mut self, short: Short) -> Result<u32, AllocError>
+    pub(crate) fn keep_behind(&mut self, collapsed: CollapsedState) -> Result<u32, AllocError>
         requires store { IsStore self.old }
-        requires within { IsWithin self.old.states.outputs short }
-        requires ready { IsReady (whole_of self.old.states.outputs short) }
+        requires within { IsWithin self.old.states.outputs collapsed }
+        requires ready { IsReady (whole_of self.old.states.outputs collapsed) }
         ensures later { OnOk result (IsLater self.old self.new) }
         ensures state { IfOk result (λ i.
-            IsState self.new i (process_view (whole_of self.old.states.outputs short))) }
+            IsState self.new i (process_view (whole_of self.old.states.outputs collapsed))) }
     {
-        let place = self.states.keep_behind(self.alloc, short)?;
+        let place = self.states.keep_behind(self.alloc, collapsed)?;
         Ok(place)
     }
 

@@ -1,6 +1,6 @@
 mod PieceLemmas
 pub mod SilentProcesses
-mod ShortStates
+mod CollapsedStateLemmas
 mod StandingStates
 mod RowTables
 mod EdgeLists

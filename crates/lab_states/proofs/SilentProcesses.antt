@@ -27,7 +27,7 @@ use Rattle.lab_conditions.specs.Conditions.{must_wait, option_any, call_next, ca
 use Rattle.lab_conditions.specs.Losses.{is_receiving}
 use Rattle.ipc_kernel.specs.Answer.{is_receive}
 use Rattle.lab_conditions.proofs.CarriedConditions.{carried}
-use Rattle.lab_states.specs.Shorts.{silent}
+use Rattle.lab_states.specs.CollapsedStates.{silent}
 
 -- a service is asked for the same
 same_service : (s : Service) (p : Machine) (o : List ℕ) → service_request s (with_whole_output p o) ≡ service_request s p

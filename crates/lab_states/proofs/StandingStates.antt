@@ -5,7 +5,7 @@ use Rattle.lab_sched.specs.Worlds.{Process, Running, Waiting, Ended, NextAction,
 use Rattle.lab_sched.specs.Held.{process_view}
 use Rattle.lab_conditions.specs.Conditions.{call_next, call_of, StandsAt}
 use Rattle.lab_worlds.specs.Calls.{Both}
-use Rattle.lab_states.specs.declared.shorts.Short.{Short}
+use Rattle.lab_states.specs.declared.collapsed_states.CollapsedState.{CollapsedState}
 use Rattle.lab_states.specs.Private.Standing.{IsStanding, AreStanding}
 
 -- a process stands at its call
@@ -19,9 +19,9 @@ standing (Waiting m d) c e = cc
 standing (Ended f) c e = absurd (cc)
 
 -- the state beside a call
-pub standing_at : (ss : List Short) (cs : List (Option Call)) (i : ℕ) (c : Call) → AreStanding ss cs → slice_get cs i ≡ Some (Some c) → (s : Short) × (slice_get ss i ≡ Some s) × StandsAt (process_view s.process) c
+pub standing_at : (ss : List CollapsedState) (cs : List (Option Call)) (i : ℕ) (c : Call) → AreStanding ss cs → slice_get cs i ≡ Some (Some c) → (s : CollapsedState) × (slice_get ss i ≡ Some s) × StandsAt (process_view s.process) c
 standing_at ss cs i c are e = by (slice_get ss i) refl (subst (λ o. Both IsStanding (slice_get ss i) o) e (are i))
   where
-    by : (o : Option Short) → slice_get ss i ≡ o → Both IsStanding (slice_get ss i) (Some (Some c)) → (s : Short) × (slice_get ss i ≡ Some s) × StandsAt (process_view s.process) c
+    by : (o : Option CollapsedState) → slice_get ss i ≡ o → Both IsStanding (slice_get ss i) (Some (Some c)) → (s : CollapsedState) × (slice_get ss i ≡ Some s) × StandsAt (process_view s.process) c
     by None f b = absurd (subst (λ x. Both IsStanding x (Some (Some c))) f b)
     by (Some s) f b = (s, f, standing (process_view s.process) c (subst (λ x. Both IsStanding x (Some (Some c))) f b))

@@ -7,11 +7,11 @@ abbrev pub rank_of : List ℕ → ℕ → ℕ
 rank_of ranks i = unwrap_or (slice_get ranks i) 0
 
 -- the process of a rank, if it has one
-abbrev pub keeper_of : List (Option ℕ) → ℕ → Option ℕ
-keeper_of keepers k = unwrap_or (slice_get keepers k) None
+abbrev pub starved_of : List (Option ℕ) → ℕ → Option ℕ
+starved_of starved_processes k = unwrap_or (slice_get starved_processes k) None
 
 -- the edge leads to a lesser rank, or from a rank that has a process to the same by a step of another
-pub record IsFalling (ranks : List ℕ) (keepers : List (Option ℕ)) (e : Edge) : Type 0 where
+pub record IsFalling (ranks : List ℕ) (starved_processes : List (Option ℕ)) (e : Edge) : Type 0 where
   pub falls : (rank_of ranks e.to < rank_of ranks e.from)
       ⊎ ((rank_of ranks e.to ≡ rank_of ranks e.from)
-      × (p : ℕ) × (keeper_of keepers (rank_of ranks e.from) ≡ Some p) × (e.pid ≡ p → ⊥))
+      × (p : ℕ) × (starved_of starved_processes (rank_of ranks e.from) ≡ Some p) × (e.pid ≡ p → ⊥))

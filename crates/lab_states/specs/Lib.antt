@@ -1,6 +1,6 @@
 pub mod Rows
 pub mod Edges
-pub mod Shorts
+pub mod CollapsedStates
 pub mod Depths
 pub mod Rising
 pub mod Falling

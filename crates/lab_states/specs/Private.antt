@@ -1,6 +1,6 @@
 -- Definitions that no public contract cites.
 pub mod Edges
 pub mod Outputs
-pub mod Shorts
+pub mod CollapsedStates
 pub mod Standing
 pub mod Rising

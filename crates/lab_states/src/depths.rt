@@ -1,4 +1,4 @@
-//! Depths of rows: that no edge leads to one that is more than one deeper.
+//! Breadth-first depths of rows: that no edge leads to one that is more than one deeper.
 ghost use Rattle.std.specs.Prelude.{◌≡◌, All, IsTrue};
 ghost use Rattle.lab_states.specs.Depths.{depth_of, IsNear};
 

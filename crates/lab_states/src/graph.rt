@@ -1,5 +1,5 @@
-//! The order of worlds along the edges between them, and cycles. That an order is one is checked; a
-//! cycle is run again (`rounds`).
+//! Topological order and cycles: the order of worlds along the edges between them, and cycles. That an order is one is checked; a
+//! cycle is run again (`lassos`).
 ghost use Rattle.std.specs.Prelude.{All, IsTrue};
 ghost use Rattle.lab_states.specs.Rising.{IsRising, Rises, AreRising};
 ghost use Rattle.lab_states.specs.Private.Rising.{IsOnward};

@@ -1,26 +1,26 @@
 //! What a search keeps: states of processes, rows of numbers, and edges; and what edges alone show.
 #![tactic(auto)]
 
+mod collapsed_states;
 mod components;
 mod depths;
 mod edges;
+mod fair_sets;
 mod graph;
 mod outputs;
 mod parents;
 mod places;
 mod ranks;
 mod row;
-mod served;
-mod shorts;
 mod states;
 
+pub use collapsed_states::CollapsedState;
 pub use depths::{are_near, depth_of};
 pub use edges::{Edge, Edges};
+pub use fair_sets::{Sets, going_from, only};
 pub use graph::{Cycle, cycle_of, is_order, is_order_by_number, number_at, order_of, path_of, put};
 pub use parents::{Parent, Parents};
 pub use places::place_of;
-pub use ranks::{are_falling, keeper_at, rank_at};
+pub use ranks::{are_falling, rank_at, starved_at};
 pub use row::{Rows, digest_after, digest_of};
-pub use served::{Sets, going_from, only};
-pub use shorts::Short;
 pub use states::States;

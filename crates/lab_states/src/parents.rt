@@ -1,4 +1,4 @@
-//! From where each row was reached first. Nothing that is proved rests on what stands here: the way to a
+//! Breadth-first parents: from where each row was reached first. Nothing that is proved rests on what stands here: the way to a
 //! row is walked again (`walking`).
 use std::alloc::{AllocError, Global};
 use std::mem::size_of;

@@ -1,6 +1,6 @@
-//! Ranks of rows that no edge raises.
+//! Ranking functions: ranks of rows that no edge raises.
 ghost use Rattle.std.specs.Prelude.{◌≡◌, All, IsTrue};
-ghost use Rattle.lab_states.specs.Falling.{rank_of, keeper_of, IsFalling};
+ghost use Rattle.lab_states.specs.Falling.{rank_of, starved_of, IsFalling};
 
 use crate::edges::{Edge, Edges};
 
@@ -15,41 +15,41 @@ pub fn rank_at(ranks: &[u32], at: usize) -> u32
 }
 
 /// The process of a rank, if it has one.
-pub fn keeper_at(keepers: &[Option<u8>], rank: u32) -> Option<u8>
-    ensures keeper { result ≡ keeper_of keepers.now rank }
+pub fn starved_at(starved_processes: &[Option<u8>], rank: u32) -> Option<u8>
+    ensures starved { result ≡ starved_of starved_processes.now rank }
 {
-    match keepers.get(rank as usize) {
-        Some(keeper) => *keeper,
+    match starved_processes.get(rank as usize) {
+        Some(starved) => *starved,
         None => None,
     }
 }
 
 /// Whether an edge leads to a lesser rank, or from one that has a process to the same by a step of
 /// another.
-fn is_falling(ranks: &[u32], keepers: &[Option<u8>], edge: &Edge) -> bool
-    ensures yes { IsTrue result → IsFalling ranks.now keepers.now edge.now }
+fn is_falling(ranks: &[u32], starved_processes: &[Option<u8>], edge: &Edge) -> bool
+    ensures yes { IsTrue result → IsFalling ranks.now starved_processes.now edge.now }
 {
     let from = rank_at(ranks, edge.from as usize);
     let to = rank_at(ranks, edge.to as usize);
     if to < from {
         return true;
     }
-    match keeper_at(keepers, from) {
+    match starved_at(starved_processes, from) {
         Some(pid) => to == from && edge.pid != pid,
         None => false,
     }
 }
 
 /// Whether each edge does.
-pub fn are_falling(ranks: &[u32], keepers: &[Option<u8>], edges: &Edges) -> bool
-    ensures yes { IsTrue result → All (IsFalling ranks.now keepers.now) edges.now }
+pub fn are_falling(ranks: &[u32], starved_processes: &[Option<u8>], edges: &Edges) -> bool
+    ensures yes { IsTrue result → All (IsFalling ranks.now starved_processes.now) edges.now }
 {
     let mut row = 0;
     for at in 0..edges.len() {
         let Some(edge) = edges.get_after(at, row) else {
             return false;
         };
-        if !is_falling(ranks, keepers, &edge) {
+        if !is_falling(ranks, starved_processes, &edge) {
             return false;
         }
         row = edge.from as usize;

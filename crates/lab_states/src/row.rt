@@ -1,4 +1,4 @@
-//! Worlds as rows of numbers: of each that of its kernel, and then those of the states of its
+//! State vectors: worlds as rows of numbers: of each that of its kernel, and then those of the states of its
 //! processes.
 ghost use Rattle.std.specs.Prelude.{◌≡◌, [], ◌∷◌, ◌++◌, false, Some, IfOk, IfSome, IsTrue, OnErr, length, slice_get, slice_set};
 ghost use Rattle.lab_states.specs.Rows.{Row, row_of};

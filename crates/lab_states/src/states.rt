@@ -7,10 +7,10 @@ ghost use Rattle.lab_sched.specs.declared.process.Process.{Process as Kept};
 ghost use Rattle.lab_conditions.specs.Conditions.{StandsAt};
 ghost use Rattle.lab_worlds.specs.Independent.{unlinks};
 ghost use Rattle.lab_states.specs.Private.Outputs.{Extends};
-ghost use Rattle.lab_states.specs.Shorts.{whole_of, IsSameOrMore, IsButForOutput, IsWithin};
+ghost use Rattle.lab_states.specs.CollapsedStates.{whole_of, IsSameOrMore, IsButForOutput, IsWithin};
 
+use crate::collapsed_states::{CollapsedState, CollapsedStates};
 use crate::outputs::{Outputs, PIECE};
-use crate::shorts::{Short, Shorts};
 use ipc_kernel::Call;
 use lab_sched::Process;
 use std::alloc::{AllocError, Global};
@@ -20,52 +20,60 @@ use std::marker::Model;
 /// outputs of processes have in common is kept once.
 #[derive(Drop)]
 pub struct States {
-    shorts: Shorts,
+    collapsed_states: CollapsedStates,
     outputs: Outputs,
 }
 
 impl Model for States {
     ghost use Rattle.std.specs.Prelude.{map};
-    ghost use Rattle.lab_states.specs.Shorts.{whole_of, Sharing};
-    ghost use Rattle.lab_states.specs.Private.Shorts.{AreWithin};
+    ghost use Rattle.lab_states.specs.CollapsedStates.{whole_of, Sharing};
+    ghost use Rattle.lab_states.specs.Private.CollapsedStates.{AreWithin};
 
     ghost Value = { Sharing };
 
     ghost view = { λ a.
-        record { processes = map (whole_of a.outputs) a.shorts; outputs = a.outputs } };
+        record { processes = map (whole_of a.outputs) a.collapsed_states; outputs = a.outputs } };
 
-    ghost invariant = { λ a. AreWithin a.outputs a.shorts };
+    ghost invariant = { λ a. AreWithin a.outputs a.collapsed_states };
 }
 
 /// The same state, of whose output each whole piece is kept among outputs.
-fn shortened(alloc: Global, outputs: &mut Outputs, short: Short) -> Result<Short, AllocError>
-    requires within { IsWithin outputs.old short }
+fn collapsed_of(
+    alloc: Global,
+    outputs: &mut Outputs,
+    collapsed: CollapsedState,
+) -> Result<CollapsedState, AllocError>
+    requires within { IsWithin outputs.old collapsed }
     ensures extends { Extends outputs.old outputs.new }
-    ensures whole { IfOk result (λ kept. whole_of outputs.new kept ≡ whole_of outputs.old short) }
+    ensures whole { IfOk result (λ kept. whole_of outputs.new kept ≡ whole_of outputs.old collapsed) }
     ensures within { IfOk result (λ kept. IsWithin outputs.new kept) }
 {
-    let output = short.process.machine().output();
+    let output = collapsed.process.machine().output();
     if output.len() < PIECE {
-        return Ok(short);
+        return Ok(collapsed);
     }
-    let shared = outputs.keep(short.before, output)?;
+    let shared = outputs.keep(collapsed.before, output)?;
     let rest = Vec::from_slice(alloc, &output[shared.len..])?;
-    let mut process = short.process;
+    let mut process = collapsed.process;
     process.set_output(rest);
-    Ok(Short {
+    Ok(CollapsedState {
         before: shared.number,
         process,
     })
 }
 
 /// The process of a state, with its whole output.
-fn whole_of(alloc: Global, outputs: &Outputs, short: &Short) -> Result<Process, AllocError>
+fn whole_of(
+    alloc: Global,
+    outputs: &Outputs,
+    collapsed: &CollapsedState,
+) -> Result<Process, AllocError>
     requires empty { slice_get outputs.now 0 ≡ Some [] }
-    ensures whole { IfOk result (λ process. process ≡ whole_of outputs.now short.now) }
+    ensures whole { IfOk result (λ process. process ≡ whole_of outputs.now collapsed.now) }
 {
-    let mut process = short.process.copy(alloc)?;
-    if short.before > 0 {
-        let output = outputs.whole(alloc, short.before, process.machine().output())?;
+    let mut process = collapsed.process.copy(alloc)?;
+    if collapsed.before > 0 {
+        let output = outputs.whole(alloc, collapsed.before, process.machine().output())?;
         process.set_output(output);
     }
     Ok(process)
@@ -77,7 +85,7 @@ impl States {
         ensures none { IfOk result (λ states. states.processes ≡ []) }
     {
         Ok(States {
-            shorts: Shorts::new(alloc)?,
+            collapsed_states: CollapsedStates::new(alloc)?,
             outputs: Outputs::new(alloc)?,
         })
     }
@@ -86,36 +94,36 @@ impl States {
     pub fn len(&self) -> usize
         ensures count { result ≡ length self.now.processes }
     {
-        self.shorts.len()
+        self.collapsed_states.len()
     }
 
     /// The state with a number, if there is one.
     pub fn get(&self, alloc: Global, number: usize) -> Result<Option<Process>, AllocError>
         ensures state { IfOk result (λ process. process ≡ slice_get self.now.processes number) }
     {
-        match self.shorts.get(number) {
-            Some(short) => Ok(Some(whole_of(alloc, &self.outputs, short)?)),
+        match self.collapsed_states.get(number) {
+            Some(collapsed) => Ok(Some(whole_of(alloc, &self.outputs, collapsed)?)),
             None => Ok(None),
         }
     }
 
     /// The state with a number, if there is one: the number of an output, and the process behind it.
-    pub fn parts(&self, number: usize) -> Option<&Short>
-        ensures whole { IfSome result (λ short. slice_get self.now.processes number
-            ≡ Some (whole_of self.now.outputs short.now)) }
-        ensures within { IfSome result (λ short. IsWithin self.now.outputs short.now) }
+    pub fn parts(&self, number: usize) -> Option<&CollapsedState>
+        ensures whole { IfSome result (λ collapsed. slice_get self.now.processes number
+            ≡ Some (whole_of self.now.outputs collapsed.now)) }
+        ensures within { IfSome result (λ collapsed. IsWithin self.now.outputs collapsed.now) }
     {
-        self.shorts.get(number)
+        self.collapsed_states.get(number)
     }
 
     /// The process of the state with a number, if there is one, but for its output.
-    pub fn short(&self, number: usize) -> Option<&Process>
+    pub fn collapsed(&self, number: usize) -> Option<&Process>
         ensures state { IfSome result (λ process. (s : Kept)
             × (slice_get self.now.processes number ≡ Some s)
             × IsButForOutput (process_view process.now) (process_view s)) }
     {
-        let short = self.shorts.get(number)?;
-        Some(&short.process)
+        let collapsed = self.collapsed_states.get(number)?;
+        Some(&collapsed.process)
     }
 
     /// The call at which the state with a number stands, if it does.
@@ -124,7 +132,7 @@ impl States {
             × (slice_get self.now.processes number ≡ Some s)
             × StandsAt (process_view s) call.now) }
     {
-        let call = self.shorts.call(number)?;
+        let call = self.collapsed_states.call(number)?;
         Some(call)
     }
 
@@ -133,7 +141,7 @@ impl States {
         ensures ended { IsTrue result → (s : Kept) → slice_get self.now.processes number ≡ Some s
             → HasEnded (process_view s) }
     {
-        self.shorts.has_ended(number)
+        self.collapsed_states.has_ended(number)
     }
 
     /// Whether a process is about to take a name away in one of them.
@@ -141,20 +149,24 @@ impl States {
         ensures none { result ≡ false
             → All (λ s. unlinks (process_view s) ≡ false) self.now.processes }
     {
-        self.shorts.unlinks()
+        self.collapsed_states.unlinks()
     }
 
     /// Keeps a state, which is the process behind an output that is kept; with its number.
-    pub fn keep_behind(&mut self, alloc: Global, short: Short) -> Result<u32, AllocError>
-        requires within { IsWithin self.old.outputs short }
+    pub fn keep_behind(
+        &mut self,
+        alloc: Global,
+        collapsed: CollapsedState,
+    ) -> Result<u32, AllocError>
+        requires within { IsWithin self.old.outputs collapsed }
         ensures kept { OnOk result (IsSameOrMore self.old.processes self.new.processes
-            (whole_of self.old.outputs short)) }
+            (whole_of self.old.outputs collapsed)) }
         ensures state { IfOk result (λ i. option_map process_view
             (slice_get self.new.processes i)
-            ≡ Some (process_view (whole_of self.old.outputs short))) }
+            ≡ Some (process_view (whole_of self.old.outputs collapsed))) }
     {
-        let short = shortened(alloc, &mut self.outputs, short)?;
-        let number = self.shorts.keep(alloc, short)?;
+        let collapsed = collapsed_of(alloc, &mut self.outputs, collapsed)?;
+        let number = self.collapsed_states.keep(alloc, collapsed)?;
         Ok(number)
     }
 
@@ -165,21 +177,27 @@ impl States {
             (slice_get self.new.processes i)
             ≡ Some (process_view process)) }
     {
-        let short = shortened(alloc, &mut self.outputs, Short { before: 0, process })?;
-        let number = self.shorts.keep(alloc, short)?;
+        let collapsed = collapsed_of(
+            alloc,
+            &mut self.outputs,
+            CollapsedState { before: 0, process },
+        )?;
+        let number = self.collapsed_states.keep(alloc, collapsed)?;
         Ok(number)
     }
 
     /// About how many bytes they take.
     pub fn size(&self) -> usize {
-        self.shorts.size().saturating_add(self.outputs.size())
+        self.collapsed_states
+            .size()
+            .saturating_add(self.outputs.size())
     }
 
     /// Lets go of what only `keep` needs.
     pub fn forget(&mut self, alloc: Global)
         ensures same { self.new ≡ self.old }
     {
-        self.shorts.forget(alloc);
+        self.collapsed_states.forget(alloc);
         self.outputs.forget(alloc);
     }
 }

@@ -13,8 +13,8 @@ use Rattle.lab_sched.specs.Verdicts.{IsRunning}
 use Rattle.lab_sched.proofs.WorldLemmas.{fresh_world}
 use Rattle.lab_sched.specs.Held.{process_view, IsHeld, IsWorld}
 use Rattle.lab_sched.specs.Starts.{AreStarts, initial_world, Runs}
-use Rattle.lab_worlds.specs.Untried.{untried, AskAgain}
-use Rattle.lab_worlds.proofs.UntriedWorlds.{running_untried, running_ask, AreRunning}
+use Rattle.lab_worlds.specs.Unwaiting.{unwaiting, AskAgain}
+use Rattle.lab_worlds.proofs.UnwaitingWorlds.{running_unwaiting, running_ask, AreRunning}
 use Rattle.std.specs.Option.{option_map}
 use Rattle.std.proofs.lemmas.Option.{slice_get-map}
 use Rattle.lab_worlds.proofs.Pushes.{all_at}
@@ -45,8 +45,8 @@ starts_run ps k starts p s at = by (slice_get ps p) refl
         subst IsRunning same (all_at Runs ps p x starts.running e)
 
 -- so none has begun to wait
-pub starts_untried : (ps qs : List Kept) (k : KernelState) → qs ≡ ps → AreStarts ps → untried (record { processes = map process_view qs; kernel = k }) ≡ record { processes = map process_view qs; kernel = k }
-starts_untried ps qs k same starts = running_untried (record { processes = map process_view qs; kernel = k }) (starts_run qs k (subst AreStarts (sym same) starts))
+pub starts_unwaiting : (ps qs : List Kept) (k : KernelState) → qs ≡ ps → AreStarts ps → unwaiting (record { processes = map process_view qs; kernel = k }) ≡ record { processes = map process_view qs; kernel = k }
+starts_unwaiting ps qs k same starts = running_unwaiting (record { processes = map process_view qs; kernel = k }) (starts_run qs k (subst AreStarts (sym same) starts))
 
 pub starts_ask : (ps qs : List Kept) (k : KernelState) → qs ≡ ps → AreStarts ps → AskAgain (record { processes = map process_view qs; kernel = k })
 starts_ask ps qs k same starts = running_ask (record { processes = map process_view qs; kernel = k }) (starts_run qs k (subst AreStarts (sym same) starts))

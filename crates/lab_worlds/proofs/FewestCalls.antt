@@ -10,7 +10,7 @@ use Rattle.ipc_kernel.specs.declared.call.Answer.TheVariants.{Done, Wait}
 use Rattle.lab_sched.specs.Worlds.{Process, Running, Waiting, Ended, WorldState, StepEffect, nothing, local_step, kernel_step, step_effect_in, process_after_answer, process_after_reply_to, after, step, entry_of}
 use Rattle.lab_sched.specs.Stepping.{before_wait}
 use Rattle.lab_sched.specs.Verdicts.{is_waiting}
-use Rattle.lab_worlds.specs.Untried.{GoesOn, untried}
+use Rattle.lab_worlds.specs.Unwaiting.{GoesOn, unwaiting}
 use Rattle.lab_sched.proofs.ListPlaces.{get_past}
 use Rattle.lab_worlds.specs.Walked.{waiting}
 use Rattle.lab_worlds.proofs.AfterLocalSteps.{same_some}
@@ -85,8 +85,8 @@ none_waits (Waiting m c ∷ ss) = let one = count_cons is_waiting (Running m) (m
 none_waits (Ended e ∷ ss) = let one = count_cons is_waiting (Ended e) (map before_wait ss) in omega (arith, one, none_waits ss)
 
 -- where none has begun to wait, none waits
-pub untried_waits : (w : WorldState) → waiting (untried w) ≡ 0
-untried_waits w = none_waits w.processes
+pub unwaiting_waits : (w : WorldState) → waiting (unwaiting w) ≡ 0
+unwaiting_waits w = none_waits w.processes
 
 -- one process more, which waits
 pub next_waits : (ss : List Process) (p : ℕ) (s : Process) → slice_get ss p ≡ Some s → is_waiting s ≡ true → count_by is_waiting (take (p + 1) ss) ≡ count_by is_waiting (take p ss) + 1

@@ -16,13 +16,13 @@ use Rattle.lab_sched.proofs.ListPlaces.{get-set_same, get_past}
 use Rattle.lab_sched.proofs.Executions.{effect_local}
 use Rattle.lab_sched.proofs.Commutes.{after_other}
 use Rattle.lab_worlds.specs.Calls.{AreAlike, IsAtCall, IsAhead, Both, IsAdvance}
-use Rattle.lab_worlds.specs.Untried.{GoesOn, NoneGoesOn, untried, AsksAgain, AskAgain}
+use Rattle.lab_worlds.specs.Unwaiting.{GoesOn, NoneGoesOn, unwaiting, AsksAgain, AskAgain}
 use Rattle.lab_worlds.specs.Closed.{HasAdvance, AreAtRest, HoldsEveryEnd}
 use Rattle.lab_worlds.proofs.AlikeWorlds.{effect_alike, kernel_alike, same_effect, consistent_after, consistent_run}
 use Rattle.lab_worlds.proofs.AfterLocalSteps.{stays, ahead_moves, ahead_of_ahead, same_by_gets}
 use Rattle.lab_worlds.specs.Walked.{waiting}
 use Rattle.lab_worlds.proofs.FewestCalls.{calls_in, waiting_goes, waiting_still}
-use Rattle.lab_worlds.proofs.UntriedWorlds.{tells, same_step, none_goes, untried_at, still_untried, goes_untried, asks_on}
+use Rattle.lab_worlds.proofs.UnwaitingWorlds.{tells, same_step, none_goes, unwaiting_at, still_unwaiting, goes_unwaiting, asks_on}
 
 -- a step of the same kind leaves a process in the same state, whatever the rest of the world
 pub same_after : (w v : WorldState) (p : ℕ) (s : Process) (t : StepEffect) → slice_get w.processes p ≡ Some s → slice_get v.processes p ≡ Some s
@@ -72,7 +72,7 @@ idle (kernel_step m c r) = inr tt
 -- levels of worlds: level 0 has the advance of the start, and level n + 1 that of each step by which a
 -- process goes on from a world of level n
 pub record AreLevels (start : WorldState) (V : ℕ → WorldState → Type 0) : Type 0 where
-  pub begins : HasAdvance (V 0) (untried start)
+  pub begins : HasAdvance (V 0) (unwaiting start)
   pub goes_on : (n : ℕ) (v : WorldState) (p : ℕ) → V n v → GoesOn (step_effect_in v p) → HasAdvance (V (n + 1)) (step v p)
 
 -- a step that goes on, from a world whose advance a level has
@@ -124,7 +124,7 @@ goes_advance start V levels n w p consistent goes has = by (slice_get w.processe
 -- a level has the advance of the world, but for who waits; its number, and one for each process that waits, are k at most
 record IsWithin (V : ℕ → WorldState → Type 0) (w : WorldState) (k : ℕ) : Type 0 where
   number : ℕ
-  has : HasAdvance (V number) (untried w)
+  has : HasAdvance (V number) (unwaiting w)
   few : number + waiting w ≤ k
 
 step_within : (start : WorldState) (V : ℕ → WorldState → Type 0) → AreLevels start V → (k : ℕ) (w : WorldState) (p : ℕ) → IsConsistent w.kernel → AskAgain w → IsWithin V w k
@@ -132,15 +132,15 @@ step_within : (start : WorldState) (V : ℕ → WorldState → Type 0) → AreLe
 step_within start V levels k w p consistent asks h = elim (tells (step_effect_in w p)) [
   | inl goes ↦
       let same = same_step w p asks goes in
-      let has = goes_advance start V levels h.number (untried w) p consistent (subst GoesOn (sym same) goes) h.has in
+      let has = goes_advance start V levels h.number (unwaiting w) p consistent (subst GoesOn (sym same) goes) h.has in
       record {
         number = h.number + calls_in p (step_effect_in w p);
-        has = subst (HasAdvance (V (h.number + calls_in p (step_effect_in w p)))) (sym (goes_untried w p asks goes)) (subst (λ t. HasAdvance (V (h.number + calls_in p t)) (step (untried w) p)) same has);
+        has = subst (HasAdvance (V (h.number + calls_in p (step_effect_in w p)))) (sym (goes_unwaiting w p asks goes)) (subst (λ t. HasAdvance (V (h.number + calls_in p t)) (step (unwaiting w) p)) same has);
         few = let few = h.few in let less = waiting_goes w p goes in omega (arith, few, less);
       }
   | inr none ↦ record {
     number = h.number;
-    has = subst (HasAdvance (V h.number)) (sym (still_untried w p none)) h.has;
+    has = subst (HasAdvance (V h.number)) (sym (still_unwaiting w p none)) h.has;
     few = let few = h.few in let more = waiting_still w p none in omega (arith, few, more);
   }
 ]
@@ -180,23 +180,23 @@ rest_at_call w p (Waiting m c) rest asks = (c, asks)
 rest_at_call w p (Ended e) rest asks = tt
 
 -- the world at rest but for who waits has the processes of its advance
-untried_stays : (w v : WorldState) → AskAgain w → AreAtRest w → IsAdvance (untried w) v → AreAlike (untried w) v
-untried_stays w v asks rest h = record {
-  processes = same_by_gets v.processes (untried w).processes (λ p. by p (slice_get w.processes p) (slice_get v.processes p) refl refl);
+unwaiting_stays : (w v : WorldState) → AskAgain w → AreAtRest w → IsAdvance (unwaiting w) v → AreAlike (unwaiting w) v
+unwaiting_stays w v asks rest h = record {
+  processes = same_by_gets v.processes (unwaiting w).processes (λ p. by p (slice_get w.processes p) (slice_get v.processes p) refl refl);
   kernel = h.kernel;
 }
   where
-    by : (p : ℕ) (o b : Option Process) → slice_get w.processes p ≡ o → slice_get v.processes p ≡ b → slice_get v.processes p ≡ slice_get (untried w).processes p
-    by p None None a b = b ∙ sym (untried_at w p None a)
-    by p None (Some u) a b = absurd (subst (λ x. Both IsAhead x (Some u)) (untried_at w p None a) (subst (λ x. Both IsAhead (slice_get (untried w).processes p) x) b (h.processes p)))
-    by p (Some s) None a b = absurd (subst (λ x. Both IsAhead x None) (untried_at w p (Some s) a) (subst (λ x. Both IsAhead (slice_get (untried w).processes p) x) b (h.processes p)))
+    by : (p : ℕ) (o b : Option Process) → slice_get w.processes p ≡ o → slice_get v.processes p ≡ b → slice_get v.processes p ≡ slice_get (unwaiting w).processes p
+    by p None None a b = b ∙ sym (unwaiting_at w p None a)
+    by p None (Some u) a b = absurd (subst (λ x. Both IsAhead x (Some u)) (unwaiting_at w p None a) (subst (λ x. Both IsAhead (slice_get (unwaiting w).processes p) x) b (h.processes p)))
+    by p (Some s) None a b = absurd (subst (λ x. Both IsAhead x None) (unwaiting_at w p (Some s) a) (subst (λ x. Both IsAhead (slice_get (unwaiting w).processes p) x) b (h.processes p)))
     by p (Some s) (Some u) a b =
-        let i : IsAhead (before_wait s) u = subst (λ x. Both IsAhead x (Some u)) (untried_at w p (Some s) a) (subst (λ x. Both IsAhead (slice_get (untried w).processes p) x) b (h.processes p)) in
-        b ∙ ap (λ x. Some x) (stays (before_wait s) u (rest_at_call w p s (rest p s a) (asks p s a)) i) ∙ sym (untried_at w p (Some s) a)
+        let i : IsAhead (before_wait s) u = subst (λ x. Both IsAhead x (Some u)) (unwaiting_at w p (Some s) a) (subst (λ x. Both IsAhead (slice_get (unwaiting w).processes p) x) b (h.processes p)) in
+        b ∙ ap (λ x. Some x) (stays (before_wait s) u (rest_at_call w p s (rest p s a) (asks p s a)) i) ∙ sym (unwaiting_at w p (Some s) a)
 
 -- a level has the advance of whatever world any steps lead to, but for who waits
 pub reaches_world : (start : WorldState) (V : ℕ → WorldState → Type 0) → IsConsistent start.kernel → AskAgain start → AreLevels start V → (ps : List ℕ)
-    → (n : ℕ) × HasAdvance (V n) (untried (run start ps))
+    → (n : ℕ) × HasAdvance (V n) (unwaiting (run start ps))
 reaches_world start V consistent starts levels ps =
     let h = simulates start V levels ps (waiting start) start consistent starts (record { number = 0; has = levels.begins; few = omega arith }) in
     (h.number, h.has)
@@ -204,15 +204,15 @@ reaches_world start V consistent starts levels ps =
 -- a level has the world at rest that any steps lead to, but for who waits; its number, and one for each process that waits, are
 -- no more than the calls among the steps
 pub reaches_end : (start : WorldState) (V : ℕ → WorldState → Type 0) → IsConsistent start.kernel → AskAgain start → AreLevels start V → (ps : List ℕ) → AreAtRest (run start ps)
-    → (v : WorldState) × (n : ℕ) × V n v × NoneGoesOn v × AreAlike (untried (run start ps)) v × (n + waiting (run start ps) ≤ waiting start + length (entries start ps))
+    → (v : WorldState) × (n : ℕ) × V n v × NoneGoesOn v × AreAlike (unwaiting (run start ps)) v × (n + waiting (run start ps) ≤ waiting start + length (entries start ps))
 reaches_end start V consistent starts levels ps rest =
     let w = run start ps in
     let asks = asks_run ps start starts in
     let good = consistent_run ps start consistent in
     let h = simulates start V levels ps (waiting start) start consistent starts (record { number = 0; has = levels.begins; few = omega arith }) in
     let has = h.has in
-    let alike = untried_stays w has.0 asks rest has.2 in
-    (has.0, h.number, has.1, λ p goes. none_goes w p asks (rests_on w p rest) (subst GoesOn (same_effect (untried w) has.0 p good alike) goes), alike, h.few)
+    let alike = unwaiting_stays w has.0 asks rest has.2 in
+    (has.0, h.number, has.1, λ p goes. none_goes w p asks (rests_on w p rest) (subst GoesOn (same_effect (unwaiting w) has.0 p good alike) goes), alike, h.few)
 
 pub holds_every_end : HoldsEveryEnd
 holds_every_end start vs consistent asks closed ps rest =

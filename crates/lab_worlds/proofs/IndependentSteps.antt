@@ -9,7 +9,7 @@ use Rattle.ipc_kernel.specs.Operands.{are_named}
 use Rattle.lab_sched.specs.Worlds.{Process, Running, Waiting, Ended, WorldState, NextAction, moves, calls, next_action, StepEffect, nothing, local_step, kernel_step, step_effect, step_effect_in, process_made, processes_with, kernel_after, after, step, first_try, retry}
 use Rattle.lab_sched.proofs.Commutes.{after_other}
 use Rattle.lab_conditions.specs.Conditions.{option_any, call_next}
-use Rattle.lab_worlds.specs.Untried.{GoesOn}
+use Rattle.lab_worlds.specs.Unwaiting.{GoesOn}
 use Rattle.ipc_kernel.specs.OwnCalls.{is_unlink, OwnCallsCommute, StayNamed}
 use Rattle.lab_worlds.specs.Independent.{unlinks, KeepsNames, IsIndependent}
 

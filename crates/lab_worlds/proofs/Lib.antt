@@ -1,13 +1,13 @@
 pub mod AlikeWorlds
 pub mod AfterLocalSteps
-pub mod UntriedWorlds
+pub mod UnwaitingWorlds
 pub mod FewestCalls
 pub mod HeldAdvances
 mod StepsToCalls
 pub mod Pushes
 pub mod WalkLemmas
 mod KeptEnds
-pub mod FairRounds
+pub mod FairLassos
 pub mod StepsOnObjects
 pub mod IndependentSteps
 pub mod OnwardSteps

@@ -5,7 +5,7 @@ use Rattle.std.proofs.lemmas.List.{length-append}
 use Rattle.ipc_kernel.specs.Operands.{are_named}
 use Rattle.lab_sched.specs.Worlds.{WorldState, step_effect_in, step, run, entry_of, entries}
 use Rattle.lab_sched.proofs.Commutes.{after_other}
-use Rattle.lab_worlds.specs.Untried.{GoesOn}
+use Rattle.lab_worlds.specs.Unwaiting.{GoesOn}
 use Rattle.ipc_kernel.specs.OwnCalls.{OwnCallsCommute, StayNamed}
 use Rattle.lab_worlds.specs.Independent.{KeepsNames, IsIndependent}
 use Rattle.lab_worlds.proofs.FewestCalls.{calls_in}

@@ -15,7 +15,7 @@ use Rattle.ipc_store.proofs.SettledAnswers.{stays_settled}
 use Rattle.lab_sched.specs.Worlds.{Process, Running, Waiting, Ended, calls, next_action, StepEffect, nothing, local_step, kernel_step, step_effect, first_try, retry, process_after, kernel_after}
 use Rattle.lab_sched.specs.Held.{step_of}
 use Rattle.lab_conditions.specs.Conditions.{StandsAt}
-use Rattle.lab_worlds.specs.Untried.{GoesOn}
+use Rattle.lab_worlds.specs.Unwaiting.{GoesOn}
 use Rattle.lab_worlds.specs.Operands.{IsStepAlike, StepsByOperand, StepsSettled}
 
 -- steps with one effect, which leaves the kernels as the answers say
@@ -34,8 +34,8 @@ steps_by_operand k j p q s c i t o sk sj stands at_k at_j hk hj = by s stands
     alike = answers_by_operand k j p q c i t o sk sj at_k at_j hk hj
 
     -- a call that is made for the first time
-    tried : (m : Machine) → next_action m ≡ calls c → IsStepAlike k j p q (Running m) i
-    tried m asks = alike_by k j p q (Running m) i (kernel_step m c (answer j q c).0)
+    attempt : (m : Machine) → next_action m ≡ calls c → IsStepAlike k j p q (Running m) i
+    attempt m asks = alike_by k j p q (Running m) i (kernel_step m c (answer j q c).0)
         (ap (first_try k p m) asks ∙ ap (kernel_step m c) alike.answers) (ap (first_try j q m) asks) alike.kernels
 
     -- nothing is changed where it must still wait
@@ -52,7 +52,7 @@ steps_by_operand k j p q s c i t o sk sj stands at_k at_j hk hj = by s stands
     again m (Done r) is = alike_by k j p q (Waiting m c) i (kernel_step m c (Done r)) (ap (retry m c) (alike.answers ∙ is)) (ap (retry m c) is) alike.kernels
 
     by : (u : Process) → StandsAt u c → IsStepAlike k j p q u i
-    by (Running m) asks = tried m asks
+    by (Running m) asks = attempt m asks
     by (Waiting m d) same = subst (λ x. IsStepAlike k j p q (Waiting m x) i) (sym same) (again m (answer j q c).0 refl)
     by (Ended e) stood = absurd stood
 

@@ -1,14 +1,14 @@
 pub mod Calls
 pub mod Alikes
-pub mod Untried
+pub mod Unwaiting
 pub mod Closed
 pub mod Ends
-pub mod Rounds
+pub mod Lassos
 pub mod Fairness
 pub mod Reached
 pub mod Operands
 pub mod Stepped
 pub mod Walked
-pub mod Passing
+pub mod Segments
 pub mod Independent
 pub mod Private

@@ -8,7 +8,7 @@ use Rattle.ipc_kernel.specs.Operands.{operand_in, with_operand, HasOperand}
 use Rattle.lab_sched.specs.Worlds.{Process, step_effect}
 use Rattle.lab_sched.specs.Held.{step_of}
 use Rattle.lab_conditions.specs.Conditions.{StandsAt}
-use Rattle.lab_worlds.specs.Untried.{GoesOn}
+use Rattle.lab_worlds.specs.Unwaiting.{GoesOn}
 
 -- process s takes its step as p over kernel k and as q over kernel j: it goes on over k where it does
 -- over j, becomes the same, and what it leaves in place i and in the tables of q over j it leaves in

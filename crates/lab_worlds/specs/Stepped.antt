@@ -5,10 +5,10 @@ use Rattle.ipc_kernel.specs.Alike.{IsAlike}
 use Rattle.lab_sched.specs.declared.process.Process.{Process as Kept}
 use Rattle.lab_sched.specs.Worlds.{Process, WorldState, step_effect}
 use Rattle.lab_sched.specs.Held.{process_view, IsHeld, step_of}
-use Rattle.lab_worlds.specs.declared.trying.Tried.{Tried}
-use Rattle.lab_worlds.specs.declared.trying.Tried.TheVariants.{Still, Runs, Came}
+use Rattle.lab_worlds.specs.declared.trying.Attempt.{Attempt}
+use Rattle.lab_worlds.specs.declared.trying.Attempt.TheVariants.{Still, Runs, Came}
 use Rattle.lab_worlds.specs.Calls.{IsAtCall, IsAhead, Alongside}
-use Rattle.lab_worlds.specs.Untried.{GoesOn}
+use Rattle.lab_worlds.specs.Unwaiting.{GoesOn}
 
 -- a state that is kept is at a call, and ready for the reply to it
 abbrev pub IsReady : Kept → Type 0
@@ -27,7 +27,7 @@ pub record AreReached (w v : WorldState) : Type 0 where
 
 -- what a step of process p makes of it and of the kernel, and of it then all its local steps, as
 -- they are
-abbrev pub IsStepped : KernelState → ℕ → Process → Tried → Type 0
+abbrev pub IsStepped : KernelState → ℕ → Process → Attempt → Type 0
 IsStepped k p s Still = GoesOn (step_effect k p (Some s)) → ⊥
 IsStepped k p s Runs = GoesOn (step_effect k p (Some s))
 IsStepped k p s (Came made) =

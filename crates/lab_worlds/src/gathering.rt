@@ -5,14 +5,14 @@ ghost use Rattle.lab_sched.specs.Worlds.{WorldState};
 ghost use Rattle.lab_sched.specs.Starts.{AreStarts, initial_world};
 ghost use Rattle.lab_worlds.specs.Ends.{IsEnd, AreEnds};
 
-use crate::dice::Dice;
 use crate::ends::End;
 use crate::fault::ExploreFault;
+use crate::generator::Generator;
 use crate::limits::Limits;
 use crate::observer::Observer;
 use crate::random::end_along;
+use crate::random_walker::RandomWalker;
 use crate::trying::discard;
-use crate::wandering::Wanderer;
 use lab_sched::Process;
 use std::alloc::Global;
 
@@ -39,11 +39,11 @@ impl Gathering {
         }
     }
 
-    fn is_known(&self, wanderer: &Wanderer, digest: u64) -> bool {
+    fn is_known(&self, walker: &RandomWalker, digest: u64) -> bool {
         for (at, known) in self.digests.iter().enumerate() {
             if *known == digest {
                 if let Some(end) = self.ends.get(at) {
-                    if wanderer.is_at(&end.world) {
+                    if walker.is_at(&end.world) {
                         return true;
                     }
                 }
@@ -56,19 +56,19 @@ impl Gathering {
         &mut self,
         alloc: Global,
         processes: &[Process],
-        wanderer: &mut Wanderer,
+        walker: &mut RandomWalker,
     ) -> Result<(), ExploreFault>
         requires starts { AreStarts processes.now }
         ensures ends { AreEnds (initial_world processes.now) self.old.ends.items
             → AreEnds (initial_world processes.now) self.new.ends.items }
     {
-        let digest = wanderer.digest();
-        if self.is_known(wanderer, digest) {
+        let digest = walker.digest();
+        if self.is_known(walker, digest) {
             return Ok(());
         }
-        wanderer.finish()?;
+        walker.finish()?;
         self.digests.push(digest)?;
-        let end = end_along(alloc, processes, &wanderer.schedule)?;
+        let end = end_along(alloc, processes, &walker.schedule)?;
         self.keep(end)
     }
 
@@ -86,16 +86,16 @@ impl Gathering {
         alloc: Global,
         processes: &[Process],
         limits: Limits,
-        dice: &mut Dice,
+        generator: &mut Generator,
     ) -> Result<(), ExploreFault>
         requires starts { AreStarts processes.now }
         requires held { All IsHeld processes.now }
         ensures ends { AreEnds (initial_world processes.now) self.old.ends.items
             → AreEnds (initial_world processes.now) self.new.ends.items }
     {
-        let mut wanderer = Wanderer::new(alloc, processes)?;
-        let led = self.lead(alloc, processes, limits, dice, &mut wanderer);
-        discard(wanderer);
+        let mut walker = RandomWalker::new(alloc, processes)?;
+        let led = self.lead(alloc, processes, limits, generator, &mut walker);
+        discard(walker);
         led
     }
 
@@ -105,19 +105,19 @@ impl Gathering {
         alloc: Global,
         processes: &[Process],
         limits: Limits,
-        dice: &mut Dice,
-        wanderer: &mut Wanderer,
+        generator: &mut Generator,
+        walker: &mut RandomWalker,
     ) -> Result<(), ExploreFault>
         requires starts { AreStarts processes.now }
-        requires held { All IsHeld wanderer.old.processes.items }
+        requires held { All IsHeld walker.old.processes.items }
         ensures ends { AreEnds (initial_world processes.now) self.old.ends.items
             → AreEnds (initial_world processes.now) self.new.ends.items }
     {
-        if !wanderer.begin(alloc, limits.steps)? {
+        if !walker.begin(alloc, limits.steps)? {
             return Ok(());
         }
-        if wanderer.wander(alloc, dice, limits.worlds, limits.steps)? {
-            self.add(alloc, processes, wanderer)?;
+        if walker.walk_at_random(alloc, generator, limits.worlds, limits.steps)? {
+            self.add(alloc, processes, walker)?;
         }
         Ok(())
     }
@@ -128,7 +128,7 @@ impl Gathering {
         alloc: Global,
         processes: &[Process],
         limits: Limits,
-        mut dice: Dice,
+        mut generator: Generator,
         count: u32,
         observer: &mut O,
     ) -> Result<(), ExploreFault>
@@ -143,7 +143,7 @@ impl Gathering {
             }
             observer.see(begun as usize, (count - begun) as usize);
             self.begun = begun + 1;
-            self.take(alloc, processes, limits, &mut dice)?;
+            self.take(alloc, processes, limits, &mut generator)?;
         }
         Ok(())
     }

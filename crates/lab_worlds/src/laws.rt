@@ -1,17 +1,17 @@
 //! Laws over the definitions alone.
 ghost use Rattle.lab_worlds.specs.Closed.{RestsAlike, HoldsEveryEnd};
 ghost use Rattle.lab_worlds.specs.Alikes.{StepsAlike, OneVerdict};
-ghost use Rattle.lab_worlds.specs.Untried.{UntriedStep};
+ghost use Rattle.lab_worlds.specs.Unwaiting.{StepsUnaffectedByWaits};
 ghost use Rattle.lab_worlds.specs.Operands.{StepsByOperand, StepsSettled};
 
 /// A process that waits does next what it would do if it stood before its call.
-#[tactic(auto, using(crate::proofs::UntriedWorlds::untried_step))]
-pub fn untried_step()
-    ensures law { UntriedStep }
+#[tactic(auto, using(crate::proofs::UnwaitingWorlds::unwaiting_step))]
+pub fn unwaiting_step()
+    ensures law { StepsUnaffectedByWaits }
 {}
 
 /// Worlds at rest that are alike but for who waits are alike.
-#[tactic(auto, using(crate::proofs::UntriedWorlds::rests_alike))]
+#[tactic(auto, using(crate::proofs::UnwaitingWorlds::rests_alike))]
 pub fn worlds_at_rest_are_alike()
     ensures law { RestsAlike }
 {}

@@ -1,14 +1,14 @@
-//! Walks at random through the interleavings, in place of every one of them.
+//! Random walks through the interleavings, in place of every one of them.
 ghost use Rattle.std.specs.Prelude.{◌≡◌, None, false, IfOk, OnOk};
 ghost use Rattle.lab_sched.specs.Starts.{AreStarts, initial_world};
 ghost use Rattle.lab_worlds.specs.Ends.{IsEnd, AreEnds};
 ghost use Rattle.lab_worlds.specs.Walked.{KeepsStart};
 
-use crate::dice::Dice;
 use crate::ends::{End, end_of};
 use crate::exploration::Exploration;
 use crate::fault::ExploreFault;
 use crate::gathering::Gathering;
+use crate::generator::Generator;
 use crate::limits::Limits;
 use crate::observer::Observer;
 use crate::trying::discard;
@@ -69,12 +69,19 @@ pub fn walk_randomly<O: Observer>(
 ) -> Result<Exploration, ExploreFault>
     ensures sound { IfOk result (λ found. AreEnds fresh found.ends.items) }
     ensures open { IfOk result (λ found. found.complete ≡ false) }
-    ensures none { IfOk result (λ found. found.round ≡ None) }
+    ensures none { IfOk result (λ found. found.lasso ≡ None) }
 {
     let processes = fresh.processes();
     let mut gathering = Gathering::new(alloc);
-    let dice = Dice::new(walks.seed);
-    let refused = match gathering.take_all(alloc, &processes, limits, dice, walks.count, observer) {
+    let generator = Generator::new(walks.seed);
+    let refused = match gathering.take_all(
+        alloc,
+        &processes,
+        limits,
+        generator,
+        walks.count,
+        observer,
+    ) {
         Ok(()) => false,
         Err(ExploreFault::NoMemory) => true,
         Err(fault) => {
@@ -89,12 +96,12 @@ impl Gathering {
     fn found(self, alloc: Global, refused: bool) -> Exploration
         ensures ends { result.ends ≡ self.ends }
         ensures open { result.complete ≡ false }
-        ensures none { result.round ≡ None }
+        ensures none { result.lasso ≡ None }
     {
         Exploration {
             ends: self.ends,
             reached: Vec::new(alloc),
-            round: None,
+            lasso: None,
             fair: false,
             worlds: self.begun,
             complete: false,

@@ -6,7 +6,7 @@ ghost use Rattle.lab_sched.specs.Worlds.{Process as Seen, StepEffect, step_effec
 ghost use Rattle.lab_sched.specs.Held.{process_view, IsHeld, step_of, stepped_of};
 ghost use Rattle.lab_sched.specs.LocalRun.{AreLocal};
 ghost use Rattle.lab_worlds.specs.Calls.{IsAtCall};
-ghost use Rattle.lab_worlds.specs.Untried.{GoesOn};
+ghost use Rattle.lab_worlds.specs.Unwaiting.{GoesOn};
 ghost use Rattle.lab_worlds.specs.Stepped.{IsStepped};
 ghost use Rattle.lab_worlds.specs.Private.Stepped.{IsRun};
 
@@ -26,7 +26,7 @@ pub struct Made {
 
 /// What came of a step.
 #[derive(Drop)]
-pub enum Tried {
+pub enum Attempt {
     /// Nothing: the process has ended, or its call must wait.
     Still,
     /// More local steps than the process may take.
@@ -82,14 +82,14 @@ fn run_on(
     }
 }
 
-fn tried_of(made: Option<Made>) -> Tried
+fn attempt_of(made: Option<Made>) -> Attempt
     ensures stepped { (k : KernelState) (p : ℕ) (s : Seen)
         → IsRun (step_of k p s).kernel (step_of k p s).process made
         → GoesOn (step_effect k p (Some s)) → IsStepped k p s result }
 {
     match made {
-        Some(made) => Tried::Came(made),
-        None => Tried::Runs,
+        Some(made) => Attempt::Came(made),
+        None => Attempt::Runs,
     }
 }
 
@@ -111,19 +111,19 @@ fn step_on(
     mut process: Process,
     pid: usize,
     most: u32,
-) -> Result<Tried, ExploreFault>
+) -> Result<Attempt, ExploreFault>
     requires process { pid < length kernel.processes }
     requires held { IsHeld process }
-    ensures stepped { IfOk result (λ tried. IsStepped kernel pid (process_view process) tried) }
+    ensures stepped { IfOk result (λ attempt. IsStepped kernel pid (process_view process) attempt) }
 {
     match take_step(alloc, &mut process, &mut kernel, pid) {
         Ok(stepped) => {
             if !goes_on(stepped) {
                 discard(process);
                 discard(kernel);
-                return Ok(Tried::Still);
+                return Ok(Attempt::Still);
             }
-            Ok(tried_of(run_on(alloc, kernel, process, most)?))
+            Ok(attempt_of(run_on(alloc, kernel, process, most)?))
         }
         Err(_) => {
             discard(process);
@@ -140,9 +140,9 @@ pub fn try_step(
     process: Process,
     pid: usize,
     most: u32,
-) -> Result<Tried, ExploreFault>
+) -> Result<Attempt, ExploreFault>
     requires held { IsHeld process }
-    ensures stepped { IfOk result (λ tried. IsStepped kernel pid (process_view process) tried) }
+    ensures stepped { IfOk result (λ attempt. IsStepped kernel pid (process_view process) attempt) }
 {
     if pid >= kernel.count() {
         discard(kernel);

@@ -1,8 +1,8 @@
-//! Processes that wait.
+//! Blocked processes.
 ghost use Rattle.std.specs.Prelude.{◌≡◌, IsTrue, ◌≤◌, ◌+◌, count_by, take};
 ghost use Rattle.lab_sched.specs.Held.{process_view};
 ghost use Rattle.lab_sched.specs.Verdicts.{is_waiting};
-ghost use Rattle.lab_worlds.specs.Untried.{untried};
+ghost use Rattle.lab_worlds.specs.Unwaiting.{unwaiting};
 ghost use Rattle.lab_worlds.specs.Walked.{waiting};
 
 use lab_sched::{Process, World};
@@ -16,7 +16,7 @@ pub fn waits(process: &Process) -> bool
 
 /// Whether no process of a world waits.
 pub fn none_waits(world: &World) -> bool
-    ensures none { IsTrue result → untried world.now ≡ world.now }
+    ensures none { IsTrue result → unwaiting world.now ≡ world.now }
 {
     for pid in 0..world.count() {
         let Some(process) = world.process(pid) else {

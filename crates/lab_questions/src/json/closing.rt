@@ -1,13 +1,13 @@
 //! The last members of the answers.
 ghost use Rattle.std.specs.Prelude.{◌≡◌, ◌++◌, OnOk, string_bytes};
-ghost use Rattle.lab_questions.specs.Members.{last_members, objects_json, round_json, holds_json, unopened_member, endless_members, holds_member};
+ghost use Rattle.lab_questions.specs.Members.{last_members, objects_json, lasso_json, holds_json, unopened_member, endless_members, holds_member};
 ghost use Rattle.lab_questions.specs.Private.Values.{first_comma};
 ghost use Rattle.lab_questions.specs.Values.{text_json};
 ghost use Rattle.lab_questions.specs.Objects.{object_text};
 
 use crate::json::values::{push_comma, push_schedule, push_text, truth_name};
 use crate::{Answers, Failure, Object};
-use lab_worlds::Round;
+use lab_worlds::Lasso;
 use std::alloc::{AllocError, Global};
 
 /// Adds an object, behind a comma unless it is the first.
@@ -36,18 +36,18 @@ fn push_objects(alloc: Global, text: &mut String, objects: &[Object]) -> Result<
     Ok(())
 }
 
-/// Adds a round, or that there is none.
-fn push_round(alloc: Global, text: &mut String, round: &Option<Round>) -> Result<(), AllocError>
+/// Adds a lasso, or that there is none.
+fn push_lasso(alloc: Global, text: &mut String, lasso: &Option<Lasso>) -> Result<(), AllocError>
     ensures text { OnOk result
-        (string_bytes text.new ≡ string_bytes text.old ++ round_json round.now) }
+        (string_bytes text.new ≡ string_bytes text.old ++ lasso_json lasso.now) }
 {
-    let Some(round) = round else {
+    let Some(lasso) = lasso else {
         return text.push_str("null");
     };
     text.push_str("{\"schedule\":")?;
-    push_schedule(alloc, text, &round.schedule)?;
+    push_schedule(alloc, text, &lasso.schedule)?;
     text.push_str(",\"round\":")?;
-    push_schedule(alloc, text, &round.steps)?;
+    push_schedule(alloc, text, &lasso.steps)?;
     text.push_str("}")
 }
 
@@ -75,21 +75,21 @@ fn push_unopened(alloc: Global, text: &mut String, objects: &[Object]) -> Result
     text.push_str("]")
 }
 
-/// Adds the members for whether only fair rounds are told, and for a round.
+/// Adds the members for whether only fair lassos are told, and for a lasso.
 #[tactic(auto, unfolding(crate::specs::Members::endless_members))]
 fn push_endless(
     alloc: Global,
     text: &mut String,
     fair: bool,
-    round: &Option<Round>,
+    lasso: &Option<Lasso>,
 ) -> Result<(), AllocError>
     ensures text { OnOk result
-        (string_bytes text.new ≡ string_bytes text.old ++ endless_members fair round.now) }
+        (string_bytes text.new ≡ string_bytes text.old ++ endless_members fair lasso.now) }
 {
     text.push_str(",\"fair\":")?;
     text.push_str(truth_name(fair))?;
     text.push_str(",\"endless\":")?;
-    push_round(alloc, text, round)
+    push_lasso(alloc, text, lasso)
 }
 
 #[tactic(auto, unfolding(crate::specs::Members::holds_member))]
@@ -113,7 +113,7 @@ pub(crate) fn push_last(
 {
     let found = &answers.exploration;
     push_unopened(alloc, text, &answers.unopened)?;
-    push_endless(alloc, text, found.fair, &found.round)?;
+    push_endless(alloc, text, found.fair, &found.lasso)?;
     push_holds(text, answers.asked.judges(), answers.failure)?;
     text.push_str("}\n")
 }

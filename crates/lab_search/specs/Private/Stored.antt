@@ -3,7 +3,7 @@ use Rattle.std.specs.Prelude.{ℕ, ◌≡◌, List, [], Some, get_or, slice_get,
 use Rattle.ipc_kernel.specs.Kernel.{KernelState, IsSettled}
 use Rattle.ipc_store.specs.Kept.{GrowsKept}
 use Rattle.lab_sched.specs.Worlds.{Process}
-use Rattle.lab_worlds.specs.declared.trying.Tried.{Tried}
+use Rattle.lab_worlds.specs.declared.trying.Attempt.{Attempt}
 use Rattle.lab_worlds.specs.Calls.{IsAhead, Alongside}
 use Rattle.lab_worlds.specs.Private.Kept.{Keeps}
 use Rattle.lab_worlds.specs.Stepped.{IsStepped}
@@ -13,7 +13,7 @@ use Rattle.lab_search.specs.declared.rows.Change.{Change}
 use Rattle.lab_search.specs.declared.store.Store.{Store}
 use Rattle.lab_search.specs.declared.store.Next.{Next}
 use Rattle.lab_search.specs.declared.store.Next.TheVariants.{To}
-use Rattle.lab_search.specs.declared.touches.Effect.{Effect}
+use Rattle.lab_search.specs.declared.footprints.Effect.{Effect}
 use Rattle.lab_search.specs.Stored.{IsState, IsExactly, IsNext, IsNextAt, IsEffect, IsStore}
 
 -- the output with this number
@@ -58,14 +58,14 @@ IsNextBy t u m i effect next =
     → IsEffect t k m.pid s i effect → IsNext u k m.pid s next
 
 -- what comes of a step where the kernel is given by its place
-abbrev pub IsKeptStep : Store → ℕ → ℕ → Process → Tried → Type 0
-IsKeptStep t kernel p s tried =
-    (k : KernelState) × IsExactly t kernel k × IsSettled k × IsStepped k p s tried
+abbrev pub IsKeptStep : Store → ℕ → ℕ → Process → Attempt → Type 0
+IsKeptStep t kernel p s expanded_in =
+    (k : KernelState) × IsExactly t kernel k × IsSettled k × IsStepped k p s expanded_in
 
 -- the state at a place is the process after all its local steps
-abbrev pub IsCome : Store → ℕ → Process → Type 0
-IsCome t i s = (u : Process) × IsState t i u × IsAhead s u
+abbrev pub IsLocalSuccessor : Store → ℕ → Process → Type 0
+IsLocalSuccessor t i s = (u : Process) × IsState t i u × IsAhead s u
 
 -- the same of each process
-abbrev pub IsBegun : Store → List ℕ → List Process → Type 0
-IsBegun t is ss = Alongside (IsCome t) is ss
+abbrev pub AreInitialStates : Store → List ℕ → List Process → Type 0
+AreInitialStates t is ss = Alongside (IsLocalSuccessor t) is ss

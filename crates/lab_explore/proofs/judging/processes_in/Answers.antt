@@ -2,7 +2,7 @@ use Rattle.std.proofs.Common.{◌∙◌, ◌∷◌, [], ap, arith, map, get_or}
 use Rattle.std.proofs.lemmas.List.{map-append}
 use Rattle.std.proofs.lemmas.Option.{slice_get-get_or}
 use Rattle.lab_sched.specs.Held.{process_view}
-use Rattle.lab_states.specs.Shorts.{silent}
+use Rattle.lab_states.specs.CollapsedStates.{silent}
 use Rattle.lab_explore.proofs.JudgedRows.{states_more, states_all}
 use Rattle.lab_explore.proofs.judging.processes_in.Goals as goal
 

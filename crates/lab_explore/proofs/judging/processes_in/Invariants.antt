@@ -2,7 +2,7 @@ use Rattle.std.proofs.Common.{◌≡◌, List, map, take}
 use Rattle.lab_sched.specs.Worlds.{Process}
 use Rattle.lab_sched.specs.Held.{process_view}
 use Rattle.lab_worlds.specs.Calls.{Alongside}
-use Rattle.lab_states.specs.Shorts.{silent}
+use Rattle.lab_states.specs.CollapsedStates.{silent}
 use Rattle.lab_search.specs.Stored.{IsState}
 use Rattle.lab_explore.proofs.judging.processes_in.Given as goal
 

@@ -1,7 +1,7 @@
 use Rattle.std.proofs.Common.{◌↔◌, ◌∙◌, IsTrue, map, subst}
 use Rattle.lab_sched.specs.Held.{process_view}
 use Rattle.lab_conditions.specs.Conditions.{Holds, world_of}
-use Rattle.lab_states.specs.Shorts.{silent}
+use Rattle.lab_states.specs.CollapsedStates.{silent}
 use Rattle.lab_explore.proofs.JudgedRows.{row_judged, map_twice}
 use Rattle.lab_explore.proofs.judging.row_holds.Goals as goal
 

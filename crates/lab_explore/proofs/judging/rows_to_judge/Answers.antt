@@ -2,7 +2,7 @@ use Rattle.std.proofs.Common.{ℕ, ◌<◌, ◌≤◌, List, ◌∷◌, [], All,
 use Rattle.std.specs.Prelude.{Contains}
 use Rattle.std.proofs.lemmas.List.Elements.{Contains-push, All-push}
 use Rattle.std.proofs.lemmas.List.Sorted.{Contains-permutation, All-permutation}
-use Rattle.lab_worlds.proofs.FairRounds.{contained_more}
+use Rattle.lab_worlds.proofs.FairLassos.{contained_more}
 use Rattle.lab_explore.proofs.judging.rows_to_judge.Goals as goal
 
 pub loop-at-preserved : goal.loop-at-preserved

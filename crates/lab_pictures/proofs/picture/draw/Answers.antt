@@ -16,7 +16,7 @@ pub picture_of-requires : goal.picture_of-requires
 picture_of-requires c = record {
   starts = subst AreStarts (sym c.deref-2.ensures.value) c.processes-processes.ensures.starts;
   store = c.in_ok-visited.ensures.store;
-  expanded = λ is. (whole_search c.in_ok-visited.visited.sparse _ c.in_ok-visited.visited.store (c.in_ok-visited.ensures.sparse refl) (c.in_ok-visited.ensures.complete is)).expanded;
+  expanded = λ is. (whole_search c.in_ok-visited.visited.reduced _ c.in_ok-visited.visited.store (c.in_ok-visited.ensures.reduced refl) (c.in_ok-visited.ensures.complete is)).expanded;
 }
 
 pub returns-in-Ok : goal.returns-in-Ok
@@ -33,7 +33,7 @@ returns-in-Ok c =
       nodes = IfSome_then c.in-Ok.picture drawn (λ x p. subst (λ w. All (IsNode w) x.nodes.items) (sym first) p.nodes);
       arrows = IfSome_then c.in-Ok.picture drawn (λ x p. p.arrows);
       begins = some_both c.in-Ok.picture c.in-Ok.ensures.complete drawn
-          (λ x is p. p.begins c.args.fresh (subst (HasAdvance (IsAt t 0)) (sym same) (whole_search c.in_ok-visited.visited.sparse _ t (c.in_ok-visited.ensures.sparse refl) (c.in_ok-visited.ensures.complete is)).begins));
+          (λ x is p. p.begins c.args.fresh (subst (HasAdvance (IsAt t 0)) (sym same) (whole_search c.in_ok-visited.visited.reduced _ t (c.in_ok-visited.ensures.reduced refl) (c.in_ok-visited.ensures.complete is)).begins));
       all = IfSome_then c.in-Ok.picture drawn (λ x p. p.steps);
       fewest = IfSome_then c.in-Ok.picture drawn (λ x p. p.fewest);
       ends = IfSome_then c.in-Ok.picture drawn (λ x p. subst (λ w. All (IsEndOfNode w) x.nodes.items) (sym first) p.ends);

@@ -1,7 +1,7 @@
 use Rattle.std.proofs.Common.{string_bytes}
 use Rattle.lab_questions.specs.declared.asked.Asked.{Asked}
 use Rattle.lab_questions.proofs.AnswerLemmas.{all_refuted, all_met}
-use Rattle.lab_questions.proofs.ClaimLemmas.{is_complete, has_no_round, tells_every_end, none_stuck}
+use Rattle.lab_questions.proofs.ClaimLemmas.{is_complete, has_no_lasso, tells_every_end, none_stuck}
 use Rattle.lab_questions.proofs.FailureLemmas.{no_failure, all_come, all_other}
 use Rattle.lab_questions.proofs.ToldLemmas.{tell_every_end}
 use Rattle.lab_questions.proofs.asking.ask.Goals as goal
@@ -73,7 +73,7 @@ returns-clause-says_bounded g c unfair says quiet =
     let answers = c.in_ok-said.said.answers.items in
     let text = string_bytes c.in_ok-said.said.text in
     let is = c.in_ok-said.ensures.text in
-    c.in_ok-found.ensures.bounded unfair (is_complete asked found answers text is says) (has_no_round asked found answers text is quiet)
+    c.in_ok-found.ensures.bounded unfair (is_complete asked found answers text is says) (has_no_lasso asked found answers text is quiet)
 
 pub returns-clause-passes : goal.returns-clause-passes
 returns-clause-passes g c =

@@ -4,8 +4,8 @@ use Rattle.lab_explore.proofs.visited.Visited.are_ranked.Goals as goal
 
 pub loop-at-preserved : goal.loop-at-preserved
 loop-at-preserved c =
-    let kept : IsKept c.args.self.now.store c.args.ranks.now c.args.keepers.now c.loop-at.at = c.is_kept.ensures.yes c.if-not-is_kept.false in
-    below_more (IsKept c.args.self.now.store c.args.ranks.now c.args.keepers.now) _ c.loop-at.invariant kept
+    let kept : IsKept c.args.self.now.store c.args.ranks.now c.args.starved_processes.now c.loop-at.at = c.is_kept.ensures.yes c.if-not-is_kept.false in
+    below_more (IsKept c.args.self.now.store c.args.ranks.now c.args.starved_processes.now) _ c.loop-at.invariant kept
 
 pub returns : goal.returns
 returns c =

@@ -1,9 +1,9 @@
 use Rattle.std.proofs.Common.{◌<◌, ◌≡◌, All, false, sym, subst, length}
 use Rattle.lab_sched.specs.Held.{process_view}
-use Rattle.lab_states.specs.Shorts.{Sharing}
-use Rattle.lab_search.specs.Sparse.{AreTriedIn}
+use Rattle.lab_states.specs.CollapsedStates.{Sharing}
+use Rattle.lab_search.specs.Reduced.{AreExpandedIn}
 use Rattle.lab_worlds.specs.Independent.{unlinks}
-use Rattle.lab_search.proofs.Growths.{later_more, rows_same, tried_in_grows}
+use Rattle.lab_search.proofs.Growths.{later_more, rows_same, are_expanded_in_grows}
 use Rattle.lab_search.proofs.search.Search.go_on.Goals as goal
 
 pub returns-in-Ok-true-clause-later : goal.returns-in-Ok-true-clause-later
@@ -13,14 +13,14 @@ returns-in-Ok-true-clause-later g c done =
     later_more c.args.self.now.store t c.close.new.self later
     (rows_same t c.close.new.self later.store c.close.ensures.rows c.close.ensures.kernels c.close.ensures.states c.close.ensures.edges c.close.ensures.moves)
 
-pub returns-in-Ok-true-clause-tried : goal.returns-in-Ok-true-clause-tried
-returns-in-Ok-true-clause-tried g c done i below =
+pub returns-in-Ok-true-clause-expanded_in : goal.returns-in-Ok-true-clause-expanded_in
+returns-in-Ok-true-clause-expanded_in g c done i below =
     let t = c.expand_all.new.self in
     let u = c.close.new.self in
     let same = rows_same t u c.in-Ok-true.ensures.later.store c.close.ensures.rows c.close.ensures.kernels c.close.ensures.states c.close.ensures.edges c.close.ensures.moves in
-    let all : AreTriedIn c.args.self.now.sparse t = c.in-Ok-true.ensures.all c.in-Ok-true.field-0-test in
-    tried_in_grows c.args.self.now.sparse t u i same.grows (all i (subst (λ rs. i < length rs) c.close.ensures.rows below))
+    let all : AreExpandedIn c.args.self.now.reduced t = c.in-Ok-true.ensures.all c.in-Ok-true.field-0-test in
+    are_expanded_in_grows c.args.self.now.reduced t u i same.grows (all i (subst (λ rs. i < length rs) c.close.ensures.rows below))
 
 pub returns-in-Ok-true-clause-names : goal.returns-in-Ok-true-clause-names
-returns-in-Ok-true-clause-names g c done sparse =
-    subst (λ (x : Sharing). All (λ s. unlinks (process_view s) ≡ false) x.processes) (sym c.close.ensures.states) (c.in-Ok-true.ensures.names c.in-Ok-true.field-0-test sparse)
+returns-in-Ok-true-clause-names g c done reduced =
+    subst (λ (x : Sharing). All (λ s. unlinks (process_view s) ≡ false) x.processes) (sym c.close.ensures.states) (c.in-Ok-true.ensures.names c.in-Ok-true.field-0-test reduced)

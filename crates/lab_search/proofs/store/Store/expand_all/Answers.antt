@@ -1,16 +1,16 @@
 use Rattle.std.proofs.Common.{below_more}
-use Rattle.lab_search.specs.Sparse.{IsTriedIn}
-use Rattle.lab_search.proofs.Growths.{later_more, tried_in_grows}
+use Rattle.lab_search.specs.Reduced.{IsExpandedIn}
+use Rattle.lab_search.proofs.Growths.{later_more, are_expanded_in_grows}
 use Rattle.lab_search.proofs.store.Store.expand_all.Goals as goal
 
 pub loop-at-preserved : goal.loop-at-preserved
 loop-at-preserved g c =
     let t = c.loop-at.self in
     let u = c.expand_in.new.self in
-    let g = c.in_ok-tried.ensures.later.grows in
+    let g = c.in_ok-expanded_in.ensures.later.grows in
     record {
-      later = later_more c.args.self.now t u c.loop-at.invariant.later c.in_ok-tried.ensures.later;
-      all = λ is. below_more (λ i. IsTriedIn c.args.sparse u i) c.loop-at.at
-          (λ i below. tried_in_grows c.args.sparse t u i g (c.loop-at.invariant.all (c.both-whole.ensures.first is) i below))
-          (c.in_ok-tried.ensures.tried (c.both-whole.ensures.second is));
+      later = later_more c.args.self.now t u c.loop-at.invariant.later c.in_ok-expanded_in.ensures.later;
+      all = λ is. below_more (λ i. IsExpandedIn c.args.reduced u i) c.loop-at.at
+          (λ i below. are_expanded_in_grows c.args.reduced t u i g (c.loop-at.invariant.all (c.both-whole.ensures.first is) i below))
+          (c.in_ok-expanded_in.ensures.expanded_in (c.both-whole.ensures.second is));
     }

@@ -1,6 +1,6 @@
 use Rattle.std.proofs.Common.{subst}
 use Rattle.lab_sched.specs.Held.{process_view}
-use Rattle.lab_states.specs.Shorts.{kept_behind}
+use Rattle.lab_states.specs.CollapsedStates.{kept_behind}
 use Rattle.lab_search.specs.Stored.{IsKernel}
 use Rattle.lab_search.specs.Private.Stored.{output_at}
 use Rattle.lab_search.proofs.Growths.{later_more, state_grows}

@@ -1,7 +1,7 @@
 use Rattle.std.proofs.Common.{refl}
 use Rattle.lab_search.specs.declared.store.Store.{Store}
 use Rattle.lab_search.proofs.Growths.{kernels_grown}
-use Rattle.lab_search.proofs.TouchLemmas.{next_by_alike}
+use Rattle.lab_search.proofs.FootprintLemmas.{next_by_alike}
 use Rattle.lab_search.proofs.store.Store.keep_next_made.Goals as goal
 
 pub returns-in_default-kept-clause-later : goal.returns-in_default-kept-clause-later

@@ -1,7 +1,7 @@
 use Rattle.std.proofs.Common.{subst}
 use Rattle.ipc_kernel.specs.Operands.{HasOperand}
 use Rattle.lab_sched.specs.Held.{process_view}
-use Rattle.lab_states.specs.Shorts.{kept_behind}
+use Rattle.lab_states.specs.CollapsedStates.{kept_behind}
 use Rattle.lab_search.specs.Private.Stored.{output_at}
 use Rattle.lab_search.proofs.Growths.{later_more, state_grows}
 use Rattle.lab_search.proofs.StepsBehind.{ready_behind, stepped_behind}

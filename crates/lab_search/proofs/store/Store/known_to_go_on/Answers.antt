@@ -1,4 +1,4 @@
-use Rattle.lab_search.proofs.TouchLemmas.{move_goes_on, not_true}
+use Rattle.lab_search.proofs.FootprintLemmas.{move_goes_on, not_true}
 use Rattle.lab_search.proofs.store.Store.known_to_go_on.Goals as goal
 
 pub returns : goal.returns

@@ -1,5 +1,5 @@
 use Rattle.lab_search.proofs.StepsOfRows.{move_from}
-use Rattle.lab_search.proofs.TouchLemmas.{move_of_ended}
+use Rattle.lab_search.proofs.FootprintLemmas.{move_of_ended}
 use Rattle.lab_search.proofs.store.Store.made_next.Goals as goal
 
 pub returns : goal.returns

@@ -1,5 +1,5 @@
 use Rattle.lab_search.proofs.Growths.{grows_same}
-use Rattle.lab_search.proofs.TouchLemmas.{next_by_effect}
+use Rattle.lab_search.proofs.FootprintLemmas.{next_by_effect}
 use Rattle.lab_search.proofs.store.Store.next_by.Goals as goal
 
 pub returns-in_ok-kernel-in-To : goal.returns-in_ok-kernel-in-To

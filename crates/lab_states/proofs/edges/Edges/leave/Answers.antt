@@ -11,9 +11,9 @@ grown c =
     let ends = c.self.inside.ends in
     let row = c.args.row in
     let end : c.in_ok-end.end ≡ length c.self.inside.tos.items = c.in_ok-end.ensures.value ∙ c.len-then-row-len.ensures ∙ c.self.inside.tos.ok.0 in
-    let short : length ends.items ≤ row = omega (arith, c.len.ensures, ends.ok.0) in (
+    let collapsed : length ends.items ≤ row = omega (arith, c.len.ensures, ends.ok.0) in (
       row - length ends.items,
-      c.in_ok-resize.ensures.items ∙ ap (λ es. es ++ replicate (row - vec_len ends) c.in_ok-end.end) (take_all row ends.items short)
+      c.in_ok-resize.ensures.items ∙ ap (λ es. es ++ replicate (row - vec_len ends) c.in_ok-end.end) (take_all row ends.items collapsed)
           ∙ ap (λ n. ends.items ++ replicate (row - n) c.in_ok-end.end) ends.ok.0 ∙ ap (λ n. ends.items ++ replicate (row - length ends.items) n) end,
     )
 

@@ -1,23 +1,23 @@
 use Rattle.std.proofs.Common.{map, refl, subst, ◌∙◌}
-use Rattle.lab_states.specs.Shorts.{whole_of, IsSameOrMore, Sharing}
-use Rattle.lab_states.proofs.ShortStates.{all_extended, start_empty, within_kept, whole_alone, wholes_kept, state_at}
+use Rattle.lab_states.specs.CollapsedStates.{whole_of, IsSameOrMore, Sharing}
+use Rattle.lab_states.proofs.CollapsedStateLemmas.{all_extended, start_empty, within_kept, whole_alone, wholes_kept, state_at}
 use Rattle.lab_states.proofs.states.States.keep.Goals as goal
 
 pub invariant_of-self-2 : goal.invariant_of-self-2
 invariant_of-self-2 c =
-    let shorts = c.self.inside.shorts in
-    let qs = c.shortened.new.outputs in
-    within_kept qs shorts c.keep.new.self c.in_ok-short.short (all_extended c.self.inside.outputs qs shorts c.shortened.ensures.extends c.self.invariant) c.in_ok-short.ensures.within c.keep.ensures.kept
+    let collapsed_states = c.self.inside.collapsed_states in
+    let qs = c.collapsed_of.new.outputs in
+    within_kept qs collapsed_states c.keep.new.self c.in_ok-collapsed.collapsed (all_extended c.self.inside.outputs qs collapsed_states c.collapsed_of.ensures.extends c.self.invariant) c.in_ok-collapsed.ensures.within c.keep.ensures.kept
 
 pub returns-clause-kept : goal.returns-clause-kept
 returns-clause-kept c =
-    let shorts = c.self.inside.shorts in
+    let collapsed_states = c.self.inside.collapsed_states in
     let os = c.self.inside.outputs in
-    let qs = c.shortened.new.outputs in
+    let qs = c.collapsed_of.new.outputs in
     let process = c.args.process in
     let alone = whole_alone os process (record { before = 0; process = process }) (start_empty os c.self.invariant.empty) refl refl in
     subst (λ (v : Sharing). IsSameOrMore v.processes (map (whole_of qs) c.keep.new.self) process) c.self.view_is
-    (wholes_kept os qs shorts c.keep.new.self c.in_ok-short.short process c.shortened.ensures.extends c.self.invariant (c.in_ok-short.ensures.whole ∙ alone) c.keep.ensures.kept)
+    (wholes_kept os qs collapsed_states c.keep.new.self c.in_ok-collapsed.collapsed process c.collapsed_of.ensures.extends c.self.invariant (c.in_ok-collapsed.ensures.whole ∙ alone) c.keep.ensures.kept)
 
 pub returns-clause-state : goal.returns-clause-state
 returns-clause-state c =
@@ -25,4 +25,4 @@ returns-clause-state c =
     let os = c.self.inside.outputs in
     let process = c.args.process in
     let alone = whole_alone os process (record { before = 0; process = process }) (start_empty os c.self.invariant.empty) refl refl in
-    state_at c.shortened.new.outputs c.keep.new.self c.in_ok-number.number there.0 c.in_ok-short.short process there.1 there.2 (c.in_ok-short.ensures.whole ∙ alone)
+    state_at c.collapsed_of.new.outputs c.keep.new.self c.in_ok-number.number there.0 c.in_ok-collapsed.collapsed process there.1 there.2 (c.in_ok-collapsed.ensures.whole ∙ alone)

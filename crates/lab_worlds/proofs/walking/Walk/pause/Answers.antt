@@ -1,5 +1,5 @@
 use Rattle.std.proofs.Common.{refl, sym, ◌∙◌}
-use Rattle.lab_worlds.proofs.FairRounds.{told_pause, told_world}
+use Rattle.lab_worlds.proofs.FairLassos.{told_pause, told_world}
 use Rattle.lab_worlds.proofs.walking.Walk.pause.Goals as goal
 
 pub returns : goal.returns

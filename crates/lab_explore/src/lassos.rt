@@ -1,0 +1,113 @@
+//! Lassos: steps that lead from a world to one alike, so that some interleaving never ends.
+ghost use Rattle.std.specs.Prelude.{◌≡◌, ◌≤◌, length, None, IfOk, IfSome, OnOk};
+ghost use Rattle.lab_sched.specs.Worlds.{WorldState};
+ghost use Rattle.lab_sched.specs.Schedules.{steps_of};
+ghost use Rattle.lab_sched.specs.Starts.{AreStarts, initial_world};
+ghost use Rattle.lab_worlds.specs.Walked.{IsWalk, KeepsStart};
+ghost use Rattle.lab_worlds.specs.Lassos.{IsLasso};
+ghost use Rattle.lab_states.specs.Rising.{AreRising};
+ghost use Rattle.lab_search.specs.Stored.{IsLike};
+
+use crate::visited::Visited;
+use lab_sched::Process;
+use lab_states::{Cycle, cycle_of, is_order, is_order_by_number, order_of};
+use lab_worlds::{ExploreFault, Lasso, Walk, discard};
+use std::alloc::Global;
+
+impl Visited {
+    /// Takes the steps of the edges of a cycle, at least one. They must lead to the world of its row.
+    fn go_lasso(&self, alloc: Global, cycle: &Cycle, walk: &mut Walk) -> Result<(), ExploreFault>
+        ensures walk { OnOk result (KeepsStart walk.old walk.new) }
+        ensures some { OnOk result (1 ≤ length (steps_of walk.new.schedule)) }
+        ensures row { OnOk result (IsLike self.now.store cycle.now.at walk.new.world) }
+    {
+        for edge in cycle.edges.iter().rev() {
+            let taken = self.steps_after(edge.from, edge.pid)?;
+            walk.go(edge.pid as usize)?;
+            walk.go_on(edge.pid as usize, taken)?;
+        }
+        if walk.schedule.total() == 0 || !self.store.is_row(alloc, cycle.at, &walk.world)? {
+            return Err(ExploreFault::Unvouched);
+        }
+        Ok(())
+    }
+
+    /// The lasso by a walk to the world of a cycle's row, and the steps of its edges from there.
+    fn lasso_from(&self, alloc: Global, cycle: &Cycle, walk: Walk) -> Result<Lasso, ExploreFault>
+        requires row { IsLike self.now.store cycle.now.at walk.world }
+        ensures lasso { IfOk result (λ r. (start : WorldState)
+            → IsWalk start walk → IsLasso start r) }
+    {
+        let Walk {
+            world,
+            schedule,
+            calls: _,
+        } = walk;
+        let mut walk = Walk::at(alloc, world);
+        match self.go_lasso(alloc, cycle, &mut walk) {
+            Ok(()) => {
+                let Walk {
+                    world,
+                    schedule: steps,
+                    calls: _,
+                } = walk;
+                discard(world);
+                Ok(Lasso { schedule, steps })
+            }
+            Err(fault) => {
+                discard(walk);
+                discard(schedule);
+                Err(fault)
+            }
+        }
+    }
+
+    /// The lasso by a cycle of edges, run from the start.
+    fn lasso_of(
+        &self,
+        alloc: Global,
+        processes: &[Process],
+        cycle: &Cycle,
+    ) -> Result<Lasso, ExploreFault>
+        requires starts { AreStarts processes.now }
+        ensures lasso { IfOk result (λ r. IsLasso (initial_world processes.now) r) }
+    {
+        let mut walk = Walk::start(alloc, processes)?;
+        match self.go_to(alloc, cycle.at, &mut walk) {
+            Ok(()) => {
+                let lasso = self.lasso_from(alloc, cycle, walk)?;
+                Ok(lasso)
+            }
+            Err(fault) => {
+                discard(walk);
+                Err(fault)
+            }
+        }
+    }
+
+    /// A lasso among the worlds that were visited, if there is one.
+    pub(crate) fn lasso(
+        &self,
+        alloc: Global,
+        processes: &[Process],
+    ) -> Result<Option<Lasso>, ExploreFault>
+        requires starts { AreStarts processes.now }
+        ensures lasso { IfOk result (λ lasso.
+            IfSome lasso (λ r. IsLasso (initial_world processes.now) r)) }
+        ensures none { IfOk result (λ lasso. lasso ≡ None → AreRising self.now.store.edges) }
+    {
+        let edges = &self.store.edges;
+        if is_order_by_number(edges, self.store.rows.len()) {
+            return Ok(None);
+        }
+        let order = order_of(alloc, edges, self.store.rows.len())?;
+        if is_order(order.as_slice(), edges) {
+            return Ok(None);
+        }
+        let Some(cycle) = cycle_of(alloc, edges, order)? else {
+            return Err(ExploreFault::Unvouched);
+        };
+        let lasso = self.lasso_of(alloc, processes, &cycle)?;
+        Ok(Some(lasso))
+    }
+}

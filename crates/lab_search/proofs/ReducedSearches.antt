@@ -1,0 +1,234 @@
+-- Where rows are tried by one independent step alone: what can be taken from where a world stands, and that no name is taken away.
+use Rattle.std.proofs.Common.{ℕ, zero, suc, ◌+◌, ◌-◌, ◌*◌, ◌<◌, ◌≤◌, ◌≡◌, arith, List, [], ◌∷◌, Option, Some, None, refl, sym, ap, subst, ◌∙◌, length, slice_get, set, inl, inr, ◌⊎◌}
+use Rattle.lc3_machine.specs.Process.{Process as Machine}
+use Rattle.ipc_kernel.specs.Kernel.{KernelState}
+use Rattle.ipc_kernel.specs.declared.call.Call.{Call}
+use Rattle.ipc_kernel.specs.declared.call.Answer.{Answer}
+use Rattle.ipc_kernel.specs.declared.call.Answer.TheVariants.{Done, Wait}
+use Rattle.ipc_kernel.specs.Answer.{answer}
+use Rattle.ipc_kernel.specs.Alike.{IsAlike, IsConsistent}
+use Rattle.lab_sched.specs.Worlds.{Process, Running, Waiting, Ended, WorldState, moves, next_action, StepEffect, nothing, local_step, kernel_step, step_effect, step_effect_in, first_try, retry, step}
+use Rattle.lab_sched.specs.LocalRun.{AreLocal}
+use Rattle.lab_sched.proofs.ListPlaces.{get_past}
+use Rattle.lab_sched.proofs.Executions.{effect_local}
+use Rattle.lab_sched.proofs.OwnSteps.{first_local}
+use Rattle.lab_search.specs.declared.store.Store.{Store}
+use Rattle.lab_worlds.specs.Calls.{AreAlike, IsAtCall}
+use Rattle.lab_worlds.specs.Unwaiting.{GoesOn}
+use Rattle.lab_states.specs.Depths.{depth_of, IsNear, AreDepths}
+use Rattle.lab_search.specs.Stored.{HasEdge, IsExpanded}
+use Rattle.ipc_kernel.specs.OwnCalls.{OwnAlike}
+use Rattle.lab_worlds.specs.Independent.{IsIndependent}
+use Rattle.lab_search.specs.Reduced.{HasAmpleStep, IsSearchedByReduction}
+use Rattle.lab_worlds.proofs.Pushes.{all_at}
+use Rattle.lab_worlds.proofs.FewestCalls.{calls_in}
+use Rattle.lab_search.proofs.FirstWorlds.{at_unique}
+use Rattle.lab_worlds.proofs.AfterLocalSteps.{same_by_gets}
+use Rattle.lab_worlds.proofs.AlikeWorlds.{same_effect}
+use Rattle.lab_worlds.proofs.IndependentSteps.{independent_goes}
+use Rattle.lab_search.proofs.StandingWorlds.{Place, Stands, StandsAfter, GoesNearer, GoesAlong, TakesAt, total, total_set, local_stands, along_stands}
+
+-- local steps and rows that are left from a place on
+abbrev pub left : Store → Place → ℕ
+left t s = total s.taken + 4294967296 * (length t.rows - s.at)
+
+-- a process that goes on is there
+pub goes_there : (w : WorldState) (p : ℕ) → GoesOn (step_effect_in w p) → (x : Process) × (slice_get w.processes p ≡ Some x)
+goes_there w p goes = by (slice_get w.processes p) refl
+  where
+    by : (o : Option Process) → slice_get w.processes p ≡ o → (x : Process) × (slice_get w.processes p ≡ Some x)
+    by None e = absurd (subst (λ o. GoesOn (step_effect w.kernel p o)) e goes)
+    by (Some x) e = (x, e)
+
+-- a step of a process at a call by which it goes on is a call
+pub one_call : (w : WorldState) (p : ℕ) (x : Process) → slice_get w.processes p ≡ Some x → IsAtCall x → GoesOn (step_effect_in w p) → calls_in p (step_effect_in w p) ≡ 1
+one_call w p x a at goes = ap (λ o. calls_in p (step_effect w.kernel p o)) a ∙ by x at (subst (λ o. GoesOn (step_effect w.kernel p o)) a goes)
+  where
+    again : (m : Machine) (c : Call) (r : Answer) → GoesOn (retry m c r) → calls_in p (retry m c r) ≡ 1
+    again m c Wait h = absurd h
+    again m c (Done r) h = refl
+
+    by : (x : Process) → IsAtCall x → GoesOn (step_effect w.kernel p (Some x)) → calls_in p (step_effect w.kernel p (Some x)) ≡ 1
+    by (Running m) at goes = ap (λ y. calls_in p (first_try w.kernel p m y)) at.1
+    by (Waiting m c) at goes = again m c (answer w.kernel p c).0 goes
+    by (Ended e) at goes = absurd goes
+
+-- where the world stands after a step of process p, which leads to a row that is no deeper than its calls tell
+pub record StandsNext (t : Store) (w : WorldState) (p : ℕ) (s : Place) : Type 0 where
+  pub after : StandsAfter t w p s
+  pub deep : (depths : List ℕ) → AreDepths depths t.edges → depth_of depths after.0.at ≤ depth_of depths s.at + calls_in p (step_effect_in w p)
+
+-- an independent step of a process, after which less is left
+pub record TakesAlone (t : Store) (w : WorldState) (s : Place) : Type 0 where
+  pub process : ℕ
+  pub independent : IsIndependent w.kernel (step_effect_in w process)
+  pub next : StandsNext t w process s
+  pub less : left t next.after.0 < left t s
+
+-- each step, where no process has local steps left
+pub record TakesAny (t : Store) (w : WorldState) (s : Place) : Type 0 where
+  pub alike : AreAlike w s.advance
+  pub each : (p : ℕ) → GoesOn (step_effect_in w p) → StandsNext t w p s
+
+-- the first of some numbers that isn't 0, if there is one
+first_some : (ks : List ℕ) → ((p : ℕ) × (j : ℕ) × (slice_get ks p ≡ Some (suc j))) ⊎ ((p k : ℕ) → slice_get ks p ≡ Some k → k ≡ 0)
+first_some [] = inr (λ p k e. absurd (cc))
+first_some (suc j ∷ ks) = inl (0, j, refl)
+first_some (zero ∷ ks) = elim (first_some ks) [
+  | inl h ↦ inl (suc h.0, h.1, h.2)
+  | inr h ↦ inr (λ p k e. rest p k e h)
+]
+  where
+    rest : (p k : ℕ) → slice_get (zero ∷ ks) p ≡ Some k → ((p k : ℕ) → slice_get ks p ≡ Some k → k ≡ 0) → k ≡ 0
+    rest zero k e h = let same : zero ≡ k = cc in sym same
+    rest (suc p) k e h = h p k e
+
+-- a process with a local step left
+local_left : (j : ℕ) (b c : Option Process) → TakesAt (Some (suc j)) b c → (m : Machine) × (q : Machine) × (b ≡ Some (Running m)) × (next_action m ≡ moves q)
+local_left j None None h = absurd h
+local_left j None (Some u) h = absurd h
+local_left j (Some s) None h = absurd h
+local_left j (Some (Running m)) (Some u) h = let first = first_local j m u h.0 in (m, first.0, refl, first.1)
+local_left j (Some (Waiting m c)) (Some u) h = absurd h.0.1
+local_left j (Some (Ended e)) (Some u) h = absurd h.0.1
+
+-- one with none
+none_left : (a : Option ℕ) (b c : Option Process) → ((k : ℕ) → a ≡ Some k → k ≡ 0) → TakesAt a b c → c ≡ b
+none_left None None None z h = refl
+none_left None None (Some u) z h = absurd h
+none_left None (Some s) None z h = absurd h
+none_left None (Some s) (Some u) z h = absurd h
+none_left (Some k) None None z h = absurd h
+none_left (Some k) None (Some u) z h = absurd h
+none_left (Some k) (Some s) None z h = absurd h
+none_left (Some k) (Some s) (Some u) z h = let same : AreLocal 0 s u = subst (λ n. AreLocal n s u) (z k refl) h.0 in ap (λ x. Some x) (sym same)
+
+-- and it is at its call
+at_call_left : (a : Option ℕ) (b c : Option Process) (x : Process) → c ≡ b → b ≡ Some x → TakesAt a b c → IsAtCall x
+at_call_left None None None x e f h = absurd (cc)
+at_call_left None None (Some u) x e f h = absurd h
+at_call_left None (Some s) None x e f h = absurd h
+at_call_left None (Some s) (Some u) x e f h = absurd h
+at_call_left (Some k) None None x e f h = absurd h
+at_call_left (Some k) None (Some u) x e f h = absurd h
+at_call_left (Some k) (Some s) None x e f h = absurd h
+at_call_left (Some k) (Some s) (Some u) x e f h = let same : u ≡ x = cc in subst IsAtCall same h.1
+
+-- less is left after a local step
+nearer_left : (t : Store) (s u : Place) (p : ℕ) → GoesNearer s u p → left t u < left t s
+nearer_left t s u p h =
+    let sums = total_set s.taken p (suc h.0) h.0 h.1 in
+    subst (λ i. total u.taken + 4294967296 * (length t.rows - i) < left t s) (sym h.3)
+    (subst (λ ks. total ks + 4294967296 * (length t.rows - s.at) < left t s) (sym h.2) (omega (arith, sums)))
+
+-- and after a step of the kernel to a later row
+along_left : (t : Store) (s u : Place) (p : ℕ) → s.at < length t.rows → s.at < u.at → GoesAlong t s u p → left t u < left t s
+along_left t s u p within later h =
+    let sums = total_set s.taken p 0 h.2 h.7 in
+    subst (λ ks. total ks + 4294967296 * (length t.rows - u.at) < left t s) (sym h.8)
+    (falls (total s.taken) (total (set s.taken p h.2)) h.2 (length t.rows) s.at u.at sums h.9 later within)
+  where
+    falls : (x y i l a b : ℕ) → y + 0 ≡ x + i → i < 4294967296 → a < b → a < l → y + 4294967296 * (l - b) < x + 4294967296 * (l - a)
+    falls x y i l a b sums few rise within = omega arith
+
+-- after a local step
+nearer_next : (t : Store) (w : WorldState) (p : ℕ) (s : Place) → (h : (u : Place) × Stands t (step w p) u × GoesNearer s u p) → StandsNext t w p s
+nearer_next t w p s h = record {
+  after = (h.0, h.1, inl h.2);
+  deep = λ depths deep. let same = ap (depth_of depths) h.2.3 in omega (arith, same);
+}
+
+-- after a call
+along_next : (t : Store) (w : WorldState) (p : ℕ) (s : Place) → calls_in p (step_effect_in w p) ≡ 1 → (u : Place) → Stands t (step w p) u → GoesAlong t s u p → StandsNext t w p s
+along_next t w p s one u stands h = record {
+  after = (u, stands, inr h);
+  deep = λ depths deep.
+      let near : depth_of depths h.1.to ≤ depth_of depths h.1.from + 1 = all_at (IsNear depths) t.edges h.0 h.1 deep.near h.3 in
+      let from = ap (depth_of depths) h.4 in
+      let to = ap (depth_of depths) h.5 in
+      omega (arith, near, from, to, one);
+}
+
+-- where each object has a name in kernels that are alike, the same steps are independent
+independent_alike : OwnAlike → (k j : KernelState) (t : StepEffect) → IsConsistent k → IsAlike k j → IsIndependent j t → IsIndependent k t
+independent_alike law k j nothing c a h = h
+independent_alike law k j (local_step n) c a h = tt
+independent_alike law k j (kernel_step m d (Done r)) c a h = sym (law k j d c a).0 ∙ h
+independent_alike law k j (kernel_step m d Wait) c a h = h
+
+module _ (alike : OwnAlike) (t : Store) (start : WorldState) (searched : IsSearchedByReduction start t) where
+  -- what can be taken where a world stands
+  pub options : (w : WorldState) (s : Place) → Stands t w s → TakesAlone t w s ⊎ TakesAny t w s
+  unfolding nearer_next along_next
+  options w s stands = elim (first_some s.taken) [
+    | inl h ↦ inl (near h.0 h.1 h.2)
+    | inr h ↦ at_calls h
+  ]
+    where
+      near : (p j : ℕ) → slice_get s.taken p ≡ Some (suc j) → TakesAlone t w s
+      near p j e =
+          let here = subst (λ a. TakesAt a (slice_get w.processes p) (slice_get s.advance.processes p)) e (stands.processes p) in
+          let found = local_left j (slice_get w.processes p) (slice_get s.advance.processes p) here in
+          let next = local_stands t w p found.0 found.1 s found.2 found.3 stands in
+          record {
+            process = p;
+            independent = subst (IsIndependent w.kernel) (sym (effect_local w p found.0 found.1 found.2 found.3)) tt;
+            next = nearer_next t w p s next;
+            less = nearer_left t s next.0 p next.2;
+          }
+
+      at_calls : ((p k : ℕ) → slice_get s.taken p ≡ Some k → k ≡ 0) → TakesAlone t w s ⊎ TakesAny t w s
+      at_calls none = by (searched.expanded_in s.at within)
+        where
+          within : s.at < length t.rows
+          within = get_past t.rows s.at stands.here.0 stands.here.1
+
+          same : (p : ℕ) → slice_get s.advance.processes p ≡ slice_get w.processes p
+          same p = none_left (slice_get s.taken p) (slice_get w.processes p) (slice_get s.advance.processes p) (none p) (stands.processes p)
+
+          world : AreAlike w s.advance
+          world = record { processes = same_by_gets s.advance.processes w.processes same; kernel = stands.kernel }
+
+          effect : (p : ℕ) → step_effect_in s.advance p ≡ step_effect_in w p
+          effect p = same_effect w s.advance p stands.consistent world
+
+          at_call : (p : ℕ) (x : Process) → slice_get w.processes p ≡ Some x → IsAtCall x
+          at_call p x a = at_call_left (slice_get s.taken p) (slice_get w.processes p) (slice_get s.advance.processes p) x (same p) a (stands.processes p)
+
+          along : (p : ℕ) → GoesOn (step_effect_in w p) → (edge : HasEdge t s.at s.advance p)
+              → (x : Process) × (slice_get w.processes p ≡ Some x) × ((u : Place) × Stands t (step w p) u × GoesAlong t s u p × (u.at ≡ edge.1.to))
+          along p goes edge =
+              let x = goes_there w p goes in
+              (x.0, x.1, along_stands t w p x.0 s x.1 (at_call p x.0 x.1) stands edge)
+
+          next_by : (p : ℕ) → (goes : GoesOn (step_effect_in w p)) → (edge : HasEdge t s.at s.advance p) → StandsNext t w p s
+          next_by p goes edge =
+              let h = along p goes edge in
+              along_next t w p s (one_call w p h.0 h.1 (at_call p h.0 h.1) goes) h.2.0 h.2.1 h.2.2
+
+          by : IsExpanded t s.at ⊎ HasAmpleStep t s.at → TakesAlone t w s ⊎ TakesAny t w s
+          by (inl done) =
+              let is : s.advance ≡ done.0 = at_unique t s.at s.advance done.0 stands.here done.1 in
+              inr (record {
+                alike = world;
+                each = λ p goes.
+                    let there = subst (λ y. GoesOn (step_effect_in y p)) is (subst GoesOn (sym (effect p)) goes) in
+                    next_by p goes (subst (λ y. HasEdge t s.at y p) (sym is) (done.2 p there));
+              })
+          by (inr (v, at, p, own, edge, later)) = by_one (at_unique t s.at s.advance v stands.here at)
+            where
+              by_one : s.advance ≡ v → TakesAlone t w s ⊎ TakesAny t w s
+              by_one is =
+                  let there : (x : HasEdge t s.at s.advance p) × (s.at < x.1.to) = subst (λ y. (x : HasEdge t s.at y p) × (s.at < x.1.to)) (sym is) (edge, later) in
+                  let own_there : IsIndependent s.advance.kernel (step_effect_in s.advance p) = subst (λ y. IsIndependent y.kernel (step_effect_in y p)) (sym is) own in
+                  let here : IsIndependent w.kernel (step_effect_in w p) =
+                  subst (IsIndependent w.kernel) (effect p) (independent_alike alike w.kernel s.advance.kernel (step_effect_in s.advance p) stands.consistent stands.kernel own_there) in
+                  let goes = independent_goes w.kernel (step_effect_in w p) here in
+                  let h = along p goes there.0 in
+                  let later_row : s.at < h.2.0.at = subst (λ n. s.at < n) (sym h.2.3) there.1 in
+                  inl (record {
+                    process = p;
+                    independent = here;
+                    next = along_next t w p s (one_call w p h.0 h.1 (at_call p h.0 h.1) goes) h.2.0 h.2.1 h.2.2;
+                    less = along_left t s h.2.0 p within later_row h.2.2;
+                  })

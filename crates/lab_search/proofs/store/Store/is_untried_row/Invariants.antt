@@ -1,8 +1,0 @@
-use Rattle.std.proofs.Common.{ℕ, ◌<◌, slice_get}
-use Rattle.lab_worlds.specs.Calls.{Both}
-use Rattle.lab_worlds.specs.Untried.{untried}
-use Rattle.lab_search.specs.Stored.{IsState}
-use Rattle.lab_search.proofs.store.Store.is_untried_row.Given as goal
-
-abbrev pub invariant-loop-pid : goal.invariant-loop-pid
-invariant-loop-pid l = (p : ℕ) → p < l.pid → Both (IsState l.self) (slice_get l.states p) (slice_get (untried l.world).processes p)

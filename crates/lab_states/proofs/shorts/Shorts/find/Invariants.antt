@@ -1,4 +1,0 @@
-use Rattle.lab_states.proofs.shorts.Shorts.find.Given as goal
-
-abbrev pub decreases-loop-number : goal.decreases-loop-number
-decreases-loop-number l = l.number
