@@ -1,7 +1,7 @@
 //! The command `asm`.
 use crate::check::messages_if;
 use crate::complaint::{At, Complaint, Misuse, Reason};
-use crate::files::{is_same_file, read_code, write_object, write_text};
+use crate::files::{has_source_name, is_same_file, read_code, write_object, write_text};
 use crate::job::Job;
 use crate::progress::Progress;
 use lab_io::Output;
@@ -60,7 +60,8 @@ fn accepted<'a, T: Files, E: Write, P: Progress>(
 }
 
 /// Assembles a source, writes its object file, and then the listing where it is asked for. The messages about the source come
-/// first, where they are wanted. The object file is made only once the source was accepted; it can't be the source itself.
+/// first, where they are wanted. The object file is made only once the source was accepted; it can't be the source itself, nor
+/// have the name of one.
 pub fn assemble_file<'a, T: Files, W: Write, E: Write, P: Progress>(
     job: &Job<'_, T, P>,
     assembly: Assembly<'a>,
@@ -69,6 +70,9 @@ pub fn assemble_file<'a, T: Files, W: Write, E: Write, P: Progress>(
 ) -> Result<(), Complaint<'a>> {
     if is_same_file(job.rt, assembly.source, assembly.object) {
         return Err(Misuse::SameFile.of(assembly.object));
+    }
+    if has_source_name(assembly.object) {
+        return Err(Misuse::SourceName.of(assembly.object));
     }
     let assembled = accepted(job, assembly, errors)?;
     write_assembled(job, assembly, &assembled, output)

@@ -17,6 +17,8 @@ pub enum Misuse {
     SameFile,
     #[error("FILE is a file of the run")]
     OwnFile,
+    #[error("a source has such a name, and nothing is written there")]
+    SourceName,
     #[error("--source names no process of the run")]
     UnknownProcess,
     #[error("--source names a process twice")]

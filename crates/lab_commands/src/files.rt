@@ -24,6 +24,14 @@ pub fn is_same_file<T: Files>(rt: &T, one: &str, other: &str) -> bool {
     }
 }
 
+/// Whether a file of this name is read as a source: the name ends in `.asm`, in small or capital letters.
+pub fn has_source_name(name: &str) -> bool {
+    matches!(
+        name.as_bytes(),
+        [.., b'.', b'a' | b'A', b's' | b'S', b'm' | b'M']
+    )
+}
+
 /// Whether a file of this name is there, which is no folder and no device.
 pub fn is_file<T: Files>(rt: &T, name: &str) -> bool {
     fs::metadata(rt, name).is_ok_and(|found| found.is_file())

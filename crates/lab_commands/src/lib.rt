@@ -28,7 +28,9 @@ pub use complaint::{At, Complaint, Misuse, Reason};
 pub use debug::debug_programs;
 pub use dis::disassemble_file;
 pub use explore::{Search, find_ends};
-pub use files::{is_file, is_same_file, read_file, read_source, write_text, write_whole};
+pub use files::{
+    has_source_name, is_file, is_same_file, read_file, read_source, write_text, write_whole,
+};
 pub use inquiry::{Inquiry, refuse_question};
 pub use job::{Job, Texts};
 pub use programs::{Programs, laboratory, read_programs, read_with_input};

@@ -6,7 +6,7 @@ ghost use Rattle.lab_commands.specs.Private.Starts.{IsStart};
 use crate::asm::assemble_bytes;
 use crate::check::messages_if;
 use crate::complaint::{At, Complaint, Reason};
-use crate::files::{read_code, read_file};
+use crate::files::{has_source_name, read_code, read_file};
 use crate::job::Job;
 use crate::progress::Progress;
 use lab_arguments::{Console, Setup, Shown, program_of, takes_input};
@@ -95,11 +95,7 @@ pub fn read_image_file<'a, T: Files, P: Progress>(
     job: &Job<'_, T, P>,
     file: &'a str,
 ) -> Result<(Image, Option<Source>), Complaint<'a>> {
-    let is_source = matches!(
-        file.as_bytes(),
-        [.., b'.', b'a' | b'A', b's' | b'S', b'm' | b'M']
-    );
-    if !is_source {
+    if !has_source_name(file) {
         return Ok((read_object(job, file)?, None));
     }
     let source = read_assembled(job, file)?;
