@@ -42,9 +42,6 @@ pub struct Search {
     pub refused: bool,
 }
 
-/// After how many worlds it is looked once more how much memory is taken.
-const MEMORY_CHECK_PERIOD: usize = 16;
-
 impl Store {
     /// Keeps the state of a process that stands at its call, if it does.
     fn keep_ahead(&mut self, ahead: Ahead) -> Result<Option<LocalSuccessor>, ExploreFault>
@@ -137,9 +134,7 @@ impl Store {
             if at >= self.rows.len() {
                 return Ok(both(whole, self.keeps_names(reduced)));
             }
-            if !self.keeps_names(reduced)
-                || at % MEMORY_CHECK_PERIOD == 0 && self.size() > limits.memory
-            {
+            if !self.keeps_names(reduced) || self.size() > limits.memory {
                 return Ok(false);
             }
             observer.see(at, self.rows.len() - at);

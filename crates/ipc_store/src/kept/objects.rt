@@ -12,8 +12,10 @@ use super::rows::number_of;
 use crate::index::Index;
 use ipc_kernel::{OBJECT_PLACES, Place};
 use ipc_names::Name;
+use ipc_objects::Message;
 use std::alloc::{AllocError, Global};
 use std::marker::Model;
+use std::mem::size_of;
 
 /// Whether texts are equal. Names that differ mostly do so in their lengths or their last
 /// characters, which are looked at first.
@@ -36,6 +38,19 @@ fn is_name(name: &Name, other: Option<&Name>) -> bool
     match other {
         Some(other) => is_text(name.text(), other.text()),
         None => false,
+    }
+}
+
+/// About how many bytes of messages a copy of an object has room for and doesn't use: the room for the messages of a queue
+/// grows by doubling.
+fn spare(object: &Place) -> usize {
+    match object {
+        Place::Mq { queue, .. } => {
+            let messages = queue.attr().2 as usize;
+            let room = messages.checked_next_power_of_two().unwrap_or(messages);
+            size_of::<Message>().saturating_mul(room.saturating_sub(messages))
+        }
+        Place::Empty | Place::Sem { .. } => 0,
     }
 }
 
@@ -230,7 +245,10 @@ impl Objects {
         self.objects.reserve(1)?;
         self.index.add(digest)?;
         self.objects.push(copy)?;
-        self.held = self.held.saturating_add(object.size());
+        self.held = self
+            .held
+            .saturating_add(object.size())
+            .saturating_add(spare(object));
         Ok(number)
     }
 
