@@ -125,7 +125,8 @@ impl Store {
     ) -> Result<bool, ExploreFault>
         requires store { IsStore self.old }
         ensures later { OnOk result (IsLater self.old self.new) }
-        ensures expanded_in { IfOk result (λ whole. IsTrue whole → IsExpandedIn reduced self.new at) }
+        ensures expanded_in { IfOk result (λ whole. IsTrue whole
+            → IsExpandedIn reduced self.new at) }
     {
         if reduced {
             let expanded_in = self.expand_ample(at, limits)?;

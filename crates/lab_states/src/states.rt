@@ -45,7 +45,8 @@ fn collapsed_of(
 ) -> Result<CollapsedState, AllocError>
     requires within { IsWithin outputs.old collapsed }
     ensures extends { Extends outputs.old outputs.new }
-    ensures whole { IfOk result (λ kept. whole_of outputs.new kept ≡ whole_of outputs.old collapsed) }
+    ensures whole { IfOk result (λ kept. whole_of outputs.new kept
+        ≡ whole_of outputs.old collapsed) }
     ensures within { IfOk result (λ kept. IsWithin outputs.new kept) }
 {
     let output = collapsed.process.machine().output();
