@@ -9,6 +9,7 @@ use Rattle.lab_debug.specs.declared.command.Refusal.{Refusal}
 use Rattle.lab_debug.specs.declared.command.Refusal.TheVariants.{UnknownCommand, BadOperands, NoProcess, NoLabel, NoMark}
 use Rattle.lab_debug.specs.Commands.{words_of, command_of}
 use Rattle.lab_debug.specs.Outputs.{raw_output}
+use Rattle.lab_places.specs.Placed.{listed, placed}
 use Rattle.lab_session.specs.Listings.{listing_of, has_labels}
 use Rattle.lab_debug.specs.Labels.{LabelSeen, label_address, addressed, command_at, second_label, with_zero}
 use Rattle.lab_session.specs.Places.{where_text, code_text, labels_text}
@@ -40,6 +41,10 @@ refusal_text (NoMark Watch) = codes "? no such watch\n"
 abbrev pub text_effect : (WorldState → List ℕ) → SessionState → Effect SessionState
 text_effect text s = record { text = text s.world; world = s; ends = false }
 
+-- a text of the world with the places of its status lines in the sources of a session, and nothing else
+abbrev pub standing_effect : (WorldState → List ℕ) → SessionState → Effect SessionState
+standing_effect text s = record { text = placed (listed s.listings) (text s.world); world = s; ends = false }
+
 -- how many steps a session has
 abbrev pub steps_text : ℕ → List ℕ
 steps_text n = codes "steps " ++ decimal n ++ codes "\n"
@@ -66,10 +71,10 @@ unset_effect s mark =
     if has_mark s.marks mark then shown_effect (off_text s.listings mark) (with_marks s (without_mark s.marks mark))
     else refusal_effect (NoMark mark.kind) s
 
--- a text of the world after further steps, and each watched word that they changed
+-- a text of the world after further steps, with the places of its status lines, and each watched word that they changed
 abbrev pub stepped_effect : (WorldState → List ℕ) → SessionState → List ℕ → Effect SessionState
 stepped_effect text s ps =
-    shown_effect (text (run s.world ps) ++ changes_text s.listings (run s.world ps) (watched_words s.marks s.world)) (after_steps s ps)
+    shown_effect (placed (listed s.listings) (text (run s.world ps)) ++ changes_text s.listings (run s.world ps) (watched_words s.marks s.world)) (after_steps s ps)
 
 -- at most n steps of a process, up to a stop
 abbrev pub go_effect : SessionState → ℕ → ℕ → Effect SessionState
@@ -83,9 +88,9 @@ play_effect s ps =
 
 -- what a command does, where its processes are there
 abbrev pub accepted_effect : SessionState → Command → Effect SessionState
-accepted_effect s (Step pid n) = text_effect (status_text pid) (after_steps s (replicate n pid))
+accepted_effect s (Step pid n) = standing_effect (status_text pid) (after_steps s (replicate n pid))
 accepted_effect s (Run schedule) = text_effect verdict_text (after_steps s (steps_of schedule))
-accepted_effect s (Until pid address n) = text_effect (status_text pid) (after_steps s (steps_until pid address s.world n))
+accepted_effect s (Until pid address n) = standing_effect (status_text pid) (after_steps s (steps_until pid address s.world n))
 accepted_effect s (Back n) = back_effect (back n s)
 accepted_effect s (Play schedule) = play_effect s (steps_of schedule)
 accepted_effect s (Go pid n) = go_effect s pid n
@@ -97,7 +102,7 @@ accepted_effect s Taken = shown_effect (taken_text (effective s.start s.steps)) 
 accepted_effect s (Regs pid) = text_effect (regs_text pid) s
 accepted_effect s (Mem range) = text_effect (mem_text range.pid range.address range.count) s
 accepted_effect s (Dis range) = text_effect (dis_text range.pid range.address range.count) s
-accepted_effect s Procs = text_effect procs_text s
+accepted_effect s Procs = standing_effect procs_text s
 accepted_effect s Mqs = text_effect mqs_text s
 accepted_effect s Sems = text_effect sems_text s
 accepted_effect s (Fds pid) = text_effect (fds_text pid) s

@@ -9,7 +9,7 @@ ghost use Rattle.lab_debug.specs.Commands.{step_count_max};
 ghost use Rattle.lab_texts.specs.Texts.{status_text};
 ghost use Rattle.lab_texts.specs.Verdicts.{verdict_text};
 ghost use Rattle.lab_debug.specs.Private.Replies.{effect_of};
-ghost use Rattle.lab_debug.specs.Effects.{is_there, are_there, text_effect, back_effect, accepted_effect, command_effect, located_effect, labelled_effect, label_among, words_effect, line_effect};
+ghost use Rattle.lab_debug.specs.Effects.{is_there, are_there, text_effect, standing_effect, back_effect, accepted_effect, command_effect, located_effect, labelled_effect, label_among, words_effect, line_effect};
 ghost use Rattle.lab_debug.specs.Labels.{addressed};
 ghost use Rattle.lab_debug.specs.Private.LabelViews.{label_seen};
 ghost use Rattle.lab_debug.specs.Private.Changes.{changes};
@@ -19,11 +19,11 @@ use crate::command::{Command, Refusal, read_command};
 use crate::label::{Label, address_of, second_label, with_zero};
 use crate::marking::{go, play, set, unset};
 use crate::operands::split_words;
-use crate::reply::{Reply, refuse, said};
-use crate::showing::{shown, steps_text};
+use crate::reply::{Reply, refuse, said, written};
+use crate::showing::{shown, standing, steps_text};
 use lab_sched::{Block, Schedule, World};
 use lab_session::Session;
-use lab_texts::{status_text, verdict_text};
+use lab_texts::verdict_text;
 use std::alloc::{AllocError, Global};
 
 /// Takes so many steps of a process.
@@ -50,12 +50,12 @@ fn step(alloc: Global, session: &mut Session, pid: usize, count: u32) -> Result<
     requires process { pid < process_max }
     requires some { 1 ≤ count }
     requires few { count ≤ step_count_max }
-    ensures effect { IfOk result (λ r. effect_of r (state_of session.new) ≡ text_effect
+    ensures effect { IfOk result (λ r. effect_of r (state_of session.new) ≡ standing_effect
         (status_text pid) (after_steps (state_of session.old) (replicate count pid))) }
 {
     step_times(alloc, session, pid, count)?;
-    let text = status_text(alloc, session.world(), pid)?;
-    Ok(said(text))
+    let text = standing(alloc, session, pid)?;
+    Ok(written(text))
 }
 
 /// Takes the steps of a schedule, and shows the verdict.
@@ -76,13 +76,13 @@ fn step_until(
     address: u16,
     count: u32,
 ) -> Result<Reply, AllocError>
-    ensures effect { IfOk result (λ r. effect_of r (state_of session.new) ≡ text_effect
+    ensures effect { IfOk result (λ r. effect_of r (state_of session.new) ≡ standing_effect
         (status_text pid) (after_steps (state_of session.old)
         (steps_until pid address (state_of session.old).world count))) }
 {
     session.step_until(alloc, pid, address, count)?;
-    let text = status_text(alloc, session.world(), pid)?;
-    Ok(said(text))
+    let text = standing(alloc, session, pid)?;
+    Ok(written(text))
 }
 
 /// Goes back before the last so many steps that had an effect, and shows how many are left.

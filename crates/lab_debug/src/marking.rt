@@ -1,15 +1,17 @@
 //! What the commands do that set marks, and those that step up to one.
-ghost use Rattle.std.specs.Prelude.{◌≡◌, IfOk};
+ghost use Rattle.std.specs.Prelude.{◌≡◌, ◌++◌, IfOk, OnOk};
 ghost use Rattle.lab_sched.specs.Schedules.{steps_of};
 ghost use Rattle.lab_session.specs.Sessions.{state_of};
+ghost use Rattle.lab_session.specs.MarkTexts.{changes_text};
 ghost use Rattle.lab_debug.specs.Private.Replies.{effect_of};
 ghost use Rattle.lab_debug.specs.Effects.{set_effect, unset_effect, go_effect, play_effect};
 
 use crate::command::Refusal;
-use crate::reply::{Reply, refuse, said};
+use crate::reply::{Reply, refuse, said, written};
+use crate::showing::standing;
+use lab_places::placed_by;
 use lab_sched::{Block, Schedule};
-use lab_session::{Mark, Session, has_mark, off_text, play_text, push_changes, set_text};
-use lab_texts::status_text;
+use lab_session::{Mark, Session, Watched, has_mark, off_text, play_text, push_changes, set_text};
 use std::alloc::{AllocError, Global};
 
 /// Sets a mark, which may be there already.
@@ -36,6 +38,21 @@ pub fn unset(alloc: Global, session: &mut Session, mark: Mark) -> Result<Reply, 
     }
 }
 
+/// Adds the lines of watched words that have changed.
+fn push_watched(
+    alloc: Global,
+    text: &mut Vec<u8>,
+    session: &Session,
+    watched: &[Watched],
+) -> Result<(), AllocError>
+    ensures text { OnOk result (text.new.items ≡ text.old.items ++ changes_text
+        (state_of session.now).listings (state_of session.now).world watched.now) }
+{
+    let mut changes = String::new(alloc);
+    push_changes(&mut changes, session.listings(), session.world(), watched)?;
+    text.extend_from_slice(changes.as_bytes())
+}
+
 /// Takes at most so many steps of a process, up to a stop.
 #[tactic(auto, using(lab_session::proofs::BlockLemmas::one_block))]
 pub fn go(alloc: Global, session: &mut Session, pid: usize, count: u32) -> Result<Reply, AllocError>
@@ -44,9 +61,9 @@ pub fn go(alloc: Global, session: &mut Session, pid: usize, count: u32) -> Resul
 {
     let watched = session.watched_words(alloc)?;
     session.play(alloc, &[Block { pid, count }])?;
-    let mut text = status_text(alloc, session.world(), pid)?;
-    push_changes(&mut text, session.listings(), session.world(), &watched)?;
-    Ok(said(text))
+    let mut text = standing(alloc, session, pid)?;
+    push_watched(alloc, &mut text, session, &watched)?;
+    Ok(written(text))
 }
 
 /// Takes the steps of a schedule up to a stop.
@@ -56,7 +73,8 @@ pub fn play(alloc: Global, session: &mut Session, schedule: &Schedule) -> Result
 {
     let watched = session.watched_words(alloc)?;
     let (taken, stopped) = session.play(alloc, schedule.blocks())?;
-    let mut text = play_text(alloc, session.world(), taken, schedule.total(), stopped)?;
-    push_changes(&mut text, session.listings(), session.world(), &watched)?;
-    Ok(said(text))
+    let report = play_text(alloc, session.world(), taken, schedule.total(), stopped)?;
+    let mut text = placed_by(alloc, session.listings(), &report)?;
+    push_watched(alloc, &mut text, session, &watched)?;
+    Ok(written(text))
 }

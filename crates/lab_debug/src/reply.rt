@@ -13,15 +13,20 @@ pub struct Reply {
     pub ends: bool,
 }
 
+/// The reply of a line that writes bytes.
+pub fn written(text: Vec<u8>) -> Reply
+    ensures text { result.text.items ≡ text.items }
+    ensures ends { result.ends ≡ false }
+{
+    Reply { text, ends: false }
+}
+
 /// The reply of a line that writes a text.
 pub fn said(text: String) -> Reply
     ensures text { result.text.items ≡ string_bytes text }
     ensures ends { result.ends ≡ false }
 {
-    Reply {
-        text: text.into_bytes(),
-        ends: false,
-    }
+    written(text.into_bytes())
 }
 
 /// The text of a refusal.

@@ -4,19 +4,22 @@ ghost use Rattle.lab_session.specs.Sessions.{state_of, effective};
 ghost use Rattle.lab_session.specs.Taken.{taken_text};
 ghost use Rattle.lab_session.specs.Marks.{of_kind};
 ghost use Rattle.lab_session.specs.MarkTexts.{marks_text};
+ghost use Rattle.lab_places.specs.Placed.{listed, placed};
+ghost use Rattle.lab_texts.specs.Texts.{status_text, procs_text};
 ghost use Rattle.lab_debug.specs.Effects.{steps_text, shown_effect, accepted_effect};
 ghost use Rattle.lab_debug.specs.Outputs.{whole_lines, raw_output};
 ghost use Rattle.lab_debug.specs.Private.Changes.{changes};
 ghost use Rattle.lab_debug.specs.Private.Ranges.{IsCommand};
 
 use crate::command::Command;
+use lab_places::placed_by;
 use lab_sched::World;
 use lab_session::{
     MarkKind, Session, code_text, labels_text, marks_text, step_count, taken_text, where_text,
 };
 use lab_texts::{
     dis_text, fds_text, mem_text, mqs_text, out_text, procs_text, profile_text, regs_text,
-    sems_text,
+    sems_text, status_text,
 };
 use std::alloc::{AllocError, Global};
 use std::fmt::Write;
@@ -80,6 +83,24 @@ fn raw_output(alloc: Global, world: &World, pid: usize) -> Result<Vec<u8>, Alloc
     }
 }
 
+/// The status line of a process, with where it stands in its source.
+pub fn standing(alloc: Global, session: &Session, pid: usize) -> Result<Vec<u8>, AllocError>
+    ensures text { IfOk result (λ text. text.items ≡ placed
+        (listed (state_of session.now).listings) (status_text pid (state_of session.now).world)) }
+{
+    let text = status_text(alloc, session.world(), pid)?;
+    placed_by(alloc, session.listings(), &text)
+}
+
+/// Each status line, with where its process stands in its source.
+fn procs_shown(alloc: Global, session: &Session) -> Result<Vec<u8>, AllocError>
+    ensures text { IfOk result (λ text. text.items ≡ placed
+        (listed (state_of session.now).listings) (procs_text (state_of session.now).world)) }
+{
+    let text = procs_text(alloc, session.world())?;
+    placed_by(alloc, session.listings(), &text)
+}
+
 /// What a command writes that changes nothing, whose processes are there.
 pub fn shown(
     alloc: Global,
@@ -100,7 +121,7 @@ pub fn shown(
         Command::Regs { pid } => regs_text(alloc, world, *pid),
         Command::Mem(range) => mem_text(alloc, world, range.pid, range.address, range.count),
         Command::Dis(range) => dis_text(alloc, world, range.pid, range.address, range.count),
-        Command::Procs => procs_text(alloc, world),
+        Command::Procs => return Ok(Some(procs_shown(alloc, session)?)),
         Command::Mqs => mqs_text(alloc, world),
         Command::Sems => sems_text(alloc, world),
         Command::Fds { pid } => fds_text(alloc, world, *pid),

@@ -1,0 +1,4 @@
+pub mod Labels
+pub mod Statuses
+pub mod Placed
+pub mod Private

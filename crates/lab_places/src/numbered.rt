@@ -1,0 +1,140 @@
+//! Sources with their lines by number, and where a process stands in one.
+ghost use Rattle.std.specs.Prelude.{◌≡◌, ◌-◌, ◌++◌, OnOk, IfOk, slice_get, map, string_bytes};
+ghost use Rattle.std.specs.Option.{option_map};
+ghost use Rattle.lab_sources.specs.Places.{line_or_nothing};
+ghost use Rattle.lab_sources.specs.Labels.{nearest};
+ghost use Rattle.lc3_table.specs.Text.{word_text};
+ghost use Rattle.lab_places.specs.Statuses.{is_word};
+ghost use Rattle.lab_places.specs.Placed.{listed, label_part, shown_row, row_part, place_text};
+ghost use Rattle.lab_places.specs.Private.Standings.{standing_seen};
+
+use crate::status::{Standing, is_word};
+use lab_sources::{Listing, Source};
+use lc3_asm::Row;
+use lc3_table::WordText;
+use std::alloc::{AllocError, Global};
+use std::fmt::Write;
+use std::marker::Model;
+
+/// A source, and its lines as they are shown.
+#[derive(Drop)]
+pub struct Numbered<'a> {
+    pub source: &'a Source,
+    pub lines: &'a [String],
+}
+
+impl<'a> Model for Numbered<'a> {
+    ghost use Rattle.lab_places.specs.Placed.{SourceSeen};
+
+    ghost Value = { SourceSeen };
+
+    ghost view = { λ n. record { program = n.source.now.assembled; lines = n.lines.now } };
+}
+
+fn of_listing<'a>(listing: &'a Option<Listing>) -> Option<Numbered<'a>>
+    ensures seen { result ≡ option_map
+        (λ l. record { program = l.source.assembled; lines = l.lines.items }) listing.now }
+{
+    match listing {
+        Some(listing) => Some(Numbered {
+            source: &listing.source,
+            lines: listing.lines.as_slice(),
+        }),
+        None => None,
+    }
+}
+
+/// The sources of listings with their lines.
+pub fn listed<'a>(
+    alloc: Global,
+    listings: &'a [Option<Listing>],
+) -> Result<Vec<Option<Numbered<'a>>>, AllocError>
+    ensures sources { IfOk result (λ found. found.items ≡ listed listings.now) }
+{
+    let mut found = Vec::new(alloc);
+    for listing in listings {
+        found.push(of_listing(listing))?;
+    }
+    Ok(found)
+}
+
+/// Adds the nearest label of an address, if there is one.
+fn push_label(place: &mut String, source: &Source, address: u16) -> Result<(), AllocError>
+    ensures added { OnOk result (string_bytes place.new ≡ string_bytes place.old
+        ++ label_part address (nearest source.now.assembled address)) }
+{
+    let Some(near) = source.nearest(address) else {
+        return Ok(());
+    };
+    write!(place, ", at {near}")?;
+    Ok(())
+}
+
+/// Whether a text is that of a word.
+fn is_text_of(alloc: Global, word: u16, text: &[u8]) -> Result<bool, AllocError>
+    ensures value { IfOk result (λ value. value ≡ is_word (word_text word) text.now) }
+{
+    let word = WordText(word);
+    let expected = format!(in alloc; "{word}")?;
+    Ok(is_word(expected.as_bytes(), text))
+}
+
+/// The row whose first word is where a process stands, if the text of that word is shown.
+fn shown_row(
+    alloc: Global,
+    source: &Source,
+    standing: Standing<'_>,
+) -> Result<Option<Row>, AllocError>
+    ensures row { IfOk result (λ row. row
+        ≡ shown_row source.now.assembled (standing_seen standing.entry)) }
+{
+    let Some(word) = source.word(standing.address) else {
+        return Ok(None);
+    };
+    if is_text_of(alloc, word, standing.shown)? {
+        Ok(source.row_at(standing.address))
+    } else {
+        Ok(None)
+    }
+}
+
+/// A line as it is shown, by its number, from 1.
+fn line(lines: &[String], number: usize) -> &str
+    ensures line { result.now ≡ line_or_nothing (slice_get lines.now (number - 1)) }
+{
+    match lines.get(number.saturating_sub(1)) {
+        Some(line) => line.as_str(),
+        None => "",
+    }
+}
+
+/// Adds the line of a row with its number, if there is one.
+fn push_row(place: &mut String, lines: &[String], row: Option<Row>) -> Result<(), AllocError>
+    ensures added { OnOk result (string_bytes place.new ≡ string_bytes place.old
+        ++ row_part lines.now row) }
+{
+    let Some(row) = row else {
+        return Ok(());
+    };
+    let number = row.line;
+    let line = line(lines, number);
+    write!(place, ", line {number}: {line}")?;
+    Ok(())
+}
+
+/// Where a process stands in a source: the nearest label, and the line with its number, as far as there are such.
+#[tactic(auto, unfolding(crate::specs::Placed::place_text))]
+pub(crate) fn place_text(
+    alloc: Global,
+    source: &Numbered<'_>,
+    standing: Standing<'_>,
+) -> Result<String, AllocError>
+    ensures text { IfOk result (λ text. string_bytes text
+        ≡ place_text source.now (standing_seen standing.entry)) }
+{
+    let mut place = String::new(alloc);
+    push_label(&mut place, source.source, standing.address)?;
+    let row = shown_row(alloc, source.source, standing)?;
+    push_row(&mut place, source.lines, row)?;
+    Ok(place)
+}
