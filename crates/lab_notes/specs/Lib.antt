@@ -1,2 +1,3 @@
 pub mod Notes
 pub mod Private
+pub mod Texts

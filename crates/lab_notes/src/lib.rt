@@ -5,7 +5,8 @@
 mod noting;
 mod rows;
 mod text;
+mod why;
 
 pub use noting::noted;
-pub use rows::{Noted, Refusal};
-pub use text::push_note;
+pub use rows::{Noted, Refusal, Registers};
+pub use text::{push_more, push_note};

@@ -5,7 +5,7 @@ ghost use Rattle.lab_told.specs.Tellings.{AreThere};
 ghost use Rattle.lab_notes.specs.Notes.{notes};
 ghost use Rattle.lab_notes.specs.Private.Noting.{NotesStep, Fails};
 
-use crate::rows::{Noted, Rows};
+use crate::rows::{Noted, Rows, registers_of};
 use lab_sched::{Schedule, World};
 use lab_told::{Taken, Tally, Telling, tell_run};
 use std::alloc::{AllocError, Global};
@@ -24,11 +24,12 @@ impl Telling<Rows> for Noting {
 
     fn tell_step(
         &self,
-        _alloc: Global,
+        alloc: Global,
         rows: &mut Rows,
         taken: &Taken<'_>,
     ) -> Result<(), AllocError> {
-        rows.keep(taken.pid, taken.told);
+        let registers = registers_of(taken.world, taken.pid);
+        rows.keep(alloc, taken.pid, taken.told, registers)?;
         Ok(())
     }
 }

@@ -1,15 +1,25 @@
 //! What is noted of the steps of a run.
-ghost use Rattle.std.specs.Prelude.{◌≡◌, IfOk, length};
-ghost use Rattle.lab_notes.specs.Notes.{refused_with, refusal_of, row_with, rows_with, rows_by, new_rows};
+ghost use Rattle.std.specs.Prelude.{◌≡◌, IfOk, OnOk, length, slice_get};
+ghost use Rattle.lab_notes.specs.Notes.{refused_with, registers_of, refusal_of, rows_with, rows_by, new_rows};
 
 use ipc_names::Errno;
 use ipc_traps::Service;
-use lab_told::{Act, Event, Outcome, Told};
+use lab_sched::World;
+use lab_told::{Act, Called, Event, Outcome, Text, Told};
+use lc3_word::Reg;
 use std::alloc::{AllocError, Global};
 use std::marker::Model;
 
-/// A call that was refused.
+/// What R1, R2 and R3 hold, in which a call finds its arguments behind the first.
 #[derive(Clone, Copy, Debug, PartialEq, Eq)]
+pub struct Registers {
+    pub r1: u16,
+    pub r2: u16,
+    pub r3: u16,
+}
+
+/// A call that was refused.
+#[derive(Drop)]
 pub struct Refusal {
     pub service: Service,
     pub error: Errno,
@@ -17,22 +27,21 @@ pub struct Refusal {
     pub pc: u16,
     /// The word there.
     pub word: u16,
+    /// What it is on, as its name or its number.
+    pub object: Text,
+    /// Whether a descriptor or a slot that is open stands for its object.
+    pub is_open: bool,
+    pub registers: Registers,
 }
 
 /// What is noted of a process.
-#[derive(Clone, Copy, Debug, PartialEq, Eq)]
+#[derive(Drop)]
 pub struct Noted {
     /// Its first refused call.
     pub first: Option<Refusal>,
     /// How many more were refused; so many or more, where it is the greatest number.
     pub more: u32,
 }
-
-/// Nothing was refused.
-const NEW_ROW: Noted = Noted {
-    first: None,
-    more: 0,
-};
 
 /// What is noted of each process.
 #[derive(Drop)]
@@ -60,35 +69,46 @@ fn refused_with(outcome: &Outcome) -> Option<Errno>
     }
 }
 
-/// The refused call in a step that is shown, if there is one.
-fn refusal_of(event: &Event) -> Option<Refusal>
-    ensures refusal { result ≡ refusal_of event.now }
+/// What the registers of process `pid` hold.
+pub fn registers_of(world: &World, pid: usize) -> Registers
+    ensures registers { result ≡ registers_of (slice_get world.now.processes pid) }
 {
-    let Act::Calls(called) = &event.act else {
-        return None;
-    };
-    let error = refused_with(&called.outcome)?;
-    Some(Refusal {
+    match world.process(pid) {
+        Some(process) => {
+            let machine = process.machine();
+            Registers {
+                r1: machine.reg(Reg::of_low_bits(1)),
+                r2: machine.reg(Reg::of_low_bits(2)),
+                r3: machine.reg(Reg::of_low_bits(3)),
+            }
+        }
+        None => Registers {
+            r1: 0,
+            r2: 0,
+            r3: 0,
+        },
+    }
+}
+
+/// A call that was refused with this error in a step that is shown, and what the registers hold behind it.
+fn refusal_with(
+    alloc: Global,
+    event: &Event,
+    called: &Called,
+    error: Errno,
+    registers: Registers,
+) -> Result<Refusal, AllocError>
+    ensures refusal { IfOk result (λ r. r ≡ refusal_of event.now called.now error registers) }
+{
+    Ok(Refusal {
         service: called.service,
         error,
         pc: event.pc,
         word: event.word,
+        object: Text::new(String::from_str(alloc, called.object.as_str())?),
+        is_open: called.place.is_some(),
+        registers,
     })
-}
-
-fn row_with(row: Noted, refusal: Refusal) -> Noted
-    ensures row { result ≡ row_with row refusal }
-{
-    match row.first {
-        None => Noted {
-            first: Some(refusal),
-            more: row.more,
-        },
-        Some(_) => Noted {
-            first: row.first,
-            more: row.more.saturating_add(1),
-        },
-    }
 }
 
 impl Rows {
@@ -98,28 +118,57 @@ impl Rows {
     {
         let mut rows = Vec::with_capacity(alloc, count)?;
         for _ in 0..count {
-            rows.push(NEW_ROW)?;
+            rows.push(Noted {
+                first: None,
+                more: 0,
+            })?;
         }
         Ok(Rows { rows })
     }
 
-    fn keep_refusal(&mut self, pid: usize, refusal: Refusal)
-        ensures kept { self.new ≡ rows_with pid refusal self.old }
+    /// Keeps a call of process `pid` that was refused with this error.
+    fn keep_refusal(
+        &mut self,
+        alloc: Global,
+        pid: usize,
+        event: &Event,
+        called: &Called,
+        error: Errno,
+        registers: Registers,
+    ) -> Result<(), AllocError>
+        ensures kept { OnOk result (self.new
+            ≡ rows_with pid (refusal_of event.now called.now error registers) self.old) }
     {
-        if let Some(row) = self.rows.get_mut(pid) {
-            *row = row_with(*row, refusal);
+        let Some(row) = self.rows.get_mut(pid) else {
+            return Ok(());
+        };
+        if row.first.is_some() {
+            row.more = row.more.saturating_add(1);
+        } else {
+            row.first = Some(refusal_with(alloc, event, called, error, registers)?);
         }
+        Ok(())
     }
 
-    /// Keeps what is told of a step of process `pid`.
-    pub fn keep(&mut self, pid: usize, told: &Told)
-        ensures kept { self.new ≡ rows_by pid told.now self.old }
+    /// Keeps what is told of a step of process `pid`, by what its registers hold behind it.
+    pub fn keep(
+        &mut self,
+        alloc: Global,
+        pid: usize,
+        told: &Told,
+        registers: Registers,
+    ) -> Result<(), AllocError>
+        ensures kept { OnOk result (self.new ≡ rows_by pid registers told.now self.old) }
     {
         let Told::Shown(event) = told else {
-            return;
+            return Ok(());
         };
-        if let Some(refusal) = refusal_of(event) {
-            self.keep_refusal(pid, refusal);
+        let Act::Calls(called) = &event.act else {
+            return Ok(());
+        };
+        match refused_with(&called.outcome) {
+            Some(error) => self.keep_refusal(alloc, pid, event, called, error, registers),
+            None => Ok(()),
         }
     }
 
