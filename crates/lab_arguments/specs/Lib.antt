@@ -1,2 +1,3 @@
 pub mod Private
+pub mod Pieces
 pub mod Programs

@@ -1,37 +1,49 @@
 //! The command `explore`, and what its words ask for.
-ghost use Rattle.std.specs.Prelude.{◌≡◌, ℕ, List, None, Some, false, IfOk, codes};
+ghost use Rattle.std.specs.Prelude.{◌≡◌, ℕ, List, None, Some, false, IfOk, codes, map};
 ghost use Rattle.clap.specs.Words.{first_value, found_of, one_text};
-ghost use Rattle.lab_arguments.specs.Private.Options.{IsNumber};
-ghost use Rattle.lab_arguments.specs.Private.Requirements.{nothing, words_of, AreRequired};
+ghost use Rattle.lab_arguments.specs.Private.Options.{IsNumber, values_in};
+ghost use Rattle.lab_arguments.specs.Pieces.{words_in};
+ghost use Rattle.lab_arguments.specs.Private.Requirements.{nothing, outputs_in, words_of, AreRequired};
 ghost use Rattle.lab_arguments.specs.Private.Showing.{AreShown};
 ghost use Rattle.lab_arguments.specs.declared.question.Choice.TheVariants.{End};
 
 use crate::misuse::Misuse;
 use crate::options::{limit_of, number_of, setup_of, values_of};
+use crate::pieces::outputs_in;
 use crate::programs::Holds;
 use crate::question::{Choice, Question};
 use crate::request::{Refusal, Request};
-use crate::requirements::{Requirements, requirements_of};
+use crate::requirements::{Requirements, refused_in, requirements_of};
 use crate::showing::show_of;
 use crate::walks::{seed_of, worlds_of};
 use crate::{MOST_LOCAL_STEPS, MOST_MEMORY, MOST_WORLDS};
 use clap::ArgMatches;
 use std::alloc::{AllocError, Global};
 
+/// What each end must be like.
+#[derive(Drop)]
+struct Required<'a> {
+    words: Requirements,
+    /// What is required of outputs, each as it is written.
+    outputs: Vec<&'a str>,
+}
+
 /// What each end must be like, as the words say.
-fn required_of<'a>(alloc: Global, words: &ArgMatches<'a>) -> Result<Requirements, Refusal>
+fn required_of<'a>(alloc: Global, words: &ArgMatches<'a>) -> Result<Required<'a>, Refusal>
     ensures any { IfOk result (λ r.
-        first_value (found_of words.now) (codes "require") ≡ None → r ≡ nothing) }
-    ensures required { IfOk result (λ r. (text : List ℕ)
-        → first_value (found_of words.now) (codes "require") ≡ Some text
-        → AreRequired (words_of text) r) }
+        first_value (found_of words.now) (codes "require") ≡ None → r.words ≡ nothing) }
+    ensures required { IfOk result (λ r.
+        AreRequired (words_in (values_in (found_of words.now) (codes "require"))) r.words) }
+    ensures outputs { IfOk result (λ r. map (λ o. o.now) r.outputs.items
+        ≡ outputs_in (values_in (found_of words.now) (codes "require"))) }
 {
-    let Some(text) = words.get_str("require") else {
-        return Ok(Requirements::NOTHING);
-    };
-    match requirements_of(alloc, text)? {
-        Some(requirements) => Ok(requirements),
-        None => Err(Misuse::NoRequirement(text).refusal(alloc)),
+    let values = words.get_strs("require").unwrap_or_default();
+    match requirements_of(alloc, values)? {
+        Some(words) => Ok(Required {
+            words,
+            outputs: outputs_in(alloc, values)?,
+        }),
+        None => Err(Misuse::NoRequirement(refused_in(alloc, values)?).refusal(alloc)),
     }
 }
 
@@ -105,9 +117,10 @@ fn question_of<'a>(alloc: Global, words: &ArgMatches<'a>) -> Result<Question<'a>
         → IsNumber text n → q.trace ≡ Some (End n)) }
     ensures any { IfOk result (λ q.
         first_value (found_of words.now) (codes "require") ≡ None → q.required ≡ nothing) }
-    ensures required { IfOk result (λ q. (text : List ℕ)
-        → first_value (found_of words.now) (codes "require") ≡ Some text
-        → AreRequired (words_of text) q.required) }
+    ensures required { IfOk result (λ q.
+        AreRequired (words_in (values_in (found_of words.now) (codes "require"))) q.required) }
+    ensures outputs { IfOk result (λ q. map (λ o. o.now) q.outputs.items
+        ≡ outputs_in (values_in (found_of words.now) (codes "require"))) }
     ensures report { IfOk result (λ q.
         first_value (found_of words.now) (codes "show") ≡ None
         → (q.out ≡ false) × (q.left ≡ false)) }
@@ -125,7 +138,8 @@ fn question_of<'a>(alloc: Global, words: &ArgMatches<'a>) -> Result<Question<'a>
         memory: limit_of(words, "memory", MOST_MEMORY),
         steps: limit_of(words, "limit", MOST_LOCAL_STEPS),
         threads: number_of(words, "threads"),
-        required,
+        required: required.words,
+        outputs: required.outputs,
         waiters: values_of(alloc, words, "may-wait")?,
         never: values_of(alloc, words, "never")?,
         fair: words.get_flag("fair"),

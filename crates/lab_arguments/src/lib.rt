@@ -6,6 +6,7 @@ mod exploring;
 mod misuse;
 mod options;
 mod parser;
+mod pieces;
 mod programs;
 mod question;
 mod request;
@@ -17,6 +18,7 @@ mod table;
 mod walks;
 
 pub use parser::read_words;
+pub use pieces::required_words;
 pub use programs::{Console, program_of, takes_input};
 pub use question::{Choice, Question};
 pub use request::{Manner, Page, Refusal, Request, Setup};

@@ -72,6 +72,7 @@ pub(crate) fn setup_of<'a>(
         None => Ok(Setup {
             programs,
             profile: profile_of(words),
+            notes: words.get_flag("notes"),
         }),
     }
 }

@@ -13,6 +13,8 @@ pub struct Question<'a> {
     pub threads: Option<u32>,
     /// What each end must be like.
     pub required: Requirements,
+    /// What is required of outputs at each end, each as it is written.
+    pub outputs: Vec<&'a str>,
     /// The words that name processes which may wait for ever, each `P`, `P at A` or `P at A-B`.
     pub waiters: Vec<&'a str>,
     /// The conditions that must never be so.
@@ -47,6 +49,7 @@ impl Drop for Question<'_> {
             steps: _,
             threads: _,
             required: _,
+            outputs: _,
             waiters: _,
             never: _,
             fair: _,
@@ -75,12 +78,13 @@ pub enum Choice {
 impl Question<'_> {
     /// Whether something has to be so.
     pub fn judges(&self) -> bool {
-        self.required.is_some() || !self.never.is_empty()
+        self.required.is_some() || !self.outputs.is_empty() || !self.never.is_empty()
     }
 
     /// Whether more is asked than the ends, or ends that have one verdict.
     pub fn asks_more(&self) -> bool {
         self.required.are_more_than_a_verdict()
+            || !self.outputs.is_empty()
             || !self.waiters.is_empty()
             || !self.never.is_empty()
             || self.fair

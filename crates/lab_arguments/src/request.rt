@@ -53,6 +53,8 @@ pub struct Setup<'a> {
     pub programs: Vec<&'a str>,
     /// The profile of the machines.
     pub profile: Profile,
+    /// Whether notes are told where nobody looks, too.
+    pub notes: bool,
 }
 
 /// How programs are run on threads.

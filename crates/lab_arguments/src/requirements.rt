@@ -1,7 +1,9 @@
 //! The words of `--require`.
 ghost use Rattle.std.specs.Prelude.{◌≡◌, ◌<◌, Option, None, IfOk, IfSome, bytes_eq, map};
+ghost use Rattle.lab_arguments.specs.Pieces.{words_in};
 ghost use Rattle.lab_arguments.specs.Private.Requirements.{how_often, once_if, rest_counts, words_of, AreRequired};
 
+use crate::pieces::required_words;
 use std::alloc::{AllocError, Global};
 
 /// What each end of an exploration must be like.
@@ -131,13 +133,28 @@ fn required_by(words: &[&str]) -> Option<Requirements>
     Some(Requirements { rest, empty, same })
 }
 
-/// What a text requires: words with commas between them.
-pub(crate) fn requirements_of(alloc: Global, text: &str) -> Result<Option<Requirements>, AllocError>
+/// What the words of some values require.
+pub(crate) fn requirements_of(
+    alloc: Global,
+    values: &[&str],
+) -> Result<Option<Requirements>, AllocError>
     ensures some { IfOk result (λ found. IfSome found (λ r.
-        AreRequired (words_of text.now) r)) }
+        AreRequired (words_in (map (λ v. v.now) values.now)) r)) }
     ensures none { IfOk result (λ found. found ≡ None → (r : Requirements)
-        → AreRequired (words_of text.now) r → ⊥) }
+        → AreRequired (words_in (map (λ v. v.now) values.now)) r → ⊥) }
 {
-    let words = words_of(alloc, text)?;
+    let words = required_words(alloc, values)?;
     Ok(required_by(&words))
+}
+
+/// The first value whose words are refused by themselves, or else the last one.
+pub(crate) fn refused_in<'a>(alloc: Global, values: &[&'a str]) -> Result<&'a str, AllocError> {
+    let mut last = "";
+    for value in values {
+        last = value;
+        if requirements_of(alloc, &[last])?.is_none() {
+            return Ok(last);
+        }
+    }
+    Ok(last)
 }

@@ -10,7 +10,7 @@ use clap::ArgMatches;
 const USUAL_SEED: u32 = 1;
 
 /// The most worlds of a search where the words don't say.
-const USUAL_WORLDS: u32 = 100_000;
+const USUAL_WORLDS: u32 = 10_000_000;
 
 /// The most worlds of a walk where the words don't say.
 const USUAL_WORLDS_OF_A_WALK: u32 = 10_000;

@@ -20,7 +20,7 @@ use Rattle.lab_questions.specs.Judgments.{Meets, IsMet, IsFault, IsFaultIn, IsAn
 use Rattle.lab_questions.specs.Programs.{AlwaysMeet, IsRefuted}
 use Rattle.lab_questions.specs.Texts.{schedule_of, schedule_at}
 
-all_at : (P : End → Type 0) (es : List End) (i : ℕ) (e : End) → All P es → slice_get es i ≡ Some e → P e
+pub all_at : (P : End → Type 0) (es : List End) (i : ℕ) (e : End) → All P es → slice_get es i ≡ Some e → P e
 all_at P es i e all has = subst P (get_or_from_slice_get es i e e has) (all i e (slice_get_within es i e has))
 
 emptied : (w v : WorldState) → AreAlike w v → AreEmptied v → AreEmptied w

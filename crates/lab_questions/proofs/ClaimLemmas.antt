@@ -1,5 +1,5 @@
 -- What the text says of programs, by what was found of them.
-use Rattle.std.proofs.Common.{ℕ, ◌≡◌, ◌+◌, Bool, true, false, List, [], ◌∷◌, ◌++◌, Option, Some, None, get_or, slice_get, length, All, refl, sym, ap, subst, ◌∙◌, append_assoc, append-nil, flat_map, codes, decimal, arith, ◌≤◌}
+use Rattle.std.proofs.Common.{ℕ, ◌≡◌, ◌+◌, Bool, true, false, List, [], ◌∷◌, ◌++◌, Option, Some, None, get_or, slice_get, length, All, refl, sym, ap, subst, ◌∙◌, append_assoc, append-nil, flat_map, codes, decimal, string_bytes, arith, ◌≤◌}
 use Rattle.std.specs.List.Sorted.{IsNonDecreasingBy}
 use Rattle.std.proofs.lemmas.Option.{slice_get_within, get_or_from_slice_get}
 use Rattle.ipc_kernel.specs.Kernel.{KernelState}
@@ -22,12 +22,13 @@ use Rattle.lab_questions.specs.declared.answers.Answer.{Answer}
 use Rattle.lab_questions.specs.declared.asked.Asked.{Asked}
 use Rattle.lab_questions.specs.declared.asked.Show.{Show}
 use Rattle.lab_questions.specs.declared.asked.Word.{Word}
+use Rattle.lab_questions.specs.declared.output.OutputNeed.{OutputNeed}
 use Rattle.lab_questions.specs.Claims.{SaysComplete, SaysEndless, SaysStuck, TellsEveryEnd}
 use Rattle.lab_questions.specs.EndTexts.{text_of, told_ends, schedule_line, end_lines, ends_text, endless_line, lasso_text, extent_line}
 use Rattle.lab_questions.specs.Left.{left_text}
 use Rattle.lab_questions.specs.Lines.{AreLines, StandIn}
 use Rattle.lab_questions.specs.Shown.{outputs_text, outcome_text, head_text, with_left, shown_text}
-use Rattle.lab_questions.specs.Texts.{word_text, schedule_at, first_lines, fault_lines, answer_lines, word_lines, condition_lines, reached_lines, answers_text}
+use Rattle.lab_questions.specs.Texts.{word_text, schedule_at, first_lines, fault_lines, answer_lines, word_lines, need_lines, needs_lines, judged_lines, condition_lines, reached_lines, answers_text}
 use Rattle.lab_questions.proofs.LineLemmas.{lines-append, lines-feed, lines-onto, lines-below, same_last}
 use Rattle.lab_questions.proofs.OneText.{same_text}
 use Rattle.lab_questions.proofs.Reports.{report_lines, output_lines, same_verdict}
@@ -50,6 +51,24 @@ answers_whole ends (a ∷ answers) = lines-append (answer_lines ends a) (flat_ma
 words_whole : (plain : Bool) (ends : List End) (answers : List Answer) → AreLines (word_lines plain ends answers)
 words_whole true ends answers = tt
 words_whole false ends answers = answers_whole ends answers
+
+need_whole : (ends : List End) (need : Option OutputNeed) (fault : Option (Option ℕ)) → AreLines (need_lines ends need fault)
+unfolding schedule_line
+need_whole ends (Some need) (Some (Some i)) = lines-onto (codes "not " ++ string_bytes need.text ++ codes "\n") (codes "schedule " ++ schedule_text (schedule_at ends i))
+need_whole ends (Some need) (Some None) = tt
+need_whole ends (Some need) None = tt
+need_whole ends None (Some (Some i)) = tt
+need_whole ends None (Some None) = tt
+need_whole ends None None = tt
+
+needs_whole : (ends : List End) (needs : List OutputNeed) (faults : List (Option ℕ)) → AreLines (needs_lines ends needs faults)
+unfolding needs_lines
+needs_whole ends needs faults = lines-below _ (λ k. need_lines ends (slice_get needs k) (slice_get faults k)) (λ k. need_whole ends (slice_get needs k) (slice_get faults k))
+
+judged_whole : (asked : Asked) (found : Exploration) (answers : List Answer) (faults : List (Option ℕ)) → AreLines (judged_lines asked found answers faults)
+judged_whole asked found answers faults =
+    lines-append (word_lines asked.plain found.ends.items answers) (needs_lines found.ends.items asked.outputs.items faults)
+    (words_whole asked.plain found.ends.items answers) (needs_whole found.ends.items asked.outputs.items faults)
 
 condition_whole : (c : Option Never) (s : Option (Option (List Block))) → AreLines (condition_lines c s)
 unfolding schedule_line
@@ -89,12 +108,12 @@ stuck_stands show w n blocks text is stands =
     stand_within (above ++ head.0) (verdict_line Stuck) below text (lines-append above head.0 (lines-feed (codes "end " ++ decimal n)) head.1)
     (subst (λ l. StandIn l text) parts stands)
 
-module _ (asked : Asked) (found : Exploration) (answers : List Answer) (text : List ℕ) (is : text ≡ answers_text false asked found answers) where
+module _ (asked : Asked) (found : Exploration) (answers : List Answer) (faults : List (Option ℕ)) (text : List ℕ) (is : text ≡ answers_text false asked found answers faults) where
   abbrev ends : List ℕ
   ends = ends_text asked.show 1 (told_ends asked.show found.ends.items)
 
   abbrev words : List ℕ
-  words = word_lines asked.plain found.ends.items answers
+  words = judged_lines asked found answers faults
 
   abbrev reached : List ℕ
   reached = reached_lines asked.never.items found.reached.items
@@ -107,7 +126,7 @@ module _ (asked : Asked) (found : Exploration) (answers : List Answer) (text : L
   whole = is ∙ sym (append_assoc (ends ++ words) (reached ++ lasso_text found.lasso) last)
 
   front_whole : AreLines (ends ++ words)
-  front_whole = lines-append ends words (ends_whole asked.show 1 (told_ends asked.show found.ends.items)) (words_whole asked.plain found.ends.items answers)
+  front_whole = lines-append ends words (ends_whole asked.show 1 (told_ends asked.show found.ends.items)) (judged_whole asked found answers faults)
 
   above_whole : AreLines (ends ++ words ++ (reached ++ lasso_text found.lasso))
   above_whole =

@@ -16,40 +16,48 @@ use Rattle.lab_questions.specs.declared.asked.Waiter.{Waiter}
 use Rattle.lab_questions.specs.declared.asked.Word.{Word}
 use Rattle.lab_questions.specs.declared.asked.Word.TheVariants.{Ended, Stuck, Halted, Empty, Same}
 use Rattle.lab_questions.specs.declared.failure.Failure.{Failure}
-use Rattle.lab_questions.specs.declared.failure.Failure.TheVariants.{Not, Reached, Endless, Incomplete}
+use Rattle.lab_questions.specs.declared.failure.Failure.TheVariants.{Not, Output, Reached, Endless, Incomplete}
 use Rattle.lab_questions.specs.Requirements.{HasSettled, HaveSettled}
 use Rattle.lab_questions.specs.Judgments.{Meets, IsFault, IsFaultIn, IsAnswer, HasOtherVerdict, verdict_asked}
+use Rattle.lab_questions.specs.Outputs.{IsUnwritten}
 use Rattle.lab_questions.specs.Programs.{AlwaysMeet, ComeTo, AsksRest, Passes, IsUnmet, IsReached, IsEndless, IsFailure}
 
-none_unmet : (found : Exploration) (answers : List Answer) (word : Word) → IsUnmet answers word → Passes found answers → ⊥
-none_unmet found answers word (i, a, within, is, both) passes = both.1 (ap (λ x. x.fault) (sym is) ∙ passes.met i a within)
+none_unmet : (found : Exploration) (answers : List Answer) (faults : List (Option ℕ)) (word : Word) → IsUnmet answers word → Passes found answers faults → ⊥
+none_unmet found answers faults word (i, a, within, is, both) passes = both.1 (ap (λ x. x.fault) (sym is) ∙ passes.met i a within)
 
-none_reached : (found : Exploration) (answers : List Answer) (i : ℕ) → IsReached found i → Passes found answers → ⊥
-none_reached found answers i (s, at) passes =
+none_unwritten : (found : Exploration) (answers : List Answer) (faults : List (Option ℕ)) (k : ℕ) → IsUnwritten faults k → Passes found answers faults → ⊥
+none_unwritten found answers faults k (i, at) passes =
+    let none : ◌≡◌ {A = Option ℕ} (Some i) None = sym (get_or_from_slice_get faults k (Some i) (Some i) at) ∙ passes.written k (Some i) (slice_get_within faults k (Some i) at) in
+    absurd (cc)
+
+none_reached : (found : Exploration) (answers : List Answer) (faults : List (Option ℕ)) (i : ℕ) → IsReached found i → Passes found answers faults → ⊥
+none_reached found answers faults i (s, at) passes =
     let items = found.reached.items in
     let none : ◌≡◌ {A = Option (List Block)} (Some s) None = sym (get_or_from_slice_get items i (Some s) (Some s) at) ∙ passes.unreached i (Some s) (slice_get_within items i (Some s) at) in
     absurd (cc)
 
-none_endless : (found : Exploration) (answers : List Answer) → IsEndless found answers → Passes found answers → ⊥
-none_endless found answers (asks, lasso) passes = lasso (passes.ends asks)
+none_endless : (found : Exploration) (answers : List Answer) (faults : List (Option ℕ)) → IsEndless found answers → Passes found answers faults → ⊥
+none_endless found answers faults (asks, lasso) passes = lasso (passes.ends asks)
 
-none_open : (found : Exploration) (answers : List Answer) → found.complete ≡ false → Passes found answers → ⊥
-none_open found answers ajar passes = let both : true ≡ false = sym passes.complete ∙ ajar in cc
+none_open : (found : Exploration) (answers : List Answer) (faults : List (Option ℕ)) → found.complete ≡ false → Passes found answers faults → ⊥
+none_open found answers faults ajar passes = let both : true ≡ false = sym passes.complete ∙ ajar in cc
 
 -- what passes has no failure
-not_both : (plain : Bool) (found : Exploration) (answers : List Answer) (f : Failure) → IsFailure plain found answers f → Passes found answers → ⊥
-not_both false found answers (Not word) is passes = none_unmet found answers word is passes
-not_both false found answers (Reached i) (met, reached) passes = none_reached found answers i reached passes
-not_both false found answers Endless (met, unreached, endless) passes = none_endless found answers endless passes
-not_both false found answers Incomplete (met, unreached, ends, ajar) passes = none_open found answers ajar passes
-not_both true found answers (Not word) (complete, ends, unmet) passes = none_unmet found answers word unmet passes
-not_both true found answers (Reached i) (complete, ends, met, reached) passes = none_reached found answers i reached passes
-not_both true found answers Endless (complete, endless) passes = none_endless found answers endless passes
-not_both true found answers Incomplete ajar passes = none_open found answers ajar passes
+not_both : (plain : Bool) (found : Exploration) (answers : List Answer) (faults : List (Option ℕ)) (f : Failure) → IsFailure plain found answers faults f → Passes found answers faults → ⊥
+not_both false found answers faults (Not word) is passes = none_unmet found answers faults word is passes
+not_both false found answers faults (Output k) (met, unwritten) passes = none_unwritten found answers faults k unwritten passes
+not_both false found answers faults (Reached i) (met, reached) passes = none_reached found answers faults i reached passes
+not_both false found answers faults Endless (met, unreached, endless) passes = none_endless found answers faults endless passes
+not_both false found answers faults Incomplete (met, unreached, ends, ajar) passes = none_open found answers faults ajar passes
+not_both true found answers faults (Not word) (comes, unmet) passes = none_unmet found answers faults word unmet passes
+not_both true found answers faults (Output k) (comes, met, unwritten) passes = none_unwritten found answers faults k unwritten passes
+not_both true found answers faults (Reached i) (comes, met, reached) passes = none_reached found answers faults i reached passes
+not_both true found answers faults Endless (complete, endless) passes = none_endless found answers faults endless passes
+not_both true found answers faults Incomplete ajar passes = none_open found answers faults ajar passes
 
-pub no_failure : (plain : Bool) (found : Exploration) (answers : List Answer) (o : Option Failure) → IfSome o (IsFailure plain found answers) → Passes found answers → o ≡ None
-no_failure plain found answers None is passes = refl
-no_failure plain found answers (Some f) is passes = absurd (not_both plain found answers f is passes)
+pub no_failure : (plain : Bool) (found : Exploration) (answers : List Answer) (faults : List (Option ℕ)) (o : Option Failure) → IfSome o (IsFailure plain found answers faults) → Passes found answers faults → o ≡ None
+no_failure plain found answers faults None is passes = refl
+no_failure plain found answers faults (Some f) is passes = absurd (not_both plain found answers faults f is passes)
 
 ended_settles : (waiters : List Waiter) (p : ℕ) (s : Process) → HasEnded s → HasSettled waiters p s
 ended_settles waiters p (Running m) ended = ended
@@ -103,10 +111,10 @@ comes Halted waiters start none meet bounded = tt
 comes Empty waiters start none meet bounded = tt
 comes Same waiters start none meet bounded = tt
 
-pub all_come : (waiters : List Waiter) (start : WorldState) (found : Exploration) (answers : List Answer) → waiters ≡ [] → Passes found answers
+pub all_come : (waiters : List Waiter) (start : WorldState) (found : Exploration) (answers : List Answer) (faults : List (Option ℕ)) → waiters ≡ [] → Passes found answers faults
     → All (λ a. a.fault ≡ None → AlwaysMeet a.word waiters start) answers → (found.lasso ≡ None → AreBounded start)
     → All (λ a. IfSome (verdict_asked a.word) (λ v. ComeTo v start)) answers
-all_come waiters start found answers none passes meet bounded k d within =
+all_come waiters start found answers faults none passes meet bounded k d within =
     let a = get_or answers k d in
     comes a.word waiters start none (meet k d within (passes.met k d within))
     (λ asks. bounded (passes.ends (k, a, within, get_or_default answers k a d within, asks)))

@@ -12,6 +12,9 @@ mod Numbered
 mod OrderLemmas
 pub mod ListLemmas
 pub mod AnswerLemmas
+mod OutputLemmas
+mod WithinLemmas
+mod ReadingLemmas
 pub mod ToldLemmas
 mod FailureLemmas
 mod ValueLemmas

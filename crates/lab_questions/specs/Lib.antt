@@ -6,6 +6,8 @@ pub mod EndTexts
 pub mod Claims
 pub mod Laws
 pub mod Requirements
+pub mod Outputs
+pub mod Written
 pub mod Objects
 pub mod Judgments
 pub mod Programs

@@ -1,5 +1,5 @@
 -- What answers say of the programs of a laboratory.
-use Rattle.std.specs.Prelude.{ℕ, ◌≡◌, ◌≢◌, Bool, true, not, ◌&&◌, ◌==◌, IsTrue, false, Some, None, List, All, Any, length, slice_get}
+use Rattle.std.specs.Prelude.{ℕ, ◌≡◌, ◌≢◌, Bool, true, not, ◌&&◌, ◌==◌, IsTrue, false, Option, Some, None, List, All, Any, length, slice_get}
 use Rattle.lab_sched.specs.declared.schedule.block.Block.{Block}
 use Rattle.lab_sched.specs.declared.verdict.Verdict.{Verdict}
 use Rattle.lab_sched.specs.Schedules.{steps_of}
@@ -19,8 +19,9 @@ use Rattle.lab_questions.specs.declared.asked.Word.{Word}
 use Rattle.lab_questions.specs.declared.asked.Word.TheVariants.{Ended, Stuck, Halted, Empty, Same}
 use Rattle.lab_questions.specs.declared.answers.Answer.{Answer}
 use Rattle.lab_questions.specs.declared.failure.Failure.{Failure}
-use Rattle.lab_questions.specs.declared.failure.Failure.TheVariants.{Not, Reached, Endless, Incomplete}
+use Rattle.lab_questions.specs.declared.failure.Failure.TheVariants.{Not, Output, Reached, Endless, Incomplete}
 use Rattle.lab_questions.specs.Judgments.{Meets}
+use Rattle.lab_questions.specs.Outputs.{IsUnwritten}
 
 -- whatever steps are taken from the start, effective or not: if the world after them is at rest, what is told of it is told of one of
 -- the ends
@@ -51,7 +52,7 @@ pub record ComeTo (verdict : Verdict) (start : WorldState) : Type 0 where
 
 -- something has to be so
 abbrev pub judges : Asked → Bool
-judges asked = not (length asked.words.items == 0 && length asked.never.items == 0)
+judges asked = not (length asked.words.items == 0 && length asked.outputs.items == 0 && length asked.never.items == 0)
 
 -- the word asks that each run comes to rest
 abbrev pub AsksRest : Word → Type 0
@@ -61,9 +62,10 @@ AsksRest Halted = Unit {0}
 AsksRest Empty = ⊥
 AsksRest Same = ⊥
 
--- nothing was found that isn't as it is required, and everything was visited
-pub record Passes (found : Exploration) (answers : List Answer) : Type 0 where
+-- nothing was found that isn't as it is required, by the answers on words and on outputs, and everything was visited
+pub record Passes (found : Exploration) (answers : List Answer) (faults : List (Option ℕ)) : Type 0 where
   pub met : All (λ a. a.fault ≡ None) answers
+  pub written : All (λ f. f ≡ None) faults
   pub unreached : All (λ s. s ≡ None) found.reached.items
   pub ends : Any (λ a. AsksRest a.word) answers → found.lasso ≡ None
   pub complete : IsTrue found.complete
@@ -80,25 +82,33 @@ IsUnmet answers word = Any (λ a. (a.word ≡ word) × (a.fault ≢ None)) answe
 abbrev pub IsReached : Exploration → ℕ → Type 0
 IsReached found i = (s : List Block) × (slice_get found.reached.items i ≡ Some (Some s))
 
+-- each end is as it is required
+abbrev pub AreMet : List Answer → List (Option ℕ) → Type 0
+AreMet answers faults = All (λ a. a.fault ≡ None) answers × All (λ f. f ≡ None) faults
+
 -- the first of these that is so
-abbrev pub IsFirst : Exploration → List Answer → Failure → Type 0
-IsFirst found answers (Not word) = IsUnmet answers word
-IsFirst found answers (Reached i) = All (λ a. a.fault ≡ None) answers × IsReached found i
-IsFirst found answers Endless =
-    All (λ a. a.fault ≡ None) answers × All (λ s. s ≡ None) found.reached.items × IsEndless found answers
-IsFirst found answers Incomplete =
-    All (λ a. a.fault ≡ None) answers × All (λ s. s ≡ None) found.reached.items × (Any (λ a. AsksRest a.word) answers → found.lasso ≡ None)
+abbrev pub IsFirst : Exploration → List Answer → List (Option ℕ) → Failure → Type 0
+IsFirst found answers faults (Not word) = IsUnmet answers word
+IsFirst found answers faults (Output k) = All (λ a. a.fault ≡ None) answers × IsUnwritten faults k
+IsFirst found answers faults (Reached i) = AreMet answers faults × IsReached found i
+IsFirst found answers faults Endless = AreMet answers faults × All (λ s. s ≡ None) found.reached.items × IsEndless found answers
+IsFirst found answers faults Incomplete =
+    AreMet answers faults × All (λ s. s ≡ None) found.reached.items × (Any (λ a. AsksRest a.word) answers → found.lasso ≡ None)
     × (found.complete ≡ false)
 
+-- everything was visited, and each run comes to rest if a word asks that
+abbrev pub ComesToRest : Exploration → List Answer → Type 0
+ComesToRest found answers = IsTrue found.complete × (Any (λ a. AsksRest a.word) answers → found.lasso ≡ None)
+
 -- the first of the same where what wasn't visited counts before what was found
-abbrev pub IsFirstOfAll : Exploration → List Answer → Failure → Type 0
-IsFirstOfAll found answers Incomplete = found.complete ≡ false
-IsFirstOfAll found answers Endless = IsTrue found.complete × IsEndless found answers
-IsFirstOfAll found answers (Not word) = IsTrue found.complete × (Any (λ a. AsksRest a.word) answers → found.lasso ≡ None) × IsUnmet answers word
-IsFirstOfAll found answers (Reached i) =
-    IsTrue found.complete × (Any (λ a. AsksRest a.word) answers → found.lasso ≡ None) × All (λ a. a.fault ≡ None) answers × IsReached found i
+abbrev pub IsFirstOfAll : Exploration → List Answer → List (Option ℕ) → Failure → Type 0
+IsFirstOfAll found answers faults Incomplete = found.complete ≡ false
+IsFirstOfAll found answers faults Endless = IsTrue found.complete × IsEndless found answers
+IsFirstOfAll found answers faults (Not word) = ComesToRest found answers × IsUnmet answers word
+IsFirstOfAll found answers faults (Output k) = ComesToRest found answers × All (λ a. a.fault ≡ None) answers × IsUnwritten faults k
+IsFirstOfAll found answers faults (Reached i) = ComesToRest found answers × AreMet answers faults × IsReached found i
 
 -- the first that is so, in the one order or the other
-abbrev pub IsFailure : Bool → Exploration → List Answer → Failure → Type 0
-IsFailure false found answers failure = IsFirst found answers failure
-IsFailure true found answers failure = IsFirstOfAll found answers failure
+abbrev pub IsFailure : Bool → Exploration → List Answer → List (Option ℕ) → Failure → Type 0
+IsFailure false found answers faults failure = IsFirst found answers faults failure
+IsFailure true found answers faults failure = IsFirstOfAll found answers faults failure

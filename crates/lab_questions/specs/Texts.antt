@@ -1,5 +1,5 @@
 -- The text that tells what was found and answered.
-use Rattle.std.specs.Prelude.{ℕ, ◌≡◌, ◌≤◌, Bool, true, false, Option, Some, None, Ok, List, [], ◌++◌, Any, codes, flat_map, length, min, slice_get}
+use Rattle.std.specs.Prelude.{ℕ, ◌≡◌, ◌≤◌, Bool, true, false, Option, Some, None, Ok, List, [], ◌++◌, Any, codes, flat_map, length, min, slice_get, string_bytes}
 use Rattle.std.specs.Fmt.{decimal}
 use Rattle.lab_sched.specs.ScheduleTexts.{schedule_text, reading}
 use Rattle.lab_texts.specs.Rows.{texts_below}
@@ -14,6 +14,7 @@ use Rattle.lab_questions.specs.EndTexts.{told_ends, ends_text, schedule_line, la
 use Rattle.lab_questions.specs.declared.asked.Word.{Word}
 use Rattle.lab_questions.specs.declared.asked.Word.TheVariants.{Ended, Stuck, Halted, Empty, Same}
 use Rattle.lab_questions.specs.declared.answers.Answer.{Answer}
+use Rattle.lab_questions.specs.declared.output.OutputNeed.{OutputNeed}
 
 -- a word as it is written
 abbrev pub word_text : Word → List ℕ
@@ -50,6 +51,16 @@ fault_lines ends word (Some i) =
 abbrev pub answer_lines : List End → Answer → List ℕ
 answer_lines ends a = fault_lines ends a.word a.fault
 
+-- the lines of what is required of an output, if an end shows that it isn't so, with the schedule of that end
+abbrev pub need_lines : List End → Option OutputNeed → Option (Option ℕ) → List ℕ
+need_lines ends (Some need) (Some (Some i)) = codes "not " ++ string_bytes need.text ++ codes "\n" ++ schedule_line (schedule_at ends i)
+need_lines ends need fault = []
+
+-- the lines of all that is required of outputs, in order
+unfoldable pub needs_lines : List End → List OutputNeed → List (Option ℕ) → List ℕ
+needs_lines ends needs faults =
+    texts_below (min (length needs) (length faults)) (λ k. need_lines ends (slice_get needs k) (slice_get faults k))
+
 -- the lines of what must never be so, if it is there and was reached, with a schedule that leads there
 abbrev pub condition_lines : Option Never → Option (Option (List Block)) → List ℕ
 condition_lines (Some c) (Some (Some s)) = codes "reached " ++ never_text c ++ codes "\n" ++ schedule_line s
@@ -75,10 +86,15 @@ last_lines true never found = walks_line found.worlds
 last_lines false never found =
     reached_lines never found.reached.items ++ lasso_text found.lasso ++ extent_line found.complete found.worlds
 
+-- the lines of words and outputs that aren't so
+abbrev pub judged_lines : Asked → Exploration → List Answer → List (Option ℕ) → List ℕ
+judged_lines asked found answers faults =
+    word_lines asked.plain found.ends.items answers ++ needs_lines found.ends.items asked.outputs.items faults
+
 -- the ends that are told, the answers, and the last lines
-abbrev pub answers_text : Bool → Asked → Exploration → List Answer → List ℕ
-answers_text walks asked found answers =
-    ends_text asked.show 1 (told_ends asked.show found.ends.items) ++ word_lines asked.plain found.ends.items answers
+abbrev pub answers_text : Bool → Asked → Exploration → List Answer → List (Option ℕ) → List ℕ
+answers_text walks asked found answers faults =
+    ends_text asked.show 1 (told_ends asked.show found.ends.items) ++ judged_lines asked found answers faults
     ++ last_lines walks asked.never.items found
 
 -- the text of the schedule of an end that an answer names
@@ -89,6 +105,10 @@ ShowsFault ends answers text =
 -- an answer names an end beyond so many
 abbrev pub IsBeyond : ℕ → Answer → Type 0
 IsBeyond count a = (i : ℕ) × (a.fault ≡ Some i) × (count ≤ i)
+
+-- the text of the schedule of the end that shows number k of what is required of outputs not to be so
+abbrev pub ShowsOutput : List End → List (Option ℕ) → ℕ → List ℕ → Type 0
+ShowsOutput ends faults k text = (i : ℕ) × (slice_get faults k ≡ Some (Some i)) × (text ≡ schedule_text (schedule_at ends i))
 
 -- the text of the schedule that leads to number i of what must never be so
 abbrev pub ShowsReached : List (Option (List Block)) → ℕ → List ℕ → Type 0

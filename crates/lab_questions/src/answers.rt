@@ -2,14 +2,20 @@
 ghost use Rattle.std.specs.Prelude.{◌≡◌, None, map, string_bytes, All, IfOk, IfSome};
 ghost use Rattle.std.specs.Option.{option_copied};
 ghost use Rattle.lab_questions.specs.EndTexts.{AreTold, told_end};
+ghost use Rattle.lab_worlds.specs.Calls.{Alongside};
 ghost use Rattle.lab_questions.specs.Judgments.{IsAnswer};
+ghost use Rattle.lab_questions.specs.Outputs.{IsOutputAnswer};
 ghost use Rattle.lab_questions.specs.Programs.{Passes, IsFailure};
+ghost use Rattle.lab_questions.specs.Shown.{shown_text};
 ghost use Rattle.lab_questions.specs.Texts.{answers_text};
 
 use crate::failure::failure_of;
 use crate::judging::fault_in;
+use crate::output::faults_in;
+use crate::shown::shown_text;
 use crate::texts::tell;
 use crate::{Asked, Failure, Object, Waiter, Word};
+use lab_sched::World;
 use lab_worlds::{End, Exploration};
 use std::alloc::{AllocError, Global};
 
@@ -29,6 +35,9 @@ pub struct Answers {
     pub asked: Asked,
     pub exploration: Exploration,
     pub answers: Vec<Answer>,
+    /// For each output that is required, in order, the number of the first end, counted from 0, where it isn't so, if there is
+    /// one.
+    pub output_faults: Vec<Option<usize>>,
     /// The semaphores and queues that the conditions name and that are never there. Where not
     /// everything was visited that isn't known, and there are none here.
     pub unopened: Vec<Object>,
@@ -42,6 +51,7 @@ pub struct Answers {
 #[derive(Drop)]
 pub(crate) struct Said {
     pub answers: Vec<Answer>,
+    pub output_faults: Vec<Option<usize>>,
     pub text: String,
     pub told: Vec<usize>,
     pub failure: Option<Failure>,
@@ -54,6 +64,14 @@ impl Answers {
             self.now.told.items before }
     {
         self.exploration.ends.get(*self.told.get(before)?)
+    }
+
+    /// What is told of a world at rest: two ends of which the same is told are told as one.
+    pub fn text_of(&self, alloc: Global, world: &World) -> Result<String, AllocError>
+        ensures text { IfOk result
+            (λ text. string_bytes text ≡ shown_text self.now.asked.show world.now) }
+    {
+        shown_text(alloc, world, self.asked.show)
     }
 }
 
@@ -87,18 +105,23 @@ pub(crate) fn said_of(
         ≡ asked.now.words.items) }
     ensures answers { IfOk result (λ s.
         All (IsAnswer asked.now.waiters.items found.now.ends.items) s.answers.items) }
-    ensures text { IfOk result (λ s.
-        string_bytes s.text ≡ answers_text walks asked.now found.now s.answers.items) }
+    ensures outputs { IfOk result (λ s. Alongside (IsOutputAnswer found.now.ends.items)
+        asked.now.outputs.items s.output_faults.items) }
+    ensures text { IfOk result (λ s. string_bytes s.text
+        ≡ answers_text walks asked.now found.now s.answers.items s.output_faults.items) }
     ensures told { IfOk result (λ s. AreTold asked.now.show found.now.ends.items s.told.items) }
-    ensures none { IfOk result (λ s. s.failure ≡ None → Passes found.now s.answers.items) }
-    ensures some { IfOk result (λ s.
-        IfSome s.failure (λ f. IsFailure asked.now.plain found.now s.answers.items f)) }
+    ensures none { IfOk result (λ s. s.failure ≡ None
+        → Passes found.now s.answers.items s.output_faults.items) }
+    ensures some { IfOk result (λ s. IfSome s.failure (λ f.
+        IsFailure asked.now.plain found.now s.answers.items s.output_faults.items f)) }
 {
     let answers = answers_on(alloc, &asked.words, &asked.waiters, &found.ends)?;
-    let told = tell(alloc, asked, found, &answers, walks)?;
-    let failure = failure_of(found, &answers, asked.plain);
+    let output_faults = faults_in(alloc, &asked.outputs, &found.ends)?;
+    let told = tell(alloc, asked, found, &answers, &output_faults, walks)?;
+    let failure = failure_of(found, &answers, &output_faults, asked.plain);
     Ok(Said {
         answers,
+        output_faults,
         text: told.text,
         told: told.numbers,
         failure,

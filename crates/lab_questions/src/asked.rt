@@ -3,6 +3,7 @@ ghost use Rattle.std.specs.Prelude.{◌≡◌};
 ghost use Rattle.lab_questions.specs.Programs.{judges};
 ghost use Rattle.lab_questions.specs.Texts.{word_text};
 
+use crate::OutputNeed;
 use lab_conditions::Never;
 use lab_worlds::{Limits, Walks};
 
@@ -58,6 +59,8 @@ pub struct Show {
 pub struct Asked {
     /// What is required of each end.
     pub words: Vec<Word>,
+    /// What is required of what processes have written at each end.
+    pub outputs: Vec<OutputNeed>,
     /// The processes that may wait.
     pub waiters: Vec<Waiter>,
     /// What must never be so.
@@ -76,7 +79,7 @@ impl Asked {
     pub fn judges(&self) -> bool
         ensures judges { result ≡ judges self.now }
     {
-        !(self.words.is_empty() && self.never.is_empty())
+        !(self.words.is_empty() && self.outputs.is_empty() && self.never.is_empty())
     }
 }
 

@@ -1,6 +1,7 @@
 //! Explorations with what is required of their ends.
 ghost use Rattle.std.specs.Prelude.{◌≡◌, ◌↔◌, None, false, [], map, string_bytes, All, AllPairs, IfOk, IfSome, IsTrue};
 ghost use Rattle.std.specs.List.Sorted.{IsNonDecreasingBy};
+ghost use Rattle.lab_worlds.specs.Calls.{Alongside};
 ghost use Rattle.lab_worlds.specs.Ends.{AreEnds, HaveAllEnds, HaveFewestCalls, NeverStuck};
 ghost use Rattle.lab_worlds.specs.Reached.{AreReached, AreKept};
 ghost use Rattle.lab_worlds.specs.Lassos.{IsLasso, CanBeRepeated, AreBounded};
@@ -9,6 +10,7 @@ ghost use Rattle.lab_questions.specs.Claims.{SaysComplete, SaysEndless, SaysStuc
 ghost use Rattle.lab_questions.specs.EndTexts.{told_ends, AreTold};
 ghost use Rattle.lab_questions.specs.Judgments.{IsAnswer, HasOtherVerdict, verdict_asked};
 ghost use Rattle.lab_questions.specs.Objects.{named, AreUnopened, StandsBefore};
+ghost use Rattle.lab_questions.specs.Outputs.{IsOutputAnswer, IsOutputRefuted, AlwaysWritten};
 ghost use Rattle.lab_questions.specs.Programs.{TellEveryEnd, AlwaysMeet, ComeTo, IsRefuted, Passes, IsFailure};
 ghost use Rattle.lab_questions.specs.Texts.{schedule_at, answers_text};
 
@@ -21,11 +23,11 @@ use std::alloc::Global;
 use std::thread::Threads;
 
 /// Explores the programs of a laboratory, as far as the limits allow, and judges each end by each
-/// word. Where the last line of the text says that the search is complete, no steps lead to rest
-/// where something is told that the text doesn't, or by fewer calls than its schedule has. Where a
-/// word isn't so, the schedules that are told with it lead to ends which show that.
-/// Where the exploration is complete and the word is so, every world at rest that any steps lead to
-/// is as the word requires. The schedule of what must never be so leads to it; where the exploration is
+/// word and output. Where the last line of the text says that the search is complete, no steps lead to rest
+/// where something is told that the text doesn't, or by fewer calls than its schedule has. Where one
+/// isn't so, the schedules that are told with it lead to ends which show that.
+/// Where the exploration is complete and it is so, every world at rest that any steps lead to
+/// is as it requires. The schedule of what must never be so leads to it; where the exploration is
 /// complete and there is none, no steps do. Where it is complete, exactly those of the semaphores and
 /// queues that conditions name are unopened which no steps lead to. They are told once, in the order in
 /// which the conditions name them first. If only fair lassos are asked for, a
@@ -40,15 +42,18 @@ pub fn ask<O: Observer, R: Threads + Sync>(
     workers: &Workers<'_, R>,
 ) -> Result<Answers, ExploreFault>
     ensures words { IfOk result (λ a. map (λ x. x.word) a.answers.items ≡ asked.words.items) }
+    ensures outputs { IfOk result (λ a. a.asked.outputs ≡ asked.outputs) }
     ensures conditions { IfOk result (λ a. a.asked.never.items ≡ asked.never.items) }
     ensures shows { IfOk result (λ a. a.asked.show ≡ asked.show) }
     ensures plain { IfOk result (λ a. a.asked.plain ≡ asked.plain) }
-    ensures text { IfOk result (λ a.
-        string_bytes a.text ≡ answers_text false a.asked a.exploration a.answers.items) }
+    ensures text { IfOk result (λ a. string_bytes a.text
+        ≡ answers_text false a.asked a.exploration a.answers.items a.output_faults.items) }
     ensures numbers { IfOk result (λ a.
         AreTold asked.show a.exploration.ends.items a.told.items) }
     ensures answers { IfOk result (λ a.
         All (IsAnswer asked.waiters.items a.exploration.ends.items) a.answers.items) }
+    ensures output_answers { IfOk result (λ a. Alongside (IsOutputAnswer a.exploration.ends.items)
+        asked.outputs.items a.output_faults.items) }
     ensures sound { IfOk result (λ a. AreEnds fresh a.exploration.ends.items) }
     ensures ordered { IfOk result (λ a.
         IsNonDecreasingBy (λ e. e.calls) a.exploration.ends.items) }
@@ -85,6 +90,12 @@ pub fn ask<O: Observer, R: Threads + Sync>(
     ensures met { IfOk result (λ a. IsTrue a.exploration.complete
         → All (λ x. x.fault ≡ None → AlwaysMeet x.word asked.waiters.items fresh)
         a.answers.items) }
+    ensures unwritten { IfOk result (λ a. Alongside (λ need fault. IfSome fault (λ i.
+        IsOutputRefuted need fresh (schedule_at a.exploration.ends.items i)))
+        asked.outputs.items a.output_faults.items) }
+    ensures written { IfOk result (λ a. IsTrue a.exploration.complete
+        → Alongside (λ need fault. fault ≡ None → AlwaysWritten need fresh)
+        asked.outputs.items a.output_faults.items) }
     ensures reached { IfOk result (λ a.
         AreReached fresh asked.never.items a.exploration.reached.items) }
     ensures unreached { IfOk result (λ a. IsTrue a.exploration.complete
@@ -96,9 +107,10 @@ pub fn ask<O: Observer, R: Threads + Sync>(
     ensures order { IfOk result (λ a.
         AllPairs (StandsBefore (named asked.never.items)) a.unopened.items) }
     ensures passes { IfOk result (λ a. (a.failure ≡ None)
-        ↔ Passes a.exploration a.answers.items) }
+        ↔ Passes a.exploration a.answers.items a.output_faults.items) }
     ensures failure { IfOk result (λ a.
-        IfSome a.failure (λ f. IsFailure asked.plain a.exploration a.answers.items f)) }
+        IfSome a.failure (λ f. IsFailure asked.plain a.exploration a.answers.items
+        a.output_faults.items f)) }
     ensures come { IfOk result (λ a. asked.waiters.items ≡ [] → asked.fair ≡ false
         → a.failure ≡ None → All (λ x. IfSome (verdict_asked x.word) (λ v. ComeTo v fresh))
         a.answers.items) }
@@ -118,6 +130,7 @@ pub fn ask<O: Observer, R: Threads + Sync>(
         asked,
         exploration: found.exploration,
         answers: said.answers,
+        output_faults: said.output_faults,
         unopened: found.unopened,
         text: said.text,
         told: said.told,

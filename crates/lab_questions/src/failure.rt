@@ -2,6 +2,7 @@
 ghost use Rattle.std.specs.Prelude.{◌≡◌, ◌≢◌, ◌↔◌, false, List, Some, None, All, Any, IfSome, IsTrue, slice_get};
 ghost use Rattle.lab_sched.specs.declared.schedule.block.Block.{Block};
 ghost use Rattle.lab_questions.specs.Programs.{AsksRest, Passes, IsEndless, IsUnmet, IsReached, IsFailure};
+ghost use Rattle.lab_questions.specs.Outputs.{IsUnwritten};
 
 use crate::{Answer, Word};
 use lab_sched::Schedule;
@@ -12,6 +13,8 @@ use lab_worlds::Exploration;
 pub enum Failure {
     /// An end isn't as this word requires.
     Not(Word),
+    /// What is required of an output, by its number, from 0, isn't so at an end.
+    Output(usize),
     /// The condition with this number, from 0, was reached.
     Reached(usize),
     /// Some interleaving never ends, and each has to.
@@ -29,6 +32,19 @@ fn unmet_word(answers: &[Answer]) -> Option<Word>
     for answer in answers {
         if answer.fault.is_some() {
             return Some(answer.word);
+        }
+    }
+    None
+}
+
+/// The number of the first output, counted from 0, that an end shows not to be as it is required.
+fn first_unwritten(faults: &[Option<usize>]) -> Option<usize>
+    ensures none { result ≡ None → All (λ f. f ≡ None) faults.now }
+    ensures some { IfSome result (λ k. IsUnwritten faults.now k) }
+{
+    for (number, fault) in faults.iter().enumerate() {
+        if fault.is_some() {
+            return Some(number);
         }
     }
     None
@@ -84,9 +100,15 @@ fn is_endless(found: &Exploration, answers: &[Answer]) -> bool
 
 /// Why an exploration doesn't show that all is as it is required, if it doesn't: what was found, or else what wasn't visited,
 /// which counts first where no more is asked than a verdict.
-pub(crate) fn failure_of(found: &Exploration, answers: &[Answer], plain: bool) -> Option<Failure>
-    ensures none { result ≡ None → Passes found.now answers.now }
-    ensures some { IfSome result (λ failure. IsFailure plain found.now answers.now failure) }
+pub(crate) fn failure_of(
+    found: &Exploration,
+    answers: &[Answer],
+    faults: &[Option<usize>],
+    plain: bool,
+) -> Option<Failure>
+    ensures none { result ≡ None → Passes found.now answers.now faults.now }
+    ensures some { IfSome result (λ failure.
+        IsFailure plain found.now answers.now faults.now failure) }
 {
     let endless = is_endless(found, answers);
     if plain && !found.complete {
@@ -97,6 +119,9 @@ pub(crate) fn failure_of(found: &Exploration, answers: &[Answer], plain: bool) -
     }
     if let Some(word) = unmet_word(answers) {
         return Some(Failure::Not(word));
+    }
+    if let Some(number) = first_unwritten(faults) {
+        return Some(Failure::Output(number));
     }
     if let Some(number) = first_reached(&found.reached) {
         return Some(Failure::Reached(number));

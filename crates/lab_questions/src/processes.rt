@@ -73,7 +73,7 @@ pub(crate) fn have_halted(waiters: &[Waiter], world: &World) -> bool
 }
 
 /// What process `pid` of a world has written, if it is there.
-fn output_of(world: &World, pid: usize) -> Option<&[u8]>
+pub(crate) fn output_of(world: &World, pid: usize) -> Option<&[u8]>
     ensures output { option_map (λ bytes. bytes.now) result ≡ slice_get (outputs world.now) pid }
 {
     match world.process(pid) {

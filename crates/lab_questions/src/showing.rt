@@ -1,10 +1,10 @@
 //! Schedules that show why ends aren't as they are required to be.
-ghost use Rattle.std.specs.Prelude.{◌≡◌, ◌⊎◌, ℕ, List, None, Some, All, Any, IfOk, IfSome, length, slice_get, string_bytes, ◌++◌, codes};
+ghost use Rattle.std.specs.Prelude.{◌≡◌, ◌⊎◌, ℕ, ◌≤◌, List, None, Some, All, Any, IfOk, IfSome, length, slice_get, string_bytes, ◌++◌, codes};
 ghost use Rattle.lab_sched.specs.ScheduleTexts.{schedule_text};
 ghost use Rattle.lab_sched.specs.declared.schedule.block.Block.{Block};
-ghost use Rattle.lab_questions.specs.declared.failure.Failure.TheVariants.{Not, Reached, Endless, Incomplete};
+ghost use Rattle.lab_questions.specs.declared.failure.Failure.TheVariants.{Not, Output, Reached, Endless, Incomplete};
 ghost use Rattle.lab_questions.specs.declared.asked.Word.{Word};
-ghost use Rattle.lab_questions.specs.Texts.{IsBeyond, IsTooLong, ShowsFault, ShowsReached, ShowsLasso};
+ghost use Rattle.lab_questions.specs.Texts.{IsBeyond, IsTooLong, ShowsFault, ShowsOutput, ShowsReached, ShowsLasso};
 
 use crate::{Answer, Answers, Failure};
 use lab_sched::{SchedFault, Schedule};
@@ -40,6 +40,27 @@ fn fault_schedule(
         return Ok(None);
     };
     match found.ends.get(number) {
+        Some(end) => Ok(Some(end.schedule.text(alloc)?)),
+        None => Ok(None),
+    }
+}
+
+/// The text of the schedule of the first end that shows an output, by its number, not to be as it is required.
+fn output_schedule(
+    alloc: Global,
+    found: &Exploration,
+    faults: &[Option<usize>],
+    number: usize,
+) -> Result<Option<String>, AllocError>
+    ensures output { IfOk result (λ shown. IfSome shown (λ text.
+        ShowsOutput found.now.ends.items faults.now number (string_bytes text))) }
+    ensures none { IfOk result (λ shown. shown ≡ None → (i : ℕ)
+        → slice_get faults.now number ≡ Some (Some i) → length found.now.ends.items ≤ i) }
+{
+    let Some(Some(at)) = faults.get(number) else {
+        return Ok(None);
+    };
+    match found.ends.get(*at) {
         Some(end) => Ok(Some(end.schedule.text(alloc)?)),
         None => Ok(None),
     }
@@ -93,6 +114,9 @@ impl Answers {
         ensures fault { IfOk result (λ shown. (word : Word) → self.now.failure ≡ Some (Not word)
             → IfSome shown (λ text. ShowsFault self.now.exploration.ends.items
             self.now.answers.items (string_bytes text))) }
+        ensures output { IfOk result (λ shown. (k : ℕ) → self.now.failure ≡ Some (Output k)
+            → IfSome shown (λ text. ShowsOutput self.now.exploration.ends.items
+            self.now.output_faults.items k (string_bytes text))) }
         ensures reached { IfOk result (λ shown. (i : ℕ) → self.now.failure ≡ Some (Reached i)
             → IfSome shown (λ text. ShowsReached self.now.exploration.reached.items i
             (string_bytes text))) }
@@ -103,6 +127,10 @@ impl Answers {
             → self.now.failure ≡ Some (Not word) → shown ≡ None
             → All (λ a. a.fault ≡ None) self.now.answers.items
             ⊎ Any (IsBeyond (length self.now.exploration.ends.items)) self.now.answers.items) }
+        ensures no_output { IfOk result (λ shown. (k i : ℕ)
+            → self.now.failure ≡ Some (Output k) → shown ≡ None
+            → slice_get self.now.output_faults.items k ≡ Some (Some i)
+            → length self.now.exploration.ends.items ≤ i) }
         ensures not_reached { IfOk result (λ shown. (i : ℕ)
             → self.now.failure ≡ Some (Reached i) → shown ≡ None → (s : List Block)
             → slice_get self.now.exploration.reached.items i ≡ Some (Some s) → ⊥) }
@@ -115,6 +143,9 @@ impl Answers {
         let found = &self.exploration;
         match self.failure {
             Some(Failure::Not(_)) => fault_schedule(alloc, found, &self.answers),
+            Some(Failure::Output(number)) => {
+                output_schedule(alloc, found, &self.output_faults, number)
+            }
             Some(Failure::Reached(number)) => reached_schedule(alloc, &found.reached, number),
             Some(Failure::Endless) => match &found.lasso {
                 Some(lasso) => lasso_schedule(alloc, lasso),

@@ -1,11 +1,11 @@
 //! The lines of answers.
 ghost use Rattle.std.specs.Prelude.{◌≡◌, ◌<◌, ◌++◌, Some, length, slice_get, OnOk, IfOk, IfSome, All, string_bytes, flat_map};
 ghost use Rattle.lab_questions.specs.EndTexts.{schedule_line, AreTold};
-ghost use Rattle.lab_questions.specs.Texts.{schedule_at, first_lines, fault_lines, answer_lines, condition_lines, reached_lines, word_lines, walks_line, last_lines, answers_text};
+ghost use Rattle.lab_questions.specs.Texts.{schedule_at, first_lines, fault_lines, answer_lines, need_lines, needs_lines, condition_lines, reached_lines, word_lines, walks_line, last_lines, judged_lines, answers_text};
 
 use crate::lines::{push_extent, push_lasso, push_schedule};
 use crate::told::{Told, told_of};
-use crate::{Answer, Asked, Word};
+use crate::{Answer, Asked, OutputNeed, Word};
 use lab_conditions::Never;
 use lab_sched::Schedule;
 use lab_worlds::{End, Exploration};
@@ -84,6 +84,63 @@ fn push_answers(
 {
     for answer in answers {
         push_answer(alloc, text, ends, *answer)?;
+    }
+    Ok(())
+}
+
+/// Adds the lines of what is required of an output and isn't so at an end.
+fn push_unwritten(
+    alloc: Global,
+    text: &mut String,
+    ends: &[End],
+    need: &OutputNeed,
+    number: usize,
+) -> Result<(), AllocError>
+    requires there { number < length ends.now }
+    ensures text { OnOk result (string_bytes text.new ≡ string_bytes text.old
+        ++ need_lines ends.now (Some need.now) (Some (Some number))) }
+{
+    let name = need.text.as_str();
+    write!(text, "not {name}\n")?;
+    push_schedule_at(alloc, text, ends, number)
+}
+
+/// Adds the lines of what is required of an output, by its number, counted from 0, if an end shows that it isn't so.
+fn push_need(
+    alloc: Global,
+    text: &mut String,
+    ends: &[End],
+    needs: &[OutputNeed],
+    faults: &[Option<usize>],
+    number: usize,
+) -> Result<(), AllocError>
+    requires there { All (λ f. IfSome f (λ i. i < length ends.now)) faults.now }
+    requires need { number < length needs.now }
+    requires fault { number < length faults.now }
+    ensures text { OnOk result (string_bytes text.new ≡ string_bytes text.old
+        ++ need_lines ends.now (slice_get needs.now number) (slice_get faults.now number)) }
+{
+    match faults[number] {
+        Some(at) => push_unwritten(alloc, text, ends, &needs[number], at),
+        None => Ok(()),
+    }
+}
+
+/// Adds the lines of what is required of outputs and isn't so.
+#[tactic(auto, using(lab_texts::proofs::RowLemmas::texts_below_none), unfolding(crate::specs::Texts::needs_lines))]
+fn push_needs(
+    alloc: Global,
+    text: &mut String,
+    ends: &[End],
+    needs: &[OutputNeed],
+    faults: &[Option<usize>],
+) -> Result<(), AllocError>
+    requires there { All (λ f. IfSome f (λ i. i < length ends.now)) faults.now }
+    ensures text { OnOk result (string_bytes text.new
+        ≡ string_bytes text.old ++ needs_lines ends.now needs.now faults.now) }
+{
+    for number in 0..needs.len().min(faults.len()) {
+        push_need(alloc, text, ends, needs, faults, number)?;
     }
     Ok(())
 }
@@ -168,6 +225,24 @@ fn push_words(
     push_answers(alloc, text, ends, answers)
 }
 
+/// Adds the lines of words and outputs that aren't so.
+fn push_judged(
+    alloc: Global,
+    text: &mut String,
+    asked: &Asked,
+    found: &Exploration,
+    answers: &[Answer],
+    faults: &[Option<usize>],
+) -> Result<(), AllocError>
+    requires there { All (λ a. IfSome a.fault (λ i. i < length found.now.ends.items)) answers.now }
+    requires outputs { All (λ f. IfSome f (λ i. i < length found.now.ends.items)) faults.now }
+    ensures text { OnOk result (string_bytes text.new
+        ≡ string_bytes text.old ++ judged_lines asked.now found.now answers.now faults.now) }
+{
+    push_words(alloc, text, asked.plain, &found.ends, answers)?;
+    push_needs(alloc, text, &found.ends, &asked.outputs, faults)
+}
+
 /// Adds the last lines: of walks how many were taken; else what was reached, a lasso, and whether everything was visited.
 fn push_last(
     alloc: Global,
@@ -193,16 +268,18 @@ pub(crate) fn tell(
     asked: &Asked,
     found: &Exploration,
     answers: &[Answer],
+    faults: &[Option<usize>],
     walks: bool,
 ) -> Result<Told, AllocError>
     requires there { All (λ a. IfSome a.fault (λ i. i < length found.now.ends.items)) answers.now }
-    ensures text { IfOk result (λ told.
-        string_bytes told.text ≡ answers_text walks asked.now found.now answers.now) }
+    requires outputs { All (λ f. IfSome f (λ i. i < length found.now.ends.items)) faults.now }
+    ensures text { IfOk result (λ told. string_bytes told.text
+        ≡ answers_text walks asked.now found.now answers.now faults.now) }
     ensures told { IfOk result (λ told.
         AreTold asked.now.show found.now.ends.items told.numbers.items) }
 {
     let mut told = told_of(alloc, asked.show, &found.ends)?;
-    push_words(alloc, &mut told.text, asked.plain, &found.ends, answers)?;
+    push_judged(alloc, &mut told.text, asked, found, answers, faults)?;
     push_last(alloc, &mut told.text, walks, &asked.never, found)?;
     Ok(told)
 }

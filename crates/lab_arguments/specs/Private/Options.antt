@@ -1,5 +1,8 @@
 -- What the words of an option say.
-use Rattle.std.specs.Prelude.{◌≡◌, ℕ, ◌<◌, ◌^◌, List, Option, Some, None}
+use Rattle.std.specs.Prelude.{◌≡◌, ℕ, ◌<◌, ◌^◌, List, [], Option, Some, None, unwrap_or}
+use Rattle.std.specs.Option.{option_map}
+use Rattle.clap.specs.Words.{matched_of, raw_values}
+use Rattle.clap.specs.declared.parser.matches.Found.{Found}
 use Rattle.lab_arguments.specs.declared.programs.Holds.{Holds}
 use Rattle.lab_arguments.specs.declared.programs.Holds.TheVariants.{Nothing, Schedule, Commands}
 use Rattle.std.specs.Str.Parse.{IsNumeral, digits_value, without_leading_plus}
@@ -9,9 +12,13 @@ abbrev pub IsNumber : List ℕ → ℕ → Type 0
 IsNumber text n =
     IsNumeral 10 (without_leading_plus text) × (digits_value 10 (without_leading_plus text) ≡ n) × (n < 2 ^ 32)
 
+-- the values of an option of this name, in their order
+abbrev pub values_in : Found → List ℕ → List (List ℕ)
+values_in found name = unwrap_or (option_map raw_values (matched_of found name)) []
+
 -- the most worlds to visit, or those of a walk if so many are taken, where no number is given
 abbrev pub usual_worlds : Option ℕ → ℕ
-usual_worlds None = 100000
+usual_worlds None = 10000000
 usual_worlds (Some count) = 10000
 
 -- of how many processes standard input can be the console input, which holds that

@@ -1,6 +1,7 @@
 -- What the words of `--require` say.
-use Rattle.std.specs.Prelude.{ℕ, ◌≡◌, ◌+◌, ◌==◌, Bool, true, false, Option, Some, None, List, codes, length, bytes_eq}
+use Rattle.std.specs.Prelude.{ℕ, ◌≡◌, ◌+◌, ◌==◌, Bool, true, false, Option, Some, None, List, codes, filter, flat_map, length, bytes_eq}
 use Rattle.std.specs.List.{count_by, slice_split}
+use Rattle.lab_arguments.specs.Pieces.{pieces, is_output}
 use Rattle.lab_arguments.specs.declared.requirements.Requirements.{Requirements}
 use Rattle.lab_arguments.specs.declared.requirements.Rest.{Rest}
 use Rattle.lab_arguments.specs.declared.requirements.Rest.TheVariants.{Ended, Stuck, Halted}
@@ -36,3 +37,7 @@ nothing = record { rest = None; empty = false; same = false }
 -- the words of a text, between commas
 abbrev pub words_of : List ℕ → List (List ℕ)
 words_of text = slice_split (λ c. c == 44) text
+
+-- what some values say of outputs
+abbrev pub outputs_in : List (List ℕ) → List (List ℕ)
+outputs_in values = filter is_output (flat_map pieces values)

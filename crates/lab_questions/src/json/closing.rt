@@ -60,7 +60,10 @@ fn holds_name(judged: bool, failure: Option<Failure>) -> &'static str
     }
     match failure {
         None => "true",
-        Some(Failure::Not(_)) | Some(Failure::Reached(_)) | Some(Failure::Endless) => "false",
+        Some(Failure::Not(_))
+        | Some(Failure::Output(_))
+        | Some(Failure::Reached(_))
+        | Some(Failure::Endless) => "false",
         Some(Failure::Incomplete) => "null",
     }
 }

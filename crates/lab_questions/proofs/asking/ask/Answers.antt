@@ -3,6 +3,7 @@ use Rattle.lab_questions.specs.declared.asked.Asked.{Asked}
 use Rattle.lab_questions.proofs.AnswerLemmas.{all_refuted, all_met}
 use Rattle.lab_questions.proofs.ClaimLemmas.{is_complete, has_no_lasso, tells_every_end, none_stuck}
 use Rattle.lab_questions.proofs.FailureLemmas.{no_failure, all_come, all_other}
+use Rattle.lab_questions.proofs.OutputLemmas.{outputs_refuted, outputs_met}
 use Rattle.lab_questions.proofs.ToldLemmas.{tell_every_end}
 use Rattle.lab_questions.proofs.asking.ask.Goals as goal
 
@@ -21,6 +22,16 @@ returns-clause-met g c complete =
     all_met c.args.asked.waiters.items c.args.fresh c.in_ok-found.found.exploration.ends.items c.in_ok-said.said.answers.items
     c.in_ok-found.ensures.sound (c.in_ok-found.ensures.complete complete) c.in_ok-said.ensures.answers
 
+pub returns-clause-unwritten : goal.returns-clause-unwritten
+returns-clause-unwritten g c =
+    outputs_refuted c.args.fresh c.in_ok-found.found.exploration.ends.items c.args.asked.outputs.items c.in_ok-said.said.output_faults.items
+    c.in_ok-found.ensures.sound c.in_ok-said.ensures.outputs
+
+pub returns-clause-written : goal.returns-clause-written
+returns-clause-written g c complete =
+    outputs_met c.args.fresh c.in_ok-found.found.exploration.ends.items c.args.asked.outputs.items c.in_ok-said.said.output_faults.items
+    (c.in_ok-found.ensures.complete complete) c.in_ok-said.ensures.outputs
+
 pub returns-clause-told : goal.returns-clause-told
 returns-clause-told g c complete =
     tell_every_end c.args.asked.show c.args.fresh c.in_ok-found.found.exploration.ends.items c.in_ok-found.ensures.sound (c.in_ok-found.ensures.complete complete)
@@ -29,6 +40,7 @@ pub returns-clause-says_all : goal.returns-clause-says_all
 returns-clause-says_all g c says =
     let asked : Asked = record {
       words = c.args.asked.words;
+      outputs = c.args.asked.outputs;
       waiters = c.args.asked.waiters;
       never = c.find.new.never;
       fair = c.args.asked.fair;
@@ -37,16 +49,18 @@ returns-clause-says_all g c says =
     } in
     let found = c.in_ok-found.found.exploration in
     let answers = c.in_ok-said.said.answers.items in
+    let faults = c.in_ok-said.said.output_faults.items in
     let text = string_bytes c.in_ok-said.said.text in
     let is = c.in_ok-said.ensures.text in
-    let complete = is_complete asked found answers text is says in
-    tells_every_end asked found answers text is c.args.fresh c.in_ok-found.ensures.sound c.in_ok-found.ensures.ordered
+    let complete = is_complete asked found answers faults text is says in
+    tells_every_end asked found answers faults text is c.args.fresh c.in_ok-found.ensures.sound c.in_ok-found.ensures.ordered
     (c.in_ok-found.ensures.complete complete) (c.in_ok-found.ensures.fewest complete)
 
 pub returns-clause-says_free : goal.returns-clause-says_free
 returns-clause-says_free g c says quiet =
     let asked : Asked = record {
       words = c.args.asked.words;
+      outputs = c.args.asked.outputs;
       waiters = c.args.asked.waiters;
       never = c.find.new.never;
       fair = c.args.asked.fair;
@@ -55,14 +69,16 @@ returns-clause-says_free g c says quiet =
     } in
     let found = c.in_ok-found.found.exploration in
     let answers = c.in_ok-said.said.answers.items in
+    let faults = c.in_ok-said.said.output_faults.items in
     let text = string_bytes c.in_ok-said.said.text in
     let is = c.in_ok-said.ensures.text in
-    c.in_ok-found.ensures.free (is_complete asked found answers text is says) (none_stuck asked found answers text is c.args.fresh c.in_ok-found.ensures.sound quiet)
+    c.in_ok-found.ensures.free (is_complete asked found answers faults text is says) (none_stuck asked found answers faults text is c.args.fresh c.in_ok-found.ensures.sound quiet)
 
 pub returns-clause-says_bounded : goal.returns-clause-says_bounded
 returns-clause-says_bounded g c unfair says quiet =
     let asked : Asked = record {
       words = c.args.asked.words;
+      outputs = c.args.asked.outputs;
       waiters = c.args.asked.waiters;
       never = c.find.new.never;
       fair = c.args.asked.fair;
@@ -71,20 +87,21 @@ returns-clause-says_bounded g c unfair says quiet =
     } in
     let found = c.in_ok-found.found.exploration in
     let answers = c.in_ok-said.said.answers.items in
+    let faults = c.in_ok-said.said.output_faults.items in
     let text = string_bytes c.in_ok-said.said.text in
     let is = c.in_ok-said.ensures.text in
-    c.in_ok-found.ensures.bounded unfair (is_complete asked found answers text is says) (has_no_lasso asked found answers text is quiet)
+    c.in_ok-found.ensures.bounded unfair (is_complete asked found answers faults text is says) (has_no_lasso asked found answers faults text is quiet)
 
 pub returns-clause-passes : goal.returns-clause-passes
 returns-clause-passes g c =
-    (c.in_ok-said.ensures.none, no_failure c.args.asked.plain _ c.in_ok-said.said.answers.items c.in_ok-said.said.failure c.in_ok-said.ensures.some)
+    (c.in_ok-said.ensures.none, no_failure c.args.asked.plain _ c.in_ok-said.said.answers.items c.in_ok-said.said.output_faults.items c.in_ok-said.said.failure c.in_ok-said.ensures.some)
 
 pub returns-clause-come : goal.returns-clause-come
 returns-clause-come g c none unfair faultless =
     let found = c.in_ok-found.found.exploration in
     let answers = c.in_ok-said.said.answers.items in
     let passes = c.in_ok-said.ensures.none faultless in
-    all_come c.args.asked.waiters.items c.args.fresh _ answers none passes
+    all_come c.args.asked.waiters.items c.args.fresh _ answers c.in_ok-said.said.output_faults.items none passes
     (all_met c.args.asked.waiters.items c.args.fresh found.ends.items answers
     c.in_ok-found.ensures.sound (c.in_ok-found.ensures.complete passes.complete) c.in_ok-said.ensures.answers)
     (c.in_ok-found.ensures.bounded unfair passes.complete)

@@ -1,0 +1,36 @@
+-- How the values of `--require` are cut into words.
+use Rattle.std.specs.Prelude.{ℕ, ◌==◌, nat_eq, not, Bool, false, if◌then◌else◌, List, [], ◌∷◌, ◌++◌, codes, filter, flat_map}
+use Rattle.std.specs.List.{starts_with}
+use Rattle.lab_arguments.specs.declared.pieces.Place.{Place}
+use Rattle.lab_arguments.specs.declared.pieces.Place.TheVariants.{Outside, Between, Escaped}
+
+-- where the byte stands that follows this one
+abbrev pub behind : Place → ℕ → Place
+behind Outside c = if c == 34 then Between else Outside
+behind Between c = if c == 34 then Outside else if c == 92 then Escaped else Between
+behind Escaped c = Between
+
+-- whether a byte is a comma outside of quotes
+abbrev pub cuts : Place → ℕ → Bool
+cuts Outside c = c == 44
+cuts Between c = false
+cuts Escaped c = false
+
+-- the pieces of a text between such commas, where this one has begun
+abbrev pub pieces_from : Place → List ℕ → List ℕ → List (List ℕ)
+pieces_from place piece [] = piece ∷ []
+pieces_from place piece (c ∷ cs) =
+    if cuts place c then piece ∷ pieces_from Outside [] cs
+    else pieces_from (behind place c) (piece ++ c ∷ []) cs
+
+-- the pieces of a text between its commas outside of quotes
+abbrev pub pieces : List ℕ → List (List ℕ)
+pieces text = pieces_from Outside [] text
+
+-- a piece says what is required of an output: it begins with `out` and a blank
+abbrev pub is_output : List ℕ → Bool
+is_output piece = starts_with nat_eq piece (codes "out ")
+
+-- the words of some values
+abbrev pub words_in : List (List ℕ) → List (List ℕ)
+words_in values = filter (λ piece. not (is_output piece)) (flat_map pieces values)

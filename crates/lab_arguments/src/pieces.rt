@@ -1,0 +1,144 @@
+//! The values of `--require`, cut at their commas.
+ghost use Rattle.std.specs.Prelude.{◌≡◌, ◌<◌, ◌++◌, [], ◌∷◌, cond, not, filter, flat_map, map, length, IfNone, IfOk, IfSome, IsTrue, OnOk};
+ghost use Rattle.lab_arguments.specs.Pieces.{behind, cuts, pieces, is_output, words_in};
+ghost use Rattle.lab_arguments.specs.Private.Requirements.{outputs_in};
+
+use std::alloc::{AllocError, Global};
+
+/// Where a byte of a value stands.
+#[derive(Clone, Copy)]
+enum Place {
+    Outside,
+    /// Between double quotes.
+    Between,
+    /// There behind a backslash.
+    Escaped,
+}
+
+impl Place {
+    /// Where the byte stands that follows one here.
+    fn behind(self, byte: u8) -> Place
+        ensures value { result ≡ behind self byte }
+    {
+        match (self, byte) {
+            (Place::Outside, b'"') => Place::Between,
+            (Place::Outside, _) => Place::Outside,
+            (Place::Between, b'"') => Place::Outside,
+            (Place::Between, b'\\') => Place::Escaped,
+            (Place::Between, _) | (Place::Escaped, _) => Place::Between,
+        }
+    }
+
+    /// Whether a byte here is a comma outside of quotes.
+    fn cuts(self, byte: u8) -> bool
+        ensures value { result ≡ cuts self byte }
+        ensures comma { IsTrue result → byte ≡ 44 }
+    {
+        match self {
+            Place::Outside => byte == b',',
+            Place::Between | Place::Escaped => false,
+        }
+    }
+}
+
+/// What stands before the first comma outside of quotes, and what behind it, if there is one.
+fn cut(text: &str) -> Option<(&str, &str)>
+    ensures none { IfNone result (pieces text.now ≡ text.now ∷ []) }
+    ensures parts { IfSome result (λ parts. pieces text.now ≡ parts.0.now ∷ pieces parts.1.now) }
+    ensures shorter { IfSome result (λ parts. length parts.1.now < length text.now) }
+{
+    let bytes = text.as_bytes();
+    let mut place = Place::Outside;
+    for at in 0..bytes.len() {
+        if place.cuts(bytes[at]) {
+            return Some((&text[..at], &text[at + 1..]));
+        }
+        place = place.behind(bytes[at]);
+    }
+    None
+}
+
+/// Adds the pieces of a value.
+fn push_pieces<'a>(found: &mut Vec<&'a str>, value: &'a str) -> Result<(), AllocError>
+    ensures pieces { OnOk result (map (λ p. p.now) found.new.items
+        ≡ map (λ p. p.now) found.old.items ++ pieces value.now) }
+{
+    let mut rest = value;
+    while let Some((piece, after)) = cut(rest) {
+        found.push(piece)?;
+        rest = after;
+    }
+    found.push(rest)?;
+    Ok(())
+}
+
+fn pieces_of<'a>(alloc: Global, values: &[&'a str]) -> Result<Vec<&'a str>, AllocError>
+    ensures pieces { IfOk result (λ found. map (λ p. p.now) found.items
+        ≡ flat_map pieces (map (λ v. v.now) values.now)) }
+{
+    let mut found = Vec::new(alloc);
+    for value in values {
+        push_pieces(&mut found, value)?;
+    }
+    Ok(found)
+}
+
+/// Whether a piece says what is required of an output.
+fn is_output(piece: &str) -> bool
+    ensures value { result ≡ is_output piece.now }
+{
+    piece.as_bytes().starts_with(b"out ")
+}
+
+/// Adds a piece, if it is wanted.
+fn push_if<'a>(found: &mut Vec<&'a str>, piece: &'a str, is_wanted: bool) -> Result<(), AllocError>
+    ensures added { OnOk result (map (λ p. p.now) found.new.items
+        ≡ map (λ p. p.now) found.old.items ++ cond is_wanted (piece.now ∷ []) []) }
+{
+    if is_wanted {
+        found.push(piece)?;
+    }
+    Ok(())
+}
+
+/// Those of some pieces that say what is required of outputs.
+fn outputs_among<'a>(alloc: Global, pieces: &[&'a str]) -> Result<Vec<&'a str>, AllocError>
+    ensures outputs { IfOk result (λ found. map (λ p. p.now) found.items
+        ≡ filter is_output (map (λ p. p.now) pieces.now)) }
+{
+    let mut found = Vec::new(alloc);
+    for piece in pieces {
+        push_if(&mut found, piece, is_output(piece))?;
+    }
+    Ok(found)
+}
+
+/// The others.
+fn words_among<'a>(alloc: Global, pieces: &[&'a str]) -> Result<Vec<&'a str>, AllocError>
+    ensures words { IfOk result (λ found. map (λ p. p.now) found.items
+        ≡ filter (λ piece. not (is_output piece)) (map (λ p. p.now) pieces.now)) }
+{
+    let mut found = Vec::new(alloc);
+    for piece in pieces {
+        push_if(&mut found, piece, !is_output(piece))?;
+    }
+    Ok(found)
+}
+
+/// What the values of `--require` say of outputs.
+pub(crate) fn outputs_in<'a>(alloc: Global, values: &[&'a str]) -> Result<Vec<&'a str>, AllocError>
+    ensures outputs { IfOk result (λ found. map (λ p. p.now) found.items
+        ≡ outputs_in (map (λ v. v.now) values.now)) }
+{
+    let pieces = pieces_of(alloc, values)?;
+    outputs_among(alloc, &pieces)
+}
+
+/// The words of the values of `--require`: what stands between commas and says nothing of outputs.
+pub fn required_words<'a>(alloc: Global, values: &[&'a str]) -> Result<Vec<&'a str>, AllocError>
+    ensures words { IfOk result (λ found. map (λ p. p.now) found.items
+        ≡ words_in (map (λ v. v.now) values.now)) }
+{
+    let pieces = pieces_of(alloc, values)?;
+    words_among(alloc, &pieces)
+}

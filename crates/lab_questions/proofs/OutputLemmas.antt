@@ -1,0 +1,89 @@
+-- What the answers on outputs say of programs.
+use Rattle.std.proofs.Common.{ℕ, zero, suc, ◌≡◌, ◌<◌, ◌↔◌, Bool, true, List, [], ◌∷◌, Option, Some, None, All, IfSome, slice_get, length, map, sym, ap, subst, ◌∙◌, arith}
+use Rattle.std.proofs.lemmas.Option.{slice_get_within}
+use Rattle.lab_sched.specs.Worlds.{WorldState, run, machine_of}
+use Rattle.lab_worlds.specs.declared.ends.End.{End}
+use Rattle.lab_worlds.specs.Calls.{Both, Alongside, AreAlike}
+use Rattle.lab_worlds.specs.Closed.{AreAtRest}
+use Rattle.lab_worlds.specs.Ends.{IsEnd, AreEnds, HaveAllEnds}
+use Rattle.lab_questions.specs.declared.output.OutputNeed.{OutputNeed}
+use Rattle.lab_questions.specs.Requirements.{outputs}
+use Rattle.lab_questions.specs.Outputs.{Fits, HasWritten, IsWrittenAt, IsOutputFault, IsOutputAnswer, AlwaysWritten, IsOutputRefuted}
+use Rattle.lab_questions.specs.Texts.{schedule_of, schedule_at}
+use Rattle.lab_questions.proofs.AnswerLemmas.{all_at}
+
+-- what follows at each place
+both_more : {A B : Type 0} (R S : A → B → Type 0) → ((x : A) (y : B) → R x y → S x y) → (o : Option A) (q : Option B) → Both R o q → Both S o q
+both_more R S more None None h = tt
+both_more R S more (Some x) (Some y) h = more x y h
+both_more R S more None (Some y) h = absurd h
+both_more R S more (Some x) None h = absurd h
+
+alongside_more : {A B : Type 0} (R S : A → B → Type 0) → ((x : A) (y : B) → R x y → S x y) → (xs : List A) (ys : List B) → Alongside R xs ys → Alongside S xs ys
+alongside_more R S more xs ys h p = both_more R S more (slice_get xs p) (slice_get ys p) (h p)
+
+alongside_right : {A B : Type 0} (R : A → B → Type 0) (P : B → Type 0) → ((x : A) (y : B) → R x y → P y) → (xs : List A) (ys : List B) → Alongside R xs ys → All P ys
+alongside_right R P right xs [] h i d within = absurd (omega (arith, within))
+alongside_right R P right [] (y ∷ ys) h i d within = absurd (h 0)
+alongside_right R P right (x ∷ xs) (y ∷ ys) h zero d within = right x y (h 0)
+alongside_right R P right (x ∷ xs) (y ∷ ys) h (suc i) d within = alongside_right R P right xs ys (λ q. h (suc q)) i d (omega (arith, within))
+
+fault_there : (ends : List End) (need : OutputNeed) (o : Option ℕ) → IsOutputAnswer ends need o → IfSome o (λ i. i < length ends)
+fault_there ends need None fault = tt
+fault_there ends need (Some i) fault = slice_get_within ends i fault.end fault.there
+
+-- the ends that are named are there
+pub outputs_there : (ends : List End) (needs : List OutputNeed) (faults : List (Option ℕ)) → Alongside (IsOutputAnswer ends) needs faults
+    → All (λ f. IfSome f (λ i. i < length ends)) faults
+outputs_there ends needs faults each = alongside_right (IsOutputAnswer ends) (λ f. IfSome f (λ i. i < length ends)) (fault_there ends) needs faults each
+
+refuted : (need : OutputNeed) (start : WorldState) (ends : List End) → AreEnds start ends → (o : Option ℕ) → IsOutputAnswer ends need o
+    → IfSome o (λ i. IsOutputRefuted need start (schedule_at ends i))
+refuted need start ends sound None fault = tt
+refuted need start ends sound (Some i) fault =
+    let end = all_at (IsEnd start) ends i fault.end sound fault.there in
+    subst (IsOutputRefuted need start) (ap schedule_of (sym fault.there))
+    (record {
+      effective = end.effective;
+      rests = subst AreAtRest (sym end.leads) end.rests;
+      unmet = λ met. fault.unmet (subst (HasWritten need) end.leads met);
+    })
+
+-- and show that the output isn't as it is needed
+pub outputs_refuted : (start : WorldState) (ends : List End) (needs : List OutputNeed) (faults : List (Option ℕ)) → AreEnds start ends → Alongside (IsOutputAnswer ends) needs faults
+    → Alongside (λ need fault. IfSome fault (λ i. IsOutputRefuted need start (schedule_at ends i))) needs faults
+outputs_refuted start ends needs faults sound each =
+    alongside_more (IsOutputAnswer ends) (λ need fault. IfSome fault (λ i. IsOutputRefuted need start (schedule_at ends i)))
+    (λ need fault answer. refuted need start ends sound fault answer) needs faults each
+
+alike_written : (need : OutputNeed) (w v : WorldState) → AreAlike w v → HasWritten need v → HasWritten need w
+alike_written need w v is written =
+    subst (λ all. (output : List ℕ) × (slice_get all need.process ≡ Some output) × Fits need.relation need.bytes.items output)
+    (ap (λ ps. map (λ s. (machine_of s).output) ps) is.processes) written
+
+met : (need : OutputNeed) (start : WorldState) (ends : List End) → HaveAllEnds start ends → (o : Option ℕ) → IsOutputAnswer ends need o → o ≡ None → AlwaysWritten need start
+met need start ends all None each none =
+    λ ps rest.
+    let one = all ps rest in
+    alike_written need (run start ps) one.1.world one.3 (all_at (IsWrittenAt need) ends one.0 one.1 each one.2)
+met need start ends all (Some i) fault none = absurd (cc)
+
+-- where there is no such end, and all ends were found, every world at rest has what is needed
+pub outputs_met : (start : WorldState) (ends : List End) (needs : List OutputNeed) (faults : List (Option ℕ)) → HaveAllEnds start ends → Alongside (IsOutputAnswer ends) needs faults
+    → Alongside (λ need fault. fault ≡ None → AlwaysWritten need start) needs faults
+outputs_met start ends needs faults all each =
+    alongside_more (IsOutputAnswer ends) (λ need fault. fault ≡ None → AlwaysWritten need start)
+    (λ need fault answer. met need start ends all fault answer) needs faults each
+
+-- what a process has written, where that is known
+pub written_by : (need : OutputNeed) (w : WorldState) (out : List ℕ) (r : Bool) → slice_get (outputs w) need.process ≡ Some out
+    → (r ≡ true ↔ Fits need.relation need.bytes.items out) → (r ≡ true ↔ HasWritten need w)
+written_by need w out r at fits = (
+  λ yes. (out, at, fits.0 yes),
+  λ (other, there, fit).
+      let same : other ≡ out = let some : Some other ≡ Some out = sym there ∙ at in cc in
+      fits.1 (subst (Fits need.relation need.bytes.items) same fit),
+)
+
+pub unwritten_by : (need : OutputNeed) (w : WorldState) → slice_get (outputs w) need.process ≡ None → HasWritten need w → ⊥
+unwritten_by need w at (other, there, fit) = let some : ◌≡◌ {A = Option (List ℕ)} (Some other) None = sym there ∙ at in absurd (cc)
