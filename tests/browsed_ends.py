@@ -5,11 +5,12 @@ import time
 from pathlib import Path
 
 from browsed import HOSTILE, HOSTILE_NAMES, visible
+from browsed_play import try_play
 
 ROOT = Path(__file__).resolve().parent.parent
 EXAMPLES = ROOT / "examples"
 SECONDS = 300
-MOST_DRAWN = 500
+MOST_DRAWN = 2000
 SIZES = {"wide": (1400, 900), "phone": (360, 640)}
 MEDIA = {"light": ("", "light"), "dark": ("", "dark"), "printed": ("print", "light")}
 
@@ -75,6 +76,8 @@ def explored():
     """Of each page its name, the files made for it, and the words behind `explore`."""
     two = [str(EXAMPLES / f"two-semaphores-{n}.asm") for n in (1, 2)]
     yield "ends/two", {}, two
+    patterns = [str(EXAMPLES / "course" / "patterns" / f"{name}.asm") for name in ("receive", "send")]
+    yield "ends/patterns", {}, patterns
     yield "ends/many", {"posts.asm": POSTS, "looks.asm": LOOKS}, ["posts.asm", "looks.asm"]
     yield "ends/endless", {"asks.asm": ASKS}, ["asks.asm", "--worlds", "2"]
     hostile = {f"{name}.asm": HOSTILE for name in HOSTILE_NAMES}
@@ -92,7 +95,8 @@ class Ends:
         if done.returncode or done.stderr:
             raise RuntimeError(f"lc3lab explore: {done.stderr.decode('latin-1').strip()}")
         self.text = done.stdout.decode("latin-1")
-        self.names = [it.split("/")[-1] for it in words if it.endswith(".asm")]
+        self.programs = [it for it in words if it.endswith(".asm")]
+        self.names = [it.split("/")[-1] for it in self.programs]
         parts = re.split(r"^end \d+\n", re.split(r"^(?:endless|complete|incomplete)\b", self.text, flags=re.M)[0],
                          flags=re.M)[1:]
         self.ends = [self.end(it) for it in parts]
@@ -198,7 +202,7 @@ SEEN_WORLDS = """(() => {
 
 
 def compare_worlds(ends, found):
-    """The picture beside the text: a shape for each world, where these are all and at most 500, and one for each end."""
+    """The picture beside the text: a shape for each world, where these are all and at most 2,000, and one for each end."""
     kind, count, _ = ends.worlds
     wanted = int(count) if kind == "complete" and int(count) <= MOST_DRAWN else 0
     if len(found["nodes"]) != wanted or len(found["told"]) != wanted:
@@ -209,8 +213,8 @@ def compare_worlds(ends, found):
     if led != found["edges"]:
         yield f"it draws {found['edges']} calls and tells {led}"
     for n, (verdict, *_) in enumerate(ends.ends[:64] if wanted else [], 1):
-        if sum(f", end {n}: {verdict}." in it for it in found["nodes"]) != 1:
-            yield f"end {n} has no world of its own"
+        if not any(f", end {n}: {verdict}." in it for it in found["nodes"]):
+            yield f"end {n} has no world"
 
 
 def try_way(browser, n):
@@ -227,10 +231,13 @@ def try_way(browser, n):
 
 
 def try_worlds(browser, ends, count):
-    """The ways to ends, and the keys: Tab goes from the last end to the picture, and arrows go along its calls."""
+    """The ways to ends, and the keys: Tab goes from the last end to playing and the picture, and arrows go along its calls."""
     for n in sorted({1, min(2, count), count}):
         yield from try_way(browser, n)
     browser.evaluate(f"document.getElementById('end{count}').focus()")
+    browser.press("Tab")
+    if browser.evaluate("document.activeElement.parentElement.id") != "game":
+        yield "Tab doesn't go from the last end to playing"
     browser.press("Tab")
     browser.press("Tab") if browser.evaluate("document.activeElement.id === 'map'") else None
     found = browser.evaluate(SEEN_WORLDS)
@@ -282,6 +289,9 @@ def try_ends(browser, seen, program, folder, given, page):
     if found["buttons"]:
         wrong += try_ways(browser, ends, len(found["buttons"]))
     if found["buttons"] and worlds["nodes"]:
+        browser.show(page, SIZES["wide"])
+        browser.evaluate(seen)
+        wrong += try_play(browser, program, folder, ends.programs, worlds["told"])
         browser.show(page, SIZES["wide"])
         browser.evaluate(seen)
         wrong += try_worlds(browser, ends, len(found["buttons"]))

@@ -7,7 +7,8 @@ import subprocess
 from pathlib import Path
 
 SHIFT = 8
-KEYS = {"ArrowLeft": 37, "ArrowUp": 38, "ArrowRight": 39, "ArrowDown": 40, "Home": 36, "End": 35, "Tab": 9, "Enter": 13, " ": 32}
+KEYS = {"ArrowLeft": 37, "ArrowUp": 38, "ArrowRight": 39, "ArrowDown": 40, "Home": 36, "End": 35, "Tab": 9, "Enter": 13, " ": 32,
+        **{str(digit): 48 + digit for digit in range(10)}}
 
 
 def chromium(install):
@@ -91,6 +92,13 @@ class Browser:
         else:
             self.ask("Input.dispatchKeyEvent", type="rawKeyDown", **named)
         self.ask("Input.dispatchKeyEvent", type="keyUp", **named)
+
+    def click(self, element):
+        """Presses the pointer in the middle of an element, by the script that names it."""
+        spot = self.evaluate(f"{{ const e = {element}; e.scrollIntoView({{ block: 'center' }}); const b = e.getBoundingClientRect(); "
+                             "({ x: (b.left + b.right) / 2, y: (b.top + b.bottom) / 2 }) }")
+        for kind in "mousePressed", "mouseReleased":
+            self.ask("Input.dispatchMouseEvent", type=kind, button="left", clickCount=1, **spot)
 
     def picture(self, file, scheme="light"):
         """Keeps what the window shows."""

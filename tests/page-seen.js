@@ -21,6 +21,7 @@ const seen = (() => {
       code: list(acts, '.code > span').map(shown),
       isSource: acts.querySelector('.source') !== null,
       output: shown(acts.querySelector('.output')),
+      variables: list(acts, '.variable').map(e => [shown(e.querySelector('i')), shown(e.querySelector('.variable > span')), e.querySelector('.changed') !== null]),
       held: list(acts, '.held').map(shown),
     };
   }
@@ -59,7 +60,7 @@ const seen = (() => {
       const { middle, top, end } = place(bar), isThere = b => Math.abs(b.middle - middle) <= 1;
       return [titleOf(bar), stepOf(b => isThere(b) && b.end === top), stepOf(b => isThere(b) && b.top === end)];
     };
-    const steps = new Map(boxes.map(b => [b.top + 10, b.step])), stepAt = y => steps.has(y) ? steps.get(y) : null;
+    const steps = new Map(boxes.map(b => [(b.top + b.end) / 2, b.step])), stepAt = y => steps.has(y) ? steps.get(y) : null;
     const taken = bar => [titleOf(bar), stepAt(place(bar).top), stepAt(place(bar).end)];
     const level = dot => {                        // the kind and the name of an object, its level, and the step
       const [name, what, value] = titleOf(dot).split(/ |,/), text = dot.parentElement.querySelector('text').textContent;
@@ -93,9 +94,13 @@ const seen = (() => {
   const nameOf = e => e.tagName + (e.id ? '#' + e.id : '') + ' ' + (e.textContent || '').trim().slice(0, 40);
   const boxesOf = elements => elements.flatMap(e => e instanceof SVGElement
     ? [[e, e.getBoundingClientRect()]] : [...e.getClientRects()].map(box => [e, box]));
+  function isScrolledAway(e) {                    // out of the source that holds it
+    const source = e.closest('.source'), [a, b] = source ? [source, e].map(it => it.getBoundingClientRect()) : [];
+    return source !== null && (b.top < a.top || b.bottom > a.bottom || b.left < a.left || b.right > a.right);
+  }
   function leaves(part) {                         // the elements of a part of the page that hold a text and no element
     const isLeaf = e => e instanceof HTMLElement && e.textContent.trim() && !e.children.length;
-    return list(part, '*').filter(e => isLeaf(e) && e.checkVisibility());
+    return list(part, '*').filter(e => isLeaf(e) && e.checkVisibility() && !isScrolledAway(e));
   }
   function spills(part) {                         // what stands outside of a part that doesn't scroll
     const { left, right, top, bottom } = part.getBoundingClientRect();

@@ -30,9 +30,11 @@ function titled(title, inner, more) { return `<g${more || ''}><title>${esc(title
 function box(e, k, x, y, w) {
   const label = labelFor(e, Math.floor((w - (w > 60 ? 10 : 3)) / CHAR));
   const round = /sem_(wait|post|trywait)/.test(e.call) ? 10 : e.call && !/mq_(send|receive)/.test(e.call) ? 3 : 0;
-  return titled(`step ${e.step}, P${e.process}: ${e.what}`,
-    `<rect x="${x - w / 2}" y="${y - 10}" width="${w}" height="20" rx="${round}"/>` +
-    `<text x="${x}" y="${y + 4}" text-anchor="middle">${esc(label)}</text>`, ` class="${kindOf(e)}" data-k="${k}"`);
+  const [first, ...places] = HAS_PLACES ? placesOf(e) : [''], place = places.find(text => text.length <= fits(w - 3));
+  const where = place ? `<text x="${x}" y="${y + 11}" text-anchor="middle">${esc(place)}</text>` : '';
+  return titled(`step ${e.step}, P${e.process}: ${e.what}` + (first && `, at ${first}`),
+    `<rect x="${x - w / 2}" y="${y - HALF}" width="${w}" height="${2 * HALF}" rx="${round}"/>` +
+    `<text x="${x}" y="${y + (place ? -3 : 4)}" text-anchor="middle">${esc(label)}</text>${where}`, ` class="${kindOf(e)}" data-k="${k}"`);
 }
 function note(x, y, text, kind) {                 // a small text on a plate
   const w = text.length * CHAR + 6;

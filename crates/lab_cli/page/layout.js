@@ -9,10 +9,12 @@ function betweenBoxes(lane) {                     // arrows need more room betwe
   if (arrows.length + wakes.length + kept.length > 0) return limited(8, lane * .36, 120);
   return limited(6, lane * .06 + (lane - 200) * .5, 60);
 }
+const levelLength = ({ value, who }) => [value, who].filter(part => part).join(' ').length;
 function layout() {
   const seen = $('left').clientWidth, room = Math.max(320, seen - 2);
   const num = Math.max(40, String(STEPS).length * CHAR + 18);
-  const colW = cols.map(c => Math.max(50, Math.min(c.name.length, 9) * CHAR + 10));
+  const most = seen > 640 ? 14 : 9, columnText = c => Math.max(c.name.length, ...c.at.map(levelLength));
+  const colW = cols.map(c => Math.max(50, Math.min(c.kind === 'queue' ? columnText(c) + 2 : c.name.length, most) * CHAR + 10));
   const colsW = colW.reduce((a, b) => a + b, 0) + 12, isNarrow = N > 4 && (room - num - colsW) / N < 74;
   const text = isNarrow ? 236 : 0, lane = laneWidth(room - num - text - colsW), x0 = num + text, colX = [];
   let x = x0 + lane * N + 12, spare = room - x - colsW + 12;

@@ -8,18 +8,52 @@ function endItem([calls, { schedule, outcome: [verdict, , , outputs] }], k) {
   return `<li><button type="button" id="end${k + 1}" class="${verdict}">End ${k + 1}: ${verdict}</button> ${counts}` +
     `<span class="part mono">${esc(written)}</span></li>`;
 }
-function extentText([complete, worlds, , mostWorlds, mostSteps, mostMemory, isRefused]) {
-  const visited = several(worlds, 'world', 'worlds');
-  if (complete) return `complete: ${visited} visited, and there is no other end`;
+function reasonText([, worlds, , mostWorlds, mostSteps, mostMemory, isRefused, isFirst]) {  // why not all was visited
   const steps = several(mostSteps, 'step', 'steps') + ' of a process without a call';
   const memory = several(Math.floor(mostMemory / 1048576), 'megabyte', 'megabytes');
-  const limits = `${several(mostWorlds, 'world', 'worlds')}, ${steps}, or ${memory}`;
-  const why = isRefused ? 'then memory was refused' : 'and a limit was met: ' + limits;
-  return `incomplete: ${visited} visited, ${why}. There may be other ends`;
+  if (isRefused) return 'then memory was refused';
+  if (isFirst) return 'and the search ended with what was found';
+  return 'and a limit was met: ' + (worlds >= mostWorlds ? several(mostWorlds, 'world', 'worlds') : `${steps}, or ${memory}`);
+}
+function extentText(extent) {
+  const [complete, worlds] = extent, visited = several(worlds, 'world', 'worlds');
+  if (complete) return `complete: ${visited} visited, and there is no other end`;
+  return `incomplete: ${visited} visited, ${reasonText(extent)}. There may be other ends`;
 }
 function restText(count) {
   return `${several(count, 'more end isn\'t', 'more ends aren\'t')} shown: a page has ${MOST_ENDS} runs at most, with ` +
     `${MOST_END_BYTES.toLocaleString('en')} bytes of data. lc3lab explore prints them all`;
+}
+function noWorldsText([isComplete]) {             // why there is no picture
+  const many = 'there are more than 2,000, if each order of calls is counted, or too much stands in them';
+  return `There is no picture of the worlds: ${isComplete ? many : 'not all of them are known'}.`;
+}
+// ---- what was asked
+
+function otherText() {                            // what a run beside those to ends shows
+  const shows = ([, , runs]) => runs.some(([kind, k]) => kind === 'run' && k === OTHER - 1), asked = DATA.asked.find(shows);
+  return (asked ? `${visible(asked[0])} not met, ` : '') + (ROUND_AT === null ? `run ${OTHER}` : 'a run that never ends');
+}
+function wayTo([kind, k]) {
+  const isRound = kind === 'run' && DATA.endless && DATA.endless[2] === k;
+  const text = kind === 'end' ? 'End ' + (k + 1) : isRound ? 'the run that never ends' : 'the run that shows it';
+  return `<button type="button" class="way" data-to="${kind}=${k + 1}">${text}</button>`;
+}
+function askedItem([text, answer, runs]) {
+  const kind = { met: 'met', 'not met': 'unmet' }[answer] || 'unknown', mark = { met: '\u2713', unmet: '\u2717' }[kind] || '?';
+  const why = kind === 'unknown' ? `: the search is incomplete, ${reasonText(DATA.extent).replace(/^(and|then) /, '')}` : '';
+  const none = kind === 'unmet' && !runs.length ? ': no room for the run, lc3lab explore --schedule bad prints it' : '';
+  return `<li class="${kind}"><strong>${mark} ${answer}</strong> <code>${esc(visible(text))}</code>${esc(why + none)} ${runs.map(wayTo).join(' ')}</li>`;
+}
+function fillAsked() {
+  const { asked, endless } = DATA, failed = asked.filter(([, answer]) => answer === 'not met').length;
+  const open = asked.filter(([, answer]) => answer === 'not known').length;
+  $('asked').hidden = asked.length === 0;
+  $('askedtitle').textContent = `What was asked: ${failed ? `${failed} of ${asked.length} not met`
+    : open ? `${open} of ${asked.length} not known` : 'all met'}`;
+  $('askedlist').innerHTML = asked.map(askedItem).join('');
+  $('openround').innerHTML = endless && endless[2] !== null ? wayTo(['run', endless[2]]) : '';
+  on('ends', 'click', event => { const way = event.target.closest('.way[data-to]'); if (way) location.hash = way.dataset.to; });
 }
 function fillEnds() {
   const { ends, endless, extent } = DATA, [, , count] = extent, rest = count - ends.length;
@@ -30,17 +64,19 @@ function fillEnds() {
   $('endlist').innerHTML = ends.map(endItem).join('');
   $('rest').hidden = rest === 0; $('rest').textContent = restText(rest) + '.';
   $('endless').hidden = !endless;
-  if (endless) { [$('before').textContent, $('round').textContent] = endless.map(printed); }
-  if (WORLD_MAP) fillWorlds();
+  if (endless) { [$('before').textContent, $('round').textContent] = endless.slice(0, 2).map(printed); }
+  fillAsked();
+  if (WORLD_MAP) fillWorlds(); else $('ends').insertAdjacentHTML('beforeend', `<p id="noworlds">${noWorldsText(extent)}</p>`);
   ends.forEach((_, k) => on('end' + (k + 1), 'click', () => { location.hash = 'end=' + (k + 1); }));
 }
 function showEnds() {                             // the list, or the way back to it
   history.scrollRestoration = 'manual';
   $('back').hidden = isList; $('ends').hidden = !isList;
-  on('back', 'click', () => { location.hash = 'list=' + NUMBER; });
+  on('back', 'click', () => { location.hash = OTHER ? 'list=run' + OTHER : 'list=' + NUMBER; });
   if (!isList) return;
   document.body.classList.add('list');
   fillEnds();
-  const from = /^#list=(\d+)$/.exec(location.hash), button = from && $('end' + from[1]);
+  const from = /^#list=(run)?(\d+)$/.exec(location.hash);
+  const button = from && (from[1] ? document.querySelector(`.way[data-to="run=${from[2]}"]`) : $('end' + from[2]));
   if (button) button.focus();
 }

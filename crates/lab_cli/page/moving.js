@@ -26,7 +26,7 @@ function say(e, step) {
   const did = e && `${e.step} P${e.process} ${hex(e.from)} ${isEvent(e) ? e.what : didText(e)}`;
   const what = did || 'nothing has been done yet';
   $('say').textContent = what;
-  $('count').textContent = `step ${step} of ${STEPS}`;
+  $('count').textContent = `step ${step} of ${STEPS}` + roundText();
   $('slider').value = cur;
   $('slider').setAttribute('aria-valuetext', `step ${step} of ${STEPS}, ${what}`);
 }
@@ -35,9 +35,10 @@ function markLine() {                             // in the list of the trace, t
   if (old) old.removeAttribute('aria-current');
   if (last >= 0) $('lines').children[last].setAttribute('aria-current', 'step');
 }
-const addressOf = step => (NUMBER ? `#end=${NUMBER}&step=` : '#step=') + step;
+const addressOf = step => (NUMBER ? `#end=${NUMBER}&step=` : OTHER ? `#run=${OTHER}&step=` : '#step=') + step;
 function go(k, isAddressed) {
   cur = limited(0, k, R.length);
+  if (cur < ROUND_AT) rounds = 1;
   const e = cur ? R[cur - 1] : null, step = cur === R.length && D.whole ? STEPS : e ? e.step : 0;
   say(e, step);
   panel(e);
@@ -47,8 +48,9 @@ function go(k, isAddressed) {
 }
 function goToEvent(direction, p) {                // to the next event, of process p where one is named
   const isWanted = e => isEvent(e) && (p === undefined || e.process === p);
-  let k = cur + direction;
-  while (k > 0 && k < R.length && !isWanted(R[k - 1])) k += direction;
+  const beside = k => direction > 0 ? onward(k + 1) : backward(k - 1);
+  let k = beside(cur);
+  while (k > 0 && k < R.length && !isWanted(R[k - 1])) k = beside(k);
   go(k);
 }
 function play(isOn) {
@@ -56,16 +58,16 @@ function play(isOn) {
   $('play').textContent = isOn ? 'Pause' : 'Play';
   $('say').setAttribute('aria-live', isOn ? 'off' : 'polite');
   if (!isOn) return;
-  if (cur === R.length) go(0);
+  if (cur === R.length && ROUND_AT === null) go(0);
   const tick = () => {
-    go(cur + 1);
-    if (cur === R.length) play(false); else timer = setTimeout(tick, isEvent(R[cur - 1]) ? 700 : 110);
+    go(onward(cur + 1));
+    if (cur === R.length && ROUND_AT === null) play(false); else timer = setTimeout(tick, isEvent(R[cur - 1]) ? 700 : 110);
   };
   timer = setTimeout(tick, 300);
 }
-function goToAddress() {                          // #step=12, or #end=2&step=12 where there are ends
-  const found = /^#(?:end=\d+&)?step=(\d+)$/.exec(location.hash);
-  const after = found ? R.findIndex(e => e.step > Number(found[1])) : -1;
+function goToAddress() {                          // #step=12, or #end=2&step=12 or #run=1&step=12 where there are ends
+  const found = /^#(?:(?:end|run)=\d+&)?step=(\d+)$/.exec(location.hash);
+  const after = found ? R.findIndex(e => e.step > Number(found[1])) : 0;
   go(after < 0 ? R.length : after, found !== null);
 }
 const chosen = () => Number($('who').value);
@@ -77,7 +79,7 @@ function choose(p) {
 // ---- keys, buttons, the slider, clicks, windows
 
 const KEYS = {
-  ArrowLeft: () => go(cur - 1), ArrowRight: () => go(cur + 1), ArrowUp: () => goToEvent(-1), ArrowDown: () => goToEvent(1),
+  ArrowLeft: () => go(backward(cur - 1)), ArrowRight: () => go(onward(cur + 1)), ArrowUp: () => goToEvent(-1), ArrowDown: () => goToEvent(1),
   Home: () => go(0), End: () => go(R.length),
 };
 const SHIFTED = { ArrowUp: () => goToEvent(-1, chosen()), ArrowDown: () => goToEvent(1, chosen()) };
@@ -109,7 +111,8 @@ let resized = null;
 function redraw() { if ($('left').clientWidth === lay.seen) paintNear(); else draw(); }
 new ResizeObserver(() => { clearTimeout(resized); resized = setTimeout(redraw, 120); }).observe($('left'));
 function followAddress() {                        // to another end the page is opened anew
-  if (numberIn(location.hash) === NUMBER) goToAddress(); else location.reload();
+  const isHere = numberIn(location.hash) === NUMBER && otherIn(location.hash) === OTHER;
+  if (isHere) goToAddress(); else location.reload();
 }
 window.addEventListener('hashchange', followAddress);
 let closed = [];                                  // what is open on paper alone

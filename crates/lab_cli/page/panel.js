@@ -27,18 +27,17 @@ function codeLines({ pc, first, code }) {         // the words around the next i
   return code.map(([word, text, call], i) =>
     codeLine(first + i === pc, hex(first + i) + ' ' + hex(word), text, call)).join('');
 }
-const BEFORE = 4, AFTER = 5;                      // how many lines of a source stand around that of the next instruction
-function sourceLines(p, next) {                   // the lines of the source around that of the next instruction
-  const { lines } = SOURCES[p.process], first = Math.max(0, next.at - BEFORE), most = String(next.at + AFTER + 1).length;
-  return lines.slice(first, next.at + AFTER + 1).map(({ text, address, words, call }, i) => {
-    const place = String(first + i + 1).padStart(most) + ' ' + (words ? hex(address) : '     ');
-    return codeLine(first + i === next.at, place, text, text.includes(';') ? undefined : call);
+function sourceLines(p, next) {                   // the lines of the source, and which is that of the next instruction
+  const { lines } = SOURCES[p.process], most = String(lines.length).length;
+  return lines.map(({ text, address, words, call }, i) => {
+    const place = String(i + 1).padStart(most) + ' ' + (words ? hex(address) : '     ');
+    return codeLine(i === next.at, place, text, text.includes(';') ? undefined : call);
   }).join('');
 }
 function around(p) {
   if (p.state === 'ended') return '';
   const next = sourceAt(p, p.pc);
-  if (next) return `<pre class="code source">${sourceLines(p, next)}</pre>`;
+  if (next) return `<pre class="code source" tabindex="0" aria-label="source of P${p.process}">${sourceLines(p, next)}</pre>`;
   const why = SOURCES[p.process] ? '<p class="none">Not a word of the source:</p>' : '';
   return why + `<pre class="code">${codeLines(p)}</pre>`;
 }
@@ -50,7 +49,7 @@ function openText([kind, number, place, more, isNonblock]) {
 function card(p, acts) {                          // of a process, and whether it took the step
   const open = p.open.map(it => `<span class="held">${esc(openText(it))}</span>`).join('') || '-';
   const output = marked(acts && p.output !== undefined, p.written ? '"' + esc(p.written) + '"' : '-', 'output');
-  return `<div class="regs mono">${registersOf(p, acts)}</div>${around(p)}` +
+  return `<div class="regs mono">${registersOf(p, acts)}</div>${variablesText(p, cur ? R[cur - 1].step : 0)}${around(p)}` +
     `<div class="mono part"><i class="none">output</i> ${output}</div>` +
     `<div class="mono part"><i class="none">open</i> <span>${open}</span></div>`;
 }
@@ -60,7 +59,7 @@ function card(p, acts) {                          // of a process, and whether i
 function showObjects(e) {
   const objects = places.map((_, place) => objectAt(place, cur)).filter(object => object), touched = e && e.changed || [];
   const name = o => marked(touched.includes(o.place), esc(nameOf(o))) + (o.name === null ? ' (unlinked)' : '');
-  const cells = o => [name(o), o.value, takers(o.taken) || '-', listOf(o.waiters) || '-'];
+  const cells = o => [name(o), o.value, takers(o.taken).replace(/\(/g, '<wbr>(') || '-', listOf(o.waiters) || '-'];
   const row = o => '<tr>' + cells(o).map(text => `<td>${text}`).join('') + '</tr>';
   const from = origin => origin ? `, from P${origin[0]} at ${origin[1]}` : '';
   const item = m => `<li>${esc(message(m))} prio ${m[0]}${from(m[2])}</li>`;
@@ -82,6 +81,8 @@ function showProcess(p, acts) {
   element.firstChild.innerHTML = `<span class="mono">${esc(statusLine(p))}</span>` +
     (why ? `<span class="why">${esc(why)}</span>` : '');
   element.lastChild.innerHTML = element.open ? card(p, acts) : '';
+  const here = element.querySelector('.source .here');
+  if (here) here.parentNode.scrollTop = here.offsetTop - here.parentNode.clientHeight / 2;
 }
 function reveal(element) {                        // the card of the process that acts comes into view
   const view = $('procs'), top = element.offsetTop, end = top + element.offsetHeight;

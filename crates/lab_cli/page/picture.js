@@ -44,7 +44,7 @@ function drawLanes(parts) {
 
 function levelText(a, room) {                     // the value, and as much of the rest as there is room for
   const all = [a.value, a.text, a.who].filter(part => part).join(' ');
-  return cut(all.length > room && a.value && a.value.length > room - 2 ? a.value : all, room);
+  return cut(all.length > room && a.value && a.value.length > room - 4 ? a.value : all, room);
 }
 function drawColumn(parts, c, i) {
   const x = lay.colX[i] + 5, room = fits(lay.colW[i] - 12);
@@ -76,7 +76,7 @@ function drawGaps(parts, gaps) {                  // local steps, and steps with
 
 // ---- waits, and what is held
 
-const waitEnds = w => [midY(w.k) + 10, w.end === null ? bottom() : midY(w.end) - 10];
+const waitEnds = w => [midY(w.k) + HALF, w.end === null ? bottom() : midY(w.end) - HALF];
 function drawWaits(parts, list) {
   for (const w of list) {
     const x = midX(w.p), [from, to] = waitEnds(w), wide = lay.box - 6;
@@ -173,7 +173,7 @@ function paint(top, end) {                        // what lies between these hei
   cols.forEach((c, i) => drawColumn(parts, c, i));
   drawWaits(parts, bars); drawHeld(parts); drawLinks(parts);
   for (const r of events) parts.push(box(R[r.k], r.k, midX(R[r.k].process), midY(r.k), lay.box));
-  drawGaps(parts, gaps); drawReasons(parts, bars); drawStuck(parts); drawGutter(parts, events);
+  drawGaps(parts, gaps); drawReasons(parts, bars); drawStuck(parts); drawGutter(parts, events); drawRound(parts);
   parts.push(nowMark());
   fill($('pic'), full(), parts.join(''));
   markNow(); keepGutter();

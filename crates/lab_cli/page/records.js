@@ -1,12 +1,16 @@
 const DATA = JSON.parse($('data').textContent);    // of a run, or of ends, of which the address may name one
 const numberIn = address => Number((/^#end=(\d+)/.exec(address) || [])[1] || 0);
 const NUMBER = DATA.ends && DATA.ends[numberIn(location.hash) - 1] ? numberIn(location.hash) : 0;
-const isList = DATA.ends !== undefined && NUMBER === 0, N = DATA.processes.length;
+const otherIn = address => Number((/^#run=(\d+)/.exec(address) || [])[1] || 0);  // of a run beside those to ends
+const OTHER = DATA.runs && DATA.runs[otherIn(location.hash) - 1] ? otherIn(location.hash) : 0;
+const isList = DATA.ends !== undefined && NUMBER === 0 && OTHER === 0, N = DATA.processes.length;
 const NO_STEPS = [DATA.processes.map(() => [0, 'Z', [], 0, []])];
 const NO_RUN = { schedule: [], whole: true, moments: NO_STEPS, outcome: ['open', '', '', [], [], [], [], [], []] };
-const D = DATA.run || (isList ? NO_RUN : DATA.ends[NUMBER - 1][1]), [starts, ...moments] = D.moments;
+const given = DATA.run ? [0, DATA.run, DATA.stores] : [[0, NO_RUN, []], DATA.runs[OTHER - 1], DATA.ends[NUMBER - 1]];
+const [LED, D, STORES] = DATA.run ? given : given[NUMBER ? 2 : OTHER ? 1 : 0], [starts, ...moments] = D.moments;
 const [VERDICT, STANDS, REPORT, , LAST, HELD, UNRECEIVED, WAITS, CIRCLES] = D.outcome;
 const STEPS = D.schedule.reduce((sum, [, count]) => sum + count, 0);
+const ROUND = OTHER && LED < STEPS ? LED : null;    // how many steps lead to the round, where it has one
 const NAMES = DATA.processes.map(([name]) => visible(name).replace(/\t/g, '\\x09')), PROCESSES = [...NAMES.keys()];
 
 // ---- what stands in the arrays

@@ -3,10 +3,10 @@
 const programs = () => N === 1 ? NAMES[0] : N + ' processes';
 const printed = blocks => blocks.map(([p, count]) => p + '*' + count).join(' ');
 function fillTitle() {
-  const title = (NUMBER ? `lc3lab explore, end ${NUMBER}: ` : 'lc3lab trace: ') + programs();
-  document.title = title + ', ' + VERDICT;
+  const title = (NUMBER ? `lc3lab explore, end ${NUMBER}: ` : OTHER ? `lc3lab explore, ${otherText()}: ` : 'lc3lab trace: ') + programs();
+  document.title = title + ', ' + (ROUND_AT === null ? VERDICT : 'never ends');
   $('title').textContent = title;
-  $('verdict').textContent = 'verdict ' + VERDICT; $('verdict').className = VERDICT;
+  $('verdict').textContent = ROUND_AT === null ? 'verdict ' + VERDICT : 'never ends'; $('verdict').className = VERDICT;
   $('schedule').textContent = cut(printed(D.schedule.slice(0, 100)), 160);
   $('slider').max = R.length;
   $('who').innerHTML = PROCESSES.map(p => `<option value="${p}">P${p}</option>`).join('');
@@ -47,8 +47,18 @@ const LEGEND = [
     'the chosen moment, and what comes after it'],
   [bar('stuckbar', 29, 2, 22, 42) + '<path class="cross" d="M23,6 l12,12 m0,-12 l-12,12"/>',
     'waits for ever: deadlock, and who has taken it or has it open too'],
+  [bar('roundbar', 28, 8, 24, 4) + '<path class="roundtip" d="M22,11 L28,2 L34,11 z"/>', 'the round of a run that never ends'],
 ];
+const LEGEND_KEY = 'lc3lab legend';               // it is open until it was closed once
+function openLegend() {
+  const box = $('legendbox');
+  try { box.open = localStorage.getItem(LEGEND_KEY) !== 'closed'; } catch { box.open = true; }
+  box.firstElementChild.addEventListener('click', () => {
+    try { if (box.open) localStorage.setItem(LEGEND_KEY, 'closed'); } catch { /* it is open the next time */ }
+  });
+}
 function fillLegend() {
+  openLegend();
   $('legend').innerHTML = LEGEND.map(([inner, text]) =>
     `<li><svg width="58" height="24" aria-hidden="true">${inner}</svg>${text}</li>`).join('');
 }
@@ -60,11 +70,12 @@ const VERDICTS = {
   ended: 'ended: all processes have ended',
   open: 'open: the schedule is over, some process could go on',
 };
+const NEVER_ENDS = 'never ends: here stands the world before the round again, or one alike';
 function fillTexts() {
   const lines = [...EVENTS.map(e => e.head + e.what + '\n'), ...(STANDS + REPORT).match(/.*\n/g) || []];
   $('lines').innerHTML = lines.map(text => `<li>${esc(text)}</li>`).join('');
   $('plan').textContent = printed(D.schedule);
-  $('ending').textContent = VERDICTS[VERDICT]; $('ending').className = VERDICT;
+  $('ending').textContent = ROUND_AT === null ? VERDICTS[VERDICT] : NEVER_ENDS; $('ending').className = VERDICT;
   $('atend').textContent = STANDS + (VERDICT === 'stuck' ? CIRCLES.map(circleText).join('\n') : '');
 }
 fillTitle(); fillCards(); fillLegend(); fillTexts();

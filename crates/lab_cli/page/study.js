@@ -1,11 +1,13 @@
 // ---- the lines of a source, where the data have one
 
-function readSource([text, rows]) {               // the lines, and those of them that have words
+function readSource([text, rows, names]) {        // the lines, those of them that have words, and the labels by address
   const lines = text.replace(/\n$/, '').split('\n').map((line, at) => ({ at, text: visible(line.trimEnd()) }));
   const placed = rows.map(([line, address, words, call]) => Object.assign(lines[line - 1], { address, words, call }));
-  return { lines, placed };
+  const labels = (names.match(/.+/g) || []).map(it => it.split(' x')).map(([name, address]) => ({ name, address: parseInt(address, 16) }));
+  return { lines, placed, labels: labels.sort((a, b) => a.address - b.address) };
 }
-const SOURCES = DATA.processes.map(([, source]) => source && readSource(source));
+const sourceOf = source => typeof source === 'number' ? DATA.processes[source][1] : source;  // it may be that of another
+const SOURCES = DATA.processes.map(([, source]) => source !== null && readSource(sourceOf(source)));
 const codeAt = ({ first, code }, address) => code[address - first] || [];  // the word there, and the instruction
 function sourceAt(p, address) {                   // the line that made the word there, where the memory still holds it
   const placed = SOURCES[p.process] ? SOURCES[p.process].placed : [], [word] = codeAt(p, address);
@@ -19,7 +21,9 @@ function didText(e) {                             // the instruction that a step
 
 // ---- the rows of the picture
 
-const EVENT = 27, GAP = 18, FOOT = 62;            // heights: of an event, of a row between events, of the foot
+const HAS_PLACES = N <= 8 && SOURCES.some(source => source);  // whether boxes say where in a source they are
+const HALF = HAS_PLACES ? 16 : 10;                // the half height of a box
+const EVENT = 2 * HALF + 7, GAP = 18, FOOT = 62;  // heights: of an event, of a row between events, of the foot
 const rows = [], rowOf = [], posY = [0];          // the rows; of each record its row; of each moment its height
 const cols = [];
 let height = 8;
@@ -39,6 +43,7 @@ function addEvent(k) {
   for (const e of R) {
     if (!isEvent(e)) { among.push(e.k); continue; }
     addGap(e.between, among.splice(0));
+    addRound(e.k);
     addEvent(e.k);
   }
   addGap(LAST, among);

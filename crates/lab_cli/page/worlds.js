@@ -1,10 +1,16 @@
 // ---- the picture of all worlds
 
 const WORLD_X = 36, WORLD_Y = 52, WORLD_R = 10;   // between worlds, and the half of one
-const WORLD_MAP = DATA.worlds && {                // by names what stands in arrays
-  nodes: DATA.worlds[0].map(([after, processes, before, verdict, end]) => ({ after, processes, before, verdict, end })),
-  edges: DATA.worlds[1].map(([from, to, process]) => ({ from, to, process })),
-};
+const standOf = ([pc, word, state, text, place]) => ({ pc, word, state, text, place });
+const nodeOf = ([after, processes, before, verdict, end, outputs, objects]) =>
+  ({ after, processes: processes.map(standOf), before, verdict, end, outputs, objects: objects.map(objectOf) });
+const tellingOf = ([number, pc, text, did]) => ({ number, pc, text, ...didOf(did) });
+const legOf = ([steps, events]) => ({ steps, events: events.map(tellingOf) });
+function mapIn([nodes, edges, legs]) {            // by names what stands in arrays
+  const calls = edges.map(([from, to, process], k) => ({ from, to, process, ...legOf(legs[N + k]) }));
+  return { nodes: nodes.map(nodeOf), edges: calls, starts: legs.slice(0, N).map((leg, process) => ({ process, ...legOf(leg) })) };
+}
+const WORLD_MAP = isList && DATA.worlds ? mapIn(DATA.worlds) : null;
 
 function inLayers(nodes, edges) {                 // for each number of calls the worlds, near to those that lead there
   const layers = [], place = nodes.map(() => 0), before = nodes.map(() => []);
@@ -34,7 +40,7 @@ function wayBetween([x, y], [u, v]) {             // down to the next layer; els
 const endOfWorld = ({ end }) => end !== null && end < DATA.ends.length ? end : -1;
 const shapeOf = verdict => verdict === 'stuck' ? '<path class="shape" d="M0,-12 L12,0 L0,12 L-12,0 Z"/>'
   : verdict ? '<rect class="shape" x="-10" y="-10" width="20" height="20" rx="2"/>' : `<circle class="shape" r="${WORLD_R - 3}"/>`;
-const standingText = ([address, state, text], p) => `P${p} ${state} at ${hex(address)}, ${visible(text)}`;
+const standingText = ({ pc, state, text }, p) => `P${p} ${state} at ${hex(pc)}, ${visible(text)}`;
 function worldText(node, n) {                     // in words
   const after = `World ${n + 1}, after ${several(node.after, 'call', 'calls')}`, end = endOfWorld(node);
   const rests = node.verdict ? `, ${end < 0 ? 'an end' : 'end ' + (end + 1)}: ${node.verdict}` : '';
@@ -58,7 +64,13 @@ const tipShape = id => `<marker id="${id}" viewBox="0 0 8 8" refX="6" refY="4" m
   `markerUnits="userSpaceOnUse" orient="auto"><path class="${id}" d="M0,0 L8,4 L0,8 z"/></marker>`;
 const kindShape = (verdict, text) => `<li><svg width="28" height="28" viewBox="-14 -14 28 28" aria-hidden="true">` +
   `<g class="world ${verdict}">${shapeOf(verdict)}</g></svg>${text}</li>`;
+function countText(count) {                       // why there are more worlds than were visited
+  const [, visited] = DATA.extent;
+  if (visited === count) return '';
+  return `The search visited ${visited.toLocaleString('en')} of them: where the order of calls makes no difference, it takes one.`;
+}
 const WORLD_PART = `<div id="worlds"><h2 id="worldstitle"></h2>
+  <p id="worldcount"></p>
   <p id="worldsay" aria-live="polite">Each shape is a world in which every process stands before a call or has ended; each
     arrow is a call. Point at a world, or go to one by the keys, and what its processes stand at is told here.</p>
   <div id="map" role="group" aria-labelledby="worldstitle" aria-describedby="worldkeys"></div>
@@ -66,27 +78,30 @@ const WORLD_PART = `<div id="worlds"><h2 id="worldstitle"></h2>
   <p id="worldkeys" class="keys"><kbd>Up</kbd> <kbd>Down</kbd> along a call, <kbd>Left</kbd> <kbd>Right</kbd> among the
     worlds with as many calls, <kbd>Home</kbd> the first world, <kbd>Enter</kbd> the run to an end.</p>
   <details id="worldwords"><summary>The worlds in words</summary><ol id="worldlist" role="list"></ol></details></div>`;
-function paintWay(n) {                            // the way by which calls lead to a world stands out
-  const { nodes, edges } = WORLD_MAP, seen = new Set([n]), ways = new Set();
-  for (let k = nodes[n].before; k !== null && !seen.has(edges[k].from); k = nodes[edges[k].from].before) {
-    ways.add(k); seen.add(edges[k].from);
-  }
+function fewestTo(n) {                            // a way of fewest calls from the first world to another
+  const { nodes, edges } = WORLD_MAP, way = [];
+  for (let k = nodes[n].before; k !== null && !way.includes(k); k = nodes[edges[k].from].before) way.unshift(k);
+  return way;
+}
+function paintWay(n, way, plan) {                 // the calls that led to a world stand out, and those that are to come
+  const { edges } = WORLD_MAP, ways = new Set(way), plans = new Set(plan);
+  const seen = new Set([n, ...way.map(k => edges[k].from), ...plan.map(k => edges[k].to)]);
   for (const path of document.querySelectorAll('#map .call')) {
-    const isWay = ways.has(Number(path.dataset.k)), leads = edges[path.dataset.k].from === n;
-    path.classList.toggle('way', isWay); path.classList.toggle('leads', leads);
-    path.setAttribute('marker-end', `url(#${isWay ? 'tipx' : leads ? 'tipl' : 'tipc'})`);
-    if (isWay) path.parentNode.append(path);
+    const k = Number(path.dataset.k), isPlan = plans.has(k), isWay = ways.has(k) && !isPlan, leads = edges[k].from === n;
+    for (const [kind, isSo] of Object.entries({ plan: isPlan, way: isWay, leads })) path.classList.toggle(kind, isSo);
+    path.setAttribute('marker-end', `url(#${isPlan ? 'tipp' : isWay ? 'tipx' : leads ? 'tipl' : 'tipc'})`);
+    if (isWay || isPlan) path.parentNode.append(path);
   }
   for (const g of document.querySelectorAll('#map .world')) g.classList.toggle('way', seen.has(Number(g.dataset.n)));
 }
 function tellWorld(n) {
   $('worldsay').textContent = worldText(WORLD_MAP.nodes[n], n) + callsText(WORLD_MAP.edges, n);
 }
-function chooseWorld(n) {                         // the one that Tab reaches, and the way to it
+function chooseWorld(n, way = fewestTo(n), plan = []) {  // the one that Tab reaches, and the way to it
   const old = document.querySelector('#map [tabindex="0"]'), now = $('world' + (n + 1));
   if (old) { old.setAttribute('tabindex', -1); old.classList.remove('chosen'); }
   now.setAttribute('tabindex', 0); now.classList.add('chosen');
-  paintWay(n);
+  paintWay(n, way, plan);
 }
 function nextWorld(key, n, layers) {              // where a key leads
   const { nodes, edges } = WORLD_MAP, layer = layers[nodes[n].after], at = layer.indexOf(n);
@@ -96,7 +111,7 @@ function nextWorld(key, n, layers) {              // where a key leads
 }
 function openEnd(n) {
   const end = endOfWorld(WORLD_MAP.nodes[n]);
-  if (end >= 0) location.hash = 'end=' + (end + 1);
+  if (end >= 0 && !isPlaying()) location.hash = 'end=' + (end + 1);
 }
 const worldOf = event => { const g = event.target.closest('.world'); return g ? Number(g.dataset.n) : -1; };
 function followMap(layers) {                      // pointer and keys
@@ -124,7 +139,7 @@ function followEnds() {                           // the way to an end stands ou
 function fillWorlds() {
   const { nodes, edges } = WORLD_MAP;
   $('ends').insertAdjacentHTML('beforeend', WORLD_PART);
-  const { layers, width, height, spots } = mapOf(WORLD_MAP), tips = ['tipc', 'tipl', 'tipx'].map(tipShape).join('');
+  const { layers, width, height, spots } = mapOf(WORLD_MAP), tips = ['tipc', 'tipl', 'tipp', 'tipx'].map(tipShape).join('');
   $('worldstitle').textContent = `All ${several(nodes.length, 'world', 'worlds')}, and ${several(edges.length, 'call', 'calls')}`;
   const ways = edges.map((edge, k) => callShape(edge, k, spots)).join('');
   const worlds = nodes.map((node, n) => worldShape(node, n, spots[n])).join('');
@@ -133,5 +148,6 @@ function fillWorlds() {
   $('worldkinds').innerHTML = kindShape('', 'some process goes on') + kindShape('ended', 'an end: all have ended') +
     kindShape('stuck', 'an end: stuck');
   $('worldlist').innerHTML = nodes.map((node, n) => `<li>${esc(worldText(node, n) + callsText(edges, n))}</li>`).join('');
-  followMap(layers); followEnds();
+  $('worldcount').textContent = countText(nodes.length);
+  followMap(layers); followEnds(); fillPlay();
 }

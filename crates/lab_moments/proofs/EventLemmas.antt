@@ -60,7 +60,7 @@ called-plain c =
     (both words (sender || (giver || false)) (words-plain (words_of c.outcome c.sent))
     (both sender (giver || false) (number-plain step) (both giver false (number-plain c.giver) refl))))
 
-act-plain : (act : Act) → IsPlain (act_data act)
+pub act-plain : (act : Act) → IsPlain (act_data act)
 act-plain (Calls c) = called-plain c
 act-plain (Writes bytes) = both (has_float (naturals bytes)) false (plain-naturals bytes) refl
 act-plain (Ends how) = refl

@@ -96,7 +96,8 @@ fn called_value(alloc: Global, call: &Called) -> Result<Value, AllocError>
     ])
 }
 
-fn act_value(alloc: Global, act: &Act) -> Result<Value, AllocError>
+/// What a process did.
+pub fn act_value(alloc: Global, act: &Act) -> Result<Value, AllocError>
     ensures value { IfOk result (λ v. view v ≡ act_data act.now) }
 {
     match act {

@@ -17,9 +17,11 @@ mod waits;
 
 pub use between::{Between, StepCount};
 pub use circles::circles_value;
+pub use event::act_value;
 pub use holds::{Hold, holds_value};
 pub use known::{Known, KnownObjects};
 pub use moment::moment_by;
+pub use objects::object_value;
 pub use past::Past;
 pub use state::states;
 pub use values::{bytes_value, push_some, steps_value, words_value};

@@ -6,7 +6,7 @@ use Rattle.serde_json.specs.Data.{null, string}
 use Rattle.serde_json.specs.View.{view}
 use Rattle.serde_json.specs.declared.value.Value.{Null, the_lemmas}
 use Rattle.lab_moments.specs.Values.{or_null}
-use Rattle.lab_page.specs.Sources.{Source, source_data, source_shown, sources_shown, name_at, source_at}
+use Rattle.lab_page.specs.Sources.{Source, source_behind, source_shown, sources_shown, name_at, source_at}
 use Rattle.lab_page.specs.declared.source.Source.{Source as HeldSource}
 
 -- what is seen of null
@@ -20,9 +20,10 @@ name-past bytes names p h =
 
 -- a source by that which is kept of it
 kept : (ss : List (Option HeldSource)) (p : ℕ) (o : Option (Option HeldSource)) → slice_get ss p ≡ o
-    → or_null (option_map source_data (option_and_then (λ s. s) (option_map (option_map source_shown) o))) ≡ source_at (sources_shown ss) p
+    → or_null (option_map (source_behind (sources_shown ss) p) (option_and_then (λ s. s) (option_map (option_map source_shown) o)))
+    ≡ source_at (sources_shown ss) p
 kept ss p o e =
-    sym (ap (λ (q : Option (Option Source)). or_null (option_map source_data (option_and_then (λ s. s) q)))
+    sym (ap (λ (q : Option (Option Source)). or_null (option_map (source_behind (sources_shown ss) p) (option_and_then (λ s. s) q)))
     (slice_get-map (option_map source_shown) ss p ∙ ap (option_map (option_map source_shown)) e))
 
 -- no source is given

@@ -9,6 +9,8 @@ use Rattle.lab_page.specs.Private.Json.{more_json}
 use Rattle.lab_page.specs.Ends.{end_data}
 use Rattle.lab_page.specs.Runs.{run_with, page_data}
 use Rattle.lab_page.specs.Private.Json.{run_end, end_json, page_json}
+use Rattle.lab_page.specs.Stores.{stores_data}
+use Rattle.lab_page.specs.declared.stores.Stored.{Stored}
 
 pub more-append : (xs ys : List Data) → more_json (xs ++ ys) ≡ more_json xs ++ more_json ys
 more-append xs ys = flat_map-append (λ (d : Data). 44 ∷ compact_text d) xs ys
@@ -36,20 +38,30 @@ run-json s ms o b w =
     ∙ append_assoc (codes "{\"moments\":[") (compact_text s) (more_json ms ++ run_end o b w)
     ∙ ap (λ (l : List ℕ). codes "{\"moments\":[" ++ l) (sym (list-end (compact_text s) ms behind))
 
--- an end
-pub end-json : (calls : ℕ) (r : Data) → end_json calls (compact_text r) ≡ compact_text (end_data calls r)
+-- a run with a number, and what its steps store
+pub end-json : (calls : ℕ) (r : Data) (x : List Stored) → end_json calls (compact_text r) x ≡ compact_text (end_data calls r x)
 unfolding end_json
-end-json calls r =
-    ap (λ (l : List ℕ). 91 ∷ l) (append_assoc (decimal calls ++ codes ",") (compact_text r) (codes "]") ∙ append_assoc (decimal calls) (codes ",") (compact_text r ++ codes "]"))
+end-json calls r x =
+    let n : List ℕ = decimal calls in
+    let c : List ℕ = codes "," in
+    let run : List ℕ = compact_text r in
+    let stores : List ℕ = compact_text (stores_data x) in
+    let e : List ℕ = codes "]" in
+    ap (λ (l : List ℕ). 91 ∷ l)
+    (append_assoc ((n ++ c) ++ run) (c ++ stores) e ∙ append_assoc (n ++ c) run ((c ++ stores) ++ e) ∙ append_assoc n c (run ++ ((c ++ stores) ++ e)))
 
 -- a page of a run
-pub page-json : (p r : Data) → page_json p (compact_text r) ≡ compact_text (page_data p r)
+pub page-json : (p r : Data) (x : List Stored) → page_json p (compact_text r) x ≡ compact_text (page_data p r x)
 unfolding page_json serde_json_on_literals
-page-json p r =
-    let start : List ℕ = codes "{\"format\":\"lc3lab-page-2\",\"processes\":" in
+page-json p r x =
+    let start : List ℕ = codes "{\"format\":\"lc3lab-page-3\",\"processes\":" in
     let between : List ℕ = codes ",\"run\":" in
-    append_assoc ((start ++ compact_text p) ++ between) (compact_text r) (codes "}") ∙ append_assoc (start ++ compact_text p) between (compact_text r ++ codes "}")
-    ∙ append_assoc start (compact_text p) (between ++ (compact_text r ++ codes "}"))
+    let behind : List ℕ = codes ",\"stores\":" in
+    let stores : List ℕ = (behind ++ compact_text (stores_data x)) ++ codes "}" in
+    append_assoc (((start ++ compact_text p) ++ between) ++ compact_text r) (behind ++ compact_text (stores_data x)) (codes "}")
+    ∙ append_assoc ((start ++ compact_text p) ++ between) (compact_text r) stores
+    ∙ append_assoc (start ++ compact_text p) between (compact_text r ++ stores)
+    ∙ append_assoc start (compact_text p) (between ++ (compact_text r ++ stores))
 
 -- what stands behind the moments, part by part
 pub run-end-made : (old j1 j2 j3 j4 : List ℕ) (o b : Data) (w : Bool) → j1 ≡ old ++ (codes "],\"outcome\":" ++ compact_text o)

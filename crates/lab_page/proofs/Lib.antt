@@ -4,9 +4,12 @@ pub mod JsonLemmas
 pub mod MomentLemmas
 pub mod FaultLemmas
 pub mod RunLemmas
+pub mod StoreLemmas
 pub mod SourceLemmas
 pub mod GetLemmas
-pub mod EndLemmas
+pub mod LegLemmas
 pub mod WorldLemmas
+pub mod AskedLemmas
+pub mod EndLemmas
 pub mod EndsMadeLemmas
 pub mod PageLemmas

@@ -37,7 +37,7 @@ output-plain : (o : Option Process) → IsPlain (output_of o)
 output-plain None = refl
 output-plain (Some s) = plain-naturals (machine_of s).output
 
-outputs-plain : (w : WorldState) → IsPlain (outputs w)
+pub outputs-plain : (w : WorldState) → IsPlain (outputs w)
 outputs-plain w =
     plain-below (length w.processes) (λ p. output_of (slice_get w.processes p) ∷ [])
     (λ p. plain-one (output_of (slice_get w.processes p)) (output-plain (slice_get w.processes p)))

@@ -1,5 +1,5 @@
 -- Worlds of a picture have no floats.
-use Rattle.std.proofs.Common.{◌≡◌, ℕ, ◌||◌, Bool, false, Option, Some, None, List, length, map, slice_get, refl}
+use Rattle.std.proofs.Common.{◌≡◌, ℕ, ◌||◌, Bool, false, Option, Some, None, List, [], ◌∷◌, length, map, slice_get, refl}
 use Rattle.std.specs.Option.{option_map}
 use Rattle.serde_json.specs.Data.{string}
 use Rattle.serde_json.specs.View.{items_of}
@@ -8,12 +8,20 @@ use Rattle.lab_sched.specs.Worlds.{Process, WorldState}
 use Rattle.lab_sched.specs.declared.verdict.Verdict.{Verdict}
 use Rattle.ipc_kernel.specs.Kernel.{KernelState}
 use Rattle.lab_sched.specs.Verdicts.{verdict_word}
+use Rattle.ipc_kernel.specs.Limits.{object_places}
+use Rattle.ipc_kernel.specs.Places.{is_empty, place_at}
+use Rattle.ipc_kernel.specs.declared.place.Place.{Place}
+use Rattle.lab_told.specs.Tallies.{TallyState, new_tally}
+use Rattle.lab_moments.specs.Objects.{object_data}
 use Rattle.lab_moments.specs.Values.{list, natural, or_null}
-use Rattle.lab_page.specs.Worlds.{standing_data, standing_in, standing_at, standings, has_edge, edge_before, node_data, edge_data}
+use Rattle.lab_page.specs.Runs.{outputs}
+use Rattle.lab_page.specs.Worlds.{place_before, standing_data, standing_in, standing_at, standings, has_edge, edge_before, object_in, objects, node_data, edge_data}
 use Rattle.lab_page.specs.declared.worlds.WorldEdge.{WorldEdge}
-use Rattle.lab_moments.proofs.PlainLemmas.{IsPlain, ArePlain, both, plain-below, plain-map}
+use Rattle.lab_moments.proofs.PlainLemmas.{IsPlain, ArePlain, both, plain-one, plain-below, plain-map, plain-if}
+use Rattle.lab_moments.proofs.ObjectLemmas.{object-plain}
+use Rattle.lab_page.proofs.RunLemmas.{outputs-plain}
 
-number-plain : (o : Option ℕ) → IsPlain (or_null (option_map natural o))
+pub number-plain : (o : Option ℕ) → IsPlain (or_null (option_map natural o))
 number-plain None = refl
 number-plain (Some n) = refl
 
@@ -24,12 +32,22 @@ verdict-plain (Some v) = refl
 standing-plain : (k : KernelState) (p : ℕ) (goes : Bool) (o : Option Process) → ArePlain (standing_in k p goes o)
 unfolding standing_data
 standing-plain k p goes None = refl
-standing-plain k p goes (Some s) = refl
+standing-plain k p goes (Some s) =
+    plain-one (standing_data k p goes s) (both (has_float (or_null (option_map natural (place_before k p s)))) false (number-plain (place_before k p s)) refl)
 
 standings-plain : (w : WorldState) (number : ℕ) (edges : List WorldEdge) → ArePlain (standings w number edges)
 standings-plain w number edges =
     plain-below (length w.processes) (standing_at w number edges)
     (λ p. standing-plain w.kernel p (has_edge edges number p) (slice_get w.processes p))
+
+object-in-plain : (w : WorldState) (t : TallyState) (place : ℕ) (o : Place) → ArePlain (object_in w t place o)
+object-in-plain w t place o =
+    plain-if (is_empty o) [] (object_data w t 0 place o ∷ []) refl (plain-one (object_data w t 0 place o) (object-plain w t 0 place o))
+
+objects-plain : (w : WorldState) → ArePlain (objects w)
+objects-plain w =
+    let t : TallyState = new_tally (length w.processes) in
+    plain-below object_places (λ place. object_in w t place (place_at w.kernel.places place)) (λ place. object-in-plain w t place (place_at w.kernel.places place))
 
 pub node_plain : (w : WorldState) (number : ℕ) (edges : List WorldEdge) (calls : ℕ) (verdict : Option Verdict) (end : Option ℕ)
     → IsPlain (node_data w number edges calls verdict end)
@@ -39,9 +57,13 @@ node_plain w number edges calls verdict end =
     let before = has_float (or_null (option_map natural (edge_before edges number))) in
     let told = has_float (or_null (option_map (λ v. string (verdict_word v)) verdict)) in
     let last = has_float (or_null (option_map natural end)) in
-    both stands (before || (told || (last || false))) (standings-plain w number edges)
-    (both before (told || (last || false)) (number-plain (edge_before edges number))
-    (both told (last || false) (verdict-plain verdict) (both last false (number-plain end) refl)))
+    let written = has_float (outputs w) in
+    let held = items_have_float (items_of (objects w)) in
+    both stands (before || (told || (last || (written || (held || false))))) (standings-plain w number edges)
+    (both before (told || (last || (written || (held || false)))) (number-plain (edge_before edges number))
+    (both told (last || (written || (held || false))) (verdict-plain verdict)
+    (both last (written || (held || false)) (number-plain end)
+    (both written (held || false) (outputs-plain w) (both held false (objects-plain w) refl)))))
 
 pub edges_plain : (edges : List WorldEdge) → has_float (list (map edge_data edges)) ≡ false
 edges_plain edges = plain-map edge_data edges (λ e. refl)

@@ -1,7 +1,10 @@
 pub mod Sources
 pub mod Moments
+pub mod Stores
 pub mod Runs
+pub mod Legs
 pub mod Worlds
+pub mod Asked
 pub mod Ends
 pub mod Faults
 pub mod Private

@@ -16,6 +16,8 @@ use Rattle.lab_template.specs.Limits.{most_whole}
 use Rattle.lab_moments.specs.Pasts.{Past, first_past}
 use Rattle.lab_page.specs.Moments.{moments, past_then}
 use Rattle.lab_page.specs.Sources.{Source, programs}
+use Rattle.lab_page.specs.Stores.{stores_data}
+use Rattle.lab_page.specs.declared.stores.Stored.{Stored}
 use Rattle.lab_moments.specs.States.{states}
 use Rattle.lab_moments.specs.Values.{list, natural, naturals, all_below}
 use Rattle.lab_moments.specs.Waits.{waits_data, circles_data}
@@ -66,15 +68,16 @@ run_from v whole x s =
 unfoldable pub run_data : WorldState → List Block → Data
 run_data w s = run_from (form_for (length (steps_of s)) (length w.processes) []) (is_whole s) (first_scene w) s
 
--- what a page holds of a run: the processes, and the run
-abbrev pub page_data : Data → Data → Data
-page_data processes run =
-    object (member (codes "format") (string (codes "lc3lab-page-2")) (member (codes "processes") processes (member (codes "run") run no_members)))
+-- what a page holds of a run: the processes, the run, and what its steps store
+abbrev pub page_data : Data → Data → List Stored → Data
+page_data processes run stores =
+    object (member (codes "format") (string (codes "lc3lab-page-3")) (member (codes "processes") processes (member (codes "run") run
+    (member (codes "stores") (stores_data stores) no_members))))
 
--- what a page holds of the run of a world by a schedule, with names and sources of its processes
-abbrev pub run_page_data : WorldState → List Block → List (List ℕ) → List (Option Source) → Data
-run_page_data w s names sources = page_data (programs (length w.processes) names sources) (run_data w s)
+-- what a page holds of the run of a world by a schedule, with names and sources of its processes, and what its steps store
+abbrev pub run_page_data : WorldState → List Block → List (List ℕ) → List (Option Source) → List Stored → Data
+run_page_data w s names sources stores = page_data (programs (length w.processes) names sources) (run_data w s) stores
 
 -- the JSON of what a page holds of that run
-abbrev pub run_json : WorldState → List Block → List (List ℕ) → List (Option Source) → List ℕ
-run_json w s names sources = compact_text (run_page_data w s names sources)
+abbrev pub run_json : WorldState → List Block → List (List ℕ) → List (Option Source) → List Stored → List ℕ
+run_json w s names sources stores = compact_text (run_page_data w s names sources stores)

@@ -1,7 +1,9 @@
 -- The programs of a page.
-use Rattle.std.specs.Prelude.{ℕ, ◌-◌, Option, List, [], ◌∷◌, map, take, drop, slice_get, string_bytes}
+use Rattle.std.specs.Prelude.{ℕ, ◌-◌, nat_lt, Bool, false, if◌then◌else◌, Option, Some, None, List, [], ◌∷◌, map, take, drop, position, slice_get, string_bytes}
 use Rattle.std.specs.Option.{option_map, option_and_then}
+use Rattle.std.specs.Str.{bytes_eq}
 use Rattle.serde_json.specs.Data.{Data, string}
+use Rattle.lc3_asm.specs.Listings.{symbols_text}
 use Rattle.lc3_asm.specs.Texts.{Program}
 use Rattle.lc3_asm.specs.declared.assembled.Row.{Row}
 use Rattle.lab_told.specs.Services.{service_of_word}
@@ -10,16 +12,23 @@ use Rattle.lab_moments.specs.States.{call_names}
 use Rattle.lab_moments.specs.Values.{list, natural, naturals, or_null, all_below}
 use Rattle.lab_page.specs.declared.source.Source.{Source as HeldSource}
 
--- a source: its text, the lines that have words, the address of the first of these words, and the words
+-- a source: its text, the lines that have words, the address of the first of these words, the words, and a line for each label
 pub record Source : Type 0 where
   pub text : List ℕ
   pub rows : List Row
   pub origin : ℕ
   pub words : List ℕ
+  pub labels : List ℕ
 
 -- the source with this text, by what it is assembled to
 abbrev pub source_of : List ℕ → Program → Source
-source_of text p = record { text = text; rows = p.rows; origin = p.image.origin; words = p.image.words }
+source_of text p = record {
+  text = text;
+  rows = p.rows;
+  origin = p.image.origin;
+  words = p.image.words;
+  labels = symbols_text p.symbols;
+}
 
 -- the words of a line
 abbrev pub row_words : Source → Row → List ℕ
@@ -38,17 +47,31 @@ row_with r words = list (natural r.line ∷ natural r.address ∷ naturals words
 unfoldable pub row_data : Source → Row → Data
 row_data s r = row_with r (row_words s r)
 
--- a source: its text, and the lines of it that have words
+-- a source: its text, the lines of it that have words, and its labels
 unfoldable pub source_data : Source → Data
-source_data s = list (string s.text ∷ list (map (row_data s) s.rows) ∷ [])
+source_data s = list (string s.text ∷ list (map (row_data s) s.rows) ∷ string s.labels ∷ [])
 
 -- the name of process p, where one is given
 abbrev pub name_at : List (List ℕ) → ℕ → Data
 name_at names p = or_null (option_map string (slice_get names p))
 
--- the source of process p, where there is one
+-- whether there is a source with this text
+abbrev pub has_text : List ℕ → Option Source → Bool
+has_text text None = false
+has_text text (Some s) = bytes_eq s.text text
+
+-- a source of process p where the first process whose source has the same text is this one: the number of that, if it comes before
+abbrev pub source_told : ℕ → Source → Option ℕ → Data
+source_told p s None = source_data s
+source_told p s (Some q) = if nat_lt q p then natural q else source_data s
+
+-- the source of process p, or the number of the first process whose source has the same text, if it comes before
+abbrev pub source_behind : List (Option Source) → ℕ → Source → Data
+source_behind sources p s = source_told p s (position (has_text s.text) sources)
+
+-- the same, where there is one
 abbrev pub source_at : List (Option Source) → ℕ → Data
-source_at sources p = or_null (option_map source_data (option_and_then (λ s. s) (slice_get sources p)))
+source_at sources p = or_null (option_map (source_behind sources p) (option_and_then (λ s. s) (slice_get sources p)))
 
 -- how process p is called, and its source
 abbrev pub program_at : List (List ℕ) → List (Option Source) → ℕ → Data
@@ -60,7 +83,13 @@ programs count names sources = list (all_below count (λ p. program_at names sou
 
 -- the source that is kept as a text
 abbrev pub source_shown : HeldSource → Source
-source_shown s = record { text = string_bytes s.text; rows = s.rows.items; origin = s.origin; words = s.words.items }
+source_shown s = record {
+  text = string_bytes s.text;
+  rows = s.rows.items;
+  origin = s.origin;
+  words = s.words.items;
+  labels = string_bytes s.labels;
+}
 
 -- the sources that are kept as texts, each where there is one
 abbrev pub sources_shown : List (Option HeldSource) → List (Option Source)

@@ -1,5 +1,5 @@
 -- Worlds that an exploration visited, and the calls between them.
-use Rattle.std.specs.Prelude.{ℕ, ◌+◌, ◌==◌, ◌&&◌, nat_lt, Bool, if◌then◌else◌, Option, Some, None, List, [], ◌∷◌, ◌++◌, codes, length, map, position, slice_get}
+use Rattle.std.specs.Prelude.{ℕ, ◌+◌, ◌==◌, ◌&&◌, nat_lt, Bool, if◌then◌else◌, Option, Some, None, List, [], ◌∷◌, ◌++◌, codes, length, map, position, slice_get, slice_index}
 use Rattle.std.specs.List.{list_any}
 use Rattle.std.specs.Option.{option_map}
 use Rattle.serde_json.specs.Data.{Data, string}
@@ -14,7 +14,16 @@ use Rattle.lab_trace.specs.Outcomes.{call_text}
 use Rattle.lab_told.specs.Services.{service_at}
 use Rattle.ipc_traps.specs.declared.service.Service.{Service}
 use Rattle.lab_sched.specs.Verdicts.{verdict_word}
+use Rattle.ipc_kernel.specs.Limits.{object_places}
+use Rattle.ipc_kernel.specs.Places.{is_empty, place_at}
+use Rattle.ipc_kernel.specs.declared.place.Place.{Place}
+use Rattle.lc3_machine.specs.Process.{reg}
+use Rattle.lab_told.specs.Objects.{held_place}
+use Rattle.lab_told.specs.Tallies.{TallyState, new_tally}
+use Rattle.lab_moments.specs.Objects.{object_data}
 use Rattle.lab_moments.specs.Values.{list, natural, or_null, all_below}
+use Rattle.lab_page.specs.Legs.{leg_data}
+use Rattle.lab_page.specs.Runs.{outputs}
 use Rattle.lab_page.specs.declared.worlds.WorldEdge.{WorldEdge}
 
 -- the call that process p stands before, else its instruction
@@ -38,9 +47,21 @@ state_text goes (Running m) = going_text goes
 state_text goes (Waiting m c) = going_text goes
 state_text goes (Ended e) = codes "ended"
 
--- a process p, which goes on or doesn't: the address of its next instruction, its state, and what it stands before
+-- the place of the object that a call of process p is on, where it stands before one and this is on one
+abbrev pub place_of_call : KernelState → ℕ → Machine → Option Service → Option ℕ
+place_of_call k p m None = None
+place_of_call k p m (Some s) = held_place k p s (reg m 0)
+
+-- that of the call before which process p stands
+abbrev pub place_before : KernelState → ℕ → Process → Option ℕ
+place_before k p s = place_of_call k p (machine_of s) (service_at (machine_of s))
+
+-- a process p, which goes on or doesn't: the address of its next instruction, the word there, its state, what it stands before,
+-- and the place of the object that its call is on
 unfoldable pub standing_data : KernelState → ℕ → Bool → Process → Data
-standing_data k p goes s = list (natural (machine_of s).pc ∷ string (state_text goes s) ∷ string (stand_text k p s) ∷ [])
+standing_data k p goes s =
+    list (natural (machine_of s).pc ∷ natural (slice_index (machine_of s).memory (machine_of s).pc) ∷ string (state_text goes s)
+    ∷ string (stand_text k p s) ∷ or_null (option_map natural (place_before k p s)) ∷ [])
 
 -- whether an edge is of process p, and leads from the world with a number
 abbrev pub is_from : ℕ → ℕ → WorldEdge → Bool
@@ -71,22 +92,35 @@ is_to number e = e.to == number
 abbrev pub edge_before : List WorldEdge → ℕ → Option ℕ
 edge_before edges number = if number == 0 then None else position (is_to number) edges
 
+-- the object in a place, where there is one, without what only the steps to its world tell of it
+abbrev pub object_in : WorldState → TallyState → ℕ → Place → List Data
+object_in w t place o = if is_empty o then [] else object_data w t 0 place o ∷ []
+
+-- the objects of a world in order of place, as if no step had been before
+abbrev pub objects : WorldState → List Data
+objects w =
+    all_below object_places (λ place. object_in w (new_tally (length w.processes)) place (place_at w.kernel.places place))
+
 -- the world with a number, to which so many calls lead: where its processes stand, the edge that leads there, the verdict on its
--- end, where no process goes on, and the number of this end
+-- end, where no process goes on, the number of this end, what each process has written, and the objects
 unfoldable pub node_data : WorldState → ℕ → List WorldEdge → ℕ → Option Verdict → Option ℕ → Data
 node_data w number edges calls verdict end =
     list (natural calls ∷ list (standings w number edges) ∷ or_null (option_map natural (edge_before edges number))
-    ∷ or_null (option_map (λ v. string (verdict_word v)) verdict) ∷ or_null (option_map natural end) ∷ [])
+    ∷ or_null (option_map (λ v. string (verdict_word v)) verdict) ∷ or_null (option_map natural end) ∷ outputs w
+    ∷ list (objects w) ∷ [])
 
 -- an edge: the worlds that it leads from and to, by their numbers, and its process
 abbrev pub edge_data : WorldEdge → Data
 edge_data e = list (natural e.from ∷ natural e.to ∷ natural e.process ∷ [])
 
--- worlds in the order of their numbers, from 0, as JSON with commas between them, how many there are, and the edges between them
+-- worlds in the order of their numbers, from 0, as JSON with commas between them, how many there are, the edges between them, what
+-- steps of processes tell, as JSON with commas between them, and of how many legs that is
 pub record Worlds : Type 0 where
   pub json : List ℕ
   pub count : ℕ
   pub edges : List WorldEdge
+  pub legs : List ℕ
+  pub told : ℕ
 
 -- the worlds with the next one behind them
 abbrev pub with_node : Worlds → WorldState → ℕ → Option Verdict → Option ℕ → Worlds
@@ -95,9 +129,18 @@ with_node d w calls verdict end = record d {
   count = d.count + 1;
 }
 
+-- the worlds with a leg more: so many steps of process p from a world
+abbrev pub with_leg : Worlds → WorldState → ℕ → ℕ → Worlds
+with_leg d w p steps = record d {
+  legs = d.legs ++ (comma_if (nat_lt 0 d.told) ++ compact_text (leg_data w p steps));
+  told = d.told + 1;
+}
+
 -- what a page holds of worlds as JSON
 abbrev pub listed_json : Worlds → List ℕ
-listed_json d = codes "[[" ++ (d.json ++ ((codes "]," ++ compact_text (list (map edge_data d.edges))) ++ codes "]"))
+listed_json d =
+    codes "[[" ++ (d.json ++ ((codes "]," ++ compact_text (list (map edge_data d.edges)))
+    ++ (codes ",[" ++ (d.legs ++ codes "]]"))))
 
 -- that, where they are drawn
 abbrev pub worlds_json : Option Worlds → List ℕ

@@ -11,10 +11,12 @@ ghost use Rattle.lab_page.specs.Runs.{run_data};
 ghost use Rattle.lab_moments.specs.Values.{or_null};
 ghost use Rattle.lab_page.specs.declared.fault.PageFault.TheVariants.{TooLarge};
 
+use crate::asked::{Asked, asked_value};
 use crate::fault::PageFault;
 use crate::json::push_behind;
 use crate::outcome::schedule_value;
 use crate::run::written_run;
+use crate::stores::{Stored, stores_value};
 use crate::worlds::{Worlds, push_worlds};
 use lab_sched::{Schedule, World};
 use lab_template::{MOST_END_BYTES, MOST_ENDS};
@@ -29,6 +31,8 @@ pub struct Endless<'a> {
     pub schedule: &'a Schedule,
     /// What leads from that world to itself, or to one alike.
     pub lasso: &'a Schedule,
+    /// The number of the run by both among the other runs of the page, if it is there.
+    pub run: Option<usize>,
 }
 
 /// How far an exploration went.
@@ -48,9 +52,11 @@ pub struct Extent {
     pub most_memory: usize,
     /// Whether memory was refused on the way.
     pub refused: bool,
+    /// Whether it was to end with the first thing that isn't as it was asked.
+    pub first: bool,
 }
 
-/// The runs to the first ends of an exploration.
+/// Runs of an exploration, as those to its first ends.
 #[derive(Drop)]
 pub struct EndList {
     /// The runs as JSON, with commas between them.
@@ -73,13 +79,19 @@ impl Model for EndList {
 }
 
 #[tactic(auto, unfolding(crate::specs::Private::Json::end_json))]
-fn end_json(alloc: Global, calls: u32, run: &[u8]) -> Result<Vec<u8>, AllocError>
-    ensures json { IfOk result (λ v. v.items ≡ end_json calls run.now) }
+fn end_json(
+    alloc: Global,
+    number: u32,
+    run: &[u8],
+    stores: &[Stored],
+) -> Result<Vec<u8>, AllocError>
+    ensures json { IfOk result (λ v. v.items ≡ end_json number run.now stores.now) }
 {
-    let start = format!(in alloc; "[{calls},")?;
+    let start = format!(in alloc; "[{number},")?;
     let mut json = Vec::new(alloc);
     json.extend_from_slice(start.as_bytes())?;
     json.extend_from_slice(run)?;
+    push_behind(&mut json, ",", &stores_value(alloc, stores)?)?;
     json.extend_from_slice(b"]")?;
     Ok(json)
 }
@@ -94,6 +106,20 @@ impl EndList {
             count: 0,
             full: false,
         }
+    }
+
+    /// How many runs it has.
+    pub fn count(&self) -> usize
+        ensures count { result ≡ self.now.count }
+    {
+        self.count
+    }
+
+    /// Whether there was no room for one.
+    pub fn is_full(&self) -> bool
+        ensures full { result ≡ self.now.full }
+    {
+        self.full
     }
 
     /// Adds the JSON of an end behind fewer than the most that there can be, where there is room for it.
@@ -113,8 +139,8 @@ impl EndList {
         Ok(())
     }
 
-    /// Adds the run of a world by a schedule with so many calls, where fewer than [`MOST_ENDS`] are there and their JSON has
-    /// no more than [`MOST_END_BYTES`] bytes with it. Once there was no room for one, none is added.
+    /// Adds the run of a world by a schedule, with a number and what its steps store, where fewer than [`MOST_ENDS`] are there and
+    /// their JSON has no more than [`MOST_END_BYTES`] bytes with it. Once there was no room for one, none is added.
     ///
     /// # Errors
     ///
@@ -125,10 +151,11 @@ impl EndList {
         alloc: Global,
         world: &mut World,
         schedule: &Schedule,
-        calls: u32,
+        number: u32,
+        stores: &[Stored],
     ) -> Result<(), PageFault>
-        ensures list { OnOk result (self.new
-            ≡ with_end self.old (compact_text (end_data calls (run_data world.old schedule.now)))) }
+        ensures list { OnOk result (self.new ≡ with_end self.old
+            (compact_text (end_data number (run_data world.old schedule.now) stores.now))) }
         ensures fault { IfErr result (λ e. Explains e world.old schedule.now
             (compact_text (run_data world.old schedule.now))) }
         ensures fits { result ≢ Err TooLarge }
@@ -139,7 +166,7 @@ impl EndList {
         }
         match written_run(alloc, world, schedule, &[]) {
             Ok(run) => {
-                let end = end_json(alloc, calls, &run.json)?;
+                let end = end_json(alloc, number, &run.json, stores)?;
                 Ok(self.push(&end)?)
             }
             Err(PageFault::TooLarge) => {
@@ -159,7 +186,8 @@ fn endless_value(alloc: Global, endless: &Option<Endless<'_>>) -> Result<Value, 
     };
     json!(in alloc; [
         schedule_value(alloc, endless.schedule)?,
-        schedule_value(alloc, endless.lasso)?
+        schedule_value(alloc, endless.lasso)?,
+        endless.run
     ])
 }
 
@@ -168,8 +196,8 @@ fn extent_value(alloc: Global, extent: Extent) -> Result<Value, AllocError>
 {
     let (complete, worlds, ends) = (extent.complete, extent.worlds, extent.ends);
     let (most_worlds, most_steps) = (extent.most_worlds, extent.most_steps);
-    let (most_memory, refused) = (extent.most_memory, extent.refused);
-    json!(in alloc; [complete, worlds, ends, most_worlds, most_steps, most_memory, refused])
+    let (most_memory, refused, first) = (extent.most_memory, extent.refused, extent.first);
+    json!(in alloc; [complete, worlds, ends, most_worlds, most_steps, most_memory, refused, first])
 }
 
 /// What a page holds of ends as JSON.
@@ -177,26 +205,36 @@ pub fn ends_json(
     alloc: Global,
     processes: &Value,
     list: &EndList,
+    others: &EndList,
+    asked: &[Asked],
     endless: &Option<Endless<'_>>,
     extent: Extent,
     worlds: &Option<Worlds>,
 ) -> Result<Vec<u8>, AllocError>
     requires plain { has_float (view processes.now) ≡ false }
     ensures json { IfOk result (λ v. v.items
-        ≡ ends_json (view processes.now) list.now (option_map endless_shown endless.now) extent
-        worlds.now) }
+        ≡ ends_json (view processes.now) list.now others.now asked.now
+        (option_map endless_shown endless.now) extent worlds.now) }
 {
     let mut json = Vec::new(alloc);
-    push_behind(&mut json, "{\"endless\":", &endless_value(alloc, endless)?)?;
+    let complete = extent.complete;
+    push_behind(
+        &mut json,
+        "{\"asked\":",
+        &asked_value(alloc, asked, complete)?,
+    )?;
+    push_behind(&mut json, ",\"endless\":", &endless_value(alloc, endless)?)?;
     json.extend_from_slice(b",\"ends\":[")?;
     json.extend_from_slice(&list.json)?;
     push_behind(&mut json, "],\"extent\":", &extent_value(alloc, extent)?)?;
     push_behind(
         &mut json,
-        ",\"format\":\"lc3lab-ends-2\",\"processes\":",
+        ",\"format\":\"lc3lab-ends-3\",\"processes\":",
         processes,
     )?;
-    json.extend_from_slice(b",\"worlds\":")?;
+    json.extend_from_slice(b",\"runs\":[")?;
+    json.extend_from_slice(&others.json)?;
+    json.extend_from_slice(b"],\"worlds\":")?;
     push_worlds(&mut json, worlds)?;
     json.extend_from_slice(b"}")?;
     Ok(json)

@@ -2,20 +2,26 @@
 //! the page of the ends of an exploration, each with its run.
 #![tactic(auto)]
 
+mod asked;
 mod ends;
 mod fault;
 mod json;
+mod legs;
 mod look;
 mod moments;
+mod objects;
 mod outcome;
 mod paging;
 mod run;
 mod source;
+mod stores;
 mod worlds;
 
+pub use asked::{Asked, ShownRun};
 pub use ends::{EndList, Endless, Extent};
 pub use fault::PageFault;
 pub use lab_template::Template;
 pub use paging::{Shown, ends_page, run_page};
 pub use source::{Source, source_of};
+pub use stores::{Stored, stores_of};
 pub use worlds::{WorldEdge, Worlds};

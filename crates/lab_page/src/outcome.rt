@@ -41,7 +41,7 @@ fn output_value(alloc: Global, world: &World, pid: usize) -> Result<Value, Alloc
 }
 
 #[tactic(auto, using(lab_moments::proofs::ValueLemmas::all_below_none))]
-fn outputs(alloc: Global, world: &World) -> Result<Value, AllocError>
+pub(crate) fn outputs(alloc: Global, world: &World) -> Result<Value, AllocError>
     ensures value { IfOk result (λ v. view v ≡ outputs world.now) }
 {
     let mut outputs = Vec::new(alloc);

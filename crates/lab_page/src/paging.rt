@@ -14,11 +14,13 @@ ghost use Rattle.lab_page.specs.Runs.{run_json};
 ghost use Rattle.lab_page.specs.declared.fault.PageFault.TheVariants.{NoProcess};
 ghost use Rattle.lab_page.specs.Sources.{programs, sources_shown};
 
+use crate::asked::Asked;
 use crate::ends::{EndList, Endless, Extent, ends_json};
 use crate::fault::PageFault;
-use crate::json::push_value;
+use crate::json::{push_behind, push_value};
 use crate::run::{WrittenRun, written_run};
 use crate::source::{Source, programs};
+use crate::stores::{Stored, stores_value};
 use crate::worlds::Worlds;
 use lab_sched::{Schedule, World};
 use lab_sources::Source as Given;
@@ -45,16 +47,18 @@ fn page_json(
     names: &[String],
     sources: &[Option<Source>],
     run: &[u8],
+    stores: &[Stored],
 ) -> Result<Vec<u8>, AllocError>
     ensures json { IfOk result (λ v. v.items ≡ page_json
-        (programs count (map string_bytes names.now) (sources_shown sources.now)) run.now) }
+        (programs count (map string_bytes names.now) (sources_shown sources.now)) run.now
+        stores.now) }
 {
     let mut json = Vec::new(alloc);
-    json.extend_from_slice(b"{\"format\":\"lc3lab-page-2\",\"processes\":")?;
-    let processes = programs(alloc, count, names, sources)?;
-    push_value(&mut json, &processes)?;
+    json.extend_from_slice(b"{\"format\":\"lc3lab-page-3\",\"processes\":")?;
+    push_value(&mut json, &programs(alloc, count, names, sources)?)?;
     json.extend_from_slice(b",\"run\":")?;
     json.extend_from_slice(run)?;
+    push_behind(&mut json, ",\"stores\":", &stores_value(alloc, stores)?)?;
     json.extend_from_slice(b"}")?;
     Ok(json)
 }
@@ -68,8 +72,8 @@ pub struct Shown {
 
 /// The page of the run of a world by a schedule, HTML around the run as JSON, in which no `<` stands; and the trace of that
 /// run, whose lines have the labels of the processes that were `given` as sources. On the page the processes are called by
-/// these names, and have these sources, each where there is one. The world takes the schedule's steps; where it names a process
-/// that isn't there, none.
+/// these names, and have these sources, each where there is one; beside the run stands what its steps store. The world takes
+/// the schedule's steps; where it names a process that isn't there, none.
 ///
 /// # Errors
 ///
@@ -84,21 +88,22 @@ pub fn run_page(
     names: &[String],
     sources: &[Option<Source>],
     given: &[Option<Given>],
+    stores: &[Stored],
 ) -> Result<Shown, PageFault>
     ensures trace { IfOk result (λ s. s.trace.items
         ≡ trace_text world.old given.now (steps_of schedule.now)) }
     ensures page { IfOk result (λ s. s.page.items ≡ page_text (around template.now)
         (run_json world.old schedule.now (map string_bytes names.now)
-        (sources_shown sources.now))) }
+        (sources_shown sources.now) stores.now)) }
     ensures closed { OnOk result (HasNoTag (safe (run_json world.old schedule.now
-        (map string_bytes names.now) (sources_shown sources.now)))) }
+        (map string_bytes names.now) (sources_shown sources.now) stores.now))) }
     ensures fits { OnOk result (length (run_json world.old schedule.now
-        (map string_bytes names.now) (sources_shown sources.now)) ≤ most_bytes) }
+        (map string_bytes names.now) (sources_shown sources.now) stores.now) ≤ most_bytes) }
     ensures world { OnOk result (world.new ≡ run world.old (steps_of schedule.now)) }
     ensures no_process { (done : ℕ) → missing_after world.old (steps_of schedule.now) ≡ Some done
         → result ≡ Err (NoProcess done) }
     ensures fault { IfErr result (λ e. Explains e world.old schedule.now (run_json world.old
-        schedule.now (map string_bytes names.now) (sources_shown sources.now))) }
+        schedule.now (map string_bytes names.now) (sources_shown sources.now) stores.now)) }
     ensures untouched { (done : ℕ) → result ≡ Err (NoProcess done) → world.new ≡ world.old }
 {
     let count = world.count();
@@ -106,7 +111,7 @@ pub fn run_page(
     let page = page_of(
         alloc,
         template,
-        &page_json(alloc, count, names, sources, &json)?,
+        &page_json(alloc, count, names, sources, &json, stores)?,
     )?;
     Ok(Shown { page, trace })
 }
@@ -123,24 +128,28 @@ pub fn ends_page(
     names: &[String],
     sources: &[Option<Source>],
     list: &EndList,
+    others: &EndList,
+    asked: &[Asked],
     endless: &Option<Endless<'_>>,
     extent: Extent,
     worlds: &Option<Worlds>,
 ) -> Result<Vec<u8>, PageFault>
     ensures page { IfOk result (λ v. v.items ≡ page_text (around template.now) (ends_json
         (programs count (map string_bytes names.now) (sources_shown sources.now)) list.now
-        (option_map endless_shown endless.now) extent worlds.now)) }
+        others.now asked.now (option_map endless_shown endless.now) extent worlds.now)) }
     ensures closed { OnOk result (HasNoTag (safe (ends_json
         (programs count (map string_bytes names.now) (sources_shown sources.now)) list.now
-        (option_map endless_shown endless.now) extent worlds.now))) }
+        others.now asked.now (option_map endless_shown endless.now) extent worlds.now))) }
     ensures fault { IfErr result (λ e. IsFault e (ends_json
         (programs count (map string_bytes names.now) (sources_shown sources.now)) list.now
-        (option_map endless_shown endless.now) extent worlds.now)) }
+        others.now asked.now (option_map endless_shown endless.now) extent worlds.now)) }
 {
     let processes = programs(alloc, count, names, sources)?;
     page_of(
         alloc,
         template,
-        &ends_json(alloc, &processes, list, endless, extent, worlds)?,
+        &ends_json(
+            alloc, &processes, list, others, asked, endless, extent, worlds,
+        )?,
     )
 }

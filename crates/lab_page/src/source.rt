@@ -1,8 +1,8 @@
 //! The programs of a page.
-ghost use Rattle.std.specs.Prelude.{◌≡◌, IfOk, map, slice_get, string_bytes};
+ghost use Rattle.std.specs.Prelude.{◌≡◌, IfOk, map, position, slice_get, string_bytes};
 ghost use Rattle.std.specs.Option.{option_map, option_and_then};
 ghost use Rattle.serde_json.specs.View.{view};
-ghost use Rattle.lab_page.specs.Sources.{source_of, row_words, first_call, row_data, source_data, name_at, source_at, program_at, programs, source_shown, sources_shown};
+ghost use Rattle.lab_page.specs.Sources.{source_of, row_words, first_call, row_data, source_data, name_at, has_text, source_told, source_behind, source_at, program_at, programs, source_shown, sources_shown};
 
 use ipc_traps::Service;
 use lab_moments::words_value;
@@ -22,6 +22,8 @@ pub struct Source {
     pub origin: u16,
     /// Their words, in order.
     pub words: Vec<u16>,
+    /// A line for each label, with its name and its address.
+    pub labels: String,
 }
 
 /// The source with this text, by what it is assembled to.
@@ -29,8 +31,11 @@ pub fn source_of(alloc: Global, text: String, assembled: &Assembled) -> Result<S
     ensures source { IfOk result (λ s. source_shown s
         ≡ source_of (string_bytes text) assembled.now) }
 {
+    let mut labels = String::new(alloc);
+    assembled.symbols().push_lines(&mut labels)?;
     Ok(Source {
         text,
+        labels,
         rows: assembled.rows().to_vec(alloc)?,
         origin: assembled.image().origin(),
         words: assembled.image().words().to_vec(alloc)?,
@@ -78,7 +83,7 @@ fn source_value(alloc: Global, source: &Source) -> Result<Value, AllocError>
     for row in &source.rows {
         rows.push(row_value(alloc, source, row)?)?;
     }
-    json!(in alloc; [&source.text, rows])
+    json!(in alloc; [&source.text, rows, &source.labels])
 }
 
 #[tactic(auto, using(lab_moments::proofs::ValueLemmas::slice_get_seen))]
@@ -91,12 +96,63 @@ fn name_at(alloc: Global, names: &[String], process: usize) -> Result<Value, All
     }
 }
 
+/// Whether there is a source with this text.
+fn has_text(source: &Option<Source>, text: &str) -> bool
+    ensures same { result ≡ has_text text.now (option_map source_shown source.now) }
+{
+    match source {
+        Some(source) => source.text.as_str() == text,
+        None => false,
+    }
+}
+
+/// The first process whose source has this text.
+fn first_with(sources: &[Option<Source>], text: &str) -> Option<usize>
+    ensures process { result
+        ≡ position (λ s. has_text text.now (option_map source_shown s)) sources.now }
+{
+    sources.iter().position(|source| has_text(source, text))
+}
+
+/// A source of process `process`, or the number of the first process whose source has the same text, if that comes before.
+fn source_told(
+    alloc: Global,
+    process: usize,
+    source: &Source,
+    first: Option<usize>,
+) -> Result<Value, AllocError>
+    ensures value { IfOk result (λ v. view v
+        ≡ source_told process (source_shown source.now) first) }
+{
+    let Some(first) = first else {
+        return source_value(alloc, source);
+    };
+    if first < process {
+        return Ok(Value::from(first));
+    }
+    source_value(alloc, source)
+}
+
+/// The source of process `process`, or the number of the first one whose source has the same text, if it comes before.
+fn source_behind(
+    alloc: Global,
+    sources: &[Option<Source>],
+    process: usize,
+    source: &Source,
+) -> Result<Value, AllocError>
+    ensures value { IfOk result (λ v. view v
+        ≡ source_behind (sources_shown sources.now) process (source_shown source.now)) }
+{
+    let first = first_with(sources, source.text.as_str());
+    source_told(alloc, process, source, first)
+}
+
 #[tactic(auto, using(lab_moments::proofs::ValueLemmas::slice_get_seen))]
 fn source_at(alloc: Global, sources: &[Option<Source>], process: usize) -> Result<Value, AllocError>
     ensures value { IfOk result (λ v. view v ≡ source_at (sources_shown sources.now) process) }
 {
     match sources.get(process) {
-        Some(Some(source)) => source_value(alloc, source),
+        Some(Some(source)) => source_behind(alloc, sources, process, source),
         Some(None) => Ok(Value::Null),
         None => Ok(Value::Null),
     }

@@ -1,5 +1,5 @@
 //! Worlds that an exploration visited, as a page holds them.
-ghost use Rattle.std.specs.Prelude.{◌≡◌, ◌<◌, ◌++◌, [], IfOk, OnOk, length, map, position, string_bytes};
+ghost use Rattle.std.specs.Prelude.{◌≡◌, ◌<◌, ◌≤◌, ◌++◌, [], IfOk, OnOk, length, map, position, string_bytes};
 ghost use Rattle.std.specs.Option.{option_map, option_to_list};
 ghost use Rattle.serde_json.specs.View.{view};
 ghost use Rattle.serde_json.specs.Data.{string};
@@ -7,16 +7,20 @@ ghost use Rattle.lab_sched.specs.Held.{process_view};
 ghost use Rattle.lab_sched.specs.Worlds.{machine_of};
 ghost use Rattle.lab_texts.specs.Texts.{place_text};
 ghost use Rattle.lab_sched.specs.Verdicts.{verdict_word};
+ghost use Rattle.lab_sched.specs.Schedules.{most_steps};
 ghost use Rattle.lab_moments.specs.Values.{list, or_null};
-ghost use Rattle.lab_page.specs.Worlds.{edge_before, edge_data, has_edge, is_from, is_to, listed_json, node_data, stand_text, standing_at, standing_data, standings, state_text, with_node, worlds_json};
+ghost use Rattle.lab_page.specs.Worlds.{edge_before, edge_data, has_edge, is_from, is_to, listed_json, node_data, place_before, stand_text, standing_at, standing_data, standings, state_text, with_leg, with_node, worlds_json};
 
 use crate::json::push_behind;
+use crate::legs::leg_value;
+use crate::objects::objects_value;
+use crate::outcome::outputs;
 use lab_moments::push_some;
 use lab_sched::{Process, Verdict, World};
 use lab_texts::how_name;
-use lab_trace::{arguments_of, push_call, service_at};
+use lab_trace::{arguments_of, held_place, push_call, service_at};
 use lc3_table::WordText;
-use lc3_word::FIRST_DEVICE;
+use lc3_word::{FIRST_DEVICE, Reg};
 use serde_json::{Value, json};
 use std::alloc::{AllocError, Global};
 use std::marker::Model;
@@ -29,13 +33,16 @@ pub struct WorldEdge {
     pub process: u32,
 }
 
-/// Worlds in which each process stands before a call, or has ended, and the edges between them.
+/// Worlds in which each process stands before a call, or has ended, the edges between them, and what the steps of each edge tell.
 #[derive(Drop)]
 pub struct Worlds {
     /// The worlds as JSON, with commas between them.
     json: Vec<u8>,
     count: usize,
     edges: Vec<WorldEdge>,
+    /// What steps of processes tell, as JSON, with commas between them.
+    legs: Vec<u8>,
+    told: usize,
 }
 
 impl Model for Worlds {
@@ -43,7 +50,13 @@ impl Model for Worlds {
 
     ghost Value = { Listed };
 
-    ghost view = { λ w. record { json = w.json.items; count = w.count; edges = w.edges.items } };
+    ghost view = { λ w. record {
+      json = w.json.items;
+      count = w.count;
+      edges = w.edges.items;
+      legs = w.legs.items;
+      told = w.told;
+    } };
 }
 
 /// Adds the instruction at the program counter, or a dash in the device register page.
@@ -98,6 +111,16 @@ fn state_text(process: &Process, goes: bool) -> &'static str
     }
 }
 
+/// The place of the object that the call is on before which process `pid` stands, where it is on one.
+fn place_before(world: &World, pid: usize, process: &Process) -> Option<u8>
+    requires process { pid < length world.now.processes }
+    ensures place { result ≡ place_before world.now.kernel pid (process_view process.now) }
+{
+    let service = service_at(process)?;
+    let number = process.machine().reg(Reg::of_low_bits(0));
+    held_place(world.kernel(), pid, service, number)
+}
+
 /// Where process `pid` of a world stands, which goes on or doesn't.
 #[tactic(auto, unfolding(crate::specs::Worlds::standing_data))]
 fn standing_value(
@@ -112,8 +135,10 @@ fn standing_value(
         ≡ standing_data world.now.kernel pid goes (process_view process.now)) }
 {
     let pc = process.machine().pc();
+    let word = process.machine().word(pc);
     let state = state_text(process, goes);
-    json!(in alloc; [pc, state, stand_text(alloc, world, pid, process)?])
+    let place = Value::from(place_before(world, pid, process));
+    json!(in alloc; [pc, word, state, stand_text(alloc, world, pid, process)?, place])
 }
 
 fn is_from(edge: &WorldEdge, number: usize, process: usize) -> bool
@@ -215,13 +240,26 @@ fn edges_value(alloc: Global, edges: &[WorldEdge]) -> Result<Value, AllocError>
 impl Worlds {
     /// No world, where there will be these edges.
     pub fn new(alloc: Global, edges: Vec<WorldEdge>) -> Worlds
-        ensures none { result ≡ record { json = []; count = 0; edges = edges.items } }
+        ensures none { result ≡ record {
+          json = [];
+          count = 0;
+          edges = edges.items;
+          legs = [];
+          told = 0;
+        } }
     {
         Worlds {
             json: Vec::new(alloc),
             count: 0,
             edges,
+            legs: Vec::new(alloc),
+            told: 0,
         }
+    }
+
+    /// How many bytes the worlds and what is told of steps take.
+    pub fn size(&self) -> usize {
+        self.json.len().saturating_add(self.legs.len())
     }
 
     /// The next world, to which so many calls lead.
@@ -242,7 +280,9 @@ impl Worlds {
             standings(alloc, world, self.count, &self.edges)?,
             edge_before(&self.edges, self.count),
             verdict_value(alloc, verdict)?,
-            end
+            end,
+            outputs(alloc, world)?,
+            objects_value(alloc, world)?
         ])
     }
 
@@ -267,6 +307,29 @@ impl Worlds {
         self.count = count;
         Ok(())
     }
+
+    /// Takes so many steps of a process, and adds what they tell: of each process first those from the start to the first
+    /// world, then, for each edge in order, those of its process.
+    #[tactic(auto, using(crate::proofs::LegLemmas::leg_plain))]
+    pub fn add_leg(
+        &mut self,
+        alloc: Global,
+        world: &mut World,
+        pid: usize,
+        steps: u32,
+    ) -> Result<(), AllocError>
+        requires process { pid < length world.old.processes }
+        requires room { steps ≤ most_steps }
+        ensures added { OnOk result (self.new ≡ with_leg self.old world.old pid steps) }
+    {
+        let number = self.told;
+        let told = number.checked_add(1).ok_or(AllocError)?;
+        let leg = leg_value(alloc, world, pid, steps)?;
+        let comma = if number > 0 { "," } else { "" };
+        push_behind(&mut self.legs, comma, &leg)?;
+        self.told = told;
+        Ok(())
+    }
 }
 
 fn push_listed(json: &mut Vec<u8>, worlds: &Worlds) -> Result<(), AllocError>
@@ -276,7 +339,9 @@ fn push_listed(json: &mut Vec<u8>, worlds: &Worlds) -> Result<(), AllocError>
     json.extend_from_slice(b"[[")?;
     json.extend_from_slice(&worlds.json)?;
     push_behind(json, "],", &edges_value(alloc, &worlds.edges)?)?;
-    json.extend_from_slice(b"]")
+    json.extend_from_slice(b",[")?;
+    json.extend_from_slice(&worlds.legs)?;
+    json.extend_from_slice(b"]]")
 }
 
 /// Adds the JSON of worlds, where they are drawn.

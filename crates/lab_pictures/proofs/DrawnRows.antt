@@ -5,7 +5,7 @@ use Rattle.std.proofs.lemmas.List.{length-append}
 use Rattle.std.proofs.lemmas.Option.{slice_get-map, slice_get-get_or}
 use Rattle.ipc_kernel.specs.Alike.{IsConsistent}
 use Rattle.ipc_store.proofs.Alikes.{alike_then}
-use Rattle.lab_sched.specs.Worlds.{WorldState, step_effect_in, step}
+use Rattle.lab_sched.specs.Worlds.{WorldState, step_effect_in, step, run, entries}
 use Rattle.lab_sched.proofs.ListPlaces.{get_past}
 use Rattle.lab_worlds.specs.declared.ends.End.{End}
 use Rattle.lab_pictures.specs.declared.picture.Node.{Node}
@@ -15,6 +15,7 @@ use Rattle.lab_states.specs.declared.edges.Edge.{Edge}
 use Rattle.lab_states.specs.Rows.{Row}
 use Rattle.lab_search.specs.declared.store.Store.{Store}
 use Rattle.lab_worlds.specs.declared.walking.Walk.{Walk}
+use Rattle.lab_sched.specs.Execution.{AreEffective}
 use Rattle.lab_sched.specs.Schedules.{steps_of}
 use Rattle.lab_worlds.specs.Calls.{IsAtCall, IsAhead, Both, Alongside, AreAlike, IsAdvance}
 use Rattle.lab_worlds.specs.Closed.{HasAdvance}
@@ -68,18 +69,18 @@ end_of_node start t i w (Some e) like end row = (end, both_like t i w (unwaiting
 
 -- the node that a walk to a row came to
 pub node_made : (start : WorldState) (t : Store) (depth i : ℕ) (walk : Walk) (n : Node) → IsConsistent start.kernel → IsStore t → IsWalk start walk → IsLike t i walk.world → walk.calls ≡ depth
-    → n.world ≡ walk.world → n.calls ≡ walk.calls → IfSome n.end (λ e. IsEnd start e) → IfSome n.end (λ e. IsLike t i (unwaiting e.world))
+    → n.world ≡ walk.world → n.schedule ≡ walk.schedule → n.calls ≡ walk.calls → IfSome n.end (λ e. IsEnd start e) → IfSome n.end (λ e. IsLike t i (unwaiting e.world))
     → (n.end ≡ None → (w : WorldState) → IsAt t i w → NoneGoesOn w → ⊥) → IsNodeOfRow start t depth i n
-node_made start t depth i walk n consistent is h like deep world calls end row none =
-    let leads = h.leads ∙ sym world in
+node_made start t depth i walk n consistent is h like deep world same calls end row none =
+    let steps = ap steps_of same in
+    let leads = ap (run start) steps ∙ h.leads ∙ sym world in
     let here : IsLike t i n.world = subst (IsLike t i) (sym world) like in
-    let held : IsConsistent n.world.kernel = subst (λ (w : WorldState). IsConsistent w.kernel) leads (consistent_run (steps_of walk.schedule) start consistent) in
+    let held : IsConsistent n.world.kernel = subst (λ (w : WorldState). IsConsistent w.kernel) leads (consistent_run (steps_of n.schedule) start consistent) in
     record {
       node = record {
-        steps = steps_of walk.schedule;
-        effective = h.effective;
+        effective = subst (AreEffective start) (sym steps) h.effective;
         leads = leads;
-        calls = h.calls ∙ sym calls;
+        calls = ap (λ (ps : List ℕ). length (entries start ps)) steps ∙ h.calls ∙ sym calls;
         at_calls = like_at_calls t i n.world is here;
       };
       row = here;
@@ -90,7 +91,7 @@ node_made start t depth i walk n consistent is h like deep world calls end row n
     }
 
 node_consistent : (start : WorldState) (n : Node) → IsConsistent start.kernel → IsNode start n → IsConsistent n.world.kernel
-node_consistent start n consistent node = subst (λ (w : WorldState). IsConsistent w.kernel) node.leads (consistent_run node.steps start consistent)
+node_consistent start n consistent node = subst (λ (w : WorldState). IsConsistent w.kernel) node.leads (consistent_run (steps_of n.schedule) start consistent)
 
 -- one node more
 pub nodes_more : (start : WorldState) (t : Store) (depths : List ℕ) (at depth : ℕ) (old new : List Node) (n : Node) → length old ≡ at

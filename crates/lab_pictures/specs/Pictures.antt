@@ -2,6 +2,7 @@
 use Rattle.std.specs.Prelude.{ℕ, ◌≡◌, ◌≤◌, ◌+◌, List, Some, None, All, IfSome, length, slice_get}
 use Rattle.lab_sched.specs.Worlds.{Process, WorldState, step_effect_in, step, run, entries}
 use Rattle.lab_sched.specs.Execution.{AreEffective}
+use Rattle.lab_sched.specs.Schedules.{steps_of}
 use Rattle.lab_worlds.specs.Calls.{AreAlike, IsAtCall, IsAdvance}
 use Rattle.lab_worlds.specs.Closed.{HasAdvance}
 use Rattle.lab_worlds.specs.Ends.{IsEnd}
@@ -13,13 +14,12 @@ use Rattle.lab_pictures.specs.declared.picture.Arrow.{Arrow}
 abbrev pub AreAtCalls : WorldState → Type 0
 AreAtCalls w = (p : ℕ) (s : Process) → slice_get w.processes p ≡ Some s → IsAtCall s
 
--- effective steps lead from the start to the world of the node, whose processes are at calls; so
--- many of the steps are calls
+-- the steps of the node are effective, and lead from the start to its world, whose processes are at calls; so many of the steps
+-- are calls
 pub record IsNode (start : WorldState) (n : Node) : Type 0 where
-  pub steps : List ℕ
-  pub effective : AreEffective start steps
-  pub leads : run start steps ≡ n.world
-  pub calls : length (entries start steps) ≡ n.calls
+  pub effective : AreEffective start (steps_of n.schedule)
+  pub leads : run start (steps_of n.schedule) ≡ n.world
+  pub calls : length (entries start (steps_of n.schedule)) ≡ n.calls
   pub at_calls : AreAtCalls n.world
 
 -- the end of the node, if it has one, is an end from the start, in the world of the node but for who

@@ -18,6 +18,7 @@ use std::alloc::Global;
 /// The node that a walk came to, with its end.
 fn node_of(walk: Walk, end: Option<End>) -> Node
     ensures world { result.world ≡ walk.world }
+    ensures schedule { result.schedule ≡ walk.schedule }
     ensures calls { result.calls ≡ walk.calls }
     ensures end { result.end ≡ end }
 {
@@ -26,8 +27,12 @@ fn node_of(walk: Walk, end: Option<End>) -> Node
         schedule,
         calls,
     } = walk;
-    discard(schedule);
-    Node { world, calls, end }
+    Node {
+        world,
+        schedule,
+        calls,
+        end,
+    }
 }
 
 fn arrow_of(edge: &Edge) -> Arrow
@@ -177,7 +182,7 @@ pub(crate) fn picture_of(
     ensures complete { IfOk result (λ d. IfSome d (λ x. IsTrue visited.now.complete)) }
     ensures picture { IfOk result (λ d. IfSome d (λ x.
         IsPictureOf (initial_world processes.now) visited.now.store x)) }
-    ensures few { IfOk result (λ d. IfSome d (λ x. length x.nodes.items ≤ 500)) }
+    ensures few { IfOk result (λ d. IfSome d (λ x. length x.nodes.items ≤ 2000)) }
 {
     if !visited.complete || visited.store.rows.len() > MOST_DRAWN as usize {
         return Ok(None);

@@ -5,17 +5,18 @@ ghost use Rattle.lab_pictures.specs.Pictures.{IsNode, IsEndOfNode, HasEndAtRest,
 use crate::drawing::picture_of;
 use ipc_kernel::Kernel;
 use lab_explore::visit;
-use lab_sched::{Fresh, World};
+use lab_sched::{Fresh, Schedule, World};
 use lab_worlds::{End, ExploreFault, Limits, Observer, discard};
 use std::alloc::Global;
 
 /// The most worlds of which a picture is drawn.
-pub const MOST_DRAWN: u32 = 500;
+pub const MOST_DRAWN: u32 = 2000;
 
-/// A world at calls, how many calls lead there, and its end, if no process goes on from there.
+/// A world at calls, steps that lead there, how many calls they have, and its end, if no process goes on from there.
 #[derive(Drop)]
 pub struct Node {
     pub world: World,
+    pub schedule: Schedule,
     pub calls: u32,
     pub end: Option<End>,
 }
@@ -60,7 +61,7 @@ pub fn draw(alloc: Global, fresh: Fresh, limits: Limits) -> Result<Option<Pictur
         HaveFewestNodeCalls x.nodes.items x.arrows.items)) }
     ensures ends { IfOk result (λ d. IfSome d (λ x. All (IsEndOfNode fresh) x.nodes.items)) }
     ensures at_rest { IfOk result (λ d. IfSome d (λ x. All HasEndAtRest x.nodes.items)) }
-    ensures few { IfOk result (λ d. IfSome d (λ x. length x.nodes.items ≤ 500)) }
+    ensures few { IfOk result (λ d. IfSome d (λ x. length x.nodes.items ≤ 2000)) }
 {
     let processes = fresh.processes();
     let kernel = Kernel::new(alloc, processes.len())?;

@@ -3,6 +3,8 @@ use Rattle.std.specs.Prelude.{ℕ, Bool, List, ◌∷◌, ◌++◌, codes, decim
 use Rattle.serde_json.specs.Data.{Data, boolean}
 use Rattle.serde_json.specs.Written.{compact_text}
 use Rattle.lab_moments.specs.Pasts.{Past}
+use Rattle.lab_page.specs.Stores.{stores_data}
+use Rattle.lab_page.specs.declared.stores.Stored.{Stored}
 
 -- the JSON of a run and the lines of its trace, as far as its steps are taken, and what is kept of these
 pub record Written : Type 0 where
@@ -16,14 +18,16 @@ run_end outcome blocks whole =
     codes "],\"outcome\":" ++ (compact_text outcome ++ (codes ",\"schedule\":" ++ (compact_text blocks ++ (codes ",\"whole\":"
     ++ (compact_text (boolean whole) ++ codes "}")))))
 
--- an end: how many calls lead to it, and the run as JSON
-unfoldable pub end_json : ℕ → List ℕ → List ℕ
-end_json calls run = codes "[" ++ decimal calls ++ codes "," ++ run ++ codes "]"
+-- a run as JSON, with a number, and what its steps store
+unfoldable pub end_json : ℕ → List ℕ → List Stored → List ℕ
+end_json number run stores =
+    codes "[" ++ decimal number ++ codes "," ++ run ++ (codes "," ++ compact_text (stores_data stores)) ++ codes "]"
 
--- what a page holds of a run: the processes, and the run as JSON
-unfoldable pub page_json : Data → List ℕ → List ℕ
-page_json processes run =
-    codes "{\"format\":\"lc3lab-page-2\",\"processes\":" ++ compact_text processes ++ codes ",\"run\":" ++ run ++ codes "}"
+-- what a page holds of a run: the processes, the run as JSON, and what its steps store
+unfoldable pub page_json : Data → List ℕ → List Stored → List ℕ
+page_json processes run stores =
+    codes "{\"format\":\"lc3lab-page-3\",\"processes\":" ++ compact_text processes ++ codes ",\"run\":" ++ run
+    ++ (codes ",\"stores\":" ++ compact_text (stores_data stores)) ++ codes "}"
 
 -- values behind others in a list, as JSON: each with a comma before it
 abbrev pub more_json : List Data → List ℕ

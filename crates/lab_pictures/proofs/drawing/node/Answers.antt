@@ -16,7 +16,7 @@ returns-in-Ok c =
     let n = c.node_of.result in
     record {
       node = node_made start t c.args.depth c.args.at c.in_ok-walk.walk n (fresh_consistent start (length ps) refl) c.requires.store c.in_ok-walk.ensures.walk c.in_ok-walk.ensures.row
-          (c.has_calls.ensures.yes c.if-not-has_calls.false) c.node_of.ensures.world c.node_of.ensures.calls
+          (c.has_calls.ensures.yes c.if-not-has_calls.false) c.node_of.ensures.world c.node_of.ensures.schedule c.node_of.ensures.calls
           (subst (λ o. IfSome o (λ e. IsEnd start e)) (sym c.node_of.ensures.end) c.in-Ok.ensures.end)
           (subst (λ o. IfSome o (λ e. IsLike t c.args.at (unwaiting e.world))) (sym c.node_of.ensures.end) c.in-Ok.ensures.row)
           (subst (λ o. o ≡ None → (w : WorldState) → IsAt t c.args.at w → NoneGoesOn w → ⊥) (sym c.node_of.ensures.end) c.in-Ok.ensures.none);
