@@ -80,6 +80,10 @@ const GIVEN: &str =
 const GIVEN_OR_TYPED: &str =
     "A source (.asm) or an object file; with =INPUT behind it, a file of console input, or - for standard input";
 
+/// The notes of a run.
+const NOTES: &str =
+    "Tells calls that were refused, and warnings of sources, on standard error, as at a terminal";
+
 /// The page of a run.
 const PAGE: &str = "Also writes FILE, a page that shows the run step by step in a browser";
 
@@ -151,6 +155,11 @@ const PROGRAMS: &[Row] = &[
         takes: Takes::Profile,
         help: MACHINES,
     },
+    Row {
+        name: "notes",
+        takes: Takes::Nothing,
+        help: NOTES,
+    },
 ];
 
 const TRACE: &[Row] = &[
@@ -163,6 +172,11 @@ const TRACE: &[Row] = &[
         name: "profile",
         takes: Takes::Profile,
         help: MACHINES,
+    },
+    Row {
+        name: "notes",
+        takes: Takes::Nothing,
+        help: NOTES,
     },
     Row {
         name: "page",
@@ -186,6 +200,11 @@ const RUN: &[Row] = &[
         name: "profile",
         takes: Takes::Profile,
         help: MACHINES,
+    },
+    Row {
+        name: "notes",
+        takes: Takes::Nothing,
+        help: NOTES,
     },
     Row {
         name: "limit",
@@ -221,6 +240,11 @@ const EXPLORE: &[Row] = &[
         help: MACHINES,
     },
     Row {
+        name: "notes",
+        takes: Takes::Nothing,
+        help: NOTES,
+    },
+    Row {
         name: "limit",
         takes: Takes::Usually("N", MOST_LOCAL_STEPS, "100000"),
         help: "The most steps of a process without a call",
@@ -238,7 +262,7 @@ const EXPLORE: &[Row] = &[
     Row {
         name: "worlds",
         takes: Takes::UpTo("M", MOST_WORLDS),
-        help: "The most worlds to visit, or those of a walk [default: 100000, and 10000 of a walk]",
+        help: "The most worlds to visit, or those of a walk [default: 10000000, and 10000 of a walk]",
     },
     Row {
         name: "random",
@@ -252,9 +276,9 @@ const EXPLORE: &[Row] = &[
     },
     Row {
         name: "require",
-        takes: Takes::Text("WORDS"),
+        takes: Takes::Texts("WORDS"),
         help: "Fails unless the search is complete and each end is so: \
-            ended, stuck, halted, empty, same, with commas between them",
+            ended, stuck, halted, empty, same, out P = \"TEXT\", out P has \"TEXT\", with commas between them",
     },
     Row {
         name: "may-wait",

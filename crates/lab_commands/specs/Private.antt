@@ -1,3 +1,2 @@
 -- Definitions that only contracts inside the crate cite.
 pub mod Inquiries
-pub mod Starts

@@ -1,4 +1,5 @@
 //! What is advised where words are refused that write a condition, or a process that may wait.
+use crate::labels::is_labelled;
 use crate::places::Place;
 use lab_arguments::Shown;
 use lc3_word::unsigned;
@@ -64,10 +65,24 @@ fn line_of(alloc: Global, fault: Fault<'_>, meant: Option<&str>) -> Result<Strin
     Ok(line)
 }
 
-fn words_of(alloc: Global, text: &str) -> Result<Vec<&str>, AllocError> {
+/// The words of a text, between blanks.
+pub(crate) fn words_of(alloc: Global, text: &str) -> Result<Vec<&str>, AllocError> {
     text.split(' ')
         .filter(|piece| !piece.is_empty())
         .collect(alloc)
+}
+
+/// Words with one blank between each two.
+pub(crate) fn spaced(alloc: Global, words: &[&str]) -> Result<String, AllocError> {
+    let mut text = String::new(alloc);
+    let Some((first, rest)) = words.split_first() else {
+        return Ok(text);
+    };
+    text.push_str(first)?;
+    for word in rest {
+        write!(text, " {word}")?;
+    }
+    Ok(text)
 }
 
 /// What a text was meant to be that begins at this place, as far as each of its words can be taken for one that may stand where
@@ -195,9 +210,20 @@ fn number_meant(alloc: Global, change: Change, word: &str) -> Result<String, All
     }
 }
 
-/// An address, or two, with an `x` before the digits.
+/// An address, or two, with an `x` before the digits; a word with labels as it is.
 fn range_meant(alloc: Global, word: &str) -> Result<String, AllocError> {
-    let word = lower(alloc, word)?;
+    if is_labelled(word) {
+        return String::from_str(alloc, word);
+    }
+    let meant = addresses_meant(alloc, &lower(alloc, word)?)?;
+    if is_labelled(&meant) {
+        String::from_str(alloc, word)
+    } else {
+        Ok(meant)
+    }
+}
+
+fn addresses_meant(alloc: Global, word: &str) -> Result<String, AllocError> {
     match word.split_once('-') {
         Some((first, last)) => {
             let first = digits_of(first);
@@ -205,7 +231,7 @@ fn range_meant(alloc: Global, word: &str) -> Result<String, AllocError> {
             format!(in alloc; "x{first}-x{last}")
         }
         None => {
-            let digits = digits_of(&word);
+            let digits = digits_of(word);
             format!(in alloc; "x{digits}")
         }
     }

@@ -1,4 +1,9 @@
 //! The command `asm`.
+ghost use Rattle.std.specs.Prelude.{◌≡◌, false, IsTrue, OnOk};
+ghost use Rattle.std.specs.Io.KnownBytes.{Appends};
+ghost use Rattle.lc3_asm.specs.Listings.{listing_text};
+ghost use Rattle.lc3_asm.specs.Texts.{Program};
+
 use crate::check::messages_if;
 use crate::complaint::{At, Complaint, Misuse, Reason};
 use crate::files::{has_source_name, is_same_file, read_code, write_object, write_text};
@@ -67,7 +72,13 @@ pub fn assemble_file<'a, T: Files, W: Write, E: Write, P: Progress>(
     assembly: Assembly<'a>,
     output: &mut Output<W>,
     errors: &mut Output<E>,
-) -> Result<(), Complaint<'a>> {
+) -> Result<(), Complaint<'a>>
+    ensures listing { OnOk result (IsTrue assembly.entry.list → (assembled : Program)
+        × Appends (W.contents output.old.device) (W.contents output.new.device)
+        (listing_text assembled)) }
+    ensures silent { OnOk result (assembly.entry.list ≡ false
+        → W.contents output.new.device ≡ W.contents output.old.device) }
+{
     if is_same_file(job.rt, assembly.source, assembly.object) {
         return Err(Misuse::SameFile.of(assembly.object));
     }
@@ -83,7 +94,13 @@ fn write_assembled<'a, T: Files, W: Write, P>(
     assembly: Assembly<'a>,
     assembled: &Assembled,
     output: &mut Output<W>,
-) -> Result<(), Complaint<'a>> {
+) -> Result<(), Complaint<'a>>
+    ensures listing { OnOk result (IsTrue assembly.entry.list
+        → Appends (W.contents output.old.device) (W.contents output.new.device)
+        (listing_text assembled.now)) }
+    ensures silent { OnOk result (assembly.entry.list ≡ false
+        → W.contents output.new.device ≡ W.contents output.old.device) }
+{
     write_object(job.rt, assembly.object, assembled.image()).at(job.alloc, assembly.object)?;
     if !assembly.list {
         return Ok(());

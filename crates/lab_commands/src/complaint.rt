@@ -23,6 +23,10 @@ pub enum Misuse {
     UnknownProcess,
     #[error("--source names a process twice")]
     TwoSources,
+    #[error("--require is no condition on an output")]
+    NoOutput,
+    #[error("--require names no process of the run")]
+    NoSuchWriter,
     #[error("--may-wait is no process")]
     NoWaiter,
     #[error("--may-wait names no process of the run")]
@@ -31,6 +35,10 @@ pub enum Misuse {
     NoCondition,
     #[error("--never names no process of the run")]
     NoSuchProcess,
+    #[error("--may-wait doesn't fit the programs")]
+    UnfitWaiter,
+    #[error("--never doesn't fit the programs")]
+    UnfitCondition,
 }
 
 impl Misuse {
@@ -63,6 +71,9 @@ pub enum Reason {
     /// An end isn't as a word requires.
     #[error("not {}", .0.text())]
     Not(Word),
+    /// What is required of an output isn't so at an end.
+    #[error("not out")]
+    Unwritten,
     /// What must never be so was reached.
     #[error("reached")]
     Reached,

@@ -8,6 +8,7 @@ use crate::progress::Progress;
 use lab_arguments::Setup;
 use lab_debug::{Session, session_over};
 use lab_io::{Input, Output};
+use lab_sched::Schedule;
 use lab_sources::{Listing, Source};
 use lc3_table::Profile;
 use std::alloc::{AllocError, Global};
@@ -36,12 +37,40 @@ fn session_on(
     help: &'static str,
     profile: Profile,
 ) -> Result<Session, Complaint<'static>> {
-    let Ok(listings) = listings_of(alloc, given.sources) else {
+    let Programs {
+        programs,
+        sources,
+        ..
+    } = given;
+    let Ok(listings) = listings_of(alloc, sources) else {
         return Err(Reason::NoMemory.at("session"));
     };
-    Session::new(alloc, given.programs, listings, help, profile).map_err(|fault| fault_of(
-        alloc, fault,
-    ))
+    Session::new(alloc, programs, listings, help, profile).map_err(|fault| fault_of(alloc, fault))
+}
+
+/// A session that is over.
+#[derive(Drop)]
+pub struct Debugged {
+    session: Session,
+}
+
+impl Debugged {
+    /// The source of a process, where it was given as one.
+    pub fn source(&self, process: usize) -> Option<&Source> {
+        match self.session.listing(process) {
+            Some(listing) => Some(&listing.source),
+            None => None,
+        }
+    }
+
+    /// The steps that had an effect, if a schedule can have so many.
+    pub fn schedule(&self, alloc: Global) -> Result<Option<Schedule>, AllocError> {
+        let mut text = String::new(alloc);
+        for block in &self.session.effective(alloc)? {
+            write!(text, "{}*{} ", block.pid, block.count)?;
+        }
+        Ok(Schedule::read(alloc, &text).ok())
+    }
 }
 
 /// Reads the files of the programs, makes their laboratory, and carries out the commands that come from the input.
@@ -55,7 +84,22 @@ pub fn debug_programs<'a, T: Files, R: Read, W: Write, P: Progress>(
     requires output_healthy { output.old.failed ≡ false }
 {
     let given = read_programs(job, setup.programs.as_slice())?;
-    let start = session_on(job.alloc, given, job.texts.help, setup.profile)?;
-    session_over(job.alloc, start, input, output).at(job.alloc, "session")?;
+    debug_given(job, given, setup.profile, input, output)?;
     Ok(())
+}
+
+/// Makes the laboratory of programs, and carries out the commands that come from the input.
+pub fn debug_given<T, R: Read, W: Write, P>(
+    job: &Job<'_, T, P>,
+    given: Programs,
+    profile: Profile,
+    input: &mut Input<R>,
+    output: &mut Output<W>,
+) -> Result<Debugged, Complaint<'static>>
+    requires input_healthy { input.old.failed ≡ false }
+    requires output_healthy { output.old.failed ≡ false }
+{
+    let start = session_on(job.alloc, given, job.texts.help, profile)?;
+    let session = session_over(job.alloc, start, input, output).at(job.alloc, "session")?;
+    Ok(Debugged { session })
 }

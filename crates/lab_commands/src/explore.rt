@@ -4,12 +4,13 @@ ghost use Rattle.std.specs.Prelude.{◌≡◌, IfSome};
 use crate::complaint::{At, Complaint};
 use crate::inquiry::{Inquiry, asked_of, inquiry_of};
 use crate::job::Job;
-use crate::programs::laboratory;
+use crate::programs::{Programs, laboratory};
 use crate::progress::{Progress, SearchCount, WALKS, WORLDS};
+use crate::spent::Spent;
 use crate::stages::{has_more, stages_of};
 use lab_arguments::Question;
-use lab_questions::{Answers, Asked, ask, ask_walks};
-use lab_sched::{Fresh, Program};
+use lab_questions::{Answers, Asked, LimitMet, ask, ask_walks};
+use lab_sched::Fresh;
 use lab_worlds::{ExploreFault, Limits, Walks, Workers};
 use lc3_table::Profile;
 use std::thread::{Threads, available_parallelism};
@@ -19,36 +20,40 @@ use std::thread::{Threads, available_parallelism};
 pub struct Search {
     pub inquiry: Inquiry,
     pub answers: Answers,
+    /// The limit that it met, where one is told.
+    pub limit: Option<LimitMet>,
+    /// What it took, where that is known.
+    pub spent: Option<Spent>,
 }
 
 /// Visits every interleaving of programs, as far as the limits allow, or takes walks, if these are asked for, and judges what
-/// is asked. Where the search is to end with what is found, it begins with fewer worlds, or walks, and goes further as long as
+/// is asked, by the labels of their sources. Where the search is to end with what is found, it begins with fewer worlds, or walks, and goes further as long as
 /// nothing is found.
 pub fn find_ends<'a, T: Threads + Sync, P: Progress>(
     job: &Job<'_, T, P>,
-    programs: &[Program],
+    given: &Programs,
     profile: Profile,
     question: &Question<'a>,
 ) -> Result<Search, Complaint<'a>> {
     let inquiry = inquiry_of(question);
     if question.first {
-        if let Some(search) = find_early(job, programs, profile, question, &inquiry)? {
+        if let Some(search) = find_early(job, given, profile, question, &inquiry)? {
             return Ok(search);
         }
     }
-    searched(job, programs, profile, question, inquiry)
+    searched(job, given, profile, question, inquiry)
 }
 
 /// The first search of those that come before an inquiry that has something to show.
 fn find_early<'a, T: Threads + Sync, P: Progress>(
     job: &Job<'_, T, P>,
-    programs: &[Program],
+    given: &Programs,
     profile: Profile,
     question: &Question<'a>,
     inquiry: &Inquiry,
 ) -> Result<Option<Search>, Complaint<'a>> {
     for stage in &stages_of(job.alloc, inquiry)? {
-        let search = searched(job, programs, profile, question, *stage)?;
+        let search = searched(job, given, profile, question, *stage)?;
         if !has_more(&search) {
             return Ok(Some(search));
         }
@@ -59,15 +64,20 @@ fn find_early<'a, T: Threads + Sync, P: Progress>(
 /// Visits every interleaving of programs, as far as an inquiry goes, or takes its walks, and judges what a question asks.
 fn searched<'a, T: Threads + Sync, P: Progress>(
     job: &Job<'_, T, P>,
-    programs: &[Program],
+    given: &Programs,
     profile: Profile,
     question: &Question<'a>,
     inquiry: Inquiry,
 ) -> Result<Search, Complaint<'a>> {
-    let asked = asked_of(job.alloc, question, programs.len())?;
-    let fresh = laboratory(job.alloc, programs, profile)?;
+    let asked = asked_of(job.alloc, question, given.sources.as_slice())?;
+    let fresh = laboratory(job.alloc, given.programs.as_slice(), profile)?;
     let answers = explore(job, fresh, &inquiry, asked).at(job.alloc, "run")?;
-    Ok(Search { inquiry, answers })
+    Ok(Search {
+        inquiry,
+        answers,
+        limit: None,
+        spent: None,
+    })
 }
 
 /// Visits every interleaving of the programs of a laboratory, or takes the walks of an inquiry, and judges what is asked.

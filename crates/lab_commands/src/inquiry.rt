@@ -1,13 +1,19 @@
 //! What is asked of an exploration, read from words.
-ghost use Rattle.std.specs.Prelude.{◌≡◌, IfOk};
-ghost use Rattle.lab_commands.specs.Private.Inquiries.{required_words};
+ghost use Rattle.std.specs.Prelude.{◌≡◌, ◌++◌, List, map, length, All, IfOk, OnOk};
+ghost use Rattle.lab_conditions.specs.declared.never.Never.{Never as Condemned};
+ghost use Rattle.lab_commands.specs.Private.Inquiries.{required_words, IsAsked};
 
 use crate::advice::{line_on, meant_by};
 use crate::complaint::{Complaint, Misuse, Reason};
+use crate::outputs::{need_in, needs_of};
 use crate::places::Place;
+use crate::resolving::{outlined, resolved};
+use crate::spreading::spread;
+use crate::unresolved::{Unresolved, reversed};
 use lab_arguments::{Choice, Question, Requirements, Rest};
 use lab_conditions::{Condition, Never, Part, ReadFault, State};
-use lab_questions::{Asked, Reach, Show, Waiter, Word};
+use lab_questions::{Asked, OutputNeed, Reach, Show, Waiter, Word};
+use lab_sources::Source;
 use lab_worlds::{Limits, Walks};
 use lc3_word::unsigned;
 use std::alloc::{AllocError, Global};
@@ -50,19 +56,28 @@ pub fn inquiry_of(question: &Question<'_>) -> Inquiry {
     }
 }
 
-/// What a question asks of so many processes.
+/// What a question asks of processes with these sources, where they were given as such.
 pub fn asked_of<'a>(
     alloc: Global,
     question: &Question<'a>,
-    count: usize,
+    sources: &[Option<Source>],
 ) -> Result<Asked, Complaint<'a>>
     ensures words { IfOk result (λ asked. asked.words.items
         ≡ required_words question.now.required) }
+    ensures waiters { IfOk result (λ asked.
+        length asked.waiters.items ≡ length question.now.waiters.items) }
+    ensures never { IfOk result (λ asked.
+        All (IsAsked asked.never.items) (map (λ word. word.now) question.now.never.items)) }
+    ensures fair { IfOk result (λ asked. asked.fair ≡ question.now.fair) }
+    ensures out { IfOk result (λ asked. asked.show.out ≡ question.now.out) }
+    ensures left { IfOk result (λ asked. asked.show.left ≡ question.now.left) }
 {
+    let named = named_in(alloc, question, sources)?;
     Ok(Asked {
         words: words_of(alloc, question.required)?,
-        waiters: waiters_of(alloc, question.waiters.as_slice(), count)?,
-        never: nevers_of(alloc, question.never.as_slice(), count)?,
+        outputs: named.outputs,
+        waiters: named.waiters,
+        never: named.never,
         fair: question.fair,
         show: Show {
             out: question.out,
@@ -72,13 +87,46 @@ pub fn asked_of<'a>(
     })
 }
 
-/// Refuses a question that can't be asked of so many processes.
+/// What a question asks of processes that it names.
+#[derive(Drop)]
+struct Named {
+    outputs: Vec<OutputNeed>,
+    waiters: Vec<Waiter>,
+    never: Vec<Never>,
+}
+
+fn named_in<'a>(
+    alloc: Global,
+    question: &Question<'a>,
+    sources: &[Option<Source>],
+) -> Result<Named, Complaint<'a>>
+    ensures waiters { IfOk result (λ named.
+        length named.waiters.items ≡ length question.now.waiters.items) }
+    ensures never { IfOk result (λ named.
+        All (IsAsked named.never.items) (map (λ word. word.now) question.now.never.items)) }
+{
+    Ok(Named {
+        outputs: needs_of(alloc, question.outputs.as_slice(), sources.len())?,
+        waiters: waiters_of(alloc, question.waiters.as_slice(), sources)?,
+        never: nevers_of(alloc, question.never.as_slice(), sources)?,
+    })
+}
+
+/// Refuses a question that can't be asked of so many processes, whatever their labels are.
 pub fn refuse_question<'a>(
     alloc: Global,
     question: &Question<'a>,
     count: usize,
 ) -> Result<(), Complaint<'a>> {
-    asked_of(alloc, question, count)?;
+    for word in &question.outputs {
+        need_in(alloc, word, count)?;
+    }
+    for word in &question.waiters {
+        refuse_waiter(alloc, word, count)?;
+    }
+    for word in &question.never {
+        refuse_never(alloc, word, count)?;
+    }
     Ok(())
 }
 
@@ -105,49 +153,68 @@ fn words_of(alloc: Global, required: Requirements) -> Result<Vec<Word>, AllocErr
 fn waiters_of<'a>(
     alloc: Global,
     words: &[&'a str],
-    count: usize,
-) -> Result<Vec<Waiter>, Complaint<'a>> {
+    sources: &[Option<Source>],
+) -> Result<Vec<Waiter>, Complaint<'a>>
+    ensures count { IfOk result (λ waiters. length waiters.items ≡ length words.now) }
+{
     let mut waiters = Vec::new(alloc);
     for word in words {
-        waiters.push(waiter_of(alloc, word, count)?)?;
+        refuse_waiter(alloc, word, sources.len())?;
+        match waiter_in(alloc, sources, word) {
+            Ok(waiter) => waiters.push(waiter)?,
+            Err(fault) => return Err(fault.of(Misuse::UnfitWaiter, word)),
+        }
     }
     Ok(waiters)
 }
 
-/// The process that may wait, of so many.
-fn waiter_of<'a>(alloc: Global, word: &'a str, count: usize) -> Result<Waiter, Complaint<'a>> {
-    let Some(waiter) = read_waiter(alloc, word)? else {
-        return Err(
+/// Refuses a word that names none of so many processes, whatever its labels stand for.
+fn refuse_waiter<'a>(alloc: Global, word: &'a str, count: usize) -> Result<(), Complaint<'a>> {
+    match read_waiter(alloc, &outlined(alloc, word)?)? {
+        None => Err(
             Misuse::NoWaiter
                 .of(word)
                 .followed(waiter_advice(alloc, word, count)),
-        );
-    };
-    if waiter.process < count {
-        Ok(waiter)
-    } else {
-        Err(Misuse::NoSuchWaiter.of(word))
+        ),
+        Some(waiter) if waiter.process < count => Ok(()),
+        Some(_) => Err(Misuse::NoSuchWaiter.of(word)),
     }
 }
 
-/// What must never be so, as words write it, of so many processes.
+/// The process that may wait, by the labels of its source.
+fn waiter_in(alloc: Global, sources: &[Option<Source>], word: &str) -> Result<Waiter, Unresolved> {
+    let text = resolved(alloc, sources, word)?;
+    match read_waiter(alloc, &text)? {
+        Some(waiter) => Ok(waiter),
+        None => Err(reversed(alloc, &text)?),
+    }
+}
+
+/// What must never be so, as words write it, of processes with these sources.
 fn nevers_of<'a>(
     alloc: Global,
     words: &[&'a str],
-    count: usize,
-) -> Result<Vec<Never>, Complaint<'a>> {
+    sources: &[Option<Source>],
+) -> Result<Vec<Never>, Complaint<'a>>
+    ensures each { IfOk result (λ nevers.
+        All (IsAsked nevers.items) (map (λ word. word.now) words.now)) }
+{
     let mut nevers = Vec::new(alloc);
     for word in words {
-        nevers.push(never_of(alloc, word, count)?)?;
+        refuse_never(alloc, word, sources.len())?;
+        match push_nevers(alloc, &mut nevers, sources, word) {
+            Ok(()) => {}
+            Err(fault) => return Err(fault.of(Misuse::UnfitCondition, word)),
+        }
     }
     Ok(nevers)
 }
 
-/// What must never be so, as a word writes it, of so many processes.
-fn never_of<'a>(alloc: Global, word: &'a str, count: usize) -> Result<Never, Complaint<'a>> {
-    match Never::read(alloc, word) {
-        Ok(ref never) if !never.names_only(count) => Err(Misuse::NoSuchProcess.of(word)),
-        Ok(never) => Ok(never),
+/// Refuses a word that writes nothing which could never be so of so many processes, whatever its labels stand for.
+fn refuse_never<'a>(alloc: Global, word: &'a str, count: usize) -> Result<(), Complaint<'a>> {
+    match Never::read(alloc, &outlined(alloc, word)?) {
+        Ok(never) if never.names_only(count) => Ok(()),
+        Ok(_) => Err(Misuse::NoSuchProcess.of(word)),
         Err(ReadFault::NoCondition) => {
             Err(
                 Misuse::NoCondition
@@ -156,6 +223,58 @@ fn never_of<'a>(alloc: Global, word: &'a str, count: usize) -> Result<Never, Com
             )
         }
         Err(ReadFault::NoMemory) => Err(Reason::NoMemory.at("run")),
+    }
+}
+
+/// Adds what must never be so, as a word writes it, or as it is meant where it has labels.
+#[tactic(auto, using(crate::proofs::AskedLemmas::asked_read, crate::proofs::AskedLemmas::asked_unread, crate::proofs::AskedLemmas::asked_with))]
+fn push_nevers(
+    alloc: Global,
+    nevers: &mut Vec<Never>,
+    sources: &[Option<Source>],
+    word: &str,
+) -> Result<(), Unresolved>
+    ensures more { OnOk result ((more : List Condemned)
+        × (nevers.new.items ≡ nevers.old.items ++ more)) }
+    ensures written { OnOk result (IsAsked nevers.new.items word.now) }
+{
+    match Never::read(alloc, word) {
+        Ok(never) => {
+            nevers.push(never)?;
+            Ok(())
+        }
+        Err(ReadFault::NoCondition) => {
+            nevers.append(&mut labelled(alloc, sources, word)?)?;
+            Ok(())
+        }
+        Err(ReadFault::NoMemory) => Err(Unresolved::NoMemory),
+    }
+}
+
+/// What must never be so, as a word with labels means it: more than one condition where it speaks of groups of processes.
+fn labelled(
+    alloc: Global,
+    sources: &[Option<Source>],
+    word: &str,
+) -> Result<Vec<Never>, Unresolved> {
+    let mut nevers = Vec::new(alloc);
+    for text in &spread(alloc, sources, word)? {
+        nevers.push(never_in(alloc, sources, text)?)?;
+    }
+    Ok(nevers)
+}
+
+/// What must never be so, as a text writes it, by the labels of the processes. It is told as it was written.
+fn never_in(alloc: Global, sources: &[Option<Source>], text: &str) -> Result<Never, Unresolved> {
+    let meant = resolved(alloc, sources, text)?;
+    match Never::read(alloc, &meant) {
+        Ok(Never::Holds(Condition { parts, .. })) => {
+            let text = String::from_str(alloc, text)?;
+            Ok(Never::Holds(Condition { text, parts }))
+        }
+        Ok(never) => Ok(never),
+        Err(ReadFault::NoCondition) => Err(reversed(alloc, &meant)?),
+        Err(ReadFault::NoMemory) => Err(Unresolved::NoMemory),
     }
 }
 
@@ -169,7 +288,10 @@ fn never_advice(alloc: Global, text: &str, count: usize) -> Option<String> {
 }
 
 fn is_never(alloc: Global, text: &str, count: usize) -> bool {
-    match Never::read(alloc, text) {
+    let Ok(outline) = outlined(alloc, text) else {
+        return false;
+    };
+    match Never::read(alloc, &outline) {
         Ok(never) => never.names_only(count),
         Err(_) => false,
     }
@@ -185,7 +307,10 @@ fn waiter_advice(alloc: Global, text: &str, count: usize) -> Option<String> {
 }
 
 fn is_waiter(alloc: Global, text: &str, count: usize) -> bool {
-    match read_waiter(alloc, text) {
+    let Ok(outline) = outlined(alloc, text) else {
+        return false;
+    };
+    match read_waiter(alloc, &outline) {
         Ok(Some(waiter)) => waiter.process < count,
         Ok(None) | Err(_) => false,
     }

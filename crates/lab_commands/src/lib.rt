@@ -12,29 +12,39 @@ mod explore;
 mod files;
 mod inquiry;
 mod job;
+mod labels;
 mod limits;
+mod loops;
+mod outputs;
 mod places;
 mod plain;
 mod programs;
 mod progress;
+mod resolving;
 mod run;
+mod spent;
+mod spreading;
 mod stages;
 mod step;
 mod telling;
+mod unresolved;
 
 pub use asm::{Assembly, assemble_file};
-pub use check::check_sources;
+pub use check::{check_sources, messages_if};
 pub use complaint::{At, Complaint, Misuse, Reason};
-pub use debug::debug_programs;
+pub use debug::{Debugged, debug_given, debug_programs};
 pub use dis::disassemble_file;
 pub use explore::{Search, find_ends};
 pub use files::{
-    has_source_name, is_file, is_same_file, read_file, read_source, write_text, write_whole,
+    has_source_name, is_file, is_same_file, read_file, read_source, write_bytes, write_text,
+    write_whole,
 };
 pub use inquiry::{Inquiry, refuse_question};
 pub use job::{Job, Texts};
+pub use limits::{limit_met, standing_at};
 pub use programs::{Programs, laboratory, read_programs, read_with_input};
 pub use progress::Progress;
 pub use run::{run_fresh, run_programs, tell_run};
+pub use spent::Spent;
 pub use step::{read_schedule, report_on, step_programs};
 pub use telling::{chosen_schedule, tell_ends};

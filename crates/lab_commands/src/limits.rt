@@ -1,73 +1,97 @@
-//! What is told of the limit that a search met.
+//! Which limit a search met.
+use crate::complaint::Complaint;
 use crate::explore::Search;
 use crate::job::Job;
+use crate::loops::{Loop, loop_in};
+use crate::programs::{Programs, laboratory};
 use crate::progress::Progress;
 use lab_arguments::MOST_WORLDS;
+use lab_questions::{LimitMet, Standing};
+use lab_sched::World;
+use lab_sources::Source;
 use lab_worlds::Limits;
+use lc3_table::Profile;
+use lc3_word::Hex;
 use std::alloc::{AllocError, Global};
-use std::fmt;
 
-const MEGABYTE: usize = 1_048_576;
-
-/// Says which limit a search met, where it met one and somebody looks. Of walks nothing is said, nor of a search that ends with
-/// what it found.
-pub(crate) fn tell_limit<T, P: Progress>(
+/// Which limit a search of programs met, where it met one. Of walks none is named, nor of a search that ends with what it found.
+pub fn limit_met<T, P: Progress>(
     job: &Job<'_, T, P>,
+    given: &Programs,
+    profile: Profile,
     search: &Search,
-) -> Result<(), AllocError> {
+) -> Result<Option<LimitMet>, Complaint<'static>> {
     let found = &search.answers.exploration;
     let reach = search.inquiry.reach;
-    let is_told = reach.walks.is_none() && !found.refused && job.progress.is_shown();
-    if found.complete || !is_told {
-        return Ok(());
+    if found.complete || found.refused || reach.walks.is_some() {
+        return Ok(None);
     }
-    let is_full = found.worlds >= reach.limits.worlds;
-    if is_full && reach.is_stage {
-        return Ok(());
+    if found.worlds < reach.limits.worlds {
+        return Ok(Some(limit_of_steps(job.alloc, given, profile, reach.limits)?));
     }
-    let line = if is_full {
-        worlds_note(job.alloc, found.worlds)?
+    if reach.is_stage {
+        return Ok(None);
+    }
+    Ok(Some(limit_of_worlds(found.worlds)))
+}
+
+fn limit_of_worlds(visited: u32) -> LimitMet {
+    let more = if visited < MOST_WORLDS {
+        Some(visited.saturating_mul(100).min(MOST_WORLDS))
     } else {
-        limits_note(job.alloc, reach.limits)?
+        None
     };
-    job.progress.tell(&line);
-    Ok(())
+    LimitMet::Worlds { visited, more }
 }
 
-/// The line that says how many worlds were visited, and how more are.
-fn worlds_note(alloc: Global, worlds: u32) -> Result<String, AllocError> {
-    let visited = Grouped(worlds);
-    if worlds >= MOST_WORLDS {
-        return format!(in alloc; "lc3lab: note: {visited} worlds were visited\n");
+/// The process that took too many steps without a call, where it is found, and else both limits that a search can have met.
+fn limit_of_steps(
+    alloc: Global,
+    given: &Programs,
+    profile: Profile,
+    limits: Limits,
+) -> Result<LimitMet, Complaint<'static>> {
+    let fresh = laboratory(alloc, given.programs.as_slice(), profile)?;
+    let steps = limits.steps;
+    match loop_in(World::from(fresh), steps) {
+        Some(found) => Ok(LimitMet::Steps {
+            process: found.process,
+            steps,
+            standing: standing_in(alloc, given, found)?,
+        }),
+        None => Ok(LimitMet::StepsOrMemory {
+            steps,
+            memory: limits.memory,
+        }),
     }
-    let more = worlds.saturating_mul(100).min(MOST_WORLDS);
-    format!(in alloc; "lc3lab: note: {visited} worlds were visited (--worlds {more} visits more)\n")
 }
 
-/// The line that names the other limits: which of them was met isn't known.
-fn limits_note(alloc: Global, limits: Limits) -> Result<String, AllocError> {
-    let steps = Grouped(limits.steps);
-    let megabytes = limits.memory / MEGABYTE;
-    format!(in alloc;
-        "lc3lab: note: a process took {steps} steps without a call (--limit), or the search {megabytes} megabytes (--memory)\n"
-    )
+fn standing_in(alloc: Global, given: &Programs, found: Loop) -> Result<Standing, AllocError> {
+    let source = match given.sources.get(found.process) {
+        Some(Some(source)) => Some(source),
+        _ => None,
+    };
+    standing_at(alloc, source, found.pc, found.word)
 }
 
-/// A number below 1,000,000,000, with commas at the thousands.
-#[derive(Clone, Copy)]
-struct Grouped(u32);
-
-impl fmt::Display for Grouped {
-    fn fmt<W: fmt::Write>(&self, f: &mut fmt::Formatter<W>) -> fmt::Result {
-        let millions = self.0 / 1_000_000;
-        let thousands = self.0 / 1_000 % 1_000;
-        let ones = self.0 % 1_000;
-        if millions > 0 {
-            write!(f, "{millions},{thousands:03},{ones:03}")
-        } else if thousands > 0 {
-            write!(f, "{thousands},{ones:03}")
-        } else {
-            write!(f, "{ones}")
+/// Where an address stands: its nearest label and its line, as far as there is a source with such, and else the address.
+pub fn standing_at(
+    alloc: Global,
+    source: Option<&Source>,
+    address: u16,
+    word: u16,
+) -> Result<Standing, AllocError> {
+    let near = source.and_then(|source| source.nearest(address));
+    let row = source.and_then(|source| source.held_row(address, word));
+    let place = match near {
+        Some(near) => format!(in alloc; "{near}")?,
+        None => {
+            let address = Hex(address);
+            format!(in alloc; "{address}")?
         }
-    }
+    };
+    Ok(Standing {
+        place,
+        line: row.map(|row| row.line),
+    })
 }

@@ -1,4 +1,5 @@
 //! What may stand at each place of a condition.
+use crate::labels::is_labelled;
 use lc3_word::unsigned;
 
 /// A place of a condition, or of the words for a process that may wait.
@@ -52,7 +53,7 @@ impl Place {
             Place::First => "here stands blocked, ended, crashed, at or refused",
             Place::State => "here stands blocked, ended, crashed or at",
             Place::Address | Place::Anywhere | Place::WaitsAt => {
-                "here stands an address, as x3000, or two, as x3000-x3008"
+                "here stands an address or a label, or two, as x3000-x3008"
             }
             Place::Many => "here stands and, or > with a number behind it",
             Place::And => "here stands and",
@@ -148,7 +149,7 @@ fn is_number(word: &str) -> bool {
 }
 
 /// The address that a word is, if it is one.
-fn address(word: &str) -> Option<u32> {
+pub(crate) fn address(word: &str) -> Option<u32> {
     let digits = word.strip_prefix('x')?;
     if digits.len() > 4 {
         return None;
@@ -156,8 +157,11 @@ fn address(word: &str) -> Option<u32> {
     unsigned(16, digits.as_bytes())
 }
 
-/// Whether a word is an address, or two with a `-` between them, the first not above the second.
+/// Whether a word is an address, or two with a `-` between them, the first not above the second. Labels may stand for them.
 fn is_range(word: &str) -> bool {
+    if is_labelled(word) {
+        return true;
+    }
     let Some((first, last)) = word.split_once('-') else {
         return address(word).is_some();
     };

@@ -1,7 +1,6 @@
 //! The programs of a laboratory, as the command line names them.
 ghost use Rattle.std.specs.Prelude.{◌≡◌, false, IfOk};
 ghost use Rattle.lab_sched.specs.Starts.{fresh};
-ghost use Rattle.lab_commands.specs.Private.Starts.{IsStart};
 
 use crate::asm::assemble_bytes;
 use crate::check::messages_if;
@@ -12,12 +11,13 @@ use crate::progress::Progress;
 use lab_arguments::{Console, Setup, Shown, program_of, takes_input};
 use lab_hex::read_whole;
 use lab_io::Input;
+use lab_places::Numbered;
 use lab_sched::{Fresh, FreshFault, Program};
-use lab_sources::Source;
+use lab_sources::{Listing, Source};
 use lc3_obj::read_image;
 use lc3_table::Profile;
 use lc3_word::Image;
-use std::alloc::Global;
+use std::alloc::{AllocError, Global};
 use std::io::Read;
 use std::rt::Files;
 
@@ -27,9 +27,33 @@ pub struct Programs {
     pub programs: Vec<Program>,
     /// As many as programs.
     pub sources: Vec<Option<Source>>,
+    /// Of each source its lines as they are shown; of a program without one there are none.
+    pub lines: Vec<Vec<String>>,
 }
 
 impl Programs {
+    /// Adds the source of a program, where it was given as one.
+    fn push_source(&mut self, alloc: Global, source: Option<Source>) -> Result<(), AllocError> {
+        let Some(source) = source else {
+            self.sources.push(None)?;
+            self.lines.push(Vec::new(alloc))?;
+            return Ok(());
+        };
+        let Listing { source, lines } = Listing::new(alloc, source)?;
+        self.sources.push(Some(source))?;
+        self.lines.push(lines)?;
+        Ok(())
+    }
+
+    /// The sources with their lines, of each program where it was given as one.
+    pub fn numbered(&self, alloc: Global) -> Result<Vec<Option<Numbered<'_>>>, AllocError> {
+        let mut numbered = Vec::new(alloc);
+        for (source, lines) in self.sources.iter().zip(self.lines.iter()) {
+            numbered.push(with_lines(source, lines.as_slice()))?;
+        }
+        Ok(numbered)
+    }
+
     /// Reads the console input of the process that takes it from standard input, if one of these words says so.
     pub fn fill<R: Read>(
         &mut self,
@@ -49,6 +73,11 @@ impl Programs {
     }
 }
 
+fn with_lines<'a>(source: &'a Option<Source>, lines: &'a [String]) -> Option<Numbered<'a>> {
+    let source = source.as_ref()?;
+    Some(Numbered { source, lines })
+}
+
 /// The programs that words name, each by a source or an object file. A file is read and checked before the next one is
 /// opened. A console input that comes from standard input is empty here.
 pub fn read_programs<'a, T: Files, P: Progress>(
@@ -58,11 +87,12 @@ pub fn read_programs<'a, T: Files, P: Progress>(
     let mut given = Programs {
         programs: Vec::new(job.alloc),
         sources: Vec::new(job.alloc),
+        lines: Vec::new(job.alloc),
     };
     for word in words {
         let (program, source) = read_program(job, word)?;
         given.programs.push(program)?;
-        given.sources.push(source)?;
+        given.push_source(job.alloc, source)?;
     }
     Ok(given)
 }
@@ -167,19 +197,6 @@ pub fn laboratory(
         Ok(fresh) => Ok(fresh),
         Err(fault) => Err(fault_of(alloc, fault)),
     }
-}
-
-/// The laboratory of the programs in files, and of what standard input holds for one of them, before its first step.
-pub fn read_laboratory<'a, T: Files, R: Read, P: Progress>(
-    job: &Job<'_, T, P>,
-    setup: &Setup<'a>,
-    input: &mut Input<R>,
-) -> Result<Fresh, Complaint<'a>>
-    requires input_healthy { input.old.failed ≡ false }
-    ensures start { IfOk result (λ f. IsStart setup.now.profile f) }
-{
-    let given = read_with_input(job, setup.programs.as_slice(), input)?;
-    laboratory(job.alloc, given.programs.as_slice(), setup.profile)
 }
 
 /// The programs that words name, and behind their files the console input that comes from standard input, if one does.

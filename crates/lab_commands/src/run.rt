@@ -10,10 +10,11 @@ use crate::complaint::{At, Complaint};
 use crate::files::write_bytes;
 use crate::job::Job;
 use crate::plain::plain_output;
-use crate::programs::read_laboratory;
+use crate::programs::{laboratory, read_with_input};
 use crate::progress::{CallCount, Progress};
 use lab_arguments::{MOST_STEPS_EACH, Manner, Setup};
 use lab_io::{Input, Output};
+use lab_places::{Numbered, placed};
 use lab_sched::Fresh;
 use lab_texts::report_text;
 use lab_threads::{Gate, NoGate, PausingGate, Report, RunFault, run_threads};
@@ -25,7 +26,7 @@ use std::thread::Threads;
 use std::time::Clock;
 
 /// Reads the files of the programs, and standard input where a process takes it, runs them on threads, and writes the report
-/// and the schedule of an interleaving that leads to it.
+/// and the schedule of an interleaving that leads to it, with where processes stand in their sources.
 pub fn run_programs<'a, T: Files + Threads + Wait + Clock + Sync, R: Read, W: Write, P: Progress>(
     job: &Job<'_, T, P>,
     setup: &Setup<'a>,
@@ -39,10 +40,13 @@ pub fn run_programs<'a, T: Files + Threads + Wait + Clock + Sync, R: Read, W: Wr
         × IsToldRun setup.now.profile manner.entry.plain bytes
         × Appends (W.contents output.old.device) (W.contents output.new.device) bytes) }
 {
-    let fresh = read_laboratory(job, setup, input)?;
+    let given = read_with_input(job, setup.programs.as_slice(), input)?;
+    let fresh = laboratory(job.alloc, given.programs.as_slice(), setup.profile)?;
+    let report = run_fresh(job, fresh, manner)?;
     tell_run(
         job.alloc,
-        &run_fresh(job, fresh, manner)?,
+        &given.numbered(job.alloc)?,
+        &report,
         manner.plain,
         output,
     )
@@ -65,28 +69,34 @@ pub fn run_fresh<T: Threads + Wait + Clock + Sync, P: Progress>(
     outcome.at(job.alloc, "run")
 }
 
-/// Writes the report on a run, and a line with its schedule; and, where that is `plain`, behind these what the processes have
-/// written, as it is.
+/// Writes the report on a run, with where processes stand in these sources, and a line with its schedule; and, where that is
+/// `plain`, behind these what the processes have written, as it is.
 pub fn tell_run<W: Write>(
     alloc: Global,
+    sources: &[Option<Numbered<'_>>],
     report: &Report,
     plain: bool,
     output: &mut Output<W>,
 ) -> Result<(), Complaint<'static>>
     requires output_healthy { output.old.failed ≡ false }
     ensures told { OnOk result (Appends (W.contents output.old.device)
-        (W.contents output.new.device) (run_bytes plain report.now.world report.now.schedule)) }
+        (W.contents output.new.device)
+        (run_bytes sources.now plain report.now.world report.now.schedule)) }
 {
-    write_bytes(&bytes_of(alloc, report, plain)?, output)
+    write_bytes(&bytes_of(alloc, sources, report, plain)?, output)
 }
 
 /// What is written of a run.
-fn bytes_of(alloc: Global, report: &Report, plain: bool) -> Result<Vec<u8>, AllocError>
+fn bytes_of(
+    alloc: Global,
+    sources: &[Option<Numbered<'_>>],
+    report: &Report,
+    plain: bool,
+) -> Result<Vec<u8>, AllocError>
     ensures bytes { IfOk result (λ bytes. bytes.items
-        ≡ run_bytes plain report.now.world report.now.schedule) }
+        ≡ run_bytes sources.now plain report.now.world report.now.schedule) }
 {
-    let mut bytes = Vec::new(alloc);
-    bytes.extend_from_slice(text_of(alloc, report)?.as_bytes())?;
+    let mut bytes = placed(alloc, sources, text_of(alloc, report)?.as_bytes())?;
     if plain {
         bytes.extend_from_slice(&plain_output(alloc, &report.world)?)?;
     }

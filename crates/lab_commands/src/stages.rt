@@ -62,7 +62,10 @@ pub(crate) fn stages_of(alloc: Global, inquiry: &Inquiry) -> Result<Vec<Inquiry>
 pub(crate) fn has_more(search: &Search) -> bool {
     let found = &search.answers.exploration;
     match search.answers.failure {
-        Some(Failure::Not(_)) | Some(Failure::Reached(_)) | Some(Failure::Endless) => false,
+        Some(Failure::Not(_))
+        | Some(Failure::Output(_))
+        | Some(Failure::Reached(_))
+        | Some(Failure::Endless) => false,
         Some(Failure::Incomplete) | None => {
             !found.complete && found.worlds >= most_of(search.inquiry.reach)
         }

@@ -5,17 +5,19 @@ ghost use Rattle.lab_sched.specs.Starts.{fresh};
 ghost use Rattle.lab_sched.specs.Worlds.{run};
 ghost use Rattle.lab_sched.specs.Schedules.{steps_of};
 ghost use Rattle.lab_texts.specs.Reports.{report_text};
+ghost use Rattle.lab_places.specs.Placed.{placed};
 ghost use Rattle.lab_commands.specs.Runs.{IsReport};
 
 use crate::blocks::block_advice;
 use crate::complaint::{At, Complaint, Reason};
-use crate::files::write_text;
+use crate::files::write_bytes;
 use crate::job::Job;
 use crate::programs::{laboratory, read_programs};
 use crate::progress::{Progress, StepCount};
 use lab_arguments::Setup;
 use lab_hex::read_whole;
 use lab_io::{Input, Output};
+use lab_places::{Numbered, placed};
 use lab_sched::{Program, RunStop, Schedule, World};
 use lab_texts::report_text;
 use lc3_table::Profile;
@@ -23,7 +25,7 @@ use std::io::{Read, Write};
 use std::rt::Files;
 
 /// Reads the files of the programs, then a schedule from the input, runs the laboratory of these programs by that
-/// schedule, and writes the report.
+/// schedule, and writes the report, with where processes stand in their sources.
 pub fn step_programs<'a, T: Files, R: Read, W: Write, P: Progress>(
     job: &Job<'_, T, P>,
     setup: &Setup<'a>,
@@ -35,7 +37,7 @@ pub fn step_programs<'a, T: Files, R: Read, W: Write, P: Progress>(
     ensures report { OnOk result ((text : List ℕ) × IsReport setup.now.profile text
         × Appends (W.contents output.old.device) (W.contents output.new.device) text) }
 {
-    write_text(&report_in(job, setup, input)?, output)
+    write_bytes(&report_in(job, setup, input)?, output)
 }
 
 /// Reads the files of the programs, then a schedule from the input, and gives the report on the programs after its steps.
@@ -43,17 +45,38 @@ fn report_in<'a, T: Files, R: Read, P: Progress>(
     job: &Job<'_, T, P>,
     setup: &Setup<'a>,
     input: &mut Input<R>,
-) -> Result<String, Complaint<'a>>
+) -> Result<Vec<u8>, Complaint<'a>>
     requires input_healthy { input.old.failed ≡ false }
-    ensures report { IfOk result (λ text. IsReport setup.now.profile (string_bytes text)) }
+    ensures report { IfOk result (λ bytes. IsReport setup.now.profile bytes.items) }
 {
     let given = read_programs(job, setup.programs.as_slice())?;
     let schedule = read_schedule(job, input)?;
-    report_on(job, given.programs.as_slice(), setup.profile, &schedule)
+    report_on(
+        job,
+        given.programs.as_slice(),
+        &given.numbered(job.alloc)?,
+        setup.profile,
+        &schedule,
+    )
+}
+
+/// The report on programs after the steps of a schedule, with where processes stand in these sources.
+pub fn report_on<T, P: Progress>(
+    job: &Job<'_, T, P>,
+    programs: &[Program],
+    sources: &[Option<Numbered<'_>>],
+    profile: Profile,
+    schedule: &Schedule,
+) -> Result<Vec<u8>, Complaint<'static>>
+    ensures report { IfOk result (λ bytes. bytes.items ≡ placed sources.now
+        (report_text (run (fresh profile programs.now) (steps_of schedule.now)))) }
+{
+    let text = plain_report(job, programs, profile, schedule)?;
+    Ok(placed(job.alloc, sources, text.as_bytes())?)
 }
 
 /// The report on programs after the steps of a schedule.
-pub fn report_on<T, P: Progress>(
+fn plain_report<T, P: Progress>(
     job: &Job<'_, T, P>,
     programs: &[Program],
     profile: Profile,

@@ -1,36 +1,135 @@
 //! What `explore` writes of answers, and what it complains of.
-ghost use Rattle.std.specs.Prelude.{◌≡◌, false};
+ghost use Rattle.std.specs.Prelude.{◌≡◌, false, IfOk, OnOk, OnErr, string_bytes};
+ghost use Rattle.std.specs.Option.{option_map, option_copied};
+ghost use Rattle.lab_sched.specs.ScheduleTexts.{schedule_text};
+ghost use Rattle.lab_commands.specs.Told.{ShowsFailure, numbered_end, IsChosen, line_or_none, TellsChosen, EndsAsJson, TellsAll, Tells, HasTold, HasBegun};
 
 use crate::complaint::{Complaint, Reason};
 use crate::explore::Search;
-use crate::files::write_text;
-use crate::inquiry::Inquiry;
+use crate::files::write_bytes;
 use crate::job::Job;
-use crate::limits::tell_limit;
 use crate::progress::Progress;
 use lab_arguments::Choice;
 use lab_io::Output;
-use lab_questions::{Answers, Failure, Object, Word, answers_json};
+use lab_places::{Numbered, placed};
+use lab_questions::{Answers, Asked, Failure, Object, Word, answers_json};
+use lab_worlds::End;
 use std::alloc::{AllocError, Global};
 use std::io::Write;
 
-/// Writes what was found, says which objects that conditions name nobody opens, and which limit was met, and complains where
-/// memory was refused on the way, or not all is as it has to be.
+/// Writes what was found, with where processes stand in these sources, says which objects that conditions name nobody opens,
+/// and complains where memory was refused on the way, or not all is as it has to be.
+#[tactic(auto, using(crate::proofs::TellingLemmas::all_begun))]
 pub fn tell_ends<T, W: Write, P: Progress>(
     job: &Job<'_, T, P>,
+    sources: &[Option<Numbered<'_>>],
     search: &Search,
     output: &mut Output<W>,
 ) -> Result<(), Complaint<'static>>
     requires output_healthy { output.old.failed ≡ false }
+    ensures told { OnOk result (HasTold sources.now search.now
+        (W.contents output.old.device) (W.contents output.new.device)) }
+    ensures prefix { OnErr result (HasBegun sources.now search.now
+        (W.contents output.old.device) (W.contents output.new.device)) }
+{
+    write_told(job.alloc, sources, search, output)?;
+    tell_unopened(job, &search.answers.unopened)?;
+    match complain(job.alloc, search) {
+        Ok(()) => Ok(()),
+        Err(complaint) => Err(complaint),
+    }
+}
+
+/// Writes what was found.
+#[tactic(auto, using(crate::proofs::TellingLemmas::nothing_told, crate::proofs::TellingLemmas::has_told, crate::proofs::TellingLemmas::has_begun))]
+fn write_told<W: Write>(
+    alloc: Global,
+    sources: &[Option<Numbered<'_>>],
+    search: &Search,
+    output: &mut Output<W>,
+) -> Result<(), Complaint<'static>>
+    requires output_healthy { output.old.failed ≡ false }
+    ensures told { OnOk result (HasTold sources.now search.now
+        (W.contents output.old.device) (W.contents output.new.device)) }
+    ensures prefix { OnErr result (HasBegun sources.now search.now
+        (W.contents output.old.device) (W.contents output.new.device)) }
+{
+    let told = told_of(alloc, sources, search)?;
+    match write_bytes(&told, output) {
+        Ok(()) => Ok(()),
+        Err(complaint) => Err(complaint),
+    }
+}
+
+/// What tells of a search what was found.
+fn told_of(
+    alloc: Global,
+    sources: &[Option<Numbered<'_>>],
+    search: &Search,
+) -> Result<Vec<u8>, Complaint<'static>>
+    ensures told { IfOk result (λ bytes.
+        Tells sources.now search.now search.now.inquiry.choice bytes.items) }
 {
     let found = &search.answers;
     match search.inquiry.choice {
-        Some(choice) => write_schedule(job.alloc, found, choice, output)?,
-        None => write_answers(job.alloc, found, &search.inquiry, output)?,
+        Some(choice) => chosen_line(alloc, found, choice),
+        None => Ok(all_told(alloc, sources, search)?),
     }
-    tell_unopened(job, &found.unopened)?;
-    tell_limit(job, search)?;
-    complain(job.alloc, search)
+}
+
+/// All answers, as lines or as JSON.
+fn all_told(
+    alloc: Global,
+    sources: &[Option<Numbered<'_>>],
+    search: &Search,
+) -> Result<Vec<u8>, AllocError>
+    ensures told { IfOk result (λ bytes.
+        TellsAll sources.now search.now.answers search.now.inquiry.json bytes.items) }
+{
+    if search.inquiry.json {
+        let line = json_line(alloc, search)?;
+        Ok(line.into_bytes())
+    } else {
+        placed(alloc, sources, search.answers.text.as_bytes())
+    }
+}
+
+#[tactic(auto, using(crate::proofs::TellingLemmas::ends_as_json))]
+fn json_line(alloc: Global, search: &Search) -> Result<String, AllocError>
+    ensures told { IfOk result (λ line. EndsAsJson search.now.answers (string_bytes line)) }
+{
+    answers_json(
+        alloc,
+        &search.answers,
+        search.inquiry.reach,
+        search.limit.as_ref(),
+    )
+}
+
+/// The schedule that is chosen, as a line, if there is one.
+#[tactic(auto, using(crate::proofs::TellingLemmas::tells_chosen))]
+fn chosen_line(
+    alloc: Global,
+    found: &Answers,
+    choice: Choice,
+) -> Result<Vec<u8>, Complaint<'static>>
+    ensures told { IfOk result (λ bytes. TellsChosen found.now choice bytes.items) }
+{
+    let chosen = chosen_schedule(alloc, found, choice)?;
+    Ok(line_of(alloc, chosen)?)
+}
+
+/// A text as a line, if there is one.
+fn line_of(alloc: Global, text: Option<String>) -> Result<Vec<u8>, AllocError>
+    ensures line { IfOk result (λ bytes. bytes.items
+        ≡ line_or_none (option_map string_bytes text)) }
+{
+    let Some(text) = text else {
+        return Ok(Vec::new(alloc));
+    };
+    let mut bytes = text.into_bytes();
+    bytes.push(b'\n')?;
+    Ok(bytes)
 }
 
 /// The text of a schedule that is chosen, if there is one: what isn't as it has to be has none where all is so, and an end, which
@@ -39,11 +138,23 @@ pub fn chosen_schedule(
     alloc: Global,
     found: &Answers,
     choice: Choice,
-) -> Result<Option<String>, Complaint<'static>> {
+) -> Result<Option<String>, Complaint<'static>>
+    ensures chosen { IfOk result (λ shown.
+        IsChosen found.now choice (option_map string_bytes shown)) }
+{
     match choice {
-        Choice::Bad => Ok(found.bad_schedule(alloc)?),
+        Choice::Bad => Ok(bad_schedule(alloc, found)?),
         Choice::End(number) => end_schedule(alloc, found, number as usize),
     }
+}
+
+/// The text of the schedule that shows why not all is as it has to be, if there is one.
+#[tactic(auto, using(crate::proofs::TellingLemmas::shows_failure))]
+fn bad_schedule(alloc: Global, found: &Answers) -> Result<Option<String>, AllocError>
+    ensures shown { IfOk result (λ shown.
+        ShowsFailure found.now found.now.failure (option_map string_bytes shown)) }
+{
+    found.bad_schedule(alloc)
 }
 
 /// The text of the schedule of the end that is told with a number, from 1.
@@ -51,25 +162,26 @@ fn end_schedule(
     alloc: Global,
     found: &Answers,
     number: usize,
-) -> Result<Option<String>, Complaint<'static>> {
-    match number.checked_sub(1).and_then(|before| found.end(before)) {
+) -> Result<Option<String>, Complaint<'static>>
+    ensures schedule { IfOk result (λ shown. option_map string_bytes shown
+        ≡ option_map (λ e. schedule_text e.schedule) (numbered_end found.now number)) }
+{
+    match numbered_end(found, number) {
         None if found.exploration.refused => Ok(None),
         None => Err(Reason::NoEnd.at("explore")),
         Some(end) => Ok(Some(end.schedule.text(alloc)?)),
     }
 }
 
-fn write_schedule<W: Write>(
-    alloc: Global,
-    found: &Answers,
-    choice: Choice,
-    output: &mut Output<W>,
-) -> Result<(), Complaint<'static>> {
-    let Some(schedule) = chosen_schedule(alloc, found, choice)? else {
-        return Ok(());
-    };
-    write_text(&schedule, output)?;
-    write_text("\n", output)
+/// The end that is told with a number, from 1.
+fn numbered_end(found: &Answers, number: usize) -> Option<&End>
+    ensures end { option_copied result ≡ numbered_end found.now number }
+{
+    if number == 0 {
+        None
+    } else {
+        found.end(number - 1)
+    }
 }
 
 /// Says which objects that conditions name nobody opens.
@@ -84,24 +196,11 @@ fn tell_unopened<T, P: Progress>(
     Ok(())
 }
 
-/// Writes all answers, as lines or as JSON.
-fn write_answers<W: Write>(
-    alloc: Global,
-    found: &Answers,
-    inquiry: &Inquiry,
-    output: &mut Output<W>,
-) -> Result<(), Complaint<'static>> {
-    if !inquiry.json {
-        return write_text(&found.text, output);
-    }
-    let json = answers_json(alloc, found, inquiry.reach)?;
-    write_text(&json, output)
-}
-
 /// Whether no more is required than that each end has one verdict, be what is told of the ends as it may.
 fn is_of_verdict(search: &Search) -> bool {
     let asked = &search.answers.asked;
     search.inquiry.reach.walks.is_none()
+        && asked.outputs.is_empty()
         && asked.waiters.is_empty()
         && asked.never.is_empty()
         && matches!(asked.words.as_slice(), [Word::Ended] | [Word::Stuck])
@@ -132,6 +231,17 @@ fn unmet(word: Word, is_of_verdict: bool) -> Reason {
     }
 }
 
+/// That what is required of an output, by its number, isn't so at an end.
+fn unwritten(alloc: Global, asked: &Asked, number: usize) -> Complaint<'static> {
+    match asked.outputs.get(number) {
+        Some(need) => {
+            let text = need.text.as_str();
+            Complaint::new(alloc, "explore", format_args!("not {text}"))
+        }
+        None => Reason::Unwritten.at("explore"),
+    }
+}
+
 /// Complains where something has to be so and isn't, or where memory was refused on the way.
 fn complain(alloc: Global, search: &Search) -> Result<(), Complaint<'static>> {
     let found = &search.answers;
@@ -139,6 +249,7 @@ fn complain(alloc: Global, search: &Search) -> Result<(), Complaint<'static>> {
     let judges = found.asked.judges();
     match failure_of(search) {
         Some(Failure::Not(word)) => Err(unmet(word, is_of_verdict(search)).at("explore")),
+        Some(Failure::Output(number)) => Err(unwritten(alloc, &found.asked, number)),
         Some(Failure::Reached(number)) => Err(match found.asked.never.get(number) {
             Some(condition) => {
                 Complaint::new(alloc, "explore", format_args!("reached {condition}"))

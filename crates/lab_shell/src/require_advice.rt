@@ -1,5 +1,5 @@
 //! What is advised where the words of `--require` are refused.
-use lab_arguments::Shown;
+use lab_arguments::{Shown, required_words};
 use lab_io::Output;
 use std::alloc::{AllocError, Global};
 use std::io::Write;
@@ -14,39 +14,44 @@ pub fn advise_require<E: Write>(
     text: &str,
     errors: &mut Output<E>,
 ) {
-    if !text.starts_with("error: invalid value '") || !text.contains("' for '--require <WORDS>'") {
-        return;
-    }
-    let Some(value) = required_in(words) else {
-        return;
-    };
-    if let Ok(line) = line_on(alloc, value) {
+    if let Ok(Some(line)) = advice_on(alloc, words, text) {
         let _ = errors.write_all(line.as_bytes());
     }
 }
 
-/// The value of `--require` among words.
-fn required_in(words: &[String]) -> Option<&str> {
+/// The line on the value of `--require` that a text refuses, if it refuses one.
+fn advice_on(alloc: Global, words: &[String], text: &str) -> Result<Option<String>, AllocError> {
     let mut is_next = false;
     for word in words {
-        if is_next {
-            return Some(word.as_str());
+        let value = if is_next {
+            Some(word.as_str())
+        } else {
+            word.strip_prefix("--require=")
+        };
+        is_next = !is_next && word.as_str() == "--require";
+        if let Some(value) = value {
+            if is_refused(alloc, value, text)? {
+                return Ok(Some(line_on(alloc, value)?));
+            }
         }
-        if let Some(value) = word.strip_prefix("--require=") {
-            return Some(value);
-        }
-        is_next = word.as_str() == "--require";
     }
-    None
+    Ok(None)
+}
+
+/// Whether a text refuses a value of `--require`.
+fn is_refused(alloc: Global, value: &str, text: &str) -> Result<bool, AllocError> {
+    let value = Shown(value);
+    let refusal = format!(in alloc; "error: invalid value '{value}' for '--require <WORDS>'")?;
+    Ok(text.starts_with(refusal.as_str()))
 }
 
 fn line_on(alloc: Global, value: &str) -> Result<String, AllocError> {
     let meant = meant_by(alloc, value)?;
-    let mut line = match value.split(',').find(|word| !WORDS.contains(word)) {
+    let mut line = match unknown_in(alloc, value)? {
         Some(word) => {
             let word = Shown(word);
             format!(in alloc;
-                "lc3lab: {word}: isn't understood; here stand ended, stuck, halted, empty and same, with commas between"
+                "lc3lab: {word}: isn't understood; here stand ended, stuck, halted, empty, same and out P = \"TEXT\", with commas between"
             )?
         }
         None => format!(in alloc;
@@ -54,10 +59,18 @@ fn line_on(alloc: Global, value: &str) -> Result<String, AllocError> {
         )?,
     };
     if let Some(meant) = meant {
-        write!(line, "; did you mean {meant}?")?;
+        if meant.as_str() != value {
+            write!(line, "; did you mean {meant}?")?;
+        }
     }
     line.push_str("\n")?;
     Ok(line)
+}
+
+/// The first word that `--require` doesn't have.
+fn unknown_in(alloc: Global, value: &str) -> Result<Option<&str>, AllocError> {
+    let words = required_words(alloc, &[value])?;
+    Ok(words.iter().copied().find(|word| !WORDS.contains(word)))
 }
 
 /// The words that were meant, with commas between them, if that is known.

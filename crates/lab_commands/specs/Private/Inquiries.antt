@@ -1,8 +1,10 @@
 -- What is asked, by the words of the command line.
-use Rattle.std.specs.Prelude.{cond, Option, Some, None, List, [], ◌∷◌, ◌++◌}
+use Rattle.std.specs.Prelude.{ℕ, cond, Option, Some, None, List, [], ◌∷◌, ◌++◌, Any}
 use Rattle.lab_arguments.specs.declared.requirements.Requirements.{Requirements}
 use Rattle.lab_arguments.specs.declared.requirements.Rest.{Rest}
 use Rattle.lab_arguments.specs.declared.requirements.Rest.TheVariants as rest
+use Rattle.lab_conditions.specs.declared.never.Never.{Never}
+use Rattle.lab_conditions.specs.Written.{Writes}
 use Rattle.lab_questions.specs.declared.asked.Word.{Word}
 use Rattle.lab_questions.specs.declared.asked.Word.TheVariants as word
 
@@ -16,3 +18,7 @@ rest_words (Some rest.Halted) = word.Halted ∷ []
 -- the words that requirements are, in the order in which they are answered
 abbrev pub required_words : Requirements → List Word
 required_words r = rest_words r.rest ++ cond r.empty (word.Empty ∷ []) [] ++ cond r.same (word.Same ∷ []) []
+
+-- one of these is what the text writes, if it writes what must never be so without labels
+abbrev pub IsAsked : List Never → List ℕ → Type 0
+IsAsked nevers text = (n : Never) → Writes text n → Any (Writes text) nevers

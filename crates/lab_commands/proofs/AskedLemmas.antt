@@ -1,0 +1,57 @@
+-- What is asked of conditions.
+use Rattle.std.proofs.Common.{◌≡◌, ℕ, ◌+◌, ◌<◌, ◌≤◌, true, false, List, [], ◌∷◌, ◌++◌, Some, None, Bor, length, take, get_or, map, ap, sym, subst, ◌∙◌, All, Any, arith}
+use Rattle.std.proofs.lemmas.List.{take_more, take_all, map-append}
+use Rattle.std.proofs.lemmas.Grind.{common_steps}
+use Rattle.std.proofs.lemmas.List.Elements.{All-push}
+use Rattle.std.proofs.lemmas.List.Quantifiers.{Any-push}
+use Rattle.lab_conditions.specs.declared.never.Never.{Never}
+use Rattle.lab_conditions.specs.declared.never.Never.TheVariants.{Holds, Lost, Refused}
+use Rattle.lab_conditions.specs.Written.{words, condition_in, are_lost, refusal_in, Writes}
+use Rattle.lab_commands.specs.Private.Inquiries.{IsAsked}
+
+-- what is among some is among them with others behind
+any_with : {A : Type 0} (P : A → Type 0) (xs ys : List A) → Any P xs → Any P (xs ++ ys)
+any_with P xs ys (i, y, within, at, p) = (i, y, grind (arith, common_steps), grind (arith, common_steps), p)
+
+-- what is asked stays asked, where more is
+pub asked_with : (nevers more : List Never) (text : List ℕ) → IsAsked nevers text → IsAsked (nevers ++ more) text
+asked_with nevers more text asked n w = any_with (Writes text) nevers more (asked n w)
+
+-- one text more that is asked
+pub asked_more : (nevers more : List Never) (texts : List (List ℕ)) (text : List ℕ) → All (IsAsked nevers) texts → IsAsked (nevers ++ more) text
+    → All (IsAsked (nevers ++ more)) (texts ++ text ∷ [])
+asked_more nevers more texts text all last =
+    All-push (IsAsked (nevers ++ more)) texts text (λ k d within. asked_with nevers more (get_or texts k d) (all k d within)) last
+
+-- what a text writes is asked where it stands behind others
+pub asked_read : (nevers : List Never) (n : Never) (text : List ℕ) → Writes text n → IsAsked (nevers ++ n ∷ []) text
+asked_read nevers n text w m v = Any-push (Writes text) nevers n w
+
+-- a text that is read as nothing writes nothing
+writes_none : (text : List ℕ) (n : Never) → condition_in text ≡ None → are_lost (words text) ≡ false → refusal_in (words text) ≡ None → Writes text n → ⊥
+writes_none text (Holds c) none lost refused w = let is : condition_in text ≡ Some c.parts.items = w.0 in absurd (cc)
+writes_none text Lost none lost refused w = let is : are_lost (words text) ≡ true = w in absurd (cc)
+writes_none text (Refused r) none lost refused w = let is : refusal_in (words text) ≡ Some (r.process, r.error) = w.0 in absurd (cc)
+
+-- of a text that writes nothing anything is asked
+pub asked_unread : (nevers : List Never) (text : List ℕ) → condition_in text ≡ None → are_lost (words text) ≡ false → refusal_in (words text) ≡ None
+    → IsAsked nevers text
+asked_unread nevers text none lost refused n w = absurd (writes_none text n none lost refused w)
+
+-- the words so far with one more, which is asked
+pub asked_next : (nevers more next : List Never) (words : List (Bor (List ℕ))) (i : ℕ) (d : Bor (List ℕ)) → i < length words → next ≡ nevers ++ more
+    → All (IsAsked nevers) (map (λ word. word.now) (take i words)) → IsAsked next (get_or words i d).now
+    → All (IsAsked next) (map (λ word. word.now) (take (i + 1) words))
+asked_next nevers more next words i d within is all last =
+    let seen : Bor (List ℕ) → List ℕ = λ word. word.now in
+    let split : map seen (take (i + 1) words) ≡ map seen (take i words) ++ (get_or words i d).now ∷ [] =
+    ap (map seen) (take_more words i d within) ∙ map-append seen (take i words) (get_or words i d ∷ []) in
+    let here : IsAsked (nevers ++ more) (get_or words i d).now = subst (λ ns. IsAsked ns (get_or words i d).now) is last in
+    subst (λ texts. All (IsAsked next) texts) (sym split)
+    (subst (λ ns. All (IsAsked ns) (map seen (take i words) ++ (get_or words i d).now ∷ [])) (sym is)
+    (asked_more nevers more (map seen (take i words)) (get_or words i d).now all here))
+
+-- all words, where there are no more
+pub asked_all : (nevers : List Never) (words : List (Bor (List ℕ))) (i : ℕ) → length words ≤ i → All (IsAsked nevers) (map (λ word. word.now) (take i words))
+    → All (IsAsked nevers) (map (λ word. word.now) words)
+asked_all nevers words i done all = subst (λ (ws : List (Bor (List ℕ))). All (IsAsked nevers) (map (λ word. word.now) ws)) (take_all i words done) all

@@ -1,0 +1,174 @@
+//! Conditions that speak of labels of no process, as such that name processes.
+use crate::advice::{spaced, words_of};
+use crate::labels::{has_label, span_in};
+use crate::unresolved::{Unresolved, in_none};
+use lab_arguments::Shown;
+use lab_sources::Source;
+use lc3_word::unsigned;
+use std::alloc::{AllocError, Global};
+
+/// The most conditions that one stands for.
+const MOST_CONDITIONS: usize = 1_000;
+
+/// The conditions of which one holds where a condition holds. Where a part of it says that more than some number of processes
+/// stand at labels, and these have not the same addresses in each process, there is one for each such group of processes,
+/// each at its own labels. Else it is the condition alone.
+pub(crate) fn spread(
+    alloc: Global,
+    sources: &[Option<Source>],
+    text: &str,
+) -> Result<Vec<String>, Unresolved> {
+    let words = words_of(alloc, text)?;
+    let mut texts = Vec::new(alloc);
+    texts.push(String::new(alloc))?;
+    for part in words.split(|word| *word == "and") {
+        let groups = groups_of(alloc, sources, part)?;
+        texts = joined(alloc, &texts, &groups)?;
+    }
+    Ok(texts)
+}
+
+/// Each of some texts with each of some others behind it.
+fn joined(alloc: Global, texts: &[String], more: &[String]) -> Result<Vec<String>, Unresolved> {
+    let mut joined = Vec::new(alloc);
+    for text in texts {
+        for part in more {
+            joined.push(with_part(alloc, text, part)?)?;
+        }
+    }
+    refuse_many(alloc, &joined)?;
+    Ok(joined)
+}
+
+fn with_part(alloc: Global, text: &str, part: &str) -> Result<String, AllocError> {
+    if text.is_empty() {
+        String::from_str(alloc, part)
+    } else {
+        format!(in alloc; "{text} and {part}")
+    }
+}
+
+fn refuse_many<T>(alloc: Global, conditions: &[T]) -> Result<(), Unresolved> {
+    if conditions.len() <= MOST_CONDITIONS {
+        return Ok(());
+    }
+    let line = format!(in alloc;
+        "lc3lab: there are more than {MOST_CONDITIONS} groups of processes that it speaks of; name the processes\n"
+    )?;
+    Err(Unresolved::Because(line))
+}
+
+/// What a part of a condition says of each group of processes.
+fn groups_of(
+    alloc: Global,
+    sources: &[Option<Source>],
+    part: &[&str],
+) -> Result<Vec<String>, Unresolved> {
+    let (place, size) = match part {
+        ["at", place] if has_label(place) => (*place, 1),
+        ["at", place, ">", number] if has_label(place) => {
+            (*place, count_in(number).saturating_add(1))
+        }
+        _ => return alone(alloc, part),
+    };
+    if is_one_span(sources, place) {
+        return alone(alloc, part);
+    }
+    let holders = holders_of(alloc, sources, place)?;
+    if holders.is_empty() {
+        return Err(in_none(alloc, sources, place)?);
+    }
+    if holders.len() < size {
+        return Err(too_few(alloc, place, holders.len())?);
+    }
+    grouped(alloc, &holders, place, size)
+}
+
+fn count_in(number: &str) -> usize {
+    unsigned(10, number.as_bytes()).unwrap_or(0).min(65_535) as usize
+}
+
+fn alone(alloc: Global, part: &[&str]) -> Result<Vec<String>, Unresolved> {
+    let mut texts = Vec::new(alloc);
+    texts.push(spaced(alloc, part)?)?;
+    Ok(texts)
+}
+
+/// Whether a place stands for the same addresses in each process.
+fn is_one_span(sources: &[Option<Source>], place: &str) -> bool {
+    let Some(span) = span_in(sources, 0, place) else {
+        return false;
+    };
+    (0..sources.len()).all(|pid| span_in(sources, pid, place) == Some(span))
+}
+
+/// The processes that have the labels of a place.
+fn holders_of(
+    alloc: Global,
+    sources: &[Option<Source>],
+    place: &str,
+) -> Result<Vec<usize>, AllocError> {
+    let mut holders = Vec::new(alloc);
+    for pid in 0..sources.len() {
+        if span_in(sources, pid, place).is_some() {
+            holders.push(pid)?;
+        }
+    }
+    Ok(holders)
+}
+
+fn too_few(alloc: Global, place: &str, count: usize) -> Result<Unresolved, AllocError> {
+    let place = Shown(place);
+    let line = format!(in alloc; "lc3lab: {place}: only {count} of the processes can be there\n")?;
+    Ok(Unresolved::Because(line))
+}
+
+/// Some processes that stand at a place, in ascending order.
+#[derive(Drop)]
+struct Group {
+    text: String,
+    last: Option<usize>,
+}
+
+/// What each group of so many of these processes says of a place.
+fn grouped(
+    alloc: Global,
+    holders: &[usize],
+    place: &str,
+    size: usize,
+) -> Result<Vec<String>, Unresolved> {
+    let mut groups = Vec::new(alloc);
+    groups.push(Group {
+        text: String::new(alloc),
+        last: None,
+    })?;
+    for _ in 0..size {
+        groups = larger(alloc, &groups, holders, place)?;
+        refuse_many(alloc, &groups)?;
+    }
+    let mut texts = Vec::new(alloc);
+    for group in groups {
+        texts.push(group.text)?;
+    }
+    Ok(texts)
+}
+
+/// Groups with one process more than these.
+fn larger(
+    alloc: Global,
+    groups: &[Group],
+    holders: &[usize],
+    place: &str,
+) -> Result<Vec<Group>, AllocError> {
+    let mut larger = Vec::new(alloc);
+    for group in groups {
+        for pid in holders.iter().filter(|pid| group.last < Some(**pid)) {
+            let part = format!(in alloc; "{pid} at {place}")?;
+            larger.push(Group {
+                text: with_part(alloc, &group.text, &part)?,
+                last: Some(*pid),
+            })?;
+        }
+    }
+    Ok(larger)
+}

@@ -1,0 +1,123 @@
+//! Why labels of a condition stand for no addresses.
+use crate::complaint::{Complaint, Misuse, Reason};
+use crate::labels::{ends_of, span_in};
+use lab_arguments::Shown;
+use lab_sources::Source;
+use lc3_spelling::suggestion;
+use std::alloc::{AllocError, AllocFailed, Global};
+use std::fmt::Write;
+
+/// Why the labels of a condition stand for no addresses.
+#[derive(Drop)]
+pub(crate) enum Unresolved {
+    /// This line says it.
+    Because(String),
+    NoMemory,
+}
+
+impl From<AllocError> for Unresolved {
+    fn from(_refused: AllocError) -> Unresolved {
+        Unresolved::NoMemory
+    }
+}
+
+impl<T: Drop> From<AllocFailed<T>> for Unresolved {
+    fn from(_refused: AllocFailed<T>) -> Unresolved {
+        Unresolved::NoMemory
+    }
+}
+
+impl Unresolved {
+    /// The complaint about the word that is misused.
+    pub(crate) fn of(self, misuse: Misuse, word: &str) -> Complaint<'_> {
+        match self {
+            Unresolved::Because(line) => misuse.of(word).followed(Some(line)),
+            Unresolved::NoMemory => Reason::NoMemory.at("run"),
+        }
+    }
+}
+
+/// Why a condition with addresses in the place of labels is none.
+pub(crate) fn reversed(alloc: Global, text: &str) -> Result<Unresolved, AllocError> {
+    let text = Shown(text);
+    let line = format!(in alloc;
+        "lc3lab: {text}: the first address of a range is above the second\n"
+    )?;
+    Ok(Unresolved::Because(line))
+}
+
+/// Why a place stands for no addresses in a process: it has no source, or this one has no such label.
+pub(crate) fn not_in(
+    alloc: Global,
+    sources: &[Option<Source>],
+    pid: usize,
+    place: &str,
+) -> Result<Unresolved, AllocError> {
+    let Some(Some(source)) = sources.get(pid) else {
+        let place = Shown(place);
+        let line = format!(in alloc;
+            "lc3lab: {place}: process {pid} is given as an object file, which has no labels\n"
+        )?;
+        return Ok(Unresolved::Because(line));
+    };
+    let (first, last) = ends_of(place);
+    let end = match span_in(sources, pid, first) {
+        Some(_) => last,
+        None => first,
+    };
+    let mut names = Vec::new(alloc);
+    push_names(&mut names, source)?;
+    let shown = Shown(end);
+    let line = format!(in alloc; "lc3lab: {shown}: process {pid} has no such label")?;
+    Ok(Unresolved::Because(with_nearest(alloc, line, end, &names)?))
+}
+
+/// Why a place stands for no addresses in any process: the end that none has, or the first one where none has both.
+pub(crate) fn in_none(
+    alloc: Global,
+    sources: &[Option<Source>],
+    place: &str,
+) -> Result<Unresolved, AllocError> {
+    let mut names = Vec::new(alloc);
+    for source in sources {
+        if let Some(source) = source {
+            push_names(&mut names, source)?;
+        }
+    }
+    let (first, last) = ends_of(place);
+    let end = if (0..sources.len()).any(|pid| span_in(sources, pid, first).is_some()) {
+        last
+    } else {
+        first
+    };
+    let shown = Shown(end);
+    let line = format!(in alloc; "lc3lab: {shown}: no process has this label")?;
+    Ok(Unresolved::Because(with_nearest(alloc, line, end, &names)?))
+}
+
+fn push_names<'a>(names: &mut Vec<&'a str>, source: &'a Source) -> Result<(), AllocError> {
+    let symbols = source.assembled.symbols();
+    for place in 0..symbols.len() {
+        if let Some((name, _)) = symbols.get(place) {
+            names.push(name)?;
+        }
+    }
+    Ok(())
+}
+
+/// A line, and behind it the label that is spelled most like the one of an end, if one is like it.
+fn with_nearest(
+    alloc: Global,
+    line: String,
+    end: &str,
+    names: &[&str],
+) -> Result<String, AllocError> {
+    let mut line = line;
+    let mut word = String::from_str(alloc, end.split('+').next().unwrap_or(end))?;
+    word.make_ascii_uppercase();
+    if let Some(nearest) = suggestion(alloc, &word, names)?.and_then(|at| names.get(at)) {
+        write!(line, "; did you mean {nearest}?")?;
+    }
+    line.push_str("\n")?;
+    Ok(line)
+}

@@ -1,0 +1,222 @@
+//! What was asked, on the page of ends, and the runs that show what isn't so.
+use crate::page::Paged;
+use lab_commands::{Complaint, Search};
+use lab_page::{Asked, EndList, ShownRun};
+use lab_questions::{Answer, Word};
+use lab_sched::{SchedFault, Schedule, World};
+use lab_worlds::Lasso;
+use std::alloc::{AllocError, Global};
+
+/// The runs to ends, what was asked, the runs beside those to ends, and which of these goes through the round, if there is one.
+#[derive(Drop)]
+pub struct Told {
+    pub ends: EndList,
+    pub asked: Vec<Asked>,
+    pub others: EndList,
+    pub round: Option<usize>,
+}
+
+/// What was asked of an exploration, where the page has these runs to ends.
+pub fn told_of<'a>(
+    alloc: Global,
+    paged: &Paged<'_, 'a>,
+    search: &Search,
+    ends: EndList,
+) -> Result<Told, Complaint<'a>> {
+    let mut told = Told {
+        ends,
+        asked: Vec::new(alloc),
+        others: EndList::new(alloc),
+        round: None,
+    };
+    add_round(alloc, paged, search, &mut told)?;
+    add_words(alloc, paged, search, &mut told)?;
+    add_conditions(alloc, paged, search, &mut told)?;
+    add_fairness(alloc, search, &mut told)?;
+    Ok(told)
+}
+
+/// Adds the run of the programs by a schedule to a list, with a number; tells its number there, if there was room for it.
+pub fn add_run<'a>(
+    alloc: Global,
+    paged: &Paged<'_, 'a>,
+    schedule: &Schedule,
+    number: u32,
+    list: &mut EndList,
+) -> Result<Option<usize>, Complaint<'a>> {
+    if list.is_full() {
+        return Ok(None);
+    }
+    let before = list.count();
+    let stores = paged.stores(alloc, schedule)?;
+    let mut world = World::from(paged.laboratory(alloc)?);
+    list.add(alloc, &mut world, schedule, number, stores.as_slice())
+        .map_err(|fault| paged.complaint(alloc, fault))?;
+    if list.count() > before {
+        Ok(Some(before))
+    } else {
+        Ok(None)
+    }
+}
+
+/// Adds the run to a round and once through it.
+fn add_round<'a>(
+    alloc: Global,
+    paged: &Paged<'_, 'a>,
+    search: &Search,
+    told: &mut Told,
+) -> Result<(), Complaint<'a>> {
+    let Some(lasso) = &search.answers.exploration.lasso else {
+        return Ok(());
+    };
+    if let Some(schedule) = through_round(alloc, lasso)? {
+        let before = lasso.schedule.total();
+        told.round = add_run(alloc, paged, &schedule, before, &mut told.others)?;
+    }
+    Ok(())
+}
+
+/// The schedule to a round with the steps of the round behind it, unless they are too many for one.
+fn through_round(alloc: Global, lasso: &Lasso) -> Result<Option<Schedule>, AllocError> {
+    let mut text = lasso.schedule.text(alloc)?;
+    text.push_str(" ")?;
+    text.push_str(&lasso.steps.text(alloc)?)?;
+    match Schedule::read(alloc, &text) {
+        Ok(schedule) => Ok(Some(schedule)),
+        Err(SchedFault::NoMemory) => Err(AllocError),
+        Err(SchedFault::BadBlock { .. }) | Err(SchedFault::TooLong { .. }) => Ok(None),
+    }
+}
+
+/// Adds the words that are required of each end.
+fn add_words<'a>(
+    alloc: Global,
+    paged: &Paged<'_, 'a>,
+    search: &Search,
+    told: &mut Told,
+) -> Result<(), Complaint<'a>> {
+    for answer in &search.answers.answers {
+        let one = word_asked(alloc, paged, search, *answer, told)?;
+        told.asked.push(one)?;
+    }
+    Ok(())
+}
+
+/// Whether a word asks that each run comes to rest.
+fn asks_rest(word: Word) -> bool {
+    matches!(word, Word::Ended | Word::Stuck | Word::Halted)
+}
+
+/// A word that is required, with the runs that show that it isn't so.
+fn word_asked<'a>(
+    alloc: Global,
+    paged: &Paged<'_, 'a>,
+    search: &Search,
+    answer: Answer,
+    told: &mut Told,
+) -> Result<Asked, Complaint<'a>> {
+    let mut runs = Vec::new(alloc);
+    if let Some(number) = answer.fault {
+        if matches!(answer.word, Word::Same) {
+            push_end(alloc, paged, search, 0, told, &mut runs)?;
+        }
+        push_end(alloc, paged, search, number, told, &mut runs)?;
+    }
+    let is_endless = asks_rest(answer.word) && search.answers.exploration.lasso.is_some();
+    if is_endless {
+        push_round(told, &mut runs)?;
+    }
+    let word = answer.word.text();
+    Ok(Asked {
+        text: format!(in alloc; "--require {word}")?,
+        failed: answer.fault.is_some() || is_endless,
+        runs,
+    })
+}
+
+fn push_round(told: &Told, runs: &mut Vec<ShownRun>) -> Result<(), AllocError> {
+    if let Some(number) = told.round {
+        runs.push(ShownRun::Other(number))?;
+    }
+    Ok(())
+}
+
+/// Where an end with this number stands among those that are told, if it is one of the first of them.
+fn shown_at(told: &[usize], number: usize, count: usize) -> Option<usize> {
+    match told.iter().position(|end| *end == number) {
+        Some(at) if at < count => Some(at),
+        _ => None,
+    }
+}
+
+/// Adds the run to an end, by its number in the exploration: the one that the page has, else one beside those.
+fn push_end<'a>(
+    alloc: Global,
+    paged: &Paged<'_, 'a>,
+    search: &Search,
+    number: usize,
+    told: &mut Told,
+    runs: &mut Vec<ShownRun>,
+) -> Result<(), Complaint<'a>> {
+    if let Some(at) = shown_at(search.answers.told.as_slice(), number, told.ends.count()) {
+        runs.push(ShownRun::End(at))?;
+        return Ok(());
+    }
+    if let Some(end) = search.answers.exploration.ends.get(number) {
+        push_other(alloc, paged, &end.schedule, told, runs)?;
+    }
+    Ok(())
+}
+
+/// Adds a run beside those to ends.
+fn push_other<'a>(
+    alloc: Global,
+    paged: &Paged<'_, 'a>,
+    schedule: &Schedule,
+    told: &mut Told,
+    runs: &mut Vec<ShownRun>,
+) -> Result<(), Complaint<'a>> {
+    let steps = schedule.total();
+    if let Some(at) = add_run(alloc, paged, schedule, steps, &mut told.others)? {
+        runs.push(ShownRun::Other(at))?;
+    }
+    Ok(())
+}
+
+/// Adds what must never be so, with the run to it.
+fn add_conditions<'a>(
+    alloc: Global,
+    paged: &Paged<'_, 'a>,
+    search: &Search,
+    told: &mut Told,
+) -> Result<(), Complaint<'a>> {
+    let found = &search.answers.exploration;
+    let conditions = &search.answers.asked.never;
+    for (condition, reached) in conditions.iter().zip(found.reached.iter()) {
+        let mut runs = Vec::new(alloc);
+        if let Some(schedule) = reached {
+            push_other(alloc, paged, schedule, told, &mut runs)?;
+        }
+        told.asked.push(Asked {
+            text: format!(in alloc; "--never {condition}")?,
+            failed: reached.is_some(),
+            runs,
+        })?;
+    }
+    Ok(())
+}
+
+/// Adds that no fair run goes on for ever, where that is asked.
+fn add_fairness(alloc: Global, search: &Search, told: &mut Told) -> Result<(), AllocError> {
+    if !search.answers.asked.fair {
+        return Ok(());
+    }
+    let mut runs = Vec::new(alloc);
+    push_round(told, &mut runs)?;
+    told.asked.push(Asked {
+        text: String::from_str(alloc, "--fair")?,
+        failed: search.answers.exploration.lasso.is_some(),
+        runs,
+    })?;
+    Ok(())
+}
