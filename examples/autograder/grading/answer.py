@@ -19,11 +19,13 @@ class End:
 
 @dataclass
 class Answer:
-    """The ends, what isn't as it should be (a verdict, and a schedule that shows it where there is one), the objects that
-    conditions name and nobody opens, and a schedule that never ends, where there is one."""
+    """The ends, what isn't as it should be (a verdict, and a schedule that shows it where there is one), the processes that have
+    written something else, each with such a schedule, the objects that conditions name and nobody opens, and a schedule that
+    never ends, where there is one."""
 
     ends: list
     fault: tuple | None
+    unwritten: dict
     limits: list
     unopened: list
     round: str | None
@@ -50,13 +52,29 @@ def end_of(found, count):
     return End([member(it, "out", str) for it in processes], schedule_of(member(found, "schedule", str)))
 
 
-def faults_of(found):
-    """What isn't as it should be, in the order in which explore tells it; each with the schedule that shows it."""
+def unmet(found):
+    """The words of --require that aren't so, in the order in which explore tells them; each with the schedule that shows it."""
     for it in member(found, "not", list):
         word, schedules = member(it, "require", str), member(it, "schedules", list)
-        if word not in WORDS or not schedules:
+        if not schedules:
             raise NoMark("explore --json: not isn't as the schema says")
-        yield f"not {word}", schedule_of(schedules[-1])
+        yield word, schedule_of(schedules[-1])
+
+
+def unwritten_of(found, outputs):
+    """The processes whose outputs aren't as --require asks; each with the schedule that shows it."""
+    by_word = {word: process for process, word in outputs.items()}
+    told = {word: schedule for word, schedule in unmet(found) if word not in WORDS}
+    if not told.keys() <= by_word.keys():
+        raise NoMark("explore --json: not isn't as the schema says")
+    return {by_word[word]: schedule for word, schedule in told.items()}
+
+
+def faults_of(found):
+    """What isn't as it should be, but for outputs, in the order in which explore tells it; each with the schedule that shows it."""
+    for word, schedule in unmet(found):
+        if word in WORDS:
+            yield f"not {word}", schedule
     for it in member(found, "reached", list):
         yield f"reached {member(it, 'never', str)}", schedule_of(member(it, "schedule", str))
 
@@ -90,16 +108,21 @@ def ways(raw, count):
     return [end_of(it, count).schedule for it in member(parsed(raw), "ends", list)]
 
 
-def read(raw, count, asked, asks_to_end):
-    """The answer for a run of so many programs. `asked` says that there was --require or --never."""
+def read(raw, count, run):
+    """The answer for a run of so many programs."""
     found = parsed(raw)
     limits, unopened = member(found, "limits", list), member(found, "unopened", list)
     complete = member(found, "search", str) == "complete"
     if complete == bool(limits) or not all(isinstance(it, str) for it in limits + unopened):
         raise NoMark("explore --json: search and limits contradict each other")
-    fault = fault_of(found, asks_to_end)
+    fault, unwritten = fault_of(found, run.asks_to_end()), unwritten_of(found, run.outputs_asked())
     # what explore itself makes of it must be the same
-    holds = None if not asked or not fault and not complete else not fault
+    holds = not (fault or unwritten)
+    if not run.asks() or holds and not complete:
+        holds = None
     if found.get("holds", "none") is not holds:
         raise NoMark("explore --json: holds contradicts what was found")
-    return Answer([end_of(it, count) for it in member(found, "ends", list)], fault, limits, unopened, round_of(found))
+    ends = [end_of(it, count) for it in member(found, "ends", list)]
+    if not set(unwritten.values()) <= {it.schedule for it in ends}:
+        raise NoMark("explore --json: an end that isn't told has another output")
+    return Answer(ends, fault, unwritten, limits, unopened, round_of(found))

@@ -100,7 +100,8 @@ class Marking:
         if missing:
             return {"verdict": "no program", "detail": [line for lines in missing.values() for line in lines]}
         words = self.furnish(place, run, objects)
-        found = self.explore(run, words)
+        judged = self.with_sources(place, run, words) if run.names_labels() else words
+        found = self.explore(run, judged)
         if isinstance(found, dict):
             return found
         verdict, detail, schedule = self.fault_of(run, found, words)
@@ -109,7 +110,7 @@ class Marking:
             text = self.show(place, run, words, schedule)
             part["detail"] = detail + shown.lines(text, LONGEST_LINE, LINES_OF_TRACE)
             part["page"] = pages.bounded(self.place / f"{place}.html", text)
-            part["ends_page"] = self.page_of_ends(place, run, words, found)
+            part["ends_page"] = self.page_of_ends(place, run, judged, found)
         return part
 
     def furnish(self, place, run, objects):
@@ -131,9 +132,11 @@ class Marking:
         met = bound_met(run, ran, "the search")
         if met:
             return {"verdict": met[0], "detail": [met[1]]}
+        if ran.status == 2 and b" doesn't fit the programs: " in ran.errors:
+            return {"verdict": "no label", "detail": shown.lines(ran.errors, LONGEST_LINE, 5)[1:]}
         if ran.status not in (0, 1):
             raise NoMark("; ".join([f"explore ended with status {ran.status}"] + shown.lines(ran.errors, LONGEST_LINE, 5)))
-        return answer.read(ran.output, len(words), run.asks(), run.asks_to_end())
+        return answer.read(ran.output, len(words), run)
 
     def fault_of(self, run, found, words):
         """The first thing that isn't as it should be: the verdict, what is said of it, and its schedule."""
@@ -142,7 +145,8 @@ class Marking:
         if not found.ends and not found.limits and run.asks_of_ends():
             return "endless", ["no interleaving has an end"], found.round
         for end in found.ends:
-            wrong = outputs.difference(run.alternatives, end.outputs)
+            unwritten = [process for process, schedule in found.unwritten.items() if schedule == end.schedule]
+            wrong = outputs.difference(run.alternatives, end.outputs, run.outputs_asked(), unwritten)
             if wrong:
                 return "wrong output", wrong, end.schedule
         fault = self.fault_of_calls(run, found, words) if any(it.is_watched() for it in run.programs) else None
@@ -202,6 +206,18 @@ class Marking:
         source = f"{place}-{number}.asm"
         shutil.copyfile(self.place / "asked" / program.name, self.place / source)
         return source + word.removeprefix(f"{place}-{number}.obj")
+
+    def with_sources(self, place, run, words):
+        """The words for programs, with the source of each in the object file's place: its labels count."""
+        found = []
+        for number, (program, word) in enumerate(zip(run.programs, words)):
+            if program.given is not None:
+                source = f"{place}-{number}.asm"
+                (self.place / source).write_bytes(program.given)
+                found.append(source + word.removeprefix(f"{place}-{number}.obj"))
+            else:
+                found.append(self.with_source(place, number, program, word))
+        return found
 
     def page_of_ends(self, place, run, words, found):
         """The file of a page of all ends, by another search."""

@@ -5,6 +5,11 @@ from dataclasses import dataclass
 from . import shown
 from .faults import TaskFault
 
+# what stands for a character in a text of `explore --require`, beside those from a blank to `~`
+ESCAPES = {"\n": "\\n", "\t": "\\t", "\r": "\\r", "\a": "\\a", "\b": "\\b", "\f": "\\f", "\v": "\\v", "\x1b": "\\e",
+           "\0": "\\0", '"': '\\"', "\\": "\\\\"}
+LONGEST = 10_000
+
 
 @dataclass
 class Text:
@@ -14,6 +19,13 @@ class Text:
 
     def fits(self, found):
         return found in self.texts
+
+    def written(self):
+        """The text as `explore --require` takes it, if there is one alone, and it does."""
+        text = self.texts[0]
+        if len(self.texts) > 1 or len(text) > LONGEST or not all(" " <= it <= "~" or it in ESCAPES for it in text):
+            return None
+        return "".join(ESCAPES.get(it, it) for it in text)
 
     def told(self):
         return " or ".join(shown.output(it) for it in self.texts)
@@ -96,9 +108,21 @@ def wanted_of_all(words, count):
     return [wanted(it) for it in words]
 
 
-def difference(alternatives, found):
-    """What is wrong with the outputs of an end, in lines, or nothing where they are those of an alternative."""
-    wrong = [[place for place, it in enumerate(each) if not it.fits(found[place])] for each in alternatives]
+def required(alternatives):
+    """The words of `--require` that ask for the outputs, by the processes, as far as it has words for them."""
+    if len(alternatives) != 1:
+        return {}
+    texts = {place: it.written() for place, it in enumerate(alternatives[0]) if isinstance(it, Text)}
+    return {place: f'out {place} = "{text}"' for place, text in texts.items() if text is not None}
+
+
+def difference(alternatives, found, asked, unwritten):
+    """What is wrong with the outputs of an end, in lines, or nothing where they are those of an alternative. Of the processes that
+    `explore` was asked about it said which are wrong."""
+    def is_wrong(place, it):
+        return place in unwritten if place in asked else not it.fits(found[place])
+
+    wrong = [[place for place, it in enumerate(each) if is_wrong(place, it)] for each in alternatives]
     if not wrong or [] in wrong:
         return []
     nearest = min(range(len(wrong)), key=lambda it: len(wrong[it]))

@@ -12,13 +12,14 @@ from .faults import TaskFault
 from .laboratory import Bounds
 
 # another number where marks come to be worked out otherwise, so that kept ones aren't taken up
-FORM = 3
+FORM = 4
 # of each run in which calls count, and which has more than one process, so many walks are looked at beside its ends
 WALKS = 6
 VISIBILITIES = ["visible", "hidden", "after_due_date", "after_published"]
 # what stands at the head of a task holds for each run that doesn't say otherwise
 SHARED = {"require": "halted", "may-wait": [], "never": [], "fair": False, "profile": "a", "limit": 100_000,
           "worlds": 100_000, "memory": 1024, "seconds": 60, "points": 1, "visibility": "visible"}
+ADDRESSES = re.compile("x[0-9A-Fa-f]{1,4}(-x[0-9A-Fa-f]{1,4})?")
 OF_RUN = {"name", "programs", "outputs", "alternatives"}
 OF_PROGRAM = {"given", "asked", "input", "input-file", "must-call", "must-not-call", "must-hold", "may-call", "must-order"}
 
@@ -64,13 +65,24 @@ class Run:
         found = ["--profile", said["profile"], "--limit", str(said["limit"]), "--worlds", str(said["worlds"]),
                  "--memory", str(said["memory"]), "--threads", "1"]
         found += ["--require", said["require"]] if said["require"] else []
+        found += [word for it in self.outputs_asked().values() for word in ("--require", it)]
         for option in "may-wait", "never":
             found += [word for it in said[option] for word in (f"--{option}", it)]
         return found + ["--fair"] * said["fair"]
 
+    def names_labels(self):
+        """A condition, or a process that may wait, is said of labels of sources."""
+        places = [it for option in ("may-wait", "never") for text in self.options[option]
+                  for it in re.findall(r"(?<!\S)at +(\S+)", text)]
+        return not all(ADDRESSES.fullmatch(it) for it in places)
+
+    def outputs_asked(self):
+        """What the search itself is asked about outputs, by the processes."""
+        return outputs.required(self.alternatives)
+
     def asks(self):
         """Something is asked of the search itself."""
-        return bool(self.options["require"] or self.options["never"])
+        return bool(self.options["require"] or self.options["never"] or self.outputs_asked())
 
     def asks_of_ends(self):
         """Something is asked of each end, and so of nothing where there is none."""
