@@ -12,10 +12,10 @@ use super::rows::number_of;
 use crate::index::Index;
 use ipc_kernel::{OBJECT_PLACES, Place};
 use ipc_names::Name;
-use ipc_objects::Message;
+use ipc_objects::{FEW_WORDS, Message};
 use std::alloc::{AllocError, Global};
 use std::marker::Model;
-use std::mem::size_of;
+use std::mem::{size_of, size_of_val};
 
 /// Whether texts are equal. Names that differ mostly do so in their lengths or their last
 /// characters, which are looked at first.
@@ -41,17 +41,35 @@ fn is_name(name: &Name, other: Option<&Name>) -> bool
     }
 }
 
-/// About how many bytes of messages a copy of an object has room for and doesn't use: the room for the messages of a queue
-/// grows by doubling.
-fn spare(object: &Place) -> usize {
-    match object {
-        Place::Mq { queue, .. } => {
-            let messages = queue.attr().2 as usize;
-            let room = messages.checked_next_power_of_two().unwrap_or(messages);
-            size_of::<Message>().saturating_mul(room.saturating_sub(messages))
-        }
-        Place::Empty | Place::Sem { .. } => 0,
+/// About how many bytes the words of a message take that only one object holds, where they are many: the words and what counts
+/// those that share them.
+fn size_of_words(words: &[u16]) -> usize {
+    if words.len() <= FEW_WORDS {
+        return 0;
     }
+    size_of_val(words).saturating_add(5 * size_of::<u128>())
+}
+
+/// About how many bytes a copy of an object takes beside its size: the room for the messages of a queue behind the first grows by
+/// doubling, from four, and the words of the message that came last are shared with no object that was kept before.
+fn beside(object: &Place) -> usize {
+    let Place::Mq { queue, .. } = object else {
+        return 0;
+    };
+    let messages = queue.attr().2 as usize;
+    let Some(last) = messages.checked_sub(1) else {
+        return 0;
+    };
+    let room = match last {
+        0 => 0,
+        _ => last.max(4).checked_next_power_of_two().unwrap_or(last),
+    };
+    let words = queue
+        .entry(last)
+        .map_or(0, |(_, words)| size_of_words(words));
+    size_of::<Message>()
+        .saturating_mul(room.saturating_sub(last))
+        .saturating_add(words)
 }
 
 /// The number of what is kept first.
@@ -248,7 +266,7 @@ impl Objects {
         self.held = self
             .held
             .saturating_add(object.size())
-            .saturating_add(spare(object));
+            .saturating_add(beside(object));
         Ok(number)
     }
 
