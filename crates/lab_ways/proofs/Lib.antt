@@ -1,0 +1,5 @@
+mod NextStates
+mod HeldUnits
+mod StatesAlong
+mod MarkedRows
+mod WatchedWalks

@@ -1,0 +1,4 @@
+pub mod Calls
+pub mod Wanted
+pub mod Ways
+pub mod Private

@@ -1,0 +1,165 @@
+//! Ways on which what is asked isn't so: the steps along edges are taken again.
+ghost use Rattle.std.specs.Prelude.{◌≡◌, IfOk, OnOk};
+ghost use Rattle.lab_sched.specs.Starts.{AreStarts, initial_world};
+ghost use Rattle.lab_ways.specs.declared.wanted.Wanted.{Wanted as Asked};
+ghost use Rattle.lab_ways.specs.Ways.{IsWayWithout};
+ghost use Rattle.lab_ways.specs.Private.Marked.{KeepsWatched, ComesToEnd};
+
+use crate::wanted::Wanted;
+use crate::watching::WatchedWalk;
+use lab_explore::Visited;
+use lab_sched::{Process, Schedule};
+use lab_states::{Edge, number_at, put};
+use lab_worlds::{ExploreFault, Walk, discard};
+use std::alloc::Global;
+
+/// Takes the local steps that are left of the process of an edge; behind its step it has others.
+fn go_to_edge(
+    visited: &Visited,
+    edge: &Edge,
+    local: &mut Vec<u32>,
+    walk: &mut WatchedWalk,
+) -> Result<(), ExploreFault>
+    ensures watched { OnOk result ((x : Asked) → KeepsWatched x walk.old walk.new) }
+{
+    let pid = edge.pid as usize;
+    walk.go_on(pid, number_at(local, pid))?;
+    let Some(taken) = visited
+        .store
+        .known_steps(edge.from as usize, edge.pid as u32)
+    else {
+        return Err(ExploreFault::Unvouched);
+    };
+    put(local, pid, taken);
+    Ok(())
+}
+
+/// Goes along edges, the last of which comes first.
+fn go_along(
+    visited: &Visited,
+    alloc: Global,
+    wanted: &Wanted,
+    path: &[Edge],
+    local: &mut Vec<u32>,
+    walk: &mut WatchedWalk,
+) -> Result<(), ExploreFault>
+    ensures watched { OnOk result (KeepsWatched wanted.now walk.old walk.new) }
+{
+    for edge in path.iter().rev() {
+        go_to_edge(visited, edge, local, walk)?;
+        walk.go(alloc, wanted, edge.pid as usize)?;
+    }
+    Ok(())
+}
+
+/// Takes the local steps that are left of each process, and behind them the one by which it begins to
+/// wait, if it hasn't ended.
+fn settle(
+    alloc: Global,
+    wanted: &Wanted,
+    local: &[u32],
+    walk: &mut WatchedWalk,
+) -> Result<(), ExploreFault>
+    ensures watched { OnOk result (KeepsWatched wanted.now walk.old walk.new) }
+{
+    for (pid, count) in local.iter().enumerate() {
+        walk.go_on(pid, *count)?;
+        if !walk.has_ended(pid) {
+            walk.go(alloc, wanted, pid)?;
+        }
+    }
+    Ok(())
+}
+
+/// Goes along edges to rest, where what is asked must not be so.
+fn go_to_rest(
+    visited: &Visited,
+    alloc: Global,
+    wanted: &Wanted,
+    path: &[Edge],
+    walk: &mut WatchedWalk,
+) -> Result<(), ExploreFault>
+    ensures against { OnOk result (ComesToEnd wanted.now walk.old walk.new) }
+{
+    let mut local = Vec::from_slice(alloc, visited.firsts.as_slice())?;
+    go_along(visited, alloc, wanted, path, &mut local, walk)?;
+    settle(alloc, wanted, local.as_slice(), walk)?;
+    if !walk.rests_unaccepted(wanted) {
+        return Err(ExploreFault::Unvouched);
+    }
+    Ok(())
+}
+
+/// Goes along edges, the last step of which must lead to a state that isn't allowed.
+fn go_to_break(
+    visited: &Visited,
+    alloc: Global,
+    wanted: &Wanted,
+    path: &[Edge],
+    walk: &mut WatchedWalk,
+) -> Result<(), ExploreFault>
+    ensures against { OnOk result (ComesToEnd wanted.now walk.old walk.new) }
+{
+    let Some((last, before)) = path.split_first() else {
+        return Err(ExploreFault::Unvouched);
+    };
+    let mut local = Vec::from_slice(alloc, visited.firsts.as_slice())?;
+    go_along(visited, alloc, wanted, before, &mut local, walk)?;
+    go_to_edge(visited, last, &mut local, walk)?;
+    walk.break_off(alloc, wanted, last.pid as usize)?;
+    Ok(())
+}
+
+/// Goes along edges to a state that isn't allowed, if such a one is to come, or else to rest.
+fn go_to_end(
+    visited: &Visited,
+    alloc: Global,
+    wanted: &Wanted,
+    path: &[Edge],
+    breaks: bool,
+    walk: &mut WatchedWalk,
+) -> Result<(), ExploreFault>
+    ensures against { OnOk result (ComesToEnd wanted.now walk.old walk.new) }
+{
+    if breaks {
+        go_to_break(visited, alloc, wanted, path, walk)
+    } else {
+        go_to_rest(visited, alloc, wanted, path, walk)
+    }
+}
+
+/// The schedule of a walk.
+fn schedule_of(walk: WatchedWalk) -> Schedule
+    ensures schedule { result ≡ walk.walk.schedule }
+{
+    let WatchedWalk { walk, state: _ } = walk;
+    let Walk {
+        world,
+        schedule,
+        calls: _,
+    } = walk;
+    discard(world);
+    schedule
+}
+
+/// The way along edges to a state that isn't allowed, or to rest.
+pub(crate) fn way_along(
+    visited: &Visited,
+    alloc: Global,
+    processes: &[Process],
+    wanted: &Wanted,
+    path: &[Edge],
+    breaks: bool,
+) -> Result<Schedule, ExploreFault>
+    requires starts { AreStarts processes.now }
+    ensures way { IfOk result (λ s. IsWayWithout wanted.now (initial_world processes.now) s) }
+{
+    let mut walk = WatchedWalk::start(alloc, processes)?;
+    match go_to_end(visited, alloc, wanted, path, breaks, &mut walk) {
+        Ok(()) => Ok(schedule_of(walk)),
+        Err(fault) => {
+            discard(walk);
+            Err(fault)
+        }
+    }
+}

@@ -1,0 +1,219 @@
+//! What is asked of the calls that are answered with success.
+ghost use Rattle.std.specs.Prelude.{◌≡◌, ◌+◌, ◌<◌, ◌==◌, ℕ, false, length, IfOk};
+ghost use Rattle.ipc_kernel.specs.Answer.{answer};
+ghost use Rattle.ipc_kernel.specs.Kernel.{KernelState};
+ghost use Rattle.ipc_kernel.specs.declared.call.Answer.{Answer as Given};
+ghost use Rattle.lab_conditions.specs.Refusals.{is_process};
+ghost use Rattle.lab_ways.specs.Calls.{is_success};
+ghost use Rattle.lab_ways.specs.Wanted.{next_count, is_of_next, next_turn, next_by, next_answered, is_allowed, is_accepted};
+
+use crate::calls::{CallKind, are_called, is_called, is_of_any, is_success};
+use crate::units::{are_held, moves_units, next_units};
+use ipc_kernel::{Call, Kernel};
+use ipc_names::Name;
+use lab_states::place_of;
+use lab_worlds::ExploreFault;
+
+/// The most states that what is asked may have. `AtLeast` has one more than it counts, `InOrder` two more
+/// than it has kinds, and `Together` for each name twice as many. For more, memory is refused.
+pub const MOST_STATES: usize = 1_024;
+
+/// What is asked of calls that are answered with success, on each way.
+#[derive(Drop)]
+pub enum Pattern {
+    /// So many of these are made before an end, at least.
+    AtLeast(CallKind, u32),
+    /// Of the calls that are of one of these kinds, exactly these are made before an end, in this order.
+    InOrder(Vec<CallKind>),
+    /// At some moment before an end a unit of each of these semaphores is taken, and not given back since.
+    Together(Vec<Name>),
+    /// None of these is ever made.
+    NoneOf(Vec<CallKind>),
+    /// No call is ever made, but the end of a process, that is of none of these kinds.
+    NoneBut(Vec<CallKind>),
+}
+
+/// What is asked of the calls of one process, or of all processes.
+#[derive(Drop)]
+pub struct Wanted {
+    pub process: Option<usize>,
+    pub pattern: Pattern,
+}
+
+fn one_more(number: u32) -> Result<u32, ExploreFault>
+    ensures value { IfOk result (λ n. n ≡ number + 1) }
+{
+    match number.checked_add(1) {
+        Some(more) => Ok(more),
+        None => Err(ExploreFault::NoMemory),
+    }
+}
+
+fn next_count(
+    kind: &CallKind,
+    most: u32,
+    count: u32,
+    kernel: &Kernel,
+    pid: usize,
+    call: &Call,
+) -> u32
+    requires process { pid < length kernel.now.processes }
+    ensures value { result ≡ next_count kind.now most count kernel.now pid call.now }
+{
+    if !kind.is_of(kernel, pid, call) {
+        return count;
+    }
+    if count < most { count + 1 } else { most }
+}
+
+/// Whether a call is of the kind whose turn it is.
+fn is_of_next(kinds: &[CallKind], turn: u32, kernel: &Kernel, pid: usize, call: &Call) -> bool
+    requires process { pid < length kernel.now.processes }
+    ensures value { result ≡ is_of_next kinds.now turn kernel.now pid call.now }
+{
+    match kinds.get(turn as usize) {
+        Some(kind) => kind.is_of(kernel, pid, call),
+        None => false,
+    }
+}
+
+fn next_turn(
+    kinds: &[CallKind],
+    turn: u32,
+    kernel: &Kernel,
+    pid: usize,
+    call: &Call,
+) -> Result<u32, ExploreFault>
+    requires process { pid < length kernel.now.processes }
+    ensures value { IfOk result (λ n. n ≡ next_turn kinds.now turn kernel.now pid call.now) }
+{
+    if !is_of_any(kinds, kernel, pid, call) {
+        return Ok(turn);
+    }
+    if is_of_next(kinds, turn, kernel, pid, call) {
+        return one_more(turn);
+    }
+    one_more(place_of(kinds.len())?)
+}
+
+impl Pattern {
+    /// How many states there are.
+    pub(crate) fn states(&self) -> usize {
+        match self {
+            Pattern::AtLeast(_, count) => (*count as usize).saturating_add(1),
+            Pattern::InOrder(kinds) => kinds.len().saturating_add(2),
+            Pattern::Together(names) => {
+                names
+                    .iter()
+                    .fold(1, |count: usize, _| count.saturating_mul(2))
+            }
+            Pattern::NoneOf(_) | Pattern::NoneBut(_) => 2,
+        }
+    }
+
+    /// Whether a call may make another state, by its name.
+    fn reads(&self, call: &Call) -> bool
+        ensures no { result ≡ false → (s : ℕ) (k : KernelState) (p : ℕ)
+            → next_by self.now s k p call.now ≡ s }
+    {
+        match self {
+            Pattern::AtLeast(kind, _) => is_called(kind.service, call),
+            Pattern::InOrder(kinds) => are_called(kinds, call),
+            Pattern::NoneOf(kinds) => are_called(kinds, call),
+            Pattern::Together(_) => moves_units(call),
+            Pattern::NoneBut(_) => !matches!(call, Call::Exit),
+        }
+    }
+
+    /// The state after a call of process `pid` that is answered with success.
+    fn next(
+        &self,
+        state: u32,
+        kernel: &Kernel,
+        pid: usize,
+        call: &Call,
+    ) -> Result<u32, ExploreFault>
+        requires process { pid < length kernel.now.processes }
+        ensures value { IfOk result (λ n. n ≡ next_by self.now state kernel.now pid call.now) }
+    {
+        match self {
+            Pattern::AtLeast(kind, most) => Ok(next_count(kind, *most, state, kernel, pid, call)),
+            Pattern::InOrder(kinds) => next_turn(kinds, state, kernel, pid, call),
+            Pattern::Together(names) if are_held(names, state) => Ok(state),
+            Pattern::Together(names) => next_units(names, state, kernel, pid, call),
+            Pattern::NoneOf(kinds) if is_of_any(kinds, kernel, pid, call) => Ok(1),
+            Pattern::NoneOf(_) => Ok(state),
+            Pattern::NoneBut(_) if matches!(call, Call::Exit) => Ok(state),
+            Pattern::NoneBut(kinds) if is_of_any(kinds, kernel, pid, call) => Ok(state),
+            Pattern::NoneBut(_) => Ok(1),
+        }
+    }
+
+    /// Whether a state is one that may be, ever.
+    pub(crate) fn allows(&self, state: u32) -> bool
+        ensures value { result ≡ is_allowed self.now state }
+    {
+        match self {
+            Pattern::AtLeast(..) | Pattern::InOrder(_) | Pattern::Together(_) => true,
+            Pattern::NoneOf(_) | Pattern::NoneBut(_) => state == 0,
+        }
+    }
+
+    /// Whether it is one that may be where no process goes on.
+    pub(crate) fn accepts(&self, state: u32) -> bool
+        ensures value { result ≡ is_accepted self.now state }
+    {
+        match self {
+            Pattern::AtLeast(_, count) => *count <= state,
+            Pattern::InOrder(kinds) => state as usize == kinds.len(),
+            Pattern::Together(names) => are_held(names, state),
+            Pattern::NoneOf(_) | Pattern::NoneBut(_) => true,
+        }
+    }
+}
+
+impl Wanted {
+    fn is_process(&self, pid: usize) -> bool
+        ensures value { result ≡ is_process self.now.process pid }
+    {
+        match self.process {
+            Some(process) => pid == process,
+            None => true,
+        }
+    }
+
+    /// Whether a call of process `pid` may make another state, by its process and name.
+    pub(crate) fn reads(&self, pid: usize, call: &Call) -> bool
+        ensures no { result ≡ false → (s : ℕ) (k : KernelState) (a : Given)
+            → next_answered self.now s k pid call.now a ≡ s }
+    {
+        if !self.is_process(pid) {
+            return false;
+        }
+        self.pattern.reads(call)
+    }
+
+    /// The state after a call of process `pid`, which the kernel must know.
+    pub(crate) fn next(
+        &self,
+        state: u32,
+        kernel: &Kernel,
+        pid: usize,
+        call: &Call,
+    ) -> Result<u32, ExploreFault>
+        ensures value { IfOk result (λ n. n ≡ next_answered self.now state kernel.now pid call.now
+            (answer kernel.now pid call.now).0) }
+    {
+        if !self.is_process(pid) {
+            return Ok(state);
+        }
+        if pid >= kernel.count() {
+            return Err(ExploreFault::Unvouched);
+        }
+        let answer = kernel.answer(pid, call)?;
+        if !is_success(&answer) {
+            return Ok(state);
+        }
+        self.pattern.next(state, kernel, pid, call)
+    }
+}

@@ -1,0 +1,141 @@
+//! Whether what is asked of calls is so on every way.
+ghost use Rattle.std.specs.Prelude.{◌≡◌, IsTrue, IfOk};
+ghost use Rattle.lab_sched.specs.Starts.{AreStarts, initial_world};
+ghost use Rattle.lab_worlds.specs.Calls.{Alongside};
+ghost use Rattle.lab_search.specs.Stored.{IsStore};
+ghost use Rattle.lab_ways.specs.Ways.{AreAllWays};
+ghost use Rattle.lab_ways.specs.Private.Marked.{AreShown, IsFound};
+
+use crate::checking::{are_shown, first_against};
+use crate::marking::{Marks, mark};
+use crate::walking::way_along;
+use crate::wanted::Wanted;
+use ipc_kernel::Kernel;
+use lab_explore::{Visited, visit};
+use lab_sched::{Fresh, Process, Schedule};
+use lab_worlds::{ExploreFault, Limits, Observer, discard};
+use std::alloc::Global;
+
+/// Whether what is asked is so on every way.
+#[derive(Drop)]
+pub enum Ways {
+    /// It is.
+    Always,
+    /// On this one it isn't.
+    Without(Schedule),
+    /// Not every way was gone.
+    Unknown,
+}
+
+/// Whether the search shows that what is asked is so on every way.
+fn is_always(
+    visited: &Visited,
+    alloc: Global,
+    wanted: &Wanted,
+    marks: &Marks,
+) -> Result<bool, ExploreFault>
+    requires store { IsTrue visited.now.complete → IsStore visited.now.store }
+    ensures complete { IfOk result (λ is. IsTrue is → IsTrue visited.now.complete) }
+    ensures shown { IfOk result (λ is. IsTrue is
+        → AreShown wanted.now visited.now.store marks.now) }
+{
+    if !visited.complete {
+        return Ok(false);
+    }
+    are_shown(visited, alloc, wanted, marks)
+}
+
+/// A way on which what is asked isn't so, as the marks have it, if there is one.
+fn way_against(
+    visited: &Visited,
+    alloc: Global,
+    processes: &[Process],
+    wanted: &Wanted,
+    marks: &Marks,
+) -> Result<Ways, ExploreFault>
+    requires starts { AreStarts processes.now }
+    ensures found { IfOk result (λ found.
+        IsFound visited.now.complete (initial_world processes.now) visited.now.store wanted.now found) }
+{
+    let Some(place) = first_against(visited, wanted, marks) else {
+        return Ok(Ways::Unknown);
+    };
+    let Some(pair) = marks.reached.get(place) else {
+        return Ok(Ways::Unknown);
+    };
+    let path = marks.path_to(alloc, &visited.store.edges, place)?;
+    let breaks = !wanted.pattern.allows(pair.state);
+    let schedule = way_along(visited, alloc, processes, wanted, path.as_slice(), breaks)?;
+    Ok(Ways::Without(schedule))
+}
+
+/// What a search shows of what is asked.
+fn ways_of(
+    visited: &Visited,
+    alloc: Global,
+    processes: &[Process],
+    wanted: &Wanted,
+) -> Result<Ways, ExploreFault>
+    requires starts { AreStarts processes.now }
+    requires store { IsTrue visited.now.complete → IsStore visited.now.store }
+    ensures found { IfOk result (λ found.
+        IsFound visited.now.complete (initial_world processes.now) visited.now.store wanted.now found) }
+{
+    let marks = mark(&visited.store, alloc, wanted)?;
+    if is_always(visited, alloc, wanted, &marks)? {
+        return Ok(Ways::Always);
+    }
+    let found = way_against(visited, alloc, processes, wanted, &marks)?;
+    Ok(found)
+}
+
+/// What a search shows of all that is asked, in order.
+fn all_ways(
+    visited: &Visited,
+    alloc: Global,
+    processes: &[Process],
+    wanted: &[Wanted],
+) -> Result<Vec<Ways>, ExploreFault>
+    requires starts { AreStarts processes.now }
+    requires store { IsTrue visited.now.complete → IsStore visited.now.store }
+    ensures found { IfOk result (λ found. Alongside
+        (IsFound visited.now.complete (initial_world processes.now) visited.now.store)
+        wanted.now found.items) }
+{
+    let mut found = Vec::with_capacity(alloc, wanted.len())?;
+    for one in wanted {
+        let ways = ways_of(visited, alloc, processes, one)?;
+        found.push(ways)?;
+    }
+    Ok(found)
+}
+
+/// For all that is asked, in order, whether it is so on every way. Every world at calls that a laboratory
+/// can come to is visited, as far as the limits allow. Where it is so, it is whatever steps are taken, in
+/// any order. A way on which it isn't has effective steps: they lead to rest, or the last is the call
+/// that must not be. Only a call that is answered with a reply that is no error is read. The object
+/// behind its descriptor or slot counts by the name that it has then, and by none once it is unlinked.
+/// An error is want of memory, or that more than `MOST_STATES` states are needed.
+pub fn ask_ways<O: Observer>(
+    alloc: Global,
+    fresh: Fresh,
+    limits: Limits,
+    wanted: &[Wanted],
+    observer: &mut O,
+) -> Result<Vec<Ways>, ExploreFault>
+    ensures ways { IfOk result (λ found. AreAllWays fresh wanted.now found.items) }
+{
+    let processes = fresh.processes();
+    let kernel = Kernel::new(alloc, processes.len())?;
+    let visited = visit(alloc, &processes, &kernel, limits, observer, false)?;
+    match all_ways(&visited, alloc, &processes, wanted) {
+        Ok(found) => {
+            discard(visited);
+            Ok(found)
+        }
+        Err(fault) => {
+            discard(visited);
+            Err(fault)
+        }
+    }
+}
