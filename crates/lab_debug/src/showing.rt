@@ -1,6 +1,8 @@
 //! The commands that show something and change nothing.
-ghost use Rattle.std.specs.Prelude.{◌≡◌, None, true, length, IfOk, IfSome, string_bytes};
+ghost use Rattle.std.specs.Prelude.{◌≡◌, ◌≤◌, ◌+◌, None, true, false, length, IfOk, IfSome, string_bytes};
 ghost use Rattle.lab_session.specs.Sessions.{state_of, effective};
+ghost use Rattle.lab_session.specs.Listings.{listing_of};
+ghost use Rattle.lab_session.specs.Places.{code_text};
 ghost use Rattle.lab_session.specs.Taken.{taken_text};
 ghost use Rattle.lab_session.specs.Marks.{of_kind};
 ghost use Rattle.lab_session.specs.MarkTexts.{marks_text};
@@ -8,10 +10,10 @@ ghost use Rattle.lab_places.specs.Placed.{listed, placed};
 ghost use Rattle.lab_texts.specs.Texts.{status_text, procs_text};
 ghost use Rattle.lab_debug.specs.Effects.{steps_text, shown_effect, accepted_effect};
 ghost use Rattle.lab_debug.specs.Outputs.{whole_lines, raw_output};
-ghost use Rattle.lab_debug.specs.Private.Changes.{changes};
+ghost use Rattle.lab_debug.specs.Private.Changes.{changes, shows_world};
 ghost use Rattle.lab_debug.specs.Private.Ranges.{IsCommand};
 
-use crate::command::Command;
+use crate::command::{Command, Range};
 use lab_places::placed_by;
 use lab_sched::World;
 use lab_session::{
@@ -101,6 +103,55 @@ fn procs_shown(alloc: Global, session: &Session) -> Result<Vec<u8>, AllocError>
     placed_by(alloc, session.listings(), &text)
 }
 
+/// What a command writes that shows the world alone, without the session.
+fn world_shown(
+    alloc: Global,
+    session: &Session,
+    command: &Command,
+) -> Result<Option<Vec<u8>>, AllocError>
+    requires ranges { IsCommand command.now }
+    ensures shown { IfOk result (λ found. IfSome found (λ text.
+        accepted_effect (state_of session.now) command.now
+        ≡ shown_effect text.items (state_of session.now))) }
+    ensures none { IfOk result (λ found. found ≡ None → shows_world command.now ≡ false) }
+{
+    let world = session.world();
+    let text = match command {
+        Command::Regs { pid } => regs_text(alloc, world, *pid),
+        Command::Mem(range) => mem_text(alloc, world, range.pid, range.address, range.count),
+        Command::Dis(range) => dis_text(alloc, world, range.pid, range.address, range.count),
+        Command::Mqs => mqs_text(alloc, world),
+        Command::Sems => sems_text(alloc, world),
+        Command::Fds { pid } => fds_text(alloc, world, *pid),
+        Command::Out { pid } => out_text(alloc, world, *pid),
+        Command::Raw { pid } => return Ok(Some(raw_output(alloc, world, *pid)?)),
+        Command::Profile => profile_text(alloc, world),
+        _ => return Ok(None),
+    };
+    Ok(Some(text?.into_bytes()))
+}
+
+/// The words of a range, with their labels.
+fn code_shown(alloc: Global, session: &Session, range: Range) -> Result<String, AllocError>
+    requires range { range.address + range.count ≤ 65536 }
+    ensures text { IfOk result (λ s. string_bytes s ≡ code_text range.pid range.address range.count
+        (listing_of (state_of session.now).listings range.pid) (state_of session.now).world) }
+{
+    let Range {
+        pid,
+        address,
+        count,
+    } = range;
+    code_text(
+        alloc,
+        session.world(),
+        pid,
+        session.listing(pid),
+        address,
+        count,
+    )
+}
+
 /// What a command writes that changes nothing, whose processes are there.
 pub fn shown(
     alloc: Global,
@@ -113,33 +164,16 @@ pub fn shown(
         ≡ shown_effect text.items (state_of session.now))) }
     ensures none { IfOk result (λ found. found ≡ None → changes command.now ≡ true) }
 {
-    let world = session.world();
     let text = match command {
         Command::Marks(kind) => marks_shown(alloc, session, *kind),
         Command::Steps => count_shown(alloc, session),
         Command::Taken => steps_shown(alloc, session),
-        Command::Regs { pid } => regs_text(alloc, world, *pid),
-        Command::Mem(range) => mem_text(alloc, world, range.pid, range.address, range.count),
-        Command::Dis(range) => dis_text(alloc, world, range.pid, range.address, range.count),
         Command::Procs => return Ok(Some(procs_shown(alloc, session)?)),
-        Command::Mqs => mqs_text(alloc, world),
-        Command::Sems => sems_text(alloc, world),
-        Command::Fds { pid } => fds_text(alloc, world, *pid),
-        Command::Out { pid } => out_text(alloc, world, *pid),
-        Command::Raw { pid } => return Ok(Some(raw_output(alloc, world, *pid)?)),
-        Command::Where { pid } => where_text(alloc, world, *pid, session.listing(*pid)),
-        Command::Code(range) => code_text(
-            alloc,
-            world,
-            range.pid,
-            session.listing(range.pid),
-            range.address,
-            range.count,
-        ),
+        Command::Where { pid } => where_text(alloc, session.world(), *pid, session.listing(*pid)),
+        Command::Code(range) => code_shown(alloc, session, *range),
         Command::Labels { pid } => labels_text(alloc, session.listing(*pid)),
-        Command::Profile => profile_text(alloc, world),
         Command::Help => String::from_str(alloc, session.help()),
-        _ => return Ok(None),
+        _ => return world_shown(alloc, session, command),
     };
     Ok(Some(text?.into_bytes()))
 }

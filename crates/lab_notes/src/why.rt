@@ -1,6 +1,6 @@
 //! Why a call was refused, in a few words that name the argument.
 ghost use Rattle.std.specs.Prelude.{◌≡◌, ◌++◌, OnOk, string_bytes};
-ghost use Rattle.lab_notes.specs.Private.Why.{kind_of, size_fault, size_text, words_text, word_text, range_text, long_name_text, has_attributes, open_range_text, fault_text};
+ghost use Rattle.lab_notes.specs.Private.Why.{kind_of, called_text, open_fault, name_size_text, greatest_text, size_fault, size_text, words_text, word_text, range_text, long_name_text, has_attributes, open_range_text, fault_text};
 
 use crate::rows::{Refusal, Registers};
 use ipc_names::{Errno, Flags, O_CREAT};
@@ -19,19 +19,16 @@ const ATTRIBUTES: u16 = 4;
 pub fn push_why(text: &mut String, refusal: &Refusal) -> Result<(), AllocError> {
     let object = refusal.object.as_str();
     match refusal.error {
-        Errno::NoEntry => write!(text, "no {} is called {object}", kind_of(refusal.service)),
+        Errno::NoEntry => push_called(text, "no", refusal.service, object),
         Errno::BadDescriptor => push_unusable(text, refusal),
         Errno::Again => text.push_str("it would have to wait"),
         Errno::Fault => push_fault(text, refusal.service, refusal.registers, object),
-        Errno::Exists => write!(text, "a {} is called {object}", kind_of(refusal.service)),
+        Errno::Exists => push_called(text, "a", refusal.service, object),
         Errno::Invalid => push_invalid(text, refusal),
-        Errno::TooManyOpen if refusal.service.is_on_queues() => text.push_str(
-            "no descriptor is free",
-        ),
-        Errno::TooManyOpen => text.push_str("no slot, or no open of it, is free"),
+        Errno::TooManyOpen => text.push_str(open_fault(refusal.service)),
         Errno::NoSpace => text.push_str("no place for objects is free"),
-        Errno::NameTooLong => write!(text, "the name at {object} has more than 255 characters"),
-        Errno::Overflow => write!(text, "{object} has its greatest value"),
+        Errno::NameTooLong => push_name_size(text, object),
+        Errno::Overflow => push_greatest(text, object),
         Errno::MessageSize => push_size(text, refusal.service, refusal.registers.r2),
     }
 }
@@ -45,6 +42,50 @@ fn kind_of(service: Service) -> &'static str
     } else {
         "semaphore"
     }
+}
+
+/// Adds that some object of the call's kind has this name.
+fn push_called(
+    text: &mut String,
+    article: &str,
+    service: Service,
+    name: &str,
+) -> Result<(), AllocError>
+    ensures text { OnOk result (string_bytes text.new ≡ string_bytes text.old
+        ++ called_text article.now service name.now) }
+{
+    let kind = kind_of(service);
+    write!(text, "{article} {kind} is called {name}")?;
+    Ok(())
+}
+
+/// What is wrong where too many are open.
+fn open_fault(service: Service) -> &'static str
+    ensures text { result.now ≡ open_fault service }
+{
+    if service.is_on_queues() {
+        "no descriptor is free"
+    } else {
+        "no slot, or no open of it, is free"
+    }
+}
+
+/// Adds that a name, which is shown so, has too many characters.
+fn push_name_size(text: &mut String, object: &str) -> Result<(), AllocError>
+    ensures text { OnOk result (string_bytes text.new ≡ string_bytes text.old
+        ++ name_size_text object.now) }
+{
+    write!(text, "the name at {object} has more than 255 characters")?;
+    Ok(())
+}
+
+/// Adds that a semaphore, which is shown so, can't be posted.
+fn push_greatest(text: &mut String, object: &str) -> Result<(), AllocError>
+    ensures text { OnOk result (string_bytes text.new ≡ string_bytes text.old
+        ++ greatest_text object.now) }
+{
+    write!(text, "{object} has its greatest value")?;
+    Ok(())
 }
 
 /// Adds why a number is no descriptor for a call.

@@ -13,6 +13,22 @@ use Rattle.lab_notes.specs.declared.rows.Registers.{Registers}
 abbrev pub kind_of : Service → List ℕ
 kind_of s = if is_on_queues s then codes "queue" else codes "semaphore"
 
+-- that some object of the call's kind has this name
+abbrev pub called_text : List ℕ → Service → List ℕ → List ℕ
+called_text article s name = article ++ (codes " " ++ (kind_of s ++ (codes " is called " ++ name)))
+
+-- what is wrong where too many are open
+abbrev pub open_fault : Service → List ℕ
+open_fault s = if is_on_queues s then codes "no descriptor is free" else codes "no slot, or no open of it, is free"
+
+-- that a name, which is shown so, has too many characters
+abbrev pub name_size_text : List ℕ → List ℕ
+name_size_text object = codes "the name at " ++ object ++ codes " has more than 255 characters"
+
+-- that a semaphore, which is shown so, has its greatest value
+abbrev pub greatest_text : List ℕ → List ℕ
+greatest_text object = object ++ codes " has its greatest value"
+
 -- what is wrong with a length
 abbrev pub size_fault : Service → List ℕ
 size_fault MqReceive = codes "the buffer is too short"
