@@ -1,13 +1,16 @@
 //! All messages about a source, as they are written.
-ghost use Rattle.std.specs.Prelude.{◌≡◌};
+ghost use Rattle.std.specs.Prelude.{◌≡◌, ◌↔◌, ◌-◌, length, map, IfOk, IsTrue, IsUtf8};
 ghost use Rattle.lc3_asm.specs.Faults.{reading};
+ghost use Rattle.lc3_warnings.specs.Warnings.{is_accepted};
+ghost use Rattle.lc3_messages.specs.Counts.{told_warnings};
+ghost use Rattle.lc3_messages.specs.Private.Told.{error_count};
 
 use crate::characters::picture;
 use crate::labels::labels_of;
 use crate::lines::{end_of, lines_of};
 use crate::message::{Kind, Message, Span, message_on};
 use crate::texts::{Source, line_at, remark};
-use crate::told::{Finding, What, findings};
+use crate::told::{Finding, What, error_count, findings};
 use crate::warned::warning_remark;
 use lc3_asm::{Reader, faults_of, reading};
 use lc3_table::Profile;
@@ -160,8 +163,12 @@ fn report_of(
     file: &str,
     source: &Source<'_>,
     findings: &[Finding],
-) -> Result<Report, AllocError> {
-    let errors = findings.iter().filter(|it| it.what.is_error()).count();
+) -> Result<Report, AllocError>
+    ensures errors { IfOk result (λ r. r.errors ≡ error_count findings.now) }
+    ensures warnings { IfOk result (λ r.
+        r.warnings ≡ length findings.now - error_count findings.now) }
+{
+    let errors = error_count(findings);
     let warnings = findings.len().saturating_sub(errors);
     let mut text = String::new(alloc);
     push_messages(alloc, &mut text, file, source, findings)?;
@@ -181,6 +188,9 @@ fn source_report(
     wish: Wish<'_>,
 ) -> Result<Report, AllocError>
     requires read { source.now.reader.now ≡ reading content.now }
+    ensures errors { IfOk result (λ r. (r.errors ≡ 0) ↔ IsTrue (is_accepted content.now)) }
+    ensures warnings { IfOk result (λ r. r.warnings ≡ length (told_warnings wish.entry.profile
+        (map (λ name. name.now) wish.entry.allowed.now) content.now)) }
 {
     let faults = faults_of(alloc, source.lines.len(), source.reader)?;
     let findings = findings(alloc, source, &faults, content, wish)?;
@@ -196,6 +206,9 @@ fn lines_report(
     wish: Wish<'_>,
 ) -> Result<Report, AllocError>
     requires read { reader.now ≡ reading content.now }
+    ensures errors { IfOk result (λ r. (r.errors ≡ 0) ↔ IsTrue (is_accepted content.now)) }
+    ensures warnings { IfOk result (λ r. r.warnings ≡ length (told_warnings wish.entry.profile
+        (map (λ name. name.now) wish.entry.allowed.now) content.now)) }
 {
     let labels = labels_of(alloc, lines, reader)?;
     let names = labels.names(alloc)?;
@@ -213,7 +226,11 @@ fn text_report(
     file: &str,
     content: &str,
     wish: Wish<'_>,
-) -> Result<Report, AllocError> {
+) -> Result<Report, AllocError>
+    ensures errors { IfOk result (λ r. (r.errors ≡ 0) ↔ IsTrue (is_accepted content.now)) }
+    ensures warnings { IfOk result (λ r. r.warnings ≡ length (told_warnings wish.entry.profile
+        (map (λ name. name.now) wish.entry.allowed.now) content.now)) }
+{
     let lines = lines_of(alloc, content)?;
     let reader = reading(alloc, content)?;
     lines_report(alloc, file, content, &lines, &reader, wish)
@@ -248,7 +265,9 @@ fn no_text_report(
     file: &str,
     bytes: &[u8],
     place: usize,
-) -> Result<Report, AllocError> {
+) -> Result<Report, AllocError>
+    ensures one { IfOk result (λ r. (r.errors ≡ 1) × (r.warnings ≡ 0)) }
+{
     let message = no_text(alloc, bytes, place)?;
     let mut text = String::new(alloc);
     push_message(&mut text, file, "", &message)?;
@@ -261,13 +280,22 @@ fn no_text_report(
 }
 
 /// All messages about the bytes of a source, by its lines, and behind them a line with their numbers. `file` is the name of
-/// the source as it is shown. At most 100 messages are written; all are counted.
+/// the source as it is shown. At most 100 messages are written; all are counted: no error exactly where the text has no fault,
+/// and each of its warnings that isn't left out. What is no UTF-8 has one error.
 pub fn report_on(
     alloc: Global,
     file: &str,
     bytes: &[u8],
     wish: Wish<'_>,
-) -> Result<Report, AllocError> {
+) -> Result<Report, AllocError>
+    ensures errors { IfOk result (λ r. IsUtf8 bytes.now
+        → (r.errors ≡ 0) ↔ IsTrue (is_accepted bytes.now)) }
+    ensures warnings { IfOk result (λ r. IsUtf8 bytes.now
+        → r.warnings ≡ length (told_warnings wish.entry.profile
+        (map (λ name. name.now) wish.entry.allowed.now) bytes.now)) }
+    ensures no_text { IfOk result (λ r. ¬ (IsUtf8 bytes.now)
+        → (r.errors ≡ 1) × (r.warnings ≡ 0)) }
+{
     match std::str::from_utf8(bytes) {
         Ok(content) => text_report(alloc, file, content, wish),
         Err(error) => no_text_report(alloc, file, bytes, error.valid_up_to()),

@@ -1,15 +1,16 @@
 //! What is told of a text.
-ghost use Rattle.std.specs.Prelude.{◌≡◌, ◌<◌, ◌++◌, true, false, length, IfOk, OnOk, map, slice_get, IsPermutation};
+ghost use Rattle.std.specs.Prelude.{◌≡◌, ◌<◌, ◌++◌, true, false, length, bytes_eq, IfOk, OnOk, map, slice_get, IsPermutation};
 ghost use Rattle.std.specs.List.Sorted.{IsNonDecreasingBy};
 ghost use Rattle.lc3_asm.specs.Faults.{reading};
-ghost use Rattle.lc3_messages.specs.Private.Told.{names_a_label, AreFrom, is_error, finding_of, AddsWarnings, Tells};
+ghost use Rattle.lc3_messages.specs.Counts.{is_among, without, told_warnings};
+ghost use Rattle.lc3_messages.specs.Private.Told.{names_a_label, AreFrom, is_error, finding_of, finding_of_warning, error_count, Tells};
 
 use crate::report::Wish;
 use crate::texts::{Source, word_at_fault};
 use crate::words::upper;
 use lc3_asm::{LineFault, Reader, without_colon};
 use lc3_table::Fault;
-use lc3_warnings::{Kind, warnings};
+use lc3_warnings::{Kind, Warning, warnings};
 use std::alloc::{AllocError, Global};
 
 /// What is found in a line.
@@ -115,30 +116,77 @@ fn sort_by_line(found: &mut Vec<Finding>) -> Result<(), AllocError>
     Ok(())
 }
 
-fn push_warnings(
+fn is_word(word: &str, other: &str) -> bool
+    ensures value { result ≡ bytes_eq word.now other.now }
+{
+    word == other
+}
+
+/// Whether a name is one of these.
+fn is_among(names: &[&str], name: &str) -> bool
+    ensures value { result ≡ is_among (map (λ other. other.now) names.now) name.now }
+{
+    for other in names {
+        if is_word(name, other) {
+            return true;
+        }
+    }
+    false
+}
+
+/// Warnings, but for those of these names.
+fn without(alloc: Global, warnings: &[Warning], names: &[&str]) -> Result<Vec<Warning>, AllocError>
+    ensures kept { IfOk result (λ kept. kept.items
+        ≡ without (map (λ name. name.now) names.now) warnings.now) }
+{
+    let mut kept = Vec::new(alloc);
+    for warning in warnings {
+        if !is_among(names, warning.kind.name()) {
+            kept.push(*warning)?;
+        }
+    }
+    Ok(kept)
+}
+
+/// The warnings about a text, but for those that are left out.
+fn told_warnings(
     alloc: Global,
     content: &str,
     reader: &Reader,
     wish: Wish<'_>,
-    found: &mut Vec<Finding>,
-) -> Result<(), AllocError>
+) -> Result<Vec<Warning>, AllocError>
     requires read { reader.now ≡ reading content.now }
-    ensures added { OnOk result (AddsWarnings found.old.items found.new.items) }
+    ensures told { IfOk result (λ told. told.items ≡ told_warnings wish.entry.profile
+        (map (λ name. name.now) wish.entry.allowed.now) content.now) }
 {
-    for warning in &warnings(alloc, content, wish.profile, reader)? {
-        if !is_allowed(warning.kind.name(), wish.allowed) {
-            found.push(Finding {
-                line: warning.line,
-                what: What::Warning(warning.kind),
-            })?;
-        }
+    let found = warnings(alloc, content, wish.profile, reader)?;
+    without(alloc, &found, wish.allowed)
+}
+
+fn push_warnings(found: &mut Vec<Finding>, warnings: &[Warning]) -> Result<(), AllocError>
+    ensures added { OnOk result
+        (found.new.items ≡ found.old.items ++ map finding_of_warning warnings.now) }
+{
+    for warning in warnings {
+        found.push(Finding {
+            line: warning.line,
+            what: What::Warning(warning.kind),
+        })?;
     }
     Ok(())
 }
 
-/// Whether a warning of this name is left out.
-fn is_allowed(name: &str, allowed: &[&str]) -> bool {
-    allowed.iter().any(|left_out| *left_out == name)
+/// How many faults are found.
+pub(crate) fn error_count(found: &[Finding]) -> usize
+    ensures count { result ≡ error_count found.now }
+{
+    let mut count = 0;
+    for finding in found {
+        if finding.what.is_error() {
+            count += 1;
+        }
+    }
+    count
 }
 
 /// What is told of a text with these faults, by its lines; in one line the fault comes first.
@@ -150,13 +198,16 @@ pub(crate) fn findings(
     wish: Wish<'_>,
 ) -> Result<Vec<Finding>, AllocError>
     requires read { source.now.reader.now ≡ reading content.now }
-    ensures told { IfOk result (λ found. Tells faults.now found.items) }
+    ensures told { IfOk result (λ found. Tells faults.now (told_warnings wish.entry.profile
+        (map (λ name. name.now) wish.entry.allowed.now) content.now) found.items) }
     ensures ordered { IfOk result (λ found. IsNonDecreasingBy (λ f. f.line) found.items) }
 {
     let mut found = Vec::new(alloc);
-    let told = told_faults(alloc, source, faults)?;
-    push_faults(&mut found, &told)?;
-    push_warnings(alloc, content, source.reader, wish, &mut found)?;
+    push_faults(&mut found, &told_faults(alloc, source, faults)?)?;
+    push_warnings(
+        &mut found,
+        &told_warnings(alloc, content, source.reader, wish)?,
+    )?;
     sort_by_line(&mut found)?;
     Ok(found)
 }

@@ -1,10 +1,11 @@
 -- What is told of a text: which of its faults, and how they stand among the warnings.
-use Rattle.std.specs.Prelude.{◌≡◌, ◌⊎◌, Bool, true, false, List, [], ◌∷◌, ◌++◌, map, slice_get}
-use Rattle.std.specs.List.{AllByRecursion}
+use Rattle.std.specs.Prelude.{ℕ, ◌≡◌, ◌⊎◌, Bool, true, false, List, [], ◌∷◌, ◌++◌, map, slice_get}
+use Rattle.std.specs.List.{count_by}
 use Rattle.std.specs.List.Sorted.{IsPermutation}
 use Rattle.lc3_table.specs.declared.operation.Fault.{Fault as Kind}
 use Rattle.lc3_table.specs.declared.operation.Fault.TheVariants as fault
 use Rattle.lc3_asm.specs.declared.fault.LineFault.{LineFault}
+use Rattle.lc3_warnings.specs.declared.warning.Warning.{Warning as Told}
 use Rattle.lc3_messages.specs.declared.told.Finding.{Finding}
 use Rattle.lc3_messages.specs.declared.told.What.{What}
 use Rattle.lc3_messages.specs.declared.told.What.TheVariants.{Fault, Warning}
@@ -31,19 +32,17 @@ is_error (Warning w) = false
 abbrev pub finding_of : LineFault → Finding
 finding_of f = record { line = f.line; what = Fault f.kind }
 
--- nothing but warnings
-abbrev pub AreWarnings : List Finding → Type 0
-AreWarnings found = AllByRecursion (λ f. is_error f.what ≡ false) found
+-- a warning as what is found
+abbrev pub finding_of_warning : Told → Finding
+finding_of_warning w = record { line = w.line; what = Warning w.kind }
 
--- warnings are added to what was found
-abbrev pub AddsWarnings : List Finding → List Finding → Type 0
-AddsWarnings old new = (warnings : List Finding) × (new ≡ old ++ warnings) × AreWarnings warnings
-
--- what is found is in some order faults of these, the first among them, and warnings
-pub record Tells (faults : List LineFault) (found : List Finding) : Type 0 where
+-- what is found is in some order faults of these, the first among them, and these warnings
+pub record Tells (faults : List LineFault) (warnings : List Told) (found : List Finding) : Type 0 where
   pub told : List LineFault
-  pub warnings : List Finding
   pub from : AreFrom faults told
   pub first : slice_get told 0 ≡ slice_get faults 0
-  pub only : AreWarnings warnings
-  pub all : IsPermutation (map finding_of told ++ warnings) found
+  pub all : IsPermutation (map finding_of told ++ map finding_of_warning warnings) found
+
+-- how many faults are found
+abbrev pub error_count : List Finding → ℕ
+error_count found = count_by (λ f. is_error f.what) found
