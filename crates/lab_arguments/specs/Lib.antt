@@ -1,3 +1,4 @@
 pub mod Private
 pub mod Pieces
 pub mod Programs
+pub mod Requests

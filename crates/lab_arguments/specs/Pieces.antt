@@ -1,5 +1,5 @@
 -- How the values of `--require` are cut into words.
-use Rattle.std.specs.Prelude.{ℕ, ◌==◌, nat_eq, not, Bool, false, if◌then◌else◌, List, [], ◌∷◌, ◌++◌, codes, filter, flat_map}
+use Rattle.std.specs.Prelude.{ℕ, ◌==◌, ◌&&◌, ◌||◌, nat_eq, nat_le, not, Bool, false, if◌then◌else◌, Option, Some, None, drop, position, List, [], ◌∷◌, ◌++◌, codes, filter, flat_map}
 use Rattle.std.specs.List.{starts_with}
 use Rattle.lab_arguments.specs.declared.pieces.Place.{Place}
 use Rattle.lab_arguments.specs.declared.pieces.Place.TheVariants.{Outside, Between, Escaped}
@@ -24,12 +24,32 @@ pieces_from place piece (c ∷ cs) =
     else pieces_from (behind place c) (piece ++ c ∷ []) cs
 
 -- the pieces of a text between its commas outside of quotes
-abbrev pub pieces : List ℕ → List (List ℕ)
-pieces text = pieces_from Outside [] text
+abbrev pub cut_pieces : List ℕ → List (List ℕ)
+cut_pieces text = pieces_from Outside [] text
 
--- a piece says what is required of an output: it begins with `out` and a blank
+-- whether a byte is no decimal digit
+abbrev pub is_no_digit : ℕ → Bool
+is_no_digit c = not (nat_le 48 c && nat_le c 57)
+
+-- a text from a place on, if there is one
+abbrev pub from : Option ℕ → List ℕ → List ℕ
+from None text = []
+from (Some i) text = drop i text
+
+-- a text says what is asked of calls: behind a process or none it begins with `calls` or `holds`, and a blank
+abbrev pub is_of_calls : List ℕ → Bool
+is_of_calls text =
+    let words = from (position is_no_digit text) text in
+    starts_with nat_eq words (codes "calls ") || starts_with nat_eq words (codes " calls ")
+    || starts_with nat_eq words (codes "holds ") || starts_with nat_eq words (codes " holds ")
+
+-- the pieces of a value, which is whole where it asks of calls
+abbrev pub pieces : List ℕ → List (List ℕ)
+pieces text = if is_of_calls text then text ∷ [] else cut_pieces text
+
+-- a piece says what is required of an output or of calls: it begins with `out` and a blank, or is such a text
 abbrev pub is_output : List ℕ → Bool
-is_output piece = starts_with nat_eq piece (codes "out ")
+is_output piece = starts_with nat_eq piece (codes "out ") || is_of_calls piece
 
 -- the words of some values
 abbrev pub words_in : List (List ℕ) → List (List ℕ)

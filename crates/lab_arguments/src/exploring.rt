@@ -24,7 +24,7 @@ use std::alloc::{AllocError, Global};
 #[derive(Drop)]
 struct Required<'a> {
     words: Requirements,
-    /// What is required of outputs, each as it is written.
+    /// What is required of outputs and calls, each as it is written.
     outputs: Vec<&'a str>,
 }
 

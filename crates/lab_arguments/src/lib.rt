@@ -18,10 +18,10 @@ mod table;
 mod walks;
 
 pub use parser::read_words;
-pub use pieces::required_words;
+pub use pieces::{is_of_calls, required_words};
 pub use programs::{Console, program_of, takes_input};
 pub use question::{Choice, Question};
-pub use request::{Manner, Page, Refusal, Request, Setup};
+pub use request::{Manner, Notes, Page, Refusal, Request, Setup};
 pub use requirements::{Requirements, Rest};
 pub use rows::{CommandRow, ProgramRow, Row, Takes};
 pub use shown::Shown;

@@ -34,6 +34,8 @@ pub(crate) enum Misuse<'a> {
     JsonAndSchedule,
     /// All answers, as JSON, and the trace of a run behind them.
     JsonAndTrace,
+    /// Notes everywhere, and nowhere.
+    NotesAndQuiet,
     /// A console input from standard input, which holds something else.
     Input(&'a str, Holds),
 }
@@ -90,6 +92,7 @@ impl fmt::Display for Misuse<'_> {
             Misuse::Input(word, holds) => return write_input(f, word, holds),
             Misuse::JsonAndSchedule => "--json and --schedule exclude each other",
             Misuse::JsonAndTrace => "--json and --trace exclude each other",
+            Misuse::NotesAndQuiet => "--notes and --quiet exclude each other",
         };
         f.write_str(text)
     }

@@ -5,10 +5,11 @@ ghost use Rattle.clap.specs.Words.{first_value, found_of, one_text};
 ghost use Rattle.lc3_table.specs.declared.profile.Profile.TheVariants.{A, B};
 ghost use Rattle.lab_arguments.specs.Private.Options.{IsNumber, most_inputs};
 ghost use Rattle.lab_arguments.specs.Programs.{takes_input};
+ghost use Rattle.lab_arguments.specs.declared.request.Notes.TheVariants.{Shown, Hidden};
 
 use crate::misuse::Misuse;
 use crate::programs::{Holds, surplus};
-use crate::request::{Refusal, Setup};
+use crate::request::{Notes, Refusal, Setup};
 use clap::ArgMatches;
 use lc3_table::Profile;
 use std::alloc::{AllocError, Global};
@@ -53,6 +54,21 @@ pub(crate) fn profile_of(words: &ArgMatches<'_>) -> Profile
     }
 }
 
+/// Where notes are told, as the words of a command say.
+fn notes_of(alloc: Global, words: &ArgMatches<'_>) -> Result<Notes, Refusal>
+    ensures shown { IfOk result (λ notes.
+        one_text (found_of words.now) (codes "notes") ≡ Some (codes "true") → notes ≡ Shown) }
+    ensures hidden { IfOk result (λ notes.
+        one_text (found_of words.now) (codes "quiet") ≡ Some (codes "true") → notes ≡ Hidden) }
+{
+    match (words.get_flag("notes"), words.get_flag("quiet")) {
+        (true, true) => Err(Misuse::NotesAndQuiet.refusal(alloc)),
+        (true, false) => Ok(Notes::Shown),
+        (false, true) => Ok(Notes::Hidden),
+        (false, false) => Ok(Notes::AtTerminal),
+    }
+}
+
 /// The programs and the profile that the words of a command name, which finds that in standard input.
 pub(crate) fn setup_of<'a>(
     alloc: Global,
@@ -65,14 +81,19 @@ pub(crate) fn setup_of<'a>(
         first_value (found_of words.now) (codes "profile") ≡ Some (codes "a") → s.profile ≡ A) }
     ensures profile_b { IfOk result (λ s.
         first_value (found_of words.now) (codes "profile") ≡ Some (codes "b") → s.profile ≡ B) }
+    ensures shown { IfOk result (λ s.
+        one_text (found_of words.now) (codes "notes") ≡ Some (codes "true") → s.notes ≡ Shown) }
+    ensures hidden { IfOk result (λ s.
+        one_text (found_of words.now) (codes "quiet") ≡ Some (codes "true") → s.notes ≡ Hidden) }
 {
+    let notes = notes_of(alloc, words)?;
     let programs = values_of(alloc, words, "PROGRAM")?;
     match surplus(&programs, holds.most()) {
         Some(word) => Err(Misuse::Input(word, holds).refusal(alloc)),
         None => Ok(Setup {
             programs,
             profile: profile_of(words),
-            notes: words.get_flag("notes"),
+            notes,
         }),
     }
 }

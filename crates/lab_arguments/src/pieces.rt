@@ -1,6 +1,6 @@
 //! The values of `--require`, cut at their commas.
-ghost use Rattle.std.specs.Prelude.{◌≡◌, ◌<◌, ◌++◌, [], ◌∷◌, cond, not, filter, flat_map, map, length, IfNone, IfOk, IfSome, IsTrue, OnOk};
-ghost use Rattle.lab_arguments.specs.Pieces.{behind, cuts, pieces, is_output, words_in};
+ghost use Rattle.std.specs.Prelude.{◌≡◌, ◌<◌, ◌++◌, [], ◌∷◌, cond, not, filter, flat_map, map, length, IfNone, IfOk, IfSome, IsTrue, OnOk, position};
+ghost use Rattle.lab_arguments.specs.Pieces.{behind, cuts, cut_pieces, is_no_digit, from, is_of_calls, pieces, is_output, words_in};
 ghost use Rattle.lab_arguments.specs.Private.Requirements.{outputs_in};
 
 use std::alloc::{AllocError, Global};
@@ -43,8 +43,9 @@ impl Place {
 
 /// What stands before the first comma outside of quotes, and what behind it, if there is one.
 fn cut(text: &str) -> Option<(&str, &str)>
-    ensures none { IfNone result (pieces text.now ≡ text.now ∷ []) }
-    ensures parts { IfSome result (λ parts. pieces text.now ≡ parts.0.now ∷ pieces parts.1.now) }
+    ensures none { IfNone result (cut_pieces text.now ≡ text.now ∷ []) }
+    ensures parts { IfSome result (λ parts.
+        cut_pieces text.now ≡ parts.0.now ∷ cut_pieces parts.1.now) }
     ensures shorter { IfSome result (λ parts. length parts.1.now < length text.now) }
 {
     let bytes = text.as_bytes();
@@ -58,10 +59,10 @@ fn cut(text: &str) -> Option<(&str, &str)>
     None
 }
 
-/// Adds the pieces of a value.
-fn push_pieces<'a>(found: &mut Vec<&'a str>, value: &'a str) -> Result<(), AllocError>
+/// Adds what stands between the commas of a value.
+fn push_cut<'a>(found: &mut Vec<&'a str>, value: &'a str) -> Result<(), AllocError>
     ensures pieces { OnOk result (map (λ p. p.now) found.new.items
-        ≡ map (λ p. p.now) found.old.items ++ pieces value.now) }
+        ≡ map (λ p. p.now) found.old.items ++ cut_pieces value.now) }
 {
     let mut rest = value;
     while let Some((piece, after)) = cut(rest) {
@@ -70,6 +71,47 @@ fn push_pieces<'a>(found: &mut Vec<&'a str>, value: &'a str) -> Result<(), Alloc
     }
     found.push(rest)?;
     Ok(())
+}
+
+/// Where the first byte stands that is no decimal digit.
+fn no_digit(text: &[u8]) -> Option<usize>
+    ensures place { result ≡ position is_no_digit text.now }
+    ensures within { IfSome result (λ i. i < length text.now) }
+{
+    text.iter().position(|byte| !(48 <= *byte && *byte <= 57))
+}
+
+/// What follows the decimal digits with which a text begins.
+fn behind_digits(text: &[u8]) -> &[u8]
+    ensures rest { result.now ≡ from (position is_no_digit text.now) text.now }
+{
+    match no_digit(text) {
+        Some(place) => &text[place..],
+        None => &[],
+    }
+}
+
+/// Whether a text says what is asked of calls.
+pub fn is_of_calls(text: &str) -> bool
+    ensures value { result ≡ is_of_calls text.now }
+{
+    let words = behind_digits(text.as_bytes());
+    words.starts_with(b"calls ")
+        || words.starts_with(b" calls ")
+        || words.starts_with(b"holds ")
+        || words.starts_with(b" holds ")
+}
+
+/// Adds the pieces of a value, which is whole where it asks of calls.
+fn push_pieces<'a>(found: &mut Vec<&'a str>, value: &'a str) -> Result<(), AllocError>
+    ensures pieces { OnOk result (map (λ p. p.now) found.new.items
+        ≡ map (λ p. p.now) found.old.items ++ pieces value.now) }
+{
+    if is_of_calls(value) {
+        found.push(value)?;
+        return Ok(());
+    }
+    push_cut(found, value)
 }
 
 fn pieces_of<'a>(alloc: Global, values: &[&'a str]) -> Result<Vec<&'a str>, AllocError>
@@ -83,11 +125,11 @@ fn pieces_of<'a>(alloc: Global, values: &[&'a str]) -> Result<Vec<&'a str>, Allo
     Ok(found)
 }
 
-/// Whether a piece says what is required of an output.
+/// Whether a piece says what is required of an output or of calls.
 fn is_output(piece: &str) -> bool
     ensures value { result ≡ is_output piece.now }
 {
-    piece.as_bytes().starts_with(b"out ")
+    piece.as_bytes().starts_with(b"out ") || is_of_calls(piece)
 }
 
 /// Adds a piece, if it is wanted.
@@ -101,7 +143,7 @@ fn push_if<'a>(found: &mut Vec<&'a str>, piece: &'a str, is_wanted: bool) -> Res
     Ok(())
 }
 
-/// Those of some pieces that say what is required of outputs.
+/// Those of some pieces that say what is required of outputs and calls.
 fn outputs_among<'a>(alloc: Global, pieces: &[&'a str]) -> Result<Vec<&'a str>, AllocError>
     ensures outputs { IfOk result (λ found. map (λ p. p.now) found.items
         ≡ filter is_output (map (λ p. p.now) pieces.now)) }
@@ -125,7 +167,7 @@ fn words_among<'a>(alloc: Global, pieces: &[&'a str]) -> Result<Vec<&'a str>, Al
     Ok(found)
 }
 
-/// What the values of `--require` say of outputs.
+/// What the values of `--require` say of outputs and calls.
 pub(crate) fn outputs_in<'a>(alloc: Global, values: &[&'a str]) -> Result<Vec<&'a str>, AllocError>
     ensures outputs { IfOk result (λ found. map (λ p. p.now) found.items
         ≡ outputs_in (map (λ v. v.now) values.now)) }
@@ -134,7 +176,7 @@ pub(crate) fn outputs_in<'a>(alloc: Global, values: &[&'a str]) -> Result<Vec<&'
     outputs_among(alloc, &pieces)
 }
 
-/// The words of the values of `--require`: what stands between commas and says nothing of outputs.
+/// The words of the values of `--require`: what stands between commas and says nothing of outputs or calls.
 pub fn required_words<'a>(alloc: Global, values: &[&'a str]) -> Result<Vec<&'a str>, AllocError>
     ensures words { IfOk result (λ found. map (λ p. p.now) found.items
         ≡ words_in (map (λ v. v.now) values.now)) }

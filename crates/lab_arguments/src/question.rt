@@ -13,7 +13,7 @@ pub struct Question<'a> {
     pub threads: Option<u32>,
     /// What each end must be like.
     pub required: Requirements,
-    /// What is required of outputs at each end, each as it is written.
+    /// What is required of outputs at each end, and of calls on every way, each as it is written.
     pub outputs: Vec<&'a str>,
     /// The words that name processes which may wait for ever, each `P`, `P at A` or `P at A-B`.
     pub waiters: Vec<&'a str>,

@@ -1,4 +1,7 @@
 //! A request, or why the words make none.
+ghost use Rattle.std.specs.Prelude.{◌≡◌};
+ghost use Rattle.lab_arguments.specs.Requests.{notes_of};
+
 use crate::question::Question;
 use lc3_table::Profile;
 use std::alloc::{AllocError, AllocFailed};
@@ -46,6 +49,24 @@ pub enum Request<'a> {
     },
 }
 
+impl Request<'_> {
+    /// Where notes on it are told.
+    pub fn notes(&self) -> Notes
+        ensures notes { result ≡ notes_of self.now }
+    {
+        match self {
+            Request::Assemble { .. } | Request::Check { .. } | Request::Disassemble { .. } => {
+                Notes::AtTerminal
+            }
+            Request::Step { setup }
+            | Request::Trace { setup, .. }
+            | Request::Run { setup, .. }
+            | Request::Explore { setup, .. }
+            | Request::Debug { setup } => setup.notes,
+        }
+    }
+}
+
 /// What a laboratory is made of.
 #[derive(Drop)]
 pub struct Setup<'a> {
@@ -53,8 +74,18 @@ pub struct Setup<'a> {
     pub programs: Vec<&'a str>,
     /// The profile of the machines.
     pub profile: Profile,
-    /// Whether notes are told where nobody looks, too.
-    pub notes: bool,
+    pub notes: Notes,
+}
+
+/// Where notes are told.
+#[derive(Clone, Copy)]
+pub enum Notes {
+    /// Everywhere.
+    Shown,
+    /// Nowhere, nor is advice.
+    Hidden,
+    /// At a terminal.
+    AtTerminal,
 }
 
 /// How programs are run on threads.

@@ -18,7 +18,11 @@ use Rattle.lab_worlds.specs.declared.lassos.Lasso.{Lasso}
 use Rattle.lab_worlds.specs.declared.exploration.Exploration.{Exploration}
 use Rattle.lab_worlds.specs.Closed.{AreAtRest}
 use Rattle.lab_worlds.specs.Ends.{IsEnd, AreEnds, HaveAllEnds, NoneStuck, HaveFewestCalls}
+use Rattle.lab_ways.specs.declared.ways.Ways.{Ways}
+use Rattle.lab_ways.specs.declared.ways.Ways.TheVariants.{Always, Without, Unknown}
 use Rattle.lab_questions.specs.declared.answers.Answer.{Answer}
+use Rattle.lab_questions.specs.declared.called.CallWord.{CallWord}
+use Rattle.lab_questions.specs.Called.{call_head, call_lines, calls_lines}
 use Rattle.lab_questions.specs.declared.asked.Asked.{Asked}
 use Rattle.lab_questions.specs.declared.asked.Show.{Show}
 use Rattle.lab_questions.specs.declared.asked.Word.{Word}
@@ -65,10 +69,27 @@ needs_whole : (ends : List End) (needs : List OutputNeed) (faults : List (Option
 unfolding needs_lines
 needs_whole ends needs faults = lines-below _ (λ k. need_lines ends (slice_get needs k) (slice_get faults k)) (λ k. need_whole ends (slice_get needs k) (slice_get faults k))
 
-judged_whole : (asked : Asked) (found : Exploration) (answers : List Answer) (faults : List (Option ℕ)) → AreLines (judged_lines asked found answers faults)
-judged_whole asked found answers faults =
-    lines-append (word_lines asked.plain found.ends.items answers) (needs_lines found.ends.items asked.outputs.items faults)
-    (words_whole asked.plain found.ends.items answers) (needs_whole found.ends.items asked.outputs.items faults)
+call_whole : (word : Option CallWord) (ways : Option Ways) → AreLines (call_lines word ways)
+unfolding schedule_line
+call_whole (Some word) (Some (Without s)) = lines-onto (call_head word.never ++ string_bytes word.text ++ codes "\n") (codes "schedule " ++ schedule_text s)
+call_whole (Some word) (Some Always) = tt
+call_whole (Some word) (Some Unknown) = tt
+call_whole (Some word) None = tt
+call_whole None (Some (Without s)) = tt
+call_whole None (Some Always) = tt
+call_whole None (Some Unknown) = tt
+call_whole None None = tt
+
+calls_whole : (words : List CallWord) (ways : List Ways) → AreLines (calls_lines words ways)
+unfolding calls_lines
+calls_whole words ways = lines-below _ (λ k. call_lines (slice_get words k) (slice_get ways k)) (λ k. call_whole (slice_get words k) (slice_get ways k))
+
+judged_whole : (asked : Asked) (found : Exploration) (answers : List Answer) (faults : List (Option ℕ)) (ways : List Ways) → AreLines (judged_lines asked found answers faults ways)
+judged_whole asked found answers faults ways =
+    lines-append (word_lines asked.plain found.ends.items answers ++ needs_lines found.ends.items asked.outputs.items faults) (calls_lines asked.call_words.items ways)
+    (lines-append (word_lines asked.plain found.ends.items answers) (needs_lines found.ends.items asked.outputs.items faults)
+    (words_whole asked.plain found.ends.items answers) (needs_whole found.ends.items asked.outputs.items faults))
+    (calls_whole asked.call_words.items ways)
 
 condition_whole : (c : Option Never) (s : Option (Option (List Block))) → AreLines (condition_lines c s)
 unfolding schedule_line
@@ -108,12 +129,12 @@ stuck_stands show w n blocks text is stands =
     stand_within (above ++ head.0) (verdict_line Stuck) below text (lines-append above head.0 (lines-feed (codes "end " ++ decimal n)) head.1)
     (subst (λ l. StandIn l text) parts stands)
 
-module _ (asked : Asked) (found : Exploration) (answers : List Answer) (faults : List (Option ℕ)) (text : List ℕ) (is : text ≡ answers_text false asked found answers faults) where
+module _ (asked : Asked) (found : Exploration) (answers : List Answer) (faults : List (Option ℕ)) (ways : List Ways) (text : List ℕ) (is : text ≡ answers_text false asked found answers faults ways) where
   abbrev ends : List ℕ
   ends = ends_text asked.show 1 (told_ends asked.show found.ends.items)
 
   abbrev words : List ℕ
-  words = judged_lines asked found answers faults
+  words = judged_lines asked found answers faults ways
 
   abbrev reached : List ℕ
   reached = reached_lines asked.never.items found.reached.items
@@ -126,7 +147,7 @@ module _ (asked : Asked) (found : Exploration) (answers : List Answer) (faults :
   whole = is ∙ sym (append_assoc (ends ++ words) (reached ++ lasso_text found.lasso) last)
 
   front_whole : AreLines (ends ++ words)
-  front_whole = lines-append ends words (ends_whole asked.show 1 (told_ends asked.show found.ends.items)) (judged_whole asked found answers faults)
+  front_whole = lines-append ends words (ends_whole asked.show 1 (told_ends asked.show found.ends.items)) (judged_whole asked found answers faults ways)
 
   above_whole : AreLines (ends ++ words ++ (reached ++ lasso_text found.lasso))
   above_whole =

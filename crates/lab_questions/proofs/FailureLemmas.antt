@@ -1,5 +1,5 @@
 -- Why not all is as it is required, and that nothing is wrong where there is no such reason.
-use Rattle.std.proofs.Common.{ℕ, ◌≡◌, ◌≢◌, Bool, true, false, List, [], Option, Some, None, All, Any, IfSome, get_or, slice_get, length, arith, refl, sym, ap, subst, ◌∙◌}
+use Rattle.std.proofs.Common.{ℕ, ◌≡◌, ◌≢◌, ◌⊎◌, inl, inr, Bool, true, false, List, [], Option, Some, None, All, Any, IfSome, get_or, slice_get, length, arith, refl, sym, ap, subst, ◌∙◌}
 use Rattle.std.proofs.lemmas.List.{get_or_default}
 use Rattle.std.proofs.lemmas.Option.{slice_get_within, get_or_from_slice_get}
 use Rattle.lab_sched.specs.declared.schedule.block.Block.{Block}
@@ -16,9 +16,13 @@ use Rattle.lab_questions.specs.declared.asked.Waiter.{Waiter}
 use Rattle.lab_questions.specs.declared.asked.Word.{Word}
 use Rattle.lab_questions.specs.declared.asked.Word.TheVariants.{Ended, Stuck, Halted, Empty, Same}
 use Rattle.lab_questions.specs.declared.failure.Failure.{Failure}
-use Rattle.lab_questions.specs.declared.failure.Failure.TheVariants.{Not, Output, Reached, Endless, Incomplete}
+use Rattle.lab_questions.specs.declared.failure.Failure.TheVariants.{Not, Output, Reached, Endless, Call, Incomplete}
 use Rattle.lab_questions.specs.Requirements.{HasSettled, HaveSettled}
 use Rattle.lab_questions.specs.Judgments.{Meets, IsFault, IsFaultIn, IsAnswer, HasOtherVerdict, verdict_asked}
+use Rattle.lab_ways.specs.declared.ways.Ways.{Ways}
+use Rattle.lab_ways.specs.declared.ways.Ways.TheVariants.{Always, Without, Unknown}
+use Rattle.lab_questions.specs.Called.{AreAlways, IsAgainst, NothingElse, IsFailureOfAll}
+use Rattle.lab_questions.specs.Private.CallFailures.{CallFails}
 use Rattle.lab_questions.specs.Outputs.{IsUnwritten}
 use Rattle.lab_questions.specs.Programs.{AlwaysMeet, ComeTo, AsksRest, Passes, IsUnmet, IsReached, IsEndless, IsFailure}
 
@@ -48,16 +52,58 @@ not_both false found answers faults (Not word) is passes = none_unmet found answ
 not_both false found answers faults (Output k) (met, unwritten) passes = none_unwritten found answers faults k unwritten passes
 not_both false found answers faults (Reached i) (met, reached) passes = none_reached found answers faults i reached passes
 not_both false found answers faults Endless (met, unreached, endless) passes = none_endless found answers faults endless passes
+not_both false found answers faults (Call k) is passes = is
 not_both false found answers faults Incomplete (met, unreached, ends, ajar) passes = none_open found answers faults ajar passes
 not_both true found answers faults (Not word) (comes, unmet) passes = none_unmet found answers faults word unmet passes
 not_both true found answers faults (Output k) (comes, met, unwritten) passes = none_unwritten found answers faults k unwritten passes
 not_both true found answers faults (Reached i) (comes, met, reached) passes = none_reached found answers faults i reached passes
 not_both true found answers faults Endless (complete, endless) passes = none_endless found answers faults endless passes
+not_both true found answers faults (Call k) is passes = is
 not_both true found answers faults Incomplete ajar passes = none_open found answers faults ajar passes
 
-pub no_failure : (plain : Bool) (found : Exploration) (answers : List Answer) (faults : List (Option ℕ)) (o : Option Failure) → IfSome o (IsFailure plain found answers faults) → Passes found answers faults → o ≡ None
-no_failure plain found answers faults None is passes = refl
-no_failure plain found answers faults (Some f) is passes = absurd (not_both plain found answers faults f is passes)
+none_against : (ways : List Ways) (k : ℕ) → IsAgainst ways k → AreAlways ways → ⊥
+none_against ways k (s, at) always =
+    let same : ◌≡◌ {A = Ways} (Without s) Always = sym (get_or_from_slice_get ways k (Without s) (Without s) at) ∙ always k (Without s) (slice_get_within ways k (Without s) at) in
+    absurd (cc)
+
+not_all : (plain : Bool) (found : Exploration) (answers : List Answer) (faults : List (Option ℕ)) (ways : List Ways) (f : Failure)
+    → IsFailureOfAll plain found answers faults ways f → Passes found answers faults → AreAlways ways → ⊥
+not_all plain found answers faults ways (Not word) is passes always = not_both plain found answers faults (Not word) is passes
+not_all plain found answers faults ways (Output k) is passes always = not_both plain found answers faults (Output k) is passes
+not_all plain found answers faults ways (Reached i) is passes always = not_both plain found answers faults (Reached i) is passes
+not_all plain found answers faults ways Endless is passes always = not_both plain found answers faults Endless is passes
+not_all plain found answers faults ways (Call k) is passes always = none_against ways k is.1 always
+not_all plain found answers faults ways Incomplete (other, none, inl is) passes always = not_both plain found answers faults Incomplete is passes
+not_all plain found answers faults ways Incomplete (other, none, inr unknown) passes always = unknown always
+
+pub no_failure : (plain : Bool) (found : Exploration) (answers : List Answer) (faults : List (Option ℕ)) (ways : List Ways) (o : Option Failure)
+    → IfSome o (IsFailureOfAll plain found answers faults ways) → Passes found answers faults × AreAlways ways → o ≡ None
+no_failure plain found answers faults ways None is passes = refl
+no_failure plain found answers faults ways (Some f) is passes = absurd (not_all plain found answers faults ways f is passes.0 passes.1)
+
+-- what isn't so of calls, where what else is asked is so or isn't known
+pub call_fails : (plain : Bool) (found : Exploration) (answers : List Answer) (faults : List (Option ℕ)) (ways : List Ways) (unknown : Bool) (o : Option Failure)
+    → IfSome o (CallFails ways unknown) → NothingElse plain found answers faults → (unknown ≡ true → IsFailure plain found answers faults Incomplete)
+    → IfSome o (IsFailureOfAll plain found answers faults ways)
+call_fails plain found answers faults ways unknown None is other ajar = tt
+call_fails plain found answers faults ways unknown (Some (Call k)) is other ajar = (other, is)
+call_fails plain found answers faults ways unknown (Some Incomplete) (none, inl so) other ajar = (other, none, inl (ajar so))
+call_fails plain found answers faults ways unknown (Some Incomplete) (none, inr some) other ajar = (other, none, inr some)
+call_fails plain found answers faults ways unknown (Some (Not word)) is other ajar = absurd is
+call_fails plain found answers faults ways unknown (Some (Output k)) is other ajar = absurd is
+call_fails plain found answers faults ways unknown (Some (Reached i)) is other ajar = absurd is
+call_fails plain found answers faults ways unknown (Some Endless) is other ajar = absurd is
+
+-- what else isn't so
+pub other_fails : (plain : Bool) (found : Exploration) (answers : List Answer) (faults : List (Option ℕ)) (ways : List Ways) (f : Failure)
+    → (f ≡ Incomplete → ⊥) → IsFailure plain found answers faults f → IsFailureOfAll plain found answers faults ways f
+other_fails plain found answers faults ways (Not word) more is = is
+other_fails plain found answers faults ways (Output k) more is = is
+other_fails plain found answers faults ways (Reached i) more is = is
+other_fails plain found answers faults ways Endless more is = is
+other_fails false found answers faults ways (Call k) more is = absurd is
+other_fails true found answers faults ways (Call k) more is = absurd is
+other_fails plain found answers faults ways Incomplete more is = absurd (more refl)
 
 ended_settles : (waiters : List Waiter) (p : ℕ) (s : Process) → HasEnded s → HasSettled waiters p s
 ended_settles waiters p (Running m) ended = ended

@@ -18,3 +18,4 @@ mod ReadingLemmas
 pub mod ToldLemmas
 mod FailureLemmas
 mod ValueLemmas
+mod CallLemmas

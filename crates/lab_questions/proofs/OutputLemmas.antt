@@ -1,5 +1,5 @@
 -- What the answers on outputs say of programs.
-use Rattle.std.proofs.Common.{ℕ, zero, suc, ◌≡◌, ◌<◌, ◌↔◌, Bool, true, List, [], ◌∷◌, Option, Some, None, All, IfSome, slice_get, length, map, sym, ap, subst, ◌∙◌, arith}
+use Rattle.std.proofs.Common.{ℕ, zero, suc, ◌≡◌, ◌<◌, ◌↔◌, Bool, true, List, [], ◌∷◌, Option, Some, None, All, Any, IfSome, slice_get, length, map, sym, ap, subst, ◌∙◌, arith}
 use Rattle.std.proofs.lemmas.Option.{slice_get_within}
 use Rattle.lab_sched.specs.Worlds.{WorldState, run, machine_of}
 use Rattle.lab_worlds.specs.declared.ends.End.{End}
@@ -7,8 +7,9 @@ use Rattle.lab_worlds.specs.Calls.{Both, Alongside, AreAlike}
 use Rattle.lab_worlds.specs.Closed.{AreAtRest}
 use Rattle.lab_worlds.specs.Ends.{IsEnd, AreEnds, HaveAllEnds}
 use Rattle.lab_questions.specs.declared.output.OutputNeed.{OutputNeed}
+use Rattle.lab_questions.specs.declared.output.OutputPart.{OutputPart}
 use Rattle.lab_questions.specs.Requirements.{outputs}
-use Rattle.lab_questions.specs.Outputs.{Fits, HasWritten, IsWrittenAt, IsOutputFault, IsOutputAnswer, AlwaysWritten, IsOutputRefuted}
+use Rattle.lab_questions.specs.Outputs.{Fits, HasOutput, HasWritten, IsWrittenAt, IsOutputFault, IsOutputAnswer, AlwaysWritten, IsOutputRefuted}
 use Rattle.lab_questions.specs.Texts.{schedule_of, schedule_at}
 use Rattle.lab_questions.proofs.AnswerLemmas.{all_at}
 
@@ -58,7 +59,7 @@ outputs_refuted start ends needs faults sound each =
 
 alike_written : (need : OutputNeed) (w v : WorldState) → AreAlike w v → HasWritten need v → HasWritten need w
 alike_written need w v is written =
-    subst (λ all. (output : List ℕ) × (slice_get all need.process ≡ Some output) × Fits need.relation need.bytes.items output)
+    subst (λ all. Any (λ a. All (λ part. HasOutput part all) a.parts.items) need.alternatives.items)
     (ap (λ ps. map (λ s. (machine_of s).output) ps) is.processes) written
 
 met : (need : OutputNeed) (start : WorldState) (ends : List End) → HaveAllEnds start ends → (o : Option ℕ) → IsOutputAnswer ends need o → o ≡ None → AlwaysWritten need start
@@ -76,14 +77,14 @@ outputs_met start ends needs faults all each =
     (λ need fault answer. met need start ends all fault answer) needs faults each
 
 -- what a process has written, where that is known
-pub written_by : (need : OutputNeed) (w : WorldState) (out : List ℕ) (r : Bool) → slice_get (outputs w) need.process ≡ Some out
-    → (r ≡ true ↔ Fits need.relation need.bytes.items out) → (r ≡ true ↔ HasWritten need w)
-written_by need w out r at fits = (
+pub written_by : (part : OutputPart) (written : List (List ℕ)) (out : List ℕ) (r : Bool) → slice_get written part.process ≡ Some out
+    → (r ≡ true ↔ Fits part.relation part.bytes.items out) → (r ≡ true ↔ HasOutput part written)
+written_by part written out r at fits = (
   λ yes. (out, at, fits.0 yes),
   λ (other, there, fit).
       let same : other ≡ out = let some : Some other ≡ Some out = sym there ∙ at in cc in
-      fits.1 (subst (Fits need.relation need.bytes.items) same fit),
+      fits.1 (subst (Fits part.relation part.bytes.items) same fit),
 )
 
-pub unwritten_by : (need : OutputNeed) (w : WorldState) → slice_get (outputs w) need.process ≡ None → HasWritten need w → ⊥
-unwritten_by need w at (other, there, fit) = let some : ◌≡◌ {A = Option (List ℕ)} (Some other) None = sym there ∙ at in absurd (cc)
+pub unwritten_by : (part : OutputPart) (written : List (List ℕ)) → slice_get written part.process ≡ None → HasOutput part written → ⊥
+unwritten_by part written at (other, there, fit) = let some : ◌≡◌ {A = Option (List ℕ)} (Some other) None = sym there ∙ at in absurd (cc)

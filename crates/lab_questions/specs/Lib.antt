@@ -11,6 +11,8 @@ pub mod Written
 pub mod Objects
 pub mod Judgments
 pub mod Programs
+pub mod Called
+pub mod CallWords
 pub mod Texts
 pub mod Values
 pub mod Members

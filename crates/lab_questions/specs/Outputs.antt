@@ -1,5 +1,5 @@
 -- What can be required of what processes have written.
-use Rattle.std.specs.Prelude.{ℕ, ◌≡◌, ◌++◌, List, Option, Some, None, All, take, slice_get}
+use Rattle.std.specs.Prelude.{ℕ, ◌≡◌, ◌++◌, List, Option, Some, None, All, Any, take, slice_get}
 use Rattle.lab_sched.specs.declared.schedule.block.Block.{Block}
 use Rattle.lab_sched.specs.Schedules.{steps_of}
 use Rattle.lab_sched.specs.Worlds.{WorldState, run}
@@ -7,6 +7,7 @@ use Rattle.lab_sched.specs.Execution.{AreEffective}
 use Rattle.lab_worlds.specs.declared.ends.End.{End}
 use Rattle.lab_worlds.specs.Closed.{AreAtRest}
 use Rattle.lab_questions.specs.declared.output.OutputNeed.{OutputNeed}
+use Rattle.lab_questions.specs.declared.output.OutputPart.{OutputPart}
 use Rattle.lab_questions.specs.declared.output.OutputRelation.{OutputRelation}
 use Rattle.lab_questions.specs.declared.output.OutputRelation.TheVariants.{Equals, Contains}
 use Rattle.lab_questions.specs.Requirements.{outputs}
@@ -20,10 +21,14 @@ abbrev pub Fits : OutputRelation → List ℕ → List ℕ → Type 0
 Fits Equals bytes output = output ≡ bytes
 Fits Contains bytes output = IsWithin bytes output
 
--- the process is there, and has written what is needed
+-- of what processes have written, what this one has is there, and as it is needed
+abbrev pub HasOutput : OutputPart → List (List ℕ) → Type 0
+HasOutput part written =
+    (output : List ℕ) × (slice_get written part.process ≡ Some output) × Fits part.relation part.bytes.items output
+
+-- the processes have written what each part of one of the alternatives needs
 abbrev pub HasWritten : OutputNeed → WorldState → Type 0
-HasWritten need w =
-    (output : List ℕ) × (slice_get (outputs w) need.process ≡ Some output) × Fits need.relation need.bytes.items output
+HasWritten need w = Any (λ a. All (λ part. HasOutput part (outputs w)) a.parts.items) need.alternatives.items
 
 -- the world of the end has what is needed
 abbrev pub IsWrittenAt : OutputNeed → End → Type 0

@@ -2,3 +2,5 @@
 pub mod Told
 pub mod Presences
 pub mod Values
+pub mod Readings
+pub mod CallFailures

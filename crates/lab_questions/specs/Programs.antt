@@ -19,7 +19,7 @@ use Rattle.lab_questions.specs.declared.asked.Word.{Word}
 use Rattle.lab_questions.specs.declared.asked.Word.TheVariants.{Ended, Stuck, Halted, Empty, Same}
 use Rattle.lab_questions.specs.declared.answers.Answer.{Answer}
 use Rattle.lab_questions.specs.declared.failure.Failure.{Failure}
-use Rattle.lab_questions.specs.declared.failure.Failure.TheVariants.{Not, Output, Reached, Endless, Incomplete}
+use Rattle.lab_questions.specs.declared.failure.Failure.TheVariants.{Not, Output, Reached, Endless, Call, Incomplete}
 use Rattle.lab_questions.specs.Judgments.{Meets}
 use Rattle.lab_questions.specs.Outputs.{IsUnwritten}
 
@@ -52,7 +52,9 @@ pub record ComeTo (verdict : Verdict) (start : WorldState) : Type 0 where
 
 -- something has to be so
 abbrev pub judges : Asked → Bool
-judges asked = not (length asked.words.items == 0 && length asked.outputs.items == 0 && length asked.never.items == 0)
+judges asked =
+    not (length asked.words.items == 0 && length asked.outputs.items == 0 && length asked.never.items == 0
+    && length asked.wanted.items == 0)
 
 -- the word asks that each run comes to rest
 abbrev pub AsksRest : Word → Type 0
@@ -86,12 +88,13 @@ IsReached found i = (s : List Block) × (slice_get found.reached.items i ≡ Som
 abbrev pub AreMet : List Answer → List (Option ℕ) → Type 0
 AreMet answers faults = All (λ a. a.fault ≡ None) answers × All (λ f. f ≡ None) faults
 
--- the first of these that is so
+-- the first of these that is so; what is asked of calls is none of them
 abbrev pub IsFirst : Exploration → List Answer → List (Option ℕ) → Failure → Type 0
 IsFirst found answers faults (Not word) = IsUnmet answers word
 IsFirst found answers faults (Output k) = All (λ a. a.fault ≡ None) answers × IsUnwritten faults k
 IsFirst found answers faults (Reached i) = AreMet answers faults × IsReached found i
 IsFirst found answers faults Endless = AreMet answers faults × All (λ s. s ≡ None) found.reached.items × IsEndless found answers
+IsFirst found answers faults (Call k) = ⊥
 IsFirst found answers faults Incomplete =
     AreMet answers faults × All (λ s. s ≡ None) found.reached.items × (Any (λ a. AsksRest a.word) answers → found.lasso ≡ None)
     × (found.complete ≡ false)
@@ -104,6 +107,7 @@ ComesToRest found answers = IsTrue found.complete × (Any (λ a. AsksRest a.word
 abbrev pub IsFirstOfAll : Exploration → List Answer → List (Option ℕ) → Failure → Type 0
 IsFirstOfAll found answers faults Incomplete = found.complete ≡ false
 IsFirstOfAll found answers faults Endless = IsTrue found.complete × IsEndless found answers
+IsFirstOfAll found answers faults (Call k) = ⊥
 IsFirstOfAll found answers faults (Not word) = ComesToRest found answers × IsUnmet answers word
 IsFirstOfAll found answers faults (Output k) = ComesToRest found answers × All (λ a. a.fault ≡ None) answers × IsUnwritten faults k
 IsFirstOfAll found answers faults (Reached i) = ComesToRest found answers × AreMet answers faults × IsReached found i

@@ -10,6 +10,8 @@ use Rattle.lab_sched.specs.declared.schedule.block.Block.{Block}
 use Rattle.lab_worlds.specs.declared.ends.End.{End}
 use Rattle.lab_worlds.specs.declared.exploration.Exploration.{Exploration}
 use Rattle.lab_questions.specs.declared.asked.Asked.{Asked}
+use Rattle.lab_ways.specs.declared.ways.Ways.{Ways}
+use Rattle.lab_questions.specs.Called.{calls_lines}
 use Rattle.lab_questions.specs.EndTexts.{told_ends, ends_text, schedule_line, lasso_text, extent_line}
 use Rattle.lab_questions.specs.declared.asked.Word.{Word}
 use Rattle.lab_questions.specs.declared.asked.Word.TheVariants.{Ended, Stuck, Halted, Empty, Same}
@@ -86,15 +88,16 @@ last_lines true never found = walks_line found.worlds
 last_lines false never found =
     reached_lines never found.reached.items ++ lasso_text found.lasso ++ extent_line found.complete found.worlds
 
--- the lines of words and outputs that aren't so
-abbrev pub judged_lines : Asked → Exploration → List Answer → List (Option ℕ) → List ℕ
-judged_lines asked found answers faults =
+-- the lines of words, outputs and calls that aren't so
+abbrev pub judged_lines : Asked → Exploration → List Answer → List (Option ℕ) → List Ways → List ℕ
+judged_lines asked found answers faults ways =
     word_lines asked.plain found.ends.items answers ++ needs_lines found.ends.items asked.outputs.items faults
+    ++ calls_lines asked.call_words.items ways
 
 -- the ends that are told, the answers, and the last lines
-abbrev pub answers_text : Bool → Asked → Exploration → List Answer → List (Option ℕ) → List ℕ
-answers_text walks asked found answers faults =
-    ends_text asked.show 1 (told_ends asked.show found.ends.items) ++ judged_lines asked found answers faults
+abbrev pub answers_text : Bool → Asked → Exploration → List Answer → List (Option ℕ) → List Ways → List ℕ
+answers_text walks asked found answers faults ways =
+    ends_text asked.show 1 (told_ends asked.show found.ends.items) ++ judged_lines asked found answers faults ways
     ++ last_lines walks asked.never.items found
 
 -- the text of the schedule of an end that an answer names

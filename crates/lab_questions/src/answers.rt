@@ -5,17 +5,19 @@ ghost use Rattle.lab_questions.specs.EndTexts.{AreTold, told_end};
 ghost use Rattle.lab_worlds.specs.Calls.{Alongside};
 ghost use Rattle.lab_questions.specs.Judgments.{IsAnswer};
 ghost use Rattle.lab_questions.specs.Outputs.{IsOutputAnswer};
-ghost use Rattle.lab_questions.specs.Programs.{Passes, IsFailure};
+ghost use Rattle.lab_questions.specs.Called.{AreAlways, IsFailureOfAll};
+ghost use Rattle.lab_questions.specs.Programs.{Passes};
 ghost use Rattle.lab_questions.specs.Shown.{shown_text};
 ghost use Rattle.lab_questions.specs.Texts.{answers_text};
 
-use crate::failure::failure_of;
+use crate::failure::whole_failure;
 use crate::judging::fault_in;
 use crate::output::faults_in;
 use crate::shown::shown_text;
 use crate::texts::tell;
 use crate::{Asked, Failure, Object, Waiter, Word};
 use lab_sched::World;
+use lab_ways::Ways;
 use lab_worlds::{End, Exploration};
 use std::alloc::{AllocError, Global};
 
@@ -38,6 +40,8 @@ pub struct Answers {
     /// For each output that is required, in order, the number of the first end, counted from 0, where it isn't so, if there is
     /// one.
     pub output_faults: Vec<Option<usize>>,
+    /// For all that is asked of calls, in order, whether it is so on every way. By walks that isn't known, and there are none here.
+    pub ways: Vec<Ways>,
     /// The semaphores and queues that the conditions name and that are never there. Where not
     /// everything was visited that isn't known, and there are none here.
     pub unopened: Vec<Object>,
@@ -99,6 +103,7 @@ pub(crate) fn said_of(
     alloc: Global,
     asked: &Asked,
     found: &Exploration,
+    ways: &[Ways],
     walks: bool,
 ) -> Result<Said, AllocError>
     ensures words { IfOk result (λ s. map (λ x. x.word) s.answers.items
@@ -108,17 +113,18 @@ pub(crate) fn said_of(
     ensures outputs { IfOk result (λ s. Alongside (IsOutputAnswer found.now.ends.items)
         asked.now.outputs.items s.output_faults.items) }
     ensures text { IfOk result (λ s. string_bytes s.text
-        ≡ answers_text walks asked.now found.now s.answers.items s.output_faults.items) }
+        ≡ answers_text walks asked.now found.now s.answers.items s.output_faults.items ways.now) }
     ensures told { IfOk result (λ s. AreTold asked.now.show found.now.ends.items s.told.items) }
     ensures none { IfOk result (λ s. s.failure ≡ None
-        → Passes found.now s.answers.items s.output_faults.items) }
+        → Passes found.now s.answers.items s.output_faults.items × AreAlways ways.now) }
     ensures some { IfOk result (λ s. IfSome s.failure (λ f.
-        IsFailure asked.now.plain found.now s.answers.items s.output_faults.items f)) }
+        IsFailureOfAll asked.now.plain found.now s.answers.items s.output_faults.items
+        ways.now f)) }
 {
     let answers = answers_on(alloc, &asked.words, &asked.waiters, &found.ends)?;
     let output_faults = faults_in(alloc, &asked.outputs, &found.ends)?;
-    let told = tell(alloc, asked, found, &answers, &output_faults, walks)?;
-    let failure = failure_of(found, &answers, &output_faults, asked.plain);
+    let told = tell(alloc, asked, found, &answers, &output_faults, ways, walks)?;
+    let failure = whole_failure(found, &answers, &output_faults, ways, asked.plain);
     Ok(Said {
         answers,
         output_faults,

@@ -3,8 +3,9 @@ ghost use Rattle.std.specs.Prelude.{◌≡◌};
 ghost use Rattle.lab_questions.specs.Programs.{judges};
 ghost use Rattle.lab_questions.specs.Texts.{word_text};
 
-use crate::OutputNeed;
+use crate::{CallWord, OutputNeed};
 use lab_conditions::Never;
+use lab_ways::Wanted;
 use lab_worlds::{Limits, Walks};
 
 /// What can be required of each end.
@@ -65,6 +66,10 @@ pub struct Asked {
     pub waiters: Vec<Waiter>,
     /// What must never be so.
     pub never: Vec<Never>,
+    /// What is asked of calls, as it was written.
+    pub call_words: Vec<CallWord>,
+    /// The same, in order, as what has to be so on every way.
+    pub wanted: Vec<Wanted>,
     /// Whether only lassos that are fair are told.
     pub fair: bool,
     /// What is told of each end.
@@ -79,7 +84,10 @@ impl Asked {
     pub fn judges(&self) -> bool
         ensures judges { result ≡ judges self.now }
     {
-        !(self.words.is_empty() && self.outputs.is_empty() && self.never.is_empty())
+        !(self.words.is_empty()
+            && self.outputs.is_empty()
+            && self.never.is_empty()
+            && self.wanted.is_empty())
     }
 }
 

@@ -1,6 +1,7 @@
 //! Explorations with what is required of their ends.
 ghost use Rattle.std.specs.Prelude.{◌≡◌, ◌↔◌, None, false, [], map, string_bytes, All, AllPairs, IfOk, IfSome, IsTrue};
 ghost use Rattle.std.specs.List.Sorted.{IsNonDecreasingBy};
+ghost use Rattle.lab_ways.specs.Ways.{AreAllWays};
 ghost use Rattle.lab_worlds.specs.Calls.{Alongside};
 ghost use Rattle.lab_worlds.specs.Ends.{AreEnds, HaveAllEnds, HaveFewestCalls, NeverStuck};
 ghost use Rattle.lab_worlds.specs.Reached.{AreReached, AreKept};
@@ -11,10 +12,12 @@ ghost use Rattle.lab_questions.specs.EndTexts.{told_ends, AreTold};
 ghost use Rattle.lab_questions.specs.Judgments.{IsAnswer, HasOtherVerdict, verdict_asked};
 ghost use Rattle.lab_questions.specs.Objects.{named, AreUnopened, StandsBefore};
 ghost use Rattle.lab_questions.specs.Outputs.{IsOutputAnswer, IsOutputRefuted, AlwaysWritten};
-ghost use Rattle.lab_questions.specs.Programs.{TellEveryEnd, AlwaysMeet, ComeTo, IsRefuted, Passes, IsFailure};
+ghost use Rattle.lab_questions.specs.Programs.{TellEveryEnd, AlwaysMeet, ComeTo, IsRefuted, Passes};
+ghost use Rattle.lab_questions.specs.Called.{AreAlways, IsFailureOfAll};
 ghost use Rattle.lab_questions.specs.Texts.{schedule_at, answers_text};
 
 use crate::answers::said_of;
+use crate::called::ways_in;
 use crate::finding::find;
 use crate::{Answers, Asked};
 use lab_sched::Fresh;
@@ -33,9 +36,13 @@ use std::thread::Threads;
 /// which the conditions name them first. If only fair lassos are asked for, a
 /// lasso that is told is fair; where the exploration is complete and has none, no more than some number
 /// of passes that serve each process can follow each other. Workers judge conditions side by side.
+/// What is asked of calls is looked for by another search, of `again`, which is to be the same laboratory:
+/// where it is so on every way, it is whatever steps are taken; else the steps of a schedule show that
+/// it isn't, or it isn't known.
 pub fn ask<O: Observer, R: Threads + Sync>(
     alloc: Global,
     fresh: Fresh,
+    again: Fresh,
     limits: Limits,
     asked: Asked,
     observer: &mut O,
@@ -44,10 +51,13 @@ pub fn ask<O: Observer, R: Threads + Sync>(
     ensures words { IfOk result (λ a. map (λ x. x.word) a.answers.items ≡ asked.words.items) }
     ensures outputs { IfOk result (λ a. a.asked.outputs ≡ asked.outputs) }
     ensures conditions { IfOk result (λ a. a.asked.never.items ≡ asked.never.items) }
+    ensures call_words { IfOk result (λ a. a.asked.call_words ≡ asked.call_words) }
+    ensures wanted { IfOk result (λ a. a.asked.wanted ≡ asked.wanted) }
     ensures shows { IfOk result (λ a. a.asked.show ≡ asked.show) }
     ensures plain { IfOk result (λ a. a.asked.plain ≡ asked.plain) }
     ensures text { IfOk result (λ a. string_bytes a.text
-        ≡ answers_text false a.asked a.exploration a.answers.items a.output_faults.items) }
+        ≡ answers_text false a.asked a.exploration a.answers.items a.output_faults.items
+        a.ways.items) }
     ensures numbers { IfOk result (λ a.
         AreTold asked.show a.exploration.ends.items a.told.items) }
     ensures answers { IfOk result (λ a.
@@ -96,6 +106,7 @@ pub fn ask<O: Observer, R: Threads + Sync>(
     ensures written { IfOk result (λ a. IsTrue a.exploration.complete
         → Alongside (λ need fault. fault ≡ None → AlwaysWritten need fresh)
         asked.outputs.items a.output_faults.items) }
+    ensures ways { IfOk result (λ a. AreAllWays again asked.wanted.items a.ways.items) }
     ensures reached { IfOk result (λ a.
         AreReached fresh asked.never.items a.exploration.reached.items) }
     ensures unreached { IfOk result (λ a. IsTrue a.exploration.complete
@@ -107,15 +118,17 @@ pub fn ask<O: Observer, R: Threads + Sync>(
     ensures order { IfOk result (λ a.
         AllPairs (StandsBefore (named asked.never.items)) a.unopened.items) }
     ensures passes { IfOk result (λ a. (a.failure ≡ None)
-        ↔ Passes a.exploration a.answers.items a.output_faults.items) }
+        ↔ (Passes a.exploration a.answers.items a.output_faults.items
+        × AreAlways a.ways.items)) }
     ensures failure { IfOk result (λ a.
-        IfSome a.failure (λ f. IsFailure asked.plain a.exploration a.answers.items
-        a.output_faults.items f)) }
+        IfSome a.failure (λ f. IsFailureOfAll asked.plain a.exploration a.answers.items
+        a.output_faults.items a.ways.items f)) }
     ensures come { IfOk result (λ a. asked.waiters.items ≡ [] → asked.fair ≡ false
         → a.failure ≡ None → All (λ x. IfSome (verdict_asked x.word) (λ v. ComeTo v fresh))
         a.answers.items) }
 {
     let mut asked = asked;
+    let ways = ways_in(alloc, again, limits, &asked.wanted, observer)?;
     let found = find(
         alloc,
         fresh,
@@ -125,12 +138,13 @@ pub fn ask<O: Observer, R: Threads + Sync>(
         observer,
         workers,
     )?;
-    let said = said_of(alloc, &asked, &found.exploration, false)?;
+    let said = said_of(alloc, &asked, &found.exploration, &ways, false)?;
     Ok(Answers {
         asked,
         exploration: found.exploration,
         answers: said.answers,
         output_faults: said.output_faults,
+        ways,
         unopened: found.unopened,
         text: said.text,
         told: said.told,

@@ -3,9 +3,13 @@ ghost use Rattle.std.specs.Prelude.{◌≡◌, ◌≢◌, ◌↔◌, false, List
 ghost use Rattle.lab_sched.specs.declared.schedule.block.Block.{Block};
 ghost use Rattle.lab_questions.specs.Programs.{AsksRest, Passes, IsEndless, IsUnmet, IsReached, IsFailure};
 ghost use Rattle.lab_questions.specs.Outputs.{IsUnwritten};
+ghost use Rattle.lab_questions.specs.Called.{AreAlways, IsFailureOfAll};
+ghost use Rattle.lab_questions.specs.Private.CallFailures.{CallFails};
 
+use crate::called::{are_always, first_against};
 use crate::{Answer, Word};
 use lab_sched::Schedule;
+use lab_ways::Ways;
 use lab_worlds::Exploration;
 
 /// Why an exploration doesn't show that all is as it is required.
@@ -19,6 +23,8 @@ pub enum Failure {
     Reached(usize),
     /// Some interleaving never ends, and each has to.
     Endless,
+    /// A way shows that this number, from 0, of what is asked of calls isn't so.
+    Call(usize),
     /// Not everything was visited.
     Incomplete,
 }
@@ -98,9 +104,9 @@ fn is_endless(found: &Exploration, answers: &[Answer]) -> bool
     found.lasso.is_some() && ask_rest(answers)
 }
 
-/// Why an exploration doesn't show that all is as it is required, if it doesn't: what was found, or else what wasn't visited,
+/// Why an exploration doesn't show that each end is as it is required, and that nothing was reached, if it doesn't: what was found, or else what wasn't visited,
 /// which counts first where no more is asked than a verdict.
-pub(crate) fn failure_of(
+fn failure_of(
     found: &Exploration,
     answers: &[Answer],
     faults: &[Option<usize>],
@@ -133,4 +139,42 @@ pub(crate) fn failure_of(
         return Some(Failure::Incomplete);
     }
     None
+}
+
+/// Why not all is shown to be so where what else is asked is so, or isn't known.
+fn call_failure(ways: &[Ways], unknown: bool) -> Option<Failure>
+    ensures some { IfSome result (λ failure. CallFails ways.now unknown failure) }
+    ensures none { result ≡ None → AreAlways ways.now × (unknown ≡ false) }
+{
+    if let Some(number) = first_against(ways) {
+        return Some(Failure::Call(number));
+    }
+    if unknown {
+        return Some(Failure::Incomplete);
+    }
+    if !are_always(ways) {
+        return Some(Failure::Incomplete);
+    }
+    None
+}
+
+/// Why not all is shown to be so, if it isn't: what was found of ends, conditions and rounds; else of calls; else what isn't known.
+#[tactic(auto, using(crate::proofs::FailureLemmas::call_fails, crate::proofs::FailureLemmas::other_fails))]
+pub(crate) fn whole_failure(
+    found: &Exploration,
+    answers: &[Answer],
+    faults: &[Option<usize>],
+    ways: &[Ways],
+    plain: bool,
+) -> Option<Failure>
+    ensures none { result ≡ None
+        → Passes found.now answers.now faults.now × AreAlways ways.now }
+    ensures some { IfSome result (λ failure.
+        IsFailureOfAll plain found.now answers.now faults.now ways.now failure) }
+{
+    match failure_of(found, answers, faults, plain) {
+        None => call_failure(ways, false),
+        Some(Failure::Incomplete) => call_failure(ways, true),
+        failure => failure,
+    }
 }

@@ -2,6 +2,7 @@
 ghost use Rattle.std.specs.Prelude.{◌≡◌, ◌++◌, ℕ, List, IfOk, string_bytes};
 ghost use Rattle.lab_questions.specs.Members.{last_members};
 
+mod calls;
 mod closing;
 mod ends;
 mod left;
@@ -9,6 +10,7 @@ mod limit;
 mod reasons;
 mod values;
 
+use crate::json::calls::{push_never_called, push_uncalled};
 use crate::json::closing::push_last;
 use crate::json::ends::push_ends;
 use crate::json::limit::push_limit;
@@ -114,7 +116,7 @@ fn push_faults(alloc: Global, text: &mut String, answers: &Answers) -> Result<()
             push_output(alloc, text, &answers.exploration.ends, need, *number)?;
         }
     }
-    Ok(())
+    push_uncalled(alloc, text, answers, told)
 }
 
 /// Adds what must never be so and was reached.
@@ -165,6 +167,7 @@ fn push_findings(
     push_faults(alloc, text, answers)?;
     text.push_str("],\"reached\":[")?;
     push_conditions(alloc, text, &answers.asked.never, &found.reached)?;
+    push_never_called(alloc, text, answers)?;
     text.push_str("]")
 }
 

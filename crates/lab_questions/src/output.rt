@@ -1,7 +1,8 @@
 //! What is required of what processes have written, and the ends that are judged by it.
-ghost use Rattle.std.specs.Prelude.{◌≡◌, ◌≤◌, ◌↔◌, false, IfOk, IsTrue, bytes_eq, drop, length, take};
+ghost use Rattle.std.specs.Prelude.{◌≡◌, ◌≤◌, ◌↔◌, false, All, Any, IfOk, IsTrue, bytes_eq, drop, length, take};
 ghost use Rattle.lab_worlds.specs.Calls.{Alongside};
-ghost use Rattle.lab_questions.specs.Outputs.{IsWithin, Fits, HasWritten, IsWrittenAt, IsOutputAnswer};
+ghost use Rattle.lab_questions.specs.Outputs.{IsWithin, Fits, HasOutput, HasWritten, IsWrittenAt, IsOutputAnswer};
+ghost use Rattle.lab_questions.specs.Requirements.{outputs};
 
 use crate::processes::output_of;
 use lab_sched::World;
@@ -17,14 +18,26 @@ pub enum OutputRelation {
     Contains,
 }
 
-/// What a process must have written at each end.
+/// What one process must have written.
+#[derive(Drop)]
+pub struct OutputPart {
+    pub process: usize,
+    pub relation: OutputRelation,
+    pub bytes: Vec<u8>,
+}
+
+/// What processes must have written together.
+#[derive(Drop)]
+pub struct Alternative {
+    pub parts: Vec<OutputPart>,
+}
+
+/// What processes must have written at each end: all parts of one of the alternatives.
 #[derive(Drop)]
 pub struct OutputNeed {
     /// As it was written.
     pub text: String,
-    pub process: usize,
-    pub relation: OutputRelation,
-    pub bytes: Vec<u8>,
+    pub alternatives: Vec<Alternative>,
 }
 
 /// Whether bytes stand at a place of an output.
@@ -48,24 +61,73 @@ fn are_within(bytes: &[u8], output: &[u8]) -> bool
     false
 }
 
-/// Whether an output is as it is needed.
-fn fits(need: &OutputNeed, output: &[u8]) -> bool
-    ensures fits { IsTrue result ↔ Fits need.now.relation need.now.bytes.items output.now }
+/// Whether an output is as a part needs it.
+fn fits(part: &OutputPart, output: &[u8]) -> bool
+    ensures fits { IsTrue result ↔ Fits part.now.relation part.now.bytes.items output.now }
 {
-    match need.relation {
-        OutputRelation::Equals => output == need.bytes.as_slice(),
-        OutputRelation::Contains => are_within(&need.bytes, output),
+    match part.relation {
+        OutputRelation::Equals => output == part.bytes.as_slice(),
+        OutputRelation::Contains => are_within(&part.bytes, output),
     }
 }
 
-/// Whether a process of a world has written what is needed.
+/// Whether a process of a world has written what a part needs.
+fn has_output(part: &OutputPart, world: &World) -> bool
+    ensures written { IsTrue result ↔ HasOutput part.now (outputs world.now) }
+{
+    match output_of(world, part.process) {
+        Some(output) => fits(part, output),
+        None => false,
+    }
+}
+
+fn lacks_output(part: &OutputPart, world: &World) -> bool
+    ensures no { result ≡ false → HasOutput part.now (outputs world.now) }
+    ensures yes { IsTrue result → HasOutput part.now (outputs world.now) → ⊥ }
+{
+    !has_output(part, world)
+}
+
+/// Whether the processes of a world have written what each part needs.
+fn have_outputs(parts: &[OutputPart], world: &World) -> bool
+    ensures written { IsTrue result
+        ↔ All (λ part. HasOutput part (outputs world.now)) parts.now }
+{
+    for part in parts {
+        if lacks_output(part, world) {
+            return false;
+        }
+    }
+    true
+}
+
+fn is_written(alternative: &Alternative, world: &World) -> bool
+    ensures yes { IsTrue result
+        → All (λ part. HasOutput part (outputs world.now)) alternative.now.parts.items }
+    ensures no { result ≡ false
+        → All (λ part. HasOutput part (outputs world.now)) alternative.now.parts.items → ⊥ }
+{
+    have_outputs(&alternative.parts, world)
+}
+
+/// Whether the processes of a world have written what one of the alternatives needs.
+fn is_any_written(alternatives: &[Alternative], world: &World) -> bool
+    ensures written { IsTrue result
+        ↔ Any (λ a. All (λ part. HasOutput part (outputs world.now)) a.parts.items)
+        alternatives.now }
+{
+    for alternative in alternatives {
+        if is_written(alternative, world) {
+            return true;
+        }
+    }
+    false
+}
+
 fn has_written(need: &OutputNeed, world: &World) -> bool
     ensures written { IsTrue result ↔ HasWritten need.now world.now }
 {
-    match output_of(world, need.process) {
-        Some(output) => fits(need, output),
-        None => false,
-    }
+    is_any_written(&need.alternatives, world)
 }
 
 fn lacks(need: &OutputNeed, end: &End) -> bool

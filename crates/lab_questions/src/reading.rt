@@ -1,13 +1,16 @@
-//! Reading what is required of an output.
-ghost use Rattle.std.specs.Prelude.{◌≡◌, ◌<◌, [], ◌∷◌, Some, None, false, IfNone, IfOk, IfSome, IsTrue, bytes_eq, codes, length, map, string_bytes};
+//! Reading what is required of outputs.
+ghost use Rattle.std.specs.Prelude.{◌≡◌, ◌≤◌, ◌<◌, ◌++◌, ℕ, List, [], ◌∷◌, Some, None, false, IfNone, IfOk, IfSome, IsTrue, OnOk, bytes_eq, codes, drop, length, map, position, string_bytes};
 ghost use Rattle.lc3_word.specs.Blanks.{words_between};
+ghost use Rattle.std.specs.List.{before_first, after_first};
 ghost use Rattle.std.specs.Option.{option_map};
-ghost use Rattle.lc3_table.specs.Statements.{escape, is_string_byte, onto};
-ghost use Rattle.lab_questions.specs.Written.{string_in, relation_in, process_in, subject_in, need_in};
+ghost use Rattle.lc3_table.specs.Statements.{escape, is_string_byte};
+ghost use Rattle.lab_questions.specs.Private.Readings.{joined, ended, left};
+ghost use Rattle.lab_questions.specs.Written.{is_quote, before, string_in, relation_in, process_in, subject_in, linked, heading_in, front_in, with_part, need_in, Part, part_read, parts_read, need_read};
 
-use crate::{OutputNeed, OutputRelation};
+use crate::{Alternative, OutputNeed, OutputPart, OutputRelation};
 use lc3_word::{unsigned, words_between};
 use std::alloc::{AllocError, Global};
+use std::mem::replace;
 
 /// What an escape of a string writes, by the character after its backslash.
 fn escape(byte: u8) -> Option<u8>
@@ -34,44 +37,54 @@ fn is_string_byte(byte: u8) -> bool
     matches!(byte, 0x20..=0x7E | b'\t')
 }
 
-/// Whether nothing but the quote that closes a string is left.
+/// Whether the quote that closes a string is next.
 fn is_closed(text: &[u8]) -> bool
-    ensures closed { IsTrue result → string_in text.now ≡ Some [] }
-    ensures more { result ≡ false → text.now ≡ 34 ∷ [] → ⊥ }
+    ensures closed { IsTrue result → string_in text.now ≡ Some ([], drop 1 text.now) }
+    ensures there { IsTrue result → 1 ≤ length text.now }
+    ensures more { result ≡ false → (rest : List ℕ) → text.now ≡ 34 ∷ rest → ⊥ }
 {
-    matches!(text, [b'"'])
+    matches!(text, [b'"', ..])
 }
 
 /// The first character of a string that isn't closed there, and what follows it.
 fn first_character(text: &[u8]) -> Option<(u8, &[u8])>
-    requires more { text.now ≡ 34 ∷ [] → ⊥ }
+    requires more { (rest : List ℕ) → text.now ≡ 34 ∷ rest → ⊥ }
     ensures none { IfNone result (string_in text.now ≡ None) }
     ensures first { IfSome result
-        (λ found. string_in text.now ≡ onto (Some found.0) (string_in found.1.now)) }
+        (λ found. string_in text.now ≡ before (Some found.0) (string_in found.1.now)) }
     ensures shorter { IfSome result (λ found. length found.1.now < length text.now) }
 {
     match text {
-        [b'"', ..] => None,
         [b'\\', code, rest @ ..] => Some((escape(*code)?, rest)),
         [byte, rest @ ..] if *byte != b'\\' && is_string_byte(*byte) => Some((*byte, rest)),
         _ => None,
     }
 }
 
-/// The characters of a string, from what stands behind the quote that opens it, if the quote that closes it ends the text.
-fn string_in(alloc: Global, text: &[u8]) -> Result<Option<Vec<u8>>, AllocError>
-    ensures value { IfOk result (λ read. option_map (λ v. v.items) read ≡ string_in text.now) }
+/// The characters of a string, and what stands behind it.
+#[derive(Drop)]
+struct Quoted<'a> {
+    bytes: Vec<u8>,
+    rest: &'a [u8],
+}
+
+/// A string, from what stands behind the quote that opens it.
+fn string_in<'a>(alloc: Global, text: &'a [u8]) -> Result<Option<Quoted<'a>>, AllocError>
+    ensures value { IfOk result (λ read.
+        option_map (λ s. (s.bytes.items, s.rest.now)) read ≡ string_in text.now) }
+    ensures shorter { IfOk result (λ read. IfSome read (λ s. length s.rest.now < length text.now)) }
 {
-    let mut found = Vec::new(alloc);
+    let mut bytes = Vec::new(alloc);
     let mut rest = text;
     while !is_closed(rest) {
         let Some((byte, after)) = first_character(rest) else {
             return Ok(None);
         };
-        found.push(byte)?;
+        bytes.push(byte)?;
         rest = after;
     }
-    Ok(Some(found))
+    let rest = &rest[1..];
+    Ok(Some(Quoted { bytes, rest }))
 }
 
 fn is_word(name: &str, word: &[u8]) -> bool
@@ -92,7 +105,7 @@ fn relation_in(word: &[u8]) -> Option<OutputRelation>
     }
 }
 
-fn process_in(word: &[u8]) -> Option<usize>
+pub(crate) fn process_in(word: &[u8]) -> Option<usize>
     ensures process { result ≡ process_in word.now }
 {
     let number = unsigned(10, word)?;
@@ -111,39 +124,179 @@ fn subject_in(words: &[&[u8]]) -> Option<(usize, OutputRelation)>
     }
 }
 
-fn subject_of(alloc: Global, head: &str) -> Result<Option<(usize, OutputRelation)>, AllocError>
-    ensures subject { IfOk result (λ found. found
-        ≡ subject_in (words_between (codes " ") head.now)) }
+/// What the words before a string say.
+#[derive(Clone, Copy)]
+struct Heading {
+    /// Whether they begin an alternative.
+    begins: bool,
+    process: usize,
+    relation: OutputRelation,
+}
+
+fn heading_with(begins: bool, words: &[&[u8]]) -> Option<Heading>
+    ensures heading { option_map (λ h. (h.begins, h.process, h.relation)) result
+        ≡ linked begins (subject_in (map (λ word. word.now) words.now)) }
 {
-    let words = words_between(alloc, b" ", head.as_bytes())?;
-    Ok(subject_in(&words))
+    let (process, relation) = subject_in(words)?;
+    Some(Heading {
+        begins,
+        process,
+        relation,
+    })
+}
+
+fn heading_in(first: bool, words: &[&[u8]]) -> Option<Heading>
+    ensures heading { option_map (λ h. (h.begins, h.process, h.relation)) result
+        ≡ heading_in first (map (λ word. word.now) words.now) }
+{
+    if first {
+        return heading_with(true, words);
+    }
+    match words {
+        [word, rest @ ..] if is_word("or", word) => heading_with(true, rest),
+        [word, rest @ ..] if is_word("and", word) => heading_with(false, rest),
+        _ => None,
+    }
+}
+
+fn heading_of(alloc: Global, first: bool, head: &[u8]) -> Result<Option<Heading>, AllocError>
+    ensures heading { IfOk result (λ found.
+        option_map (λ h. (h.begins, h.process, h.relation)) found
+        ≡ heading_in first (words_between (codes " ") head.now)) }
+{
+    let words = words_between(alloc, b" ", head)?;
+    Ok(heading_in(first, &words))
+}
+
+fn quote_in(text: &[u8]) -> Option<usize>
+    ensures place { result ≡ position is_quote text.now }
+    ensures within { IfSome result (λ i. i < length text.now) }
+{
+    text.iter().position(|byte| *byte == b'"')
+}
+
+/// What stands before the first quote of a text, and what behind it.
+#[tactic(auto, using(crate::proofs::ReadingLemmas::behind_none, crate::proofs::ReadingLemmas::before_quote, crate::proofs::ReadingLemmas::behind_quote))]
+fn cut(text: &[u8]) -> Option<(&[u8], &[u8])>
+    ensures none { IfNone result (after_first is_quote text.now ≡ []) }
+    ensures head { IfSome result (λ cut. cut.0.now ≡ before_first is_quote text.now) }
+    ensures string { IfSome result (λ cut. cut.1.now ≡ after_first is_quote text.now) }
+    ensures shorter { IfSome result (λ cut. length cut.1.now < length text.now) }
+{
+    let Some(place) = quote_in(text) else {
+        return None;
+    };
+    Some((&text[..place], &text[place + 1..]))
+}
+
+/// The first part of a text, and what stands behind it.
+#[derive(Drop)]
+struct Front<'a> {
+    /// Whether it begins an alternative.
+    begins: bool,
+    part: OutputPart,
+    rest: &'a [u8],
+}
+
+fn front_in<'a>(alloc: Global, first: bool, text: &'a [u8]) -> Result<Option<Front<'a>>, AllocError>
+    ensures front { IfOk result (λ found.
+        option_map (λ f. (f.begins, part_read f.part, f.rest.now)) found
+        ≡ front_in first text.now) }
+    ensures shorter { IfOk result (λ found. IfSome found (λ f.
+        length f.rest.now < length text.now)) }
+{
+    let Some((head, string)) = cut(text) else {
+        return Ok(None);
+    };
+    let Some(heading) = heading_of(alloc, first, head)? else {
+        return Ok(None);
+    };
+    let Some(Quoted { bytes, rest }) = string_in(alloc, string)? else {
+        return Ok(None);
+    };
+    Ok(Some(Front {
+        begins: heading.begins,
+        part: OutputPart {
+            process: heading.process,
+            relation: heading.relation,
+            bytes,
+        },
+        rest,
+    }))
+}
+
+/// Ends the alternative with some parts, where another begins.
+fn end_if(
+    alloc: Global,
+    alternatives: &mut Vec<Alternative>,
+    parts: &mut Vec<OutputPart>,
+    begins: bool,
+) -> Result<(), AllocError>
+    ensures alternatives { OnOk result (need_read alternatives.new.items
+        ≡ ended begins (need_read alternatives.old.items) (parts_read parts.old.items)) }
+    ensures parts { OnOk result (parts_read parts.new.items
+        ≡ left begins (parts_read parts.old.items)) }
+{
+    if begins {
+        let parts = replace(parts, Vec::new(alloc));
+        alternatives.push(Alternative { parts })?;
+    }
+    Ok(())
+}
+
+/// Adds a part to those of an alternative, or ends that and begins another with it.
+fn add(
+    alloc: Global,
+    alternatives: &mut Vec<Alternative>,
+    parts: &mut Vec<OutputPart>,
+    begins: bool,
+    part: OutputPart,
+) -> Result<(), AllocError>
+    ensures alternatives { OnOk result (need_read alternatives.new.items
+        ≡ ended begins (need_read alternatives.old.items) (parts_read parts.old.items)) }
+    ensures parts { OnOk result (parts_read parts.new.items
+        ≡ left begins (parts_read parts.old.items) ++ part_read part ∷ []) }
+{
+    end_if(alloc, alternatives, parts, begins)?;
+    parts.push(part)?;
+    Ok(())
+}
+
+#[tactic(auto, using(crate::proofs::ReadingLemmas::need_init, crate::proofs::ReadingLemmas::need_step, crate::proofs::ReadingLemmas::need_none, crate::proofs::ReadingLemmas::need_end))]
+fn alternatives_in(alloc: Global, text: &[u8]) -> Result<Option<Vec<Alternative>>, AllocError>
+    ensures value { IfOk result (λ read.
+        option_map (λ alternatives. need_read alternatives.items) read ≡ need_in text.now) }
+{
+    let Some(Front { part, rest, .. }) = front_in(alloc, true, text)? else {
+        return Ok(None);
+    };
+    let mut alternatives = Vec::new(alloc);
+    let mut parts = vec![in alloc; part]?;
+    let mut rest = rest;
+    while !rest.is_empty() {
+        let Some(next) = front_in(alloc, false, rest)? else {
+            return Ok(None);
+        };
+        rest = next.rest;
+        add(alloc, &mut alternatives, &mut parts, next.begins, next.part)?;
+    }
+    alternatives.push(Alternative { parts })?;
+    Ok(Some(alternatives))
 }
 
 impl OutputNeed {
-    /// What a text requires of an output: `out P = "TEXT"`, or `out P has "TEXT"`, with the escapes that a string of a source
-    /// has.
+    /// What a text requires of outputs: `out P = "TEXT"`, or `out P has "TEXT"`, with the escapes that a string of a source
+    /// has; more of these with `and` between them, and more of those with `or` between them.
     pub fn read(alloc: Global, text: &str) -> Result<Option<OutputNeed>, AllocError>
         ensures value { IfOk result (λ read.
-            option_map (λ need. (need.process, need.relation, need.bytes.items)) read
-            ≡ need_in text.now) }
+            option_map (λ need. need_read need.alternatives.items) read ≡ need_in text.now) }
         ensures text { IfOk result (λ read.
             IfSome read (λ need. string_bytes need.text ≡ text.now)) }
     {
-        let Some((head, string)) = text.split_once('"') else {
-            return Ok(None);
-        };
-        let Some((process, relation)) = subject_of(alloc, head)? else {
-            return Ok(None);
-        };
-        let Some(bytes) = string_in(alloc, string.as_bytes())? else {
+        let Some(alternatives) = alternatives_in(alloc, text.as_bytes())? else {
             return Ok(None);
         };
         let text = String::from_str(alloc, text)?;
-        Ok(Some(OutputNeed {
-            text,
-            process,
-            relation,
-            bytes,
-        }))
+        Ok(Some(OutputNeed { text, alternatives }))
     }
 }

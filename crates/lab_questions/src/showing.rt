@@ -2,10 +2,13 @@
 ghost use Rattle.std.specs.Prelude.{◌≡◌, ◌⊎◌, ℕ, ◌≤◌, List, None, Some, All, Any, IfOk, IfSome, length, slice_get, string_bytes, ◌++◌, codes};
 ghost use Rattle.lab_sched.specs.ScheduleTexts.{schedule_text};
 ghost use Rattle.lab_sched.specs.declared.schedule.block.Block.{Block};
-ghost use Rattle.lab_questions.specs.declared.failure.Failure.TheVariants.{Not, Output, Reached, Endless, Incomplete};
+ghost use Rattle.lab_questions.specs.declared.failure.Failure.TheVariants.{Not, Output, Reached, Endless, Call, Incomplete};
 ghost use Rattle.lab_questions.specs.declared.asked.Word.{Word};
+ghost use Rattle.lab_ways.specs.declared.ways.Ways.TheVariants.{Without};
+ghost use Rattle.lab_questions.specs.Called.{ShowsWay};
 ghost use Rattle.lab_questions.specs.Texts.{IsBeyond, IsTooLong, ShowsFault, ShowsOutput, ShowsReached, ShowsLasso};
 
+use crate::called::way_schedule;
 use crate::{Answer, Answers, Failure};
 use lab_sched::{SchedFault, Schedule};
 use lab_worlds::{Exploration, Lasso};
@@ -109,7 +112,7 @@ fn lasso_schedule(alloc: Global, lasso: &Lasso) -> Result<Option<String>, AllocE
 
 impl Answers {
     /// The text of the schedule that shows the failure, if it has one: that of the first end that isn't as it is required,
-    /// that of the first condition that was reached, or that of a lasso with its steps behind it.
+    /// that of the first condition that was reached, that of a lasso with its steps behind it, or that of a way.
     pub fn bad_schedule(&self, alloc: Global) -> Result<Option<String>, AllocError>
         ensures fault { IfOk result (λ shown. (word : Word) → self.now.failure ≡ Some (Not word)
             → IfSome shown (λ text. ShowsFault self.now.exploration.ends.items
@@ -123,6 +126,8 @@ impl Answers {
         ensures lasso { IfOk result (λ shown. self.now.failure ≡ Some Endless
             → IfSome shown (λ text. IfSome self.now.exploration.lasso (λ r.
             ShowsLasso r (string_bytes text)))) }
+        ensures call { IfOk result (λ shown. (k : ℕ) → self.now.failure ≡ Some (Call k)
+            → IfSome shown (λ text. ShowsWay self.now.ways.items k (string_bytes text))) }
         ensures no_fault { IfOk result (λ shown. (word : Word)
             → self.now.failure ≡ Some (Not word) → shown ≡ None
             → All (λ a. a.fault ≡ None) self.now.answers.items
@@ -136,6 +141,9 @@ impl Answers {
             → slice_get self.now.exploration.reached.items i ≡ Some (Some s) → ⊥) }
         ensures too_long { IfOk result (λ shown. self.now.failure ≡ Some Endless
             → shown ≡ None → IfSome self.now.exploration.lasso (λ r. IsTooLong r)) }
+        ensures no_call { IfOk result (λ shown. (k : ℕ)
+            → self.now.failure ≡ Some (Call k) → shown ≡ None → (s : List Block)
+            → slice_get self.now.ways.items k ≡ Some (Without s) → ⊥) }
         ensures nothing { IfOk result (λ shown. self.now.failure ≡ None → shown ≡ None) }
         ensures incomplete { IfOk result (λ shown.
             self.now.failure ≡ Some Incomplete → shown ≡ None) }
@@ -151,6 +159,7 @@ impl Answers {
                 Some(lasso) => lasso_schedule(alloc, lasso),
                 None => Ok(None),
             },
+            Some(Failure::Call(number)) => way_schedule(alloc, &self.ways, number),
             Some(Failure::Incomplete) | None => Ok(None),
         }
     }

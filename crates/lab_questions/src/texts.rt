@@ -3,11 +3,13 @@ ghost use Rattle.std.specs.Prelude.{◌≡◌, ◌<◌, ◌++◌, Some, length, 
 ghost use Rattle.lab_questions.specs.EndTexts.{schedule_line, AreTold};
 ghost use Rattle.lab_questions.specs.Texts.{schedule_at, first_lines, fault_lines, answer_lines, need_lines, needs_lines, condition_lines, reached_lines, word_lines, walks_line, last_lines, judged_lines, answers_text};
 
+use crate::called::push_calls;
 use crate::lines::{push_extent, push_lasso, push_schedule};
 use crate::told::{Told, told_of};
 use crate::{Answer, Asked, OutputNeed, Word};
 use lab_conditions::Never;
 use lab_sched::Schedule;
+use lab_ways::Ways;
 use lab_worlds::{End, Exploration};
 use std::alloc::{AllocError, Global};
 use std::fmt::Write;
@@ -225,7 +227,7 @@ fn push_words(
     push_answers(alloc, text, ends, answers)
 }
 
-/// Adds the lines of words and outputs that aren't so.
+/// Adds the lines of words, outputs and calls that aren't so.
 fn push_judged(
     alloc: Global,
     text: &mut String,
@@ -233,14 +235,17 @@ fn push_judged(
     found: &Exploration,
     answers: &[Answer],
     faults: &[Option<usize>],
+    ways: &[Ways],
 ) -> Result<(), AllocError>
     requires there { All (λ a. IfSome a.fault (λ i. i < length found.now.ends.items)) answers.now }
     requires outputs { All (λ f. IfSome f (λ i. i < length found.now.ends.items)) faults.now }
     ensures text { OnOk result (string_bytes text.new
-        ≡ string_bytes text.old ++ judged_lines asked.now found.now answers.now faults.now) }
+        ≡ string_bytes text.old
+        ++ judged_lines asked.now found.now answers.now faults.now ways.now) }
 {
     push_words(alloc, text, asked.plain, &found.ends, answers)?;
-    push_needs(alloc, text, &found.ends, &asked.outputs, faults)
+    push_needs(alloc, text, &found.ends, &asked.outputs, faults)?;
+    push_calls(alloc, text, &asked.call_words, ways)
 }
 
 /// Adds the last lines: of walks how many were taken; else what was reached, a lasso, and whether everything was visited.
@@ -269,17 +274,18 @@ pub(crate) fn tell(
     found: &Exploration,
     answers: &[Answer],
     faults: &[Option<usize>],
+    ways: &[Ways],
     walks: bool,
 ) -> Result<Told, AllocError>
     requires there { All (λ a. IfSome a.fault (λ i. i < length found.now.ends.items)) answers.now }
     requires outputs { All (λ f. IfSome f (λ i. i < length found.now.ends.items)) faults.now }
     ensures text { IfOk result (λ told. string_bytes told.text
-        ≡ answers_text walks asked.now found.now answers.now faults.now) }
+        ≡ answers_text walks asked.now found.now answers.now faults.now ways.now) }
     ensures told { IfOk result (λ told.
         AreTold asked.now.show found.now.ends.items told.numbers.items) }
 {
     let mut told = told_of(alloc, asked.show, &found.ends)?;
-    push_judged(alloc, &mut told.text, asked, found, answers, faults)?;
+    push_judged(alloc, &mut told.text, asked, found, answers, faults, ways)?;
     push_last(alloc, &mut told.text, walks, &asked.never, found)?;
     Ok(told)
 }

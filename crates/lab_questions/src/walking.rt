@@ -5,7 +5,8 @@ ghost use Rattle.lab_worlds.specs.Calls.{Alongside};
 ghost use Rattle.lab_questions.specs.EndTexts.{AreTold};
 ghost use Rattle.lab_questions.specs.Judgments.{IsAnswer};
 ghost use Rattle.lab_questions.specs.Outputs.{IsOutputAnswer, IsOutputRefuted};
-ghost use Rattle.lab_questions.specs.Programs.{IsRefuted, IsFailure};
+ghost use Rattle.lab_questions.specs.Programs.{IsRefuted};
+ghost use Rattle.lab_questions.specs.Called.{IsFailureOfAll};
 ghost use Rattle.lab_questions.specs.Texts.{schedule_at, answers_text};
 
 use crate::answers::said_of;
@@ -27,7 +28,7 @@ pub fn ask_walks<O: Observer>(
 ) -> Result<Answers, ExploreFault>
     ensures asked { IfOk result (λ a. a.asked ≡ asked) }
     ensures text { IfOk result (λ a. string_bytes a.text
-        ≡ answers_text true asked a.exploration a.answers.items a.output_faults.items) }
+        ≡ answers_text true asked a.exploration a.answers.items a.output_faults.items []) }
     ensures numbers { IfOk result (λ a.
         AreTold asked.show a.exploration.ends.items a.told.items) }
     ensures words { IfOk result (λ a. map (λ x. x.word) a.answers.items ≡ asked.words.items) }
@@ -42,21 +43,23 @@ pub fn ask_walks<O: Observer>(
     ensures unwritten { IfOk result (λ a. Alongside (λ need fault. IfSome fault (λ i.
         IsOutputRefuted need fresh (schedule_at a.exploration.ends.items i)))
         asked.outputs.items a.output_faults.items) }
+    ensures ways { IfOk result (λ a. a.ways.items ≡ []) }
     ensures unopened { IfOk result (λ a. a.unopened.items ≡ []) }
     ensures open { IfOk result (λ a. a.exploration.complete ≡ false) }
     ensures lasso { IfOk result (λ a. a.exploration.lasso ≡ None) }
     ensures fails { IfOk result (λ a. a.failure ≡ None → ⊥) }
     ensures failure { IfOk result (λ a.
-        IfSome a.failure (λ f. IsFailure asked.plain a.exploration a.answers.items
-        a.output_faults.items f)) }
+        IfSome a.failure (λ f. IsFailureOfAll asked.plain a.exploration a.answers.items
+        a.output_faults.items [] f)) }
 {
     let exploration = walk_randomly(alloc, fresh, limits, walks, observer)?;
-    let said = said_of(alloc, &asked, &exploration, true)?;
+    let said = said_of(alloc, &asked, &exploration, &[], true)?;
     Ok(Answers {
         asked,
         exploration,
         answers: said.answers,
         output_faults: said.output_faults,
+        ways: Vec::new(alloc),
         unopened: Vec::new(alloc),
         text: said.text,
         told: said.told,

@@ -38,6 +38,6 @@ nothing = record { rest = None; empty = false; same = false }
 abbrev pub words_of : List ℕ → List (List ℕ)
 words_of text = slice_split (λ c. c == 44) text
 
--- what some values say of outputs
+-- what some values say of outputs and calls
 abbrev pub outputs_in : List (List ℕ) → List (List ℕ)
 outputs_in values = filter is_output (flat_map pieces values)

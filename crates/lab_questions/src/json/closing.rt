@@ -63,7 +63,8 @@ fn holds_name(judged: bool, failure: Option<Failure>) -> &'static str
         Some(Failure::Not(_))
         | Some(Failure::Output(_))
         | Some(Failure::Reached(_))
-        | Some(Failure::Endless) => "false",
+        | Some(Failure::Endless)
+        | Some(Failure::Call(_)) => "false",
         Some(Failure::Incomplete) => "null",
     }
 }

@@ -1,4 +1,5 @@
-use Rattle.std.proofs.Common.{string_bytes}
+use Rattle.std.proofs.Common.{string_bytes, IfSome, subst, sym}
+use Rattle.lab_questions.specs.Called.{AreAlways, IsFailureOfAll}
 use Rattle.lab_questions.specs.declared.asked.Asked.{Asked}
 use Rattle.lab_questions.proofs.AnswerLemmas.{all_refuted, all_met}
 use Rattle.lab_questions.proofs.ClaimLemmas.{is_complete, has_no_lasso, tells_every_end, none_stuck}
@@ -43,6 +44,8 @@ returns-clause-says_all g c says =
       outputs = c.args.asked.outputs;
       waiters = c.args.asked.waiters;
       never = c.find.new.never;
+      call_words = c.args.asked.call_words;
+      wanted = c.args.asked.wanted;
       fair = c.args.asked.fair;
       show = c.args.asked.show;
       plain = c.args.asked.plain;
@@ -50,10 +53,11 @@ returns-clause-says_all g c says =
     let found = c.in_ok-found.found.exploration in
     let answers = c.in_ok-said.said.answers.items in
     let faults = c.in_ok-said.said.output_faults.items in
+    let ways = c.deref-2.result.now in
     let text = string_bytes c.in_ok-said.said.text in
     let is = c.in_ok-said.ensures.text in
-    let complete = is_complete asked found answers faults text is says in
-    tells_every_end asked found answers faults text is c.args.fresh c.in_ok-found.ensures.sound c.in_ok-found.ensures.ordered
+    let complete = is_complete asked found answers faults ways text is says in
+    tells_every_end asked found answers faults ways text is c.args.fresh c.in_ok-found.ensures.sound c.in_ok-found.ensures.ordered
     (c.in_ok-found.ensures.complete complete) (c.in_ok-found.ensures.fewest complete)
 
 pub returns-clause-says_free : goal.returns-clause-says_free
@@ -63,6 +67,8 @@ returns-clause-says_free g c says quiet =
       outputs = c.args.asked.outputs;
       waiters = c.args.asked.waiters;
       never = c.find.new.never;
+      call_words = c.args.asked.call_words;
+      wanted = c.args.asked.wanted;
       fair = c.args.asked.fair;
       show = c.args.asked.show;
       plain = c.args.asked.plain;
@@ -70,9 +76,10 @@ returns-clause-says_free g c says quiet =
     let found = c.in_ok-found.found.exploration in
     let answers = c.in_ok-said.said.answers.items in
     let faults = c.in_ok-said.said.output_faults.items in
+    let ways = c.deref-2.result.now in
     let text = string_bytes c.in_ok-said.said.text in
     let is = c.in_ok-said.ensures.text in
-    c.in_ok-found.ensures.free (is_complete asked found answers faults text is says) (none_stuck asked found answers faults text is c.args.fresh c.in_ok-found.ensures.sound quiet)
+    c.in_ok-found.ensures.free (is_complete asked found answers faults ways text is says) (none_stuck asked found answers faults ways text is c.args.fresh c.in_ok-found.ensures.sound quiet)
 
 pub returns-clause-says_bounded : goal.returns-clause-says_bounded
 returns-clause-says_bounded g c unfair says quiet =
@@ -81,6 +88,8 @@ returns-clause-says_bounded g c unfair says quiet =
       outputs = c.args.asked.outputs;
       waiters = c.args.asked.waiters;
       never = c.find.new.never;
+      call_words = c.args.asked.call_words;
+      wanted = c.args.asked.wanted;
       fair = c.args.asked.fair;
       show = c.args.asked.show;
       plain = c.args.asked.plain;
@@ -88,19 +97,30 @@ returns-clause-says_bounded g c unfair says quiet =
     let found = c.in_ok-found.found.exploration in
     let answers = c.in_ok-said.said.answers.items in
     let faults = c.in_ok-said.said.output_faults.items in
+    let ways = c.deref-2.result.now in
     let text = string_bytes c.in_ok-said.said.text in
     let is = c.in_ok-said.ensures.text in
-    c.in_ok-found.ensures.bounded unfair (is_complete asked found answers faults text is says) (has_no_lasso asked found answers faults text is quiet)
+    c.in_ok-found.ensures.bounded unfair (is_complete asked found answers faults ways text is says) (has_no_lasso asked found answers faults ways text is quiet)
 
 pub returns-clause-passes : goal.returns-clause-passes
-returns-clause-passes g c =
-    (c.in_ok-said.ensures.none, no_failure c.args.asked.plain _ c.in_ok-said.said.answers.items c.in_ok-said.said.output_faults.items c.in_ok-said.said.failure c.in_ok-said.ensures.some)
+returns-clause-passes g c = (
+  λ none. let both = c.in_ok-said.ensures.none none in (both.0, subst AreAlways c.deref-2.ensures.value both.1),
+  λ (passes, always).
+      no_failure c.args.asked.plain _ c.in_ok-said.said.answers.items c.in_ok-said.said.output_faults.items c.deref-2.result.now c.in_ok-said.said.failure
+      c.in_ok-said.ensures.some (passes, subst AreAlways (sym c.deref-2.ensures.value) always),
+)
+
+pub returns-clause-failure : goal.returns-clause-failure
+returns-clause-failure g c =
+    subst (λ ways. IfSome c.in_ok-said.said.failure
+    (λ f. IsFailureOfAll c.args.asked.plain c.in_ok-found.found.exploration c.in_ok-said.said.answers.items c.in_ok-said.said.output_faults.items ways f))
+    c.deref-2.ensures.value c.in_ok-said.ensures.some
 
 pub returns-clause-come : goal.returns-clause-come
 returns-clause-come g c none unfair faultless =
     let found = c.in_ok-found.found.exploration in
     let answers = c.in_ok-said.said.answers.items in
-    let passes = c.in_ok-said.ensures.none faultless in
+    let passes = (c.in_ok-said.ensures.none faultless).0 in
     all_come c.args.asked.waiters.items c.args.fresh _ answers c.in_ok-said.said.output_faults.items none passes
     (all_met c.args.asked.waiters.items c.args.fresh found.ends.items answers
     c.in_ok-found.ensures.sound (c.in_ok-found.ensures.complete passes.complete) c.in_ok-said.ensures.answers)

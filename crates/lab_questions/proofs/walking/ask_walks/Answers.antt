@@ -15,6 +15,6 @@ returns-clause-unwritten g c =
 
 pub returns-clause-fails : goal.returns-clause-fails
 returns-clause-fails g c none =
-    let passes = c.in_ok-said.ensures.none none in
+    let passes = (c.in_ok-said.ensures.none none).0 in
     let both : true ≡ false = sym passes.complete ∙ c.in_ok-exploration.ensures.open in
     cc

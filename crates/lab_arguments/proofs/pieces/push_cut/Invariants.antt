@@ -1,14 +1,14 @@
 use Rattle.std.proofs.Common.{◌≡◌, ◌++◌, length, map}
 use denote.Text.{Utf8}
 use denote.Shadow.{shadow}
-use Rattle.lab_arguments.specs.Pieces.{pieces}
-use Rattle.lab_arguments.proofs.pieces.push_pieces.Given as goal
+use Rattle.lab_arguments.specs.Pieces.{cut_pieces}
+use Rattle.lab_arguments.proofs.pieces.push_cut.Given as goal
 
 -- the pieces so far are added, and those of the rest are left
 abbrev pub invariant-loop-piece : goal.invariant-loop-piece
 invariant-loop-piece l =
     shadow (Utf8 l.rest)
-    × (map (λ p. p.now) l.found.items ++ pieces l.rest ≡ map (λ p. p.now) l.initial.found.items ++ pieces l.value)
+    × (map (λ p. p.now) l.found.items ++ cut_pieces l.rest ≡ map (λ p. p.now) l.initial.found.items ++ cut_pieces l.value)
 
 abbrev pub decreases-loop-piece : goal.decreases-loop-piece
 decreases-loop-piece l = length l.rest

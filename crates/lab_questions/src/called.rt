@@ -1,0 +1,153 @@
+//! What is asked of calls on every way, and what a way shows not to be so.
+ghost use Rattle.std.specs.Prelude.{◌≡◌, ◌↔◌, ◌++◌, ◌<◌, ℕ, List, None, Some, false, IfOk, IfSome, IsTrue, OnOk, length, slice_get, string_bytes};
+ghost use Rattle.lab_sched.specs.declared.schedule.block.Block.{Block};
+ghost use Rattle.lab_ways.specs.Ways.{AreAllWays};
+ghost use Rattle.lab_ways.specs.declared.ways.Ways.TheVariants.{Always, Without};
+ghost use Rattle.lab_questions.specs.Called.{AreAlways, IsAgainst, ShowsWay, call_head, call_lines, calls_lines};
+
+use crate::lines::push_schedule;
+use lab_sched::{Fresh, Schedule};
+use lab_ways::{Wanted, Ways, ask_ways};
+use lab_worlds::{ExploreFault, Limits, Observer};
+use std::alloc::{AllocError, Global};
+use std::fmt::Write;
+
+/// What is asked of calls, as it was written.
+#[derive(Drop)]
+pub struct CallWord {
+    pub text: String,
+    /// Whether it says what must never be so.
+    pub never: bool,
+}
+
+/// For all that is asked of calls, in order, whether it is so on every way. Where nothing is asked there is no search.
+pub(crate) fn ways_in<O: Observer>(
+    alloc: Global,
+    fresh: Fresh,
+    limits: Limits,
+    wanted: &[Wanted],
+    observer: &mut O,
+) -> Result<Vec<Ways>, ExploreFault>
+    ensures ways { IfOk result (λ ways. AreAllWays fresh wanted.now ways.items) }
+{
+    if wanted.is_empty() {
+        return Ok(Vec::new(alloc));
+    }
+    let ways = ask_ways(alloc, fresh, limits, wanted, observer)?;
+    Ok(ways)
+}
+
+fn is_against(ways: &Ways) -> bool
+    ensures yes { IsTrue result → (s : List Block) × (ways.now ≡ Without s) }
+    ensures no { result ≡ false → (s : List Block) → ways.now ≡ Without s → ⊥ }
+{
+    matches!(ways, Ways::Without(_))
+}
+
+/// The number of the first that a way shows not to be so, counted from 0.
+pub(crate) fn first_against(ways: &[Ways]) -> Option<usize>
+    ensures some { IfSome result (λ k. IsAgainst ways.now k) }
+    ensures none { result ≡ None → (k : ℕ) → IsAgainst ways.now k → ⊥ }
+{
+    for (number, one) in ways.iter().enumerate() {
+        if is_against(one) {
+            return Some(number);
+        }
+    }
+    None
+}
+
+fn is_open(ways: &Ways) -> bool
+    ensures no { result ≡ false → ways.now ≡ Always }
+    ensures yes { IsTrue result → ways.now ≡ Always → ⊥ }
+{
+    !matches!(ways, Ways::Always)
+}
+
+/// Whether all that is asked is so on every way.
+pub(crate) fn are_always(ways: &[Ways]) -> bool
+    ensures always { IsTrue result ↔ AreAlways ways.now }
+{
+    for one in ways {
+        if is_open(one) {
+            return false;
+        }
+    }
+    true
+}
+
+/// How the line begins of what isn't so.
+fn call_head(never: bool) -> &'static str
+    ensures text { result.now ≡ call_head never }
+{
+    if never { "reached " } else { "uncalled " }
+}
+
+/// Adds the lines of what a way shows not to be so.
+fn push_against(
+    alloc: Global,
+    text: &mut String,
+    word: &CallWord,
+    schedule: &Schedule,
+) -> Result<(), AllocError>
+    ensures text { OnOk result (string_bytes text.new ≡ string_bytes text.old
+        ++ call_lines (Some word.now) (Some (Without schedule.now))) }
+{
+    let head = call_head(word.never);
+    let asked = word.text.as_str();
+    write!(text, "{head}{asked}\n")?;
+    push_schedule(alloc, text, schedule)
+}
+
+/// Adds the lines of what is asked of calls, by its number, counted from 0, if a way shows that it isn't so.
+fn push_call(
+    alloc: Global,
+    text: &mut String,
+    words: &[CallWord],
+    ways: &[Ways],
+    number: usize,
+) -> Result<(), AllocError>
+    requires word { number < length words.now }
+    requires ways { number < length ways.now }
+    ensures text { OnOk result (string_bytes text.new ≡ string_bytes text.old
+        ++ call_lines (slice_get words.now number) (slice_get ways.now number)) }
+{
+    match &ways[number] {
+        Ways::Without(schedule) => push_against(alloc, text, &words[number], schedule),
+        Ways::Always | Ways::Unknown => Ok(()),
+    }
+}
+
+/// Adds the lines of all that is asked of calls and that a way shows not to be so.
+#[tactic(auto, using(lab_texts::proofs::RowLemmas::texts_below_none), unfolding(crate::specs::Called::calls_lines))]
+pub(crate) fn push_calls(
+    alloc: Global,
+    text: &mut String,
+    words: &[CallWord],
+    ways: &[Ways],
+) -> Result<(), AllocError>
+    ensures text { OnOk result (string_bytes text.new
+        ≡ string_bytes text.old ++ calls_lines words.now ways.now) }
+{
+    for number in 0..words.len().min(ways.len()) {
+        push_call(alloc, text, words, ways, number)?;
+    }
+    Ok(())
+}
+
+/// The text of the schedule of the way that shows number `number` of what is asked of calls, counted from 0, not to be so.
+pub(crate) fn way_schedule(
+    alloc: Global,
+    ways: &[Ways],
+    number: usize,
+) -> Result<Option<String>, AllocError>
+    ensures way { IfOk result (λ shown. IfSome shown (λ text.
+        ShowsWay ways.now number (string_bytes text))) }
+    ensures none { IfOk result (λ shown. shown ≡ None → (s : List Block)
+        → slice_get ways.now number ≡ Some (Without s) → ⊥) }
+{
+    match ways.get(number) {
+        Some(Ways::Without(schedule)) => Ok(Some(schedule.text(alloc)?)),
+        _ => Ok(None),
+    }
+}

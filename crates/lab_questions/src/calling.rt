@@ -1,0 +1,340 @@
+//! Reading what is asked of calls.
+ghost use Rattle.std.specs.Prelude.{◌≡◌, ◌<◌, ◌≤◌, ◌++◌, ◌∷◌, [], IfOk, IfSome, IsTrue, OnOk, codes, flat_map, length, map};
+ghost use Rattle.ipc_traps.specs.Services.{service_name};
+ghost use Rattle.lc3_word.specs.Blanks.{words_between};
+ghost use Rattle.lab_questions.specs.CallWords.{kind_words, without, Say, SayOf, Asks};
+ghost use Rattle.lab_ways.specs.declared.wanted.Pattern.{Pattern as Calls};
+
+use crate::reading::process_in;
+use ipc_names::Name;
+use ipc_traps::Service;
+use lab_ways::{CallKind, Pattern, Wanted};
+use lc3_word::{unsigned, words_between};
+use std::alloc::{AllocError, Global};
+
+/// The most calls of a kind that can be asked for.
+const MOST_CALLS: u32 = 1_000;
+
+/// The most semaphores of which it can be asked whether they are held at one time.
+const MOST_NAMES: usize = 8;
+
+#[tactic(auto, using(crate::proofs::ReadingLemmas::same_word))]
+fn is_word(name: &str, word: &[u8]) -> bool
+    ensures same { IsTrue result → word.now ≡ name.now }
+{
+    name.as_bytes() == word
+}
+
+/// The call of this name.
+fn service_named(word: &[u8]) -> Option<Service>
+    ensures name { IfSome result (λ service. service_name service ≡ word.now) }
+{
+    for vector in 0x40..0x57_u8 {
+        if let Some(service) = Service::of_vector(vector) {
+            if is_word(service.name(), word) {
+                return Some(service);
+            }
+        }
+    }
+    None
+}
+
+fn name_in(alloc: Global, word: &[u8]) -> Result<Option<Name>, AllocError>
+    ensures name { IfOk result (λ read. IfSome read (λ name. name ≡ word.now)) }
+{
+    let mut characters = Vec::with_capacity(alloc, word.len())?;
+    for byte in word {
+        characters.push(u16::from(*byte))?;
+    }
+    match Name::read(alloc, &characters)? {
+        Ok(name) => Ok(Some(name)),
+        Err(_) => Ok(None),
+    }
+}
+
+/// Calls of one name, or those on one object.
+fn kind_in(alloc: Global, words: &[&[u8]]) -> Result<Option<CallKind>, AllocError>
+    ensures words { IfOk result (λ read. IfSome read (λ kind.
+        map (λ word. word.now) words.now ≡ kind_words kind)) }
+{
+    match words {
+        [call] => Ok(on_any(call)),
+        [call, name] => on_object(alloc, call, name),
+        _ => Ok(None),
+    }
+}
+
+fn on_any(call: &[u8]) -> Option<CallKind>
+    ensures words { IfSome result (λ kind. call.now ∷ [] ≡ kind_words kind) }
+{
+    let service = service_named(call)?;
+    Some(CallKind {
+        service,
+        object: None,
+    })
+}
+
+fn on_object(alloc: Global, call: &[u8], name: &[u8]) -> Result<Option<CallKind>, AllocError>
+    ensures words { IfOk result (λ read. IfSome read (λ kind.
+        call.now ∷ name.now ∷ [] ≡ kind_words kind)) }
+{
+    let Some(service) = service_named(call) else {
+        return Ok(None);
+    };
+    match name_in(alloc, name)? {
+        Some(name) => Ok(Some(CallKind {
+            service,
+            object: Some(name),
+        })),
+        None => Ok(None),
+    }
+}
+
+/// How many words of those that are left are of the first kind: with an object two.
+fn kind_length(words: &[&[u8]]) -> usize
+    requires some { 0 < length words.now }
+    ensures some { 0 < result }
+    ensures within { result ≤ length words.now }
+{
+    match words.get(1) {
+        Some(word) if word.starts_with(b"/") => 2,
+        _ => 1,
+    }
+}
+
+/// Kinds of calls, one behind the other.
+fn kinds_in(alloc: Global, words: &[&[u8]]) -> Result<Option<Vec<CallKind>>, AllocError>
+    ensures words { IfOk result (λ read. IfSome read (λ kinds.
+        map (λ word. word.now) words.now ≡ flat_map kind_words kinds.items)) }
+{
+    let mut kinds = Vec::new(alloc);
+    let mut rest = words;
+    while !rest.is_empty() {
+        let count = kind_length(rest);
+        let Some(kind) = kind_in(alloc, &rest[..count])? else {
+            return Ok(None);
+        };
+        kinds.push(kind)?;
+        rest = &rest[count..];
+    }
+    Ok(Some(kinds))
+}
+
+/// Kinds of calls, of which there is one at least.
+fn some_kinds_in(alloc: Global, words: &[&[u8]]) -> Result<Option<Vec<CallKind>>, AllocError>
+    ensures words { IfOk result (λ read. IfSome read (λ kinds.
+        map (λ word. word.now) words.now ≡ flat_map kind_words kinds.items)) }
+{
+    if words.is_empty() {
+        return Ok(None);
+    }
+    kinds_in(alloc, words)
+}
+
+/// Names, one behind the other.
+fn names_in(alloc: Global, words: &[&[u8]]) -> Result<Option<Vec<Name>>, AllocError>
+    ensures names { IfOk result (λ read. IfSome read (λ names.
+        map (λ word. word.now) words.now ≡ names.items)) }
+{
+    let mut names = Vec::new(alloc);
+    for word in words {
+        match name_in(alloc, word)? {
+            Some(name) => names.push(name)?,
+            None => return Ok(None),
+        }
+    }
+    Ok(Some(names))
+}
+
+/// Adds a word, if it isn't this one.
+fn push_other<'a>(words: &mut Vec<&'a [u8]>, name: &str, word: &'a [u8]) -> Result<(), AllocError>
+    ensures added { OnOk result (map (λ w. w.now) words.new.items
+        ≡ map (λ w. w.now) words.old.items ++ without name.now (word.now ∷ [])) }
+{
+    if name.as_bytes() == word {
+        return Ok(());
+    }
+    words.push(word)?;
+    Ok(())
+}
+
+/// The words that aren't this one.
+fn without<'a>(alloc: Global, name: &str, words: &[&'a [u8]]) -> Result<Vec<&'a [u8]>, AllocError>
+    ensures words { IfOk result (λ found. map (λ word. word.now) found.items
+        ≡ without name.now (map (λ word. word.now) words.now)) }
+{
+    let mut found = Vec::new(alloc);
+    for word in words {
+        push_other(&mut found, name, word)?;
+    }
+    Ok(found)
+}
+
+/// So many calls of a kind, where the number is one that can be asked for.
+fn counted(kind: CallKind, number: &[u8]) -> Option<Pattern>
+    ensures pattern { IfSome result (λ pattern.
+        Say (codes "calls" ∷ kind_words kind ++ codes ">=" ∷ number.now ∷ []) pattern) }
+{
+    match unsigned(10, number) {
+        Some(count) if 1 <= count && count <= MOST_CALLS => Some(Pattern::AtLeast(kind, count)),
+        _ => None,
+    }
+}
+
+/// The words before `>= N` at the end of some, and N.
+fn count_behind<'a, 'b>(words: &'a [&'b [u8]]) -> Option<(&'a [&'b [u8]], &'b [u8])>
+    ensures parts { IfSome result (λ parts. map (λ word. word.now) words.now
+        ≡ map (λ word. word.now) parts.0.now ++ codes ">=" ∷ parts.1.now ∷ []) }
+{
+    match words {
+        [_, sign, number] if is_word(">=", sign) => Some((&words[..1], *number)),
+        [_, _, sign, number] if is_word(">=", sign) => Some((&words[..2], *number)),
+        _ => None,
+    }
+}
+
+/// How often a call is made at least, by the words behind `calls`.
+fn often(alloc: Global, words: &[&[u8]]) -> Result<Option<Pattern>, AllocError>
+    ensures pattern { IfOk result (λ read. IfSome read (λ pattern.
+        Say (codes "calls" ∷ map (λ word. word.now) words.now) pattern)) }
+{
+    if let Some((call, number)) = count_behind(words) {
+        return often_counted(alloc, call, number);
+    }
+    match kind_in(alloc, words)? {
+        Some(kind) => Ok(Some(Pattern::AtLeast(kind, 1))),
+        None => Ok(None),
+    }
+}
+
+fn often_counted(
+    alloc: Global,
+    call: &[&[u8]],
+    number: &[u8],
+) -> Result<Option<Pattern>, AllocError>
+    ensures pattern { IfOk result (λ read. IfSome read (λ pattern.
+        Say (codes "calls" ∷ map (λ word. word.now) call.now ++ codes ">=" ∷ number.now ∷ [])
+        pattern)) }
+{
+    match kind_in(alloc, call)? {
+        Some(kind) => Ok(counted(kind, number)),
+        None => Ok(None),
+    }
+}
+
+/// The semaphores that are held, by the words behind `holds`.
+fn together(alloc: Global, words: &[&[u8]]) -> Result<Option<Pattern>, AllocError>
+    ensures pattern { IfOk result (λ read. IfSome read (λ pattern.
+        Say (codes "holds" ∷ map (λ word. word.now) words.now) pattern)) }
+{
+    let words = without(alloc, "and", words)?;
+    if words.is_empty() || words.len() > MOST_NAMES {
+        return Ok(None);
+    }
+    match names_in(alloc, &words)? {
+        Some(names) => Ok(Some(Pattern::Together(names))),
+        None => Ok(None),
+    }
+}
+
+fn in_order(alloc: Global, words: &[&[u8]]) -> Result<Option<Pattern>, AllocError>
+    ensures pattern { IfOk result (λ read. IfSome read (λ pattern.
+        Say (codes "calls" ∷ codes "in" ∷ codes "order" ∷ map (λ word. word.now) words.now) pattern)) }
+{
+    match some_kinds_in(alloc, words)? {
+        Some(kinds) => Ok(Some(Pattern::InOrder(kinds))),
+        None => Ok(None),
+    }
+}
+
+fn none_but(alloc: Global, words: &[&[u8]]) -> Result<Option<Pattern>, AllocError>
+    ensures pattern { IfOk result (λ read. IfSome read (λ pattern.
+        Say (codes "calls" ∷ codes "other" ∷ codes "than" ∷ map (λ word. word.now) words.now) pattern)) }
+{
+    match some_kinds_in(alloc, words)? {
+        Some(kinds) => Ok(Some(Pattern::NoneBut(kinds))),
+        None => Ok(None),
+    }
+}
+
+fn none_of(alloc: Global, words: &[&[u8]]) -> Result<Option<Pattern>, AllocError>
+    ensures pattern { IfOk result (λ read. IfSome read (λ pattern.
+        Say (codes "calls" ∷ map (λ word. word.now) words.now) pattern)) }
+{
+    let words = without(alloc, "or", words)?;
+    match some_kinds_in(alloc, &words)? {
+        Some(kinds) => Ok(Some(Pattern::NoneOf(kinds))),
+        None => Ok(None),
+    }
+}
+
+/// What must be so on every way.
+fn required_in(alloc: Global, words: &[&[u8]]) -> Result<Option<Pattern>, AllocError>
+    ensures pattern { IfOk result (λ read. IfSome read (λ pattern.
+        Say (map (λ word. word.now) words.now) pattern)) }
+{
+    match words {
+        [calls, first, second, kinds @ ..]
+            if is_word("calls", calls) && is_word("in", first) && is_word("order", second) => {
+            in_order(alloc, kinds)
+        }
+        [calls, rest @ ..] if is_word("calls", calls) => often(alloc, rest),
+        [holds, names @ ..] if is_word("holds", holds) => together(alloc, names),
+        _ => Ok(None),
+    }
+}
+
+/// What must never be so, as what must be so on every way.
+fn forbidden_in(alloc: Global, words: &[&[u8]]) -> Result<Option<Pattern>, AllocError>
+    ensures pattern { IfOk result (λ read. IfSome read (λ pattern.
+        Say (map (λ word. word.now) words.now) pattern)) }
+{
+    match words {
+        [calls, first, second, kinds @ ..]
+            if is_word("calls", calls) && is_word("other", first) && is_word("than", second) => {
+            none_but(alloc, kinds)
+        }
+        [calls, rest @ ..] if is_word("calls", calls) => none_of(alloc, rest),
+        _ => Ok(None),
+    }
+}
+
+/// What must be so on every way, by the words behind a process, or by all.
+fn pattern_in(alloc: Global, never: bool, words: &[&[u8]]) -> Result<Option<Pattern>, AllocError>
+    ensures pattern { IfOk result (λ read. IfSome read (λ pattern.
+        Say (map (λ word. word.now) words.now) pattern)) }
+{
+    if never {
+        forbidden_in(alloc, words)
+    } else {
+        required_in(alloc, words)
+    }
+}
+
+/// The process that words name first, and the words behind it.
+fn process_of<'a, 'b>(words: &'a [&'b [u8]]) -> (Option<usize>, &'a [&'b [u8]])
+    ensures words { (pattern : Calls) → Say (map (λ word. word.now) result.1.now) pattern
+        → SayOf result.0 (map (λ word. word.now) words.now) pattern }
+{
+    if let [number, rest @ ..] = words {
+        if let Some(process) = process_in(number) {
+            return (Some(process), rest);
+        }
+    }
+    (None, words)
+}
+
+/// What a text asks of calls: what must be so, or what must never be. `calls CALL`, behind which `>= N` may stand, and
+/// `calls in order CALL, CALL` say what must be so, and `holds /NAME and /NAME`; `calls CALL or CALL` and
+/// `calls other than CALL, CALL` what must never be. Each CALL is a name, behind which that of an object may stand; before
+/// all may stand a process.
+pub fn read_calls(alloc: Global, text: &str, never: bool) -> Result<Option<Wanted>, AllocError>
+    ensures asks { IfOk result (λ read. IfSome read (λ wanted. Asks text.now wanted)) }
+{
+    let words = words_between(alloc, b" ,", text.as_bytes())?;
+    let (process, rest) = process_of(&words);
+    match pattern_in(alloc, never, rest)? {
+        Some(pattern) => Ok(Some(Wanted { process, pattern })),
+        None => Ok(None),
+    }
+}
