@@ -11,7 +11,7 @@ function callLabels({ call, name, words, refused }) {
   if (refused) return [`${call} ${on} ${refused}`, `${short} ${on} ${refused}`, short + ' ' + refused, refused, '!'];
   const list = [call + ' ' + name, short + ' ' + name, short, letter];
   if (!words || words.length === 0) return list;
-  const body = quoted(words.slice(0, 16)) || numbers(words);
+  const body = quoted(words) || numbers(words);
   return [`${call} ${name} ${body}`, `${short} ${name} ${body}`, short + ' ' + body, ...list];
 }
 function labels(e, fits) {
@@ -27,20 +27,18 @@ function labelFor(e, fits) {
 // ---- boxes, notes and arrows
 
 function titled(title, inner, more) { return `<g${more || ''}><title>${esc(title)}</title>${inner}</g>`; }
-function box(e, k, x, y, w) {
-  const label = labelFor(e, Math.floor((w - (w > 60 ? 10 : 3)) / CHAR));
+function box(e) {
+  const { box: w } = lay, x = midX(e.process), y = midY(e.k);
+  const text = labelFor(e, fits(w - (w > 60 ? 10 : 3)));
   const round = /sem_(wait|post|trywait)/.test(e.call) ? 10 : e.call && !/mq_(send|receive)/.test(e.call) ? 3 : 0;
   const [first, ...places] = HAS_PLACES ? placesOf(e) : [''], place = places.find(text => text.length <= fits(w - 3));
-  const where = place ? `<text x="${x}" y="${y + 11}" text-anchor="middle">${esc(place)}</text>` : '';
   return titled(`step ${e.step}, P${e.process}: ${e.what}` + (first && `, at ${first}`),
     `<rect x="${x - w / 2}" y="${y - HALF}" width="${w}" height="${2 * HALF}" rx="${round}"/>` +
-    `<text x="${x}" y="${y + (place ? -3 : 4)}" text-anchor="middle">${esc(label)}</text>${where}`, ` class="${kindOf(e)}" data-k="${k}"`);
+    label('', x, y + (place ? -3 : 4), text, 'middle') + (place ? label('', x, y + 11, place, 'middle') : ''),
+    ` class="${kindOf(e)}" data-k="${e.k}"`);
 }
-function note(x, y, text, kind) {                 // a small text on a plate
-  const w = text.length * CHAR + 6;
-  return `<rect class="label" x="${x - w / 2}" y="${y - 8}" width="${w}" height="15"/>` +
-    `<text class="${kind}" x="${x}" y="${y + 4}" text-anchor="middle">${esc(text)}</text>`;
-}
+const note = (x, y, text, kind) =>                // a small text on a plate
+  bar('plain', x, y - 8, y + 7, text.length * CHAR + 6) + label(kind, x, y + 4, text, 'middle');
 function trackX(a, room) {                        // where an arrow runs down
   const half = lay.box / 2, step = room > 60 ? 8 : room > 20 ? 5 : 2, most = Math.max(1, Math.floor((room - 18) / step));
   const off = room > 20 ? 13 + (a.track % most) * step : room / 2, from = R[a.from].process;

@@ -4,11 +4,9 @@ let lay = null;
 const CHAR = 6.65;                                // the width of a character of the picture
 const limited = (least, value, most) => Math.max(least, Math.min(value, most));
 
-function laneWidth(room) { return Math.floor(Math.max(N > 32 ? 17 : N > 4 ? 26 : 66, Math.min(room / N, 290))); }
-function betweenBoxes(lane) {                     // arrows need more room between the boxes
-  if (arrows.length + wakes.length + kept.length > 0) return limited(8, lane * .36, 120);
-  return limited(6, lane * .06 + (lane - 200) * .5, 60);
-}
+const laneWidth = room => Math.floor(limited(N > 32 ? 17 : N > 4 ? 26 : 66, room / N, 290));
+const betweenBoxes = lane =>                      // arrows need more room between the boxes
+  arrows.length + wakes.length + kept.length ? limited(8, lane * .36, 120) : limited(6, lane * .06 + (lane - 200) * .5, 60);
 const levelLength = ({ value, who }) => [value, who].filter(part => part).join(' ').length;
 function layout() {
   const seen = $('left').clientWidth, room = Math.max(320, seen - 2);
@@ -27,13 +25,11 @@ function layout() {
   route();
 }
 function route() {                                // each arrow runs down a track of its own between two lanes
-  const used = new Map();
+  const used = {};
   for (const a of [...arrows, ...wakes].sort((x, y) => x.from - y.from || x.to - y.to)) {
     const from = R[a.from].process, to = R[a.to].process;
     a.left = to < from; a.gap = a.left ? from - 1 : from; a.track = 0;
-    const side = a.gap + (a.left ? 'l' : 'r');
-    if (!used.has(side)) used.set(side, []);
-    const tracks = used.get(side);
+    const tracks = used[a.gap + (a.left ? 'l' : 'r')] ??= [];
     while (tracks[a.track] !== undefined && tracks[a.track] > rowOf[a.from]) a.track++;
     tracks[a.track] = rowOf[a.to];
   }

@@ -5,8 +5,8 @@ function endItem([calls, { schedule, outcome: [verdict, , , outputs] }], k) {
   const counts = several(calls, 'call', 'calls') + ', ' + several(schedule.length - 1, 'switch', 'switches');
   const texts = outputs.map((bytes, p) => bytes.length > 0 ? `P${p} "${shown(bytes)}"` : '');
   const written = texts.filter(text => text).join(', ') || 'no output';
-  return `<li><button type="button" id="end${k + 1}" class="${verdict}">End ${k + 1}: ${verdict}</button> ${counts}` +
-    `<span class="part mono">${esc(written)}</span></li>`;
+  return `<li><button type="button" id="end${k + 1}" class="${verdict}" data-to="end=${k + 1}">End ${k + 1}: ${verdict}</button> ` +
+    `${counts}<span class="part mono">${esc(written)}</span></li>`;
 }
 function reasonText([, worlds, , mostWorlds, mostSteps, mostMemory, isRefused, isFirst]) {  // why not all was visited
   const steps = several(mostSteps, 'step', 'steps') + ' of a process without a call';
@@ -31,8 +31,8 @@ function noWorldsText([isComplete]) {             // why there is no picture
 // ---- what was asked
 
 function otherText() {                            // what a run beside those to ends shows
-  const shows = ([, , runs]) => runs.some(([kind, k]) => kind === 'run' && k === OTHER - 1), asked = DATA.asked.find(shows);
-  return (asked ? `${visible(asked[0])} not met, ` : '') + (ROUND_AT === null ? `run ${OTHER}` : 'a run that never ends');
+  const shows = ([, , runs]) => runs.some(([kind, k]) => kind === 'run' && k === NUMBER - 1), asked = DATA.asked.find(shows);
+  return (asked ? `${visible(asked[0])} not met, ` : '') + (ROUND_AT === null ? `run ${NUMBER}` : 'a run that never ends');
 }
 function wayTo([kind, k]) {
   const isRound = kind === 'run' && DATA.endless && DATA.endless[2] === k;
@@ -43,17 +43,17 @@ function askedItem([text, answer, runs]) {
   const kind = { met: 'met', 'not met': 'unmet' }[answer] || 'unknown', mark = { met: '\u2713', unmet: '\u2717' }[kind] || '?';
   const why = kind === 'unknown' ? `: the search is incomplete, ${reasonText(DATA.extent).replace(/^(and|then) /, '')}` : '';
   const none = kind === 'unmet' && !runs.length ? ': no room for the run, lc3lab explore --schedule bad prints it' : '';
-  return `<li class="${kind}"><strong>${mark} ${answer}</strong> <code>${esc(visible(text))}</code>${esc(why + none)} ${runs.map(wayTo).join(' ')}</li>`;
+  return `<li class="${kind}"><strong>${mark} ${answer}</strong> <code>${esc(visible(text))}</code>${esc(why + none)} ` +
+    `${runs.map(wayTo).join(' ')}</li>`;
 }
 function fillAsked() {
-  const { asked, endless } = DATA, failed = asked.filter(([, answer]) => answer === 'not met').length;
-  const open = asked.filter(([, answer]) => answer === 'not known').length;
+  const { asked, endless } = DATA, countOf = wanted => asked.filter(([, answer]) => answer === wanted).length;
+  const worst = ['not met', 'not known'].find(countOf);
   $('asked').hidden = asked.length === 0;
-  $('askedtitle').textContent = `What was asked: ${failed ? `${failed} of ${asked.length} not met`
-    : open ? `${open} of ${asked.length} not known` : 'all met'}`;
+  $('askedtitle').textContent = `What was asked: ${worst ? `${countOf(worst)} of ${asked.length} ${worst}` : 'all met'}`;
   $('askedlist').innerHTML = asked.map(askedItem).join('');
   $('openround').innerHTML = endless && endless[2] !== null ? wayTo(['run', endless[2]]) : '';
-  on('ends', 'click', event => { const way = event.target.closest('.way[data-to]'); if (way) location.hash = way.dataset.to; });
+  on('ends', 'click', event => { const way = event.target.closest('[data-to]'); if (way) location.hash = way.dataset.to; });
 }
 function fillEnds() {
   const { ends, endless, extent } = DATA, [, , count] = extent, rest = count - ends.length;
@@ -67,16 +67,14 @@ function fillEnds() {
   if (endless) { [$('before').textContent, $('round').textContent] = endless.slice(0, 2).map(printed); }
   fillAsked();
   if (WORLD_MAP) fillWorlds(); else $('ends').insertAdjacentHTML('beforeend', `<p id="noworlds">${noWorldsText(extent)}</p>`);
-  ends.forEach((_, k) => on('end' + (k + 1), 'click', () => { location.hash = 'end=' + (k + 1); }));
 }
 function showEnds() {                             // the list, or the way back to it
   history.scrollRestoration = 'manual';
   $('back').hidden = isList; $('ends').hidden = !isList;
-  on('back', 'click', () => { location.hash = OTHER ? 'list=run' + OTHER : 'list=' + NUMBER; });
+  on('back', 'click', () => { location.hash = 'list=' + SHOWN; });
   if (!isList) return;
   document.body.classList.add('list');
   fillEnds();
-  const from = /^#list=(run)?(\d+)$/.exec(location.hash);
-  const button = from && (from[1] ? document.querySelector(`.way[data-to="run=${from[2]}"]`) : $('end' + from[2]));
-  if (button) button.focus();
+  const ways = [...document.querySelectorAll('[data-to]')];
+  ways.findLast(way => location.hash === '#list=' + way.dataset.to)?.focus();
 }

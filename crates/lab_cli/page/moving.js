@@ -1,13 +1,15 @@
 // ---- the present moment in the picture
 
+function markCurrent(whole, part) {               // the part that is the current one
+  const old = $(whole).querySelector('[aria-current]');
+  if (old) old.removeAttribute('aria-current');
+  if (part) part.setAttribute('aria-current', 'step');
+}
 function markNow() {                              // its line, and its box
-  const y = cur === R.length ? height : posY[cur], [future, rule, tag] = $('now').children;
-  const old = document.querySelector('.cur'), box = document.querySelector(`g.ev[data-k="${cur - 1}"]`);
-  future.setAttribute('y', y); future.setAttribute('height', cur === R.length ? 0 : Math.max(0, full() - y));
-  rule.setAttribute('y1', y); rule.setAttribute('y2', y);
-  tag.setAttribute('transform', `translate(0,${y})`);
-  if (old) old.classList.remove('cur');
-  if (box) box.classList.add('cur');
+  const y = cur === R.length ? height : posY[cur];
+  $('now').setAttribute('transform', `translate(0,${y})`);
+  $('now').firstChild.setAttribute('height', cur === R.length ? 0 : full());
+  markCurrent('pic', document.querySelector(`g.ev[data-k="${cur - 1}"]`));
   return y;
 }
 function mark() {                                 // it comes into view
@@ -23,34 +25,28 @@ function mark() {                                 // it comes into view
 // ---- going to a moment
 
 function say(e, step) {
-  const did = e && `${e.step} P${e.process} ${hex(e.from)} ${isEvent(e) ? e.what : didText(e)}`;
-  const what = did || 'nothing has been done yet';
+  const what = e ? `${e.step} P${e.process} ${hex(e.from)} ${isEvent(e) ? e.what : didText(e)}` : 'nothing has been done yet';
   $('say').textContent = what;
   $('count').textContent = `step ${step} of ${STEPS}` + roundText();
   $('slider').value = cur;
   $('slider').setAttribute('aria-valuetext', `step ${step} of ${STEPS}, ${what}`);
 }
-function markLine() {                             // in the list of the trace, the last line so far
-  const old = document.querySelector('#lines [aria-current]'), last = lastIndex(EVENTS, e => e.k < cur);
-  if (old) old.removeAttribute('aria-current');
-  if (last >= 0) $('lines').children[last].setAttribute('aria-current', 'step');
-}
-const addressOf = step => (NUMBER ? `#end=${NUMBER}&step=` : OTHER ? `#run=${OTHER}&step=` : '#step=') + step;
+const addressOf = step => (SHOWN ? `#${SHOWN}&step=` : '#step=') + step;
 function go(k, isAddressed) {
   cur = limited(0, k, R.length);
   if (cur < ROUND_AT) rounds = 1;
   const e = cur ? R[cur - 1] : null, step = cur === R.length && D.whole ? STEPS : e ? e.step : 0;
   say(e, step);
   panel(e);
-  mark(); markLine();
+  mark();
+  markCurrent('lines', $('lines').children[lastIndex(EVENTS, it => it.k < cur)]);
   if (isAddressed || isList) return;
   try { history.replaceState(null, '', addressOf(step)); } catch { /* no history there */ }
 }
 function goToEvent(direction, p) {                // to the next event, of process p where one is named
   const isWanted = e => isEvent(e) && (p === undefined || e.process === p);
-  const beside = k => direction > 0 ? onward(k + 1) : backward(k - 1);
-  let k = beside(cur);
-  while (k > 0 && k < R.length && !isWanted(R[k - 1])) k = beside(k);
+  let k = inRound(cur + direction);
+  while (k > 0 && k < R.length && !isWanted(R[k - 1])) k = inRound(k + direction);
   go(k);
 }
 function play(isOn) {
@@ -60,7 +56,7 @@ function play(isOn) {
   if (!isOn) return;
   if (cur === R.length && ROUND_AT === null) go(0);
   const tick = () => {
-    go(onward(cur + 1));
+    go(inRound(cur + 1));
     if (cur === R.length && ROUND_AT === null) play(false); else timer = setTimeout(tick, isEvent(R[cur - 1]) ? 700 : 110);
   };
   timer = setTimeout(tick, 300);
@@ -79,51 +75,47 @@ function choose(p) {
 // ---- keys, buttons, the slider, clicks, windows
 
 const KEYS = {
-  ArrowLeft: () => go(backward(cur - 1)), ArrowRight: () => go(onward(cur + 1)), ArrowUp: () => goToEvent(-1), ArrowDown: () => goToEvent(1),
-  Home: () => go(0), End: () => go(R.length),
+  ArrowLeft: () => go(inRound(cur - 1)), ArrowRight: () => go(inRound(cur + 1)), Home: () => go(0), End: () => go(R.length),
+  ArrowUp: () => goToEvent(-1), ArrowDown: () => goToEvent(1),
+  'Shift ArrowUp': () => goToEvent(-1, chosen()), 'Shift ArrowDown': () => goToEvent(1, chosen()),
 };
-const SHIFTED = { ArrowUp: () => goToEvent(-1, chosen()), ArrowDown: () => goToEvent(1, chosen()) };
-const BUTTONS = {
-  first: KEYS.Home, prevcall: KEYS.ArrowUp, prev: KEYS.ArrowLeft, next: KEYS.ArrowRight, nextcall: KEYS.ArrowDown,
-  last: KEYS.End, prevof: SHIFTED.ArrowUp, nextof: SHIFTED.ArrowDown,
-};
-function onKey(event) {
-  const { target, key } = event;
-  if (isList || event.ctrlKey || event.altKey || event.metaKey) return;
-  if (target.tagName === 'SELECT' || target.closest('.text')) return;
-  const keys = event.shiftKey ? SHIFTED : KEYS;
-  if (keys[key]) { play(false); keys[key](); event.preventDefault(); }
-  else if (key === ' ' && !/^(BUTTON|SUMMARY)$/.test(target.tagName)) { play(timer === null); event.preventDefault(); }
+const pressed = key => { play(false); KEYS[key](); };
+const playOrPause = () => play(timer === null);
+function keyAct({ target, key, shiftKey }) {      // what a key does, where it does something
+  const name = (shiftKey ? 'Shift ' : '') + key, isText = target.tagName === 'SELECT' || target.closest('.text');
+  if (isText) return null;
+  if (isList) return isPlaying() && /^\d$/.test(key) && key < N ? () => press(Number(key)) : null;
+  if (key === ' ') return /^(BUTTON|SUMMARY)$/.test(target.tagName) ? null : playOrPause;
+  return KEYS[name] ? () => pressed(name) : null;
 }
-const on = (id, kind, act) => $(id).addEventListener(kind, act);
-document.addEventListener('keydown', onKey);
-for (const [id, act] of Object.entries(BUTTONS)) on(id, 'click', () => { play(false); act(); });
-on('play', 'click', () => play(timer === null));
-on('who', 'change', () => choose(chosen()));
-on('head', 'click', event => { const g = event.target.closest('[data-p]'); if (g) choose(Number(g.dataset.p)); });
-on('slider', 'input', event => { play(false); go(Number(event.target.value)); });
-on('pic', 'click', event => {
-  const g = event.target.closest('[data-k]');
-  if (g) { play(false); go(Number(g.dataset.k) + 1); }
+document.addEventListener('keydown', event => {
+  const act = event.ctrlKey || event.altKey || event.metaKey ? null : keyAct(event);
+  if (act) { act(); event.preventDefault(); }
 });
+const on = (id, kind, act) => $(id).addEventListener(kind, act);
+function onPart(id, kind, name, act) {            // on a part within, by its number
+  on(id, kind, event => { const part = event.target.closest(`[data-${name}]`); if (part) act(Number(part.dataset[name]), event); });
+}
+for (const { id, dataset } of document.querySelectorAll('[data-key]')) on(id, 'click', () => pressed(dataset.key));
+on('play', 'click', playOrPause);
+on('who', 'change', () => choose(chosen()));
+onPart('head', 'click', 'p', choose);
+on('slider', 'input', event => { play(false); go(Number(event.target.value)); });
+onPart('pic', 'click', 'k', k => { play(false); go(k + 1); });
 on('left', 'scroll', () => { keepGutter(); paintNear(); });
 let resized = null;
 function redraw() { if ($('left').clientWidth === lay.seen) paintNear(); else draw(); }
 new ResizeObserver(() => { clearTimeout(resized); resized = setTimeout(redraw, 120); }).observe($('left'));
-function followAddress() {                        // to another end the page is opened anew
-  const isHere = numberIn(location.hash) === NUMBER && otherIn(location.hash) === OTHER;
-  if (isHere) goToAddress(); else location.reload();
-}
-window.addEventListener('hashchange', followAddress);
+window.addEventListener('hashchange', () => {     // to another end the page is opened anew
+  if (shownIn(location.hash).join('=') === SHOWN) goToAddress(); else location.reload();
+});
 let closed = [];                                  // what is open on paper alone
-function beforePrint() {
+window.addEventListener('beforeprint', () => {
   closed = [...document.querySelectorAll('.bottom > details:not([open])')];
   for (const details of closed) details.open = true;
   paint(0, full());
-}
-function afterPrint() {
+});
+window.addEventListener('afterprint', () => {
   for (const details of closed.splice(0)) details.open = false;
   draw();
-}
-window.addEventListener('beforeprint', beforePrint);
-window.addEventListener('afterprint', afterPrint);
+});

@@ -1,23 +1,10 @@
 // ---- the reader as the scheduler, in the picture of all worlds
 
 let played = [], isPuzzle = false;                // the calls that were chosen, by their arrows; whether to get stuck is asked
-const isPlaying = () => $('game') !== null && $('game').open;
+const isPlaying = () => $('game').open;
 const worldNow = () => played.length ? WORLD_MAP.edges[played[played.length - 1]].to : 0;
 const legsSoFar = () => [...WORLD_MAP.starts, ...played.map(k => WORLD_MAP.edges[k])];
-const arrowOf = (n, p) => WORLD_MAP.edges.findIndex(({ from, process }) => from === n && process === p);
 const calls = n => several(n, 'call', 'calls');
-const GAME_PART = `<details id="game"><summary>Play: you say who goes on</summary>
-  <p id="gamesay" aria-live="polite"></p>
-  <div id="turns" role="group" aria-label="what each process does next"></div>
-  <div class="controls">
-    <button type="button" id="undo">Undo</button> <button type="button" id="again">Start again</button>
-    <button type="button" id="puzzle">Find a way to get stuck</button>
-    <label for="goal">go on to</label> <select id="goal"></select> <button type="button" id="goon">Go</button>
-  </div>
-  <h3>The world</h3> <ul id="gameworld"></ul>
-  <h3>The lines so far</h3> <ol id="gamelines" class="mono" role="list"></ol>
-  <h3>The schedule of these steps</h3> <pre id="gameplan" tabindex="0" aria-label="the schedule of what was played"></pre>
-  <p class="keys"><kbd>0</kbd> to <kbd>9</kbd> press the button of the process with this number.</p></details>`;
 
 // ---- what a world shows
 
@@ -25,19 +12,13 @@ function lineText({ pc, word }, process) {        // the line of the source that
   const line = sourceAt({ process, first: pc, code: [[word]] }, pc);
   return line ? `, line ${line.at + 1}` : '';
 }
-function takenSoFar() {                           // of each semaphore, by its name, how many more units each process took than gave
-  const taken = new Map();
+const CHANGES = { sem_wait: 1, sem_trywait: 1, sem_post: -1 };
+function takersNow(object) {                      // the processes that took more units of a semaphore than they gave, and how many
+  const { processes } = WORLD_MAP.nodes[worldNow()], counts = PROCESSES.map(() => 0);
   for (const { process, events } of legsSoFar()) {
-    for (const { call, name, result } of events) {
-      const change = typeof result === 'number' ? { sem_wait: 1, sem_trywait: 1, sem_post: -1 }[call] || 0 : 0;
-      if (!taken.has(name)) taken.set(name, PROCESSES.map(() => 0));
-      taken.get(name)[process] += change;
-    }
+    const done = events.filter(({ name, result }) => name === nameOf(object) && typeof result === 'number');
+    for (const { call } of done) counts[process] += CHANGES[call] || 0;
   }
-  return taken;
-}
-function takersNow(object) {
-  const counts = takenSoFar().get(nameOf(object)) || [], { processes } = WORLD_MAP.nodes[worldNow()];
   return takers(counts.map((count, p) => [p, count, processes[p].state === 'ended']).filter(([, count]) => count > 0));
 }
 function objectText(object) {                     // the level of an object, and what it holds or who has it
@@ -62,12 +43,11 @@ function linesSoFar() {                           // as the trace tells them
   const local = PROCESSES.map(() => 0), lines = [];
   let step = 0;
   for (const { process, steps, events } of legsSoFar()) {
-    let before = 0;
     for (const { number, pc, text } of events) {
-      lines.push({ step: step + number, process, pc, text, local: local[process] + number - before - 1 });
-      local[process] = 0; before = number;
+      lines.push({ step: step + number, process, pc, text, local: local[process] + number - 1 });
+      local[process] = -number;
     }
-    local[process] += steps - before; step += steps;
+    local[process] += steps; step += steps;
   }
   return lines;
 }
@@ -87,27 +67,11 @@ function planSoFar() {                            // the steps; at the end those
 
 // ---- ways to an end
 
-function wayBetweenWorlds(n, goals) {             // one of fewest calls to a world that is a goal, or none
-  const { edges } = WORLD_MAP, by = new Map([[n, null]]), leads = WORLD_MAP.nodes.map(() => []);
-  edges.forEach(({ from }, k) => leads[from].push(k));
-  for (const [m] of by) {
-    if (goals(m)) {
-      const way = [];
-      for (let k = by.get(m); k !== null; k = by.get(edges[k].from)) way.unshift(k);
-      return way;
-    }
-    for (const k of leads[m]) if (!by.has(edges[k].to)) by.set(edges[k].to, k);
-  }
-  return null;
-}
-const isStuck = n => WORLD_MAP.nodes[n].verdict === 'stuck';
 const goalNow = () => $('goal').value === '' ? null : Number($('goal').value);
-const planNow = () => goalNow() === null ? [] : wayBetweenWorlds(worldNow(), n => n === goalNow());
-function goalName({ verdict, end }, n) {
-  return end !== null && end < DATA.ends.length ? `end ${end + 1}: ${verdict}` : `world ${n + 1}: ${verdict}`;
-}
+const planNow = () => goalNow() === null ? [] : fewestCalls(worldNow(), n => n === goalNow());
+const goalName = (node, n) => (endOfWorld(node) < 0 ? `world ${n + 1}` : `end ${node.end + 1}`) + `: ${node.verdict}`;
 function puzzleText() {                           // how many calls it took to get stuck, beside the fewest
-  const fewest = wayBetweenWorlds(0, isStuck), { verdict } = WORLD_MAP.nodes[worldNow()];
+  const { nodes } = WORLD_MAP, { verdict } = nodes[worldNow()], fewest = fewestCalls(0, n => nodes[n].verdict === 'stuck');
   if (fewest === null) return isPuzzle ? 'No way gets stuck. ' : '';
   if (verdict === 'stuck') return `Stuck after ${calls(played.length)}; the fewest are ${fewest.length}. `;
   if (verdict) return `All have ended after ${calls(played.length)}. ` + (isPuzzle ? 'That isn\'t stuck: undo, or start again. ' : '');
@@ -137,9 +101,8 @@ function showPlay() {
   const at = `World ${n + 1}, after ${calls(played.length)}. `;
   $('gamesay').textContent = at + puzzleText() + planText(plan) + (last ? `P${last.process}: ${visible(last.text)}` : '');
   showTurns(node);
-  const shownWorld = [...PROCESSES.map(p => placeText(node, p)), ...node.objects.map(objectText)];
-  $('gameworld').innerHTML = shownWorld.map(text => `<li>${esc(text)}</li>`).join('');
-  $('gamelines').innerHTML = lines.map(line => `<li>${esc(visible(lineSoFar(line)))}</li>`).join('');
+  listTexts('gameworld', [...PROCESSES.map(p => placeText(node, p)), ...node.objects.map(objectText)]);
+  listTexts('gamelines', lines.map(line => visible(lineSoFar(line))));
   $('gamelines').scrollTop = $('gamelines').scrollHeight;
   $('gameplan').textContent = planSoFar();
   $('undo').disabled = $('again').disabled = played.length === 0;
@@ -148,34 +111,23 @@ function showPlay() {
   bringWorld(n);
 }
 function press(p) {                               // the process goes on, where it can
-  const k = arrowOf(worldNow(), p);
-  if (k >= 0) { played.push(k); showPlay(); }
+  const k = WORLD_MAP.edges.findIndex(({ from, process }) => from === worldNow() && process === p);
+  if (k >= 0) playFrom([...played, k], isPuzzle);
 }
 function playFrom(calls, asked) {
   played = calls; isPuzzle = asked;
   showPlay();
 }
-function onDigit(event) {
-  const { target, key } = event, isPlain = !event.ctrlKey && !event.altKey && !event.metaKey;
-  if (!isPlaying() || !isPlain || !/^\d$/.test(key) || target.tagName === 'SELECT' || Number(key) >= N) return;
-  press(Number(key));
-  event.preventDefault();
-}
 function fillPlay() {
-  $('map').insertAdjacentHTML('beforebegin', GAME_PART);
   $('turns').innerHTML = PROCESSES.map(p =>
     `<button type="button" data-p="${p}"${p < 10 ? ` aria-keyshortcuts="${p}"` : ''}><kbd>${p}</kbd> <span></span></button>`).join('');
   const goals = WORLD_MAP.nodes.map((node, n) => node.verdict ? `<option value="${n}">${esc(goalName(node, n))}</option>` : '');
   $('goal').innerHTML = '<option value="">an end</option>' + goals.join('');
-  on('turns', 'click', event => {
-    const button = event.target.closest('[data-p]');
-    if (button) press(Number(button.dataset.p));
-  });
+  onPart('turns', 'click', 'p', press);
   on('undo', 'click', () => playFrom(played.slice(0, -1), isPuzzle));
   on('again', 'click', () => playFrom([], isPuzzle));
   on('puzzle', 'click', () => { $('goal').value = ''; playFrom([], true); });
   on('goal', 'change', showPlay);
   on('goon', 'click', () => playFrom([...played, ...planNow()], isPuzzle));
   on('game', 'toggle', () => { if (isPlaying()) showPlay(); });
-  document.addEventListener('keydown', onDigit);
 }

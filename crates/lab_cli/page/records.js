@@ -1,16 +1,18 @@
 const DATA = JSON.parse($('data').textContent);    // of a run, or of ends, of which the address may name one
-const numberIn = address => Number((/^#end=(\d+)/.exec(address) || [])[1] || 0);
-const NUMBER = DATA.ends && DATA.ends[numberIn(location.hash) - 1] ? numberIn(location.hash) : 0;
-const otherIn = address => Number((/^#run=(\d+)/.exec(address) || [])[1] || 0);  // of a run beside those to ends
-const OTHER = DATA.runs && DATA.runs[otherIn(location.hash) - 1] ? otherIn(location.hash) : 0;
-const isList = DATA.ends !== undefined && NUMBER === 0 && OTHER === 0, N = DATA.processes.length;
+const RUNS = { end: DATA.ends || [], run: DATA.runs || [] };  // those to ends, and the runs beside them
+function shownIn(address) {                       // the kind and the number of the run that it names, where there is one
+  const [, kind, number] = /^#(end|run)=(\d+)/.exec(address) || [];
+  return kind && RUNS[kind][number - 1] ? [kind, Number(number)] : [];
+}
+const [KIND, NUMBER] = shownIn(location.hash), SHOWN = KIND ? `${KIND}=${NUMBER}` : '';
+const isList = DATA.ends !== undefined && !KIND, N = DATA.processes.length;
 const NO_STEPS = [DATA.processes.map(() => [0, 'Z', [], 0, []])];
 const NO_RUN = { schedule: [], whole: true, moments: NO_STEPS, outcome: ['open', '', '', [], [], [], [], [], []] };
-const given = DATA.run ? [0, DATA.run, DATA.stores] : [[0, NO_RUN, []], DATA.runs[OTHER - 1], DATA.ends[NUMBER - 1]];
-const [LED, D, STORES] = DATA.run ? given : given[NUMBER ? 2 : OTHER ? 1 : 0], [starts, ...moments] = D.moments;
+const [LED, D, STORES] = DATA.run ? [0, DATA.run, DATA.stores] : KIND ? RUNS[KIND][NUMBER - 1] : [0, NO_RUN, []];
+const [starts, ...moments] = D.moments;
 const [VERDICT, STANDS, REPORT, , LAST, HELD, UNRECEIVED, WAITS, CIRCLES] = D.outcome;
 const STEPS = D.schedule.reduce((sum, [, count]) => sum + count, 0);
-const ROUND = OTHER && LED < STEPS ? LED : null;    // how many steps lead to the round, where it has one
+const ROUND = KIND === 'run' && LED < STEPS ? LED : null;    // how many steps lead to the round, where it has one
 const NAMES = DATA.processes.map(([name]) => visible(name).replace(/\t/g, '\\x09')), PROCESSES = [...NAMES.keys()];
 
 // ---- what stands in the arrays
@@ -43,10 +45,6 @@ const lives = starts.map((state, process) =>
   [{ ...stateOf(state), process, k: -1, state: 'running', written: '', open: [] }]);
 const places = [];                                // of each place its objects, null where one is gone
 const objectAt = (place, k) => places[place] ? latest(places[place], k).object : null;
-function keepObject(k, object) {
-  const [, place] = object;
-  (places[place] ??= [{ k: -1, object: null }]).push({ k, object: objectOf(object) });
-}
 const R = moments.map(([step, process, state, event, between], k) => {
   const was = lives[process][lives[process].length - 1], { written, open } = was;
   const e = { ...stateOf(state), k, step, process, state: 'running', from: was.pc, written, open };
@@ -54,7 +52,7 @@ const R = moments.map(([step, process, state, event, between], k) => {
   if (!event) return e;
   const [from, head, what, did, objects, opened, over] = event;
   const changed = objects.filter(([isChanged]) => isChanged).map(([, [, place]]) => place);
-  for (const [, object] of objects) keepObject(k, object);
+  for (const [, object] of objects) (places[object[1]] ??= [{ k: -1, object: null }]).push({ k, object: objectOf(object) });
   Object.assign(e, { from, head, what, changed, over, between, open: opened || open }, didOf(did));
   e.state = e.ends ? 'ended' : e.waits ? 'waiting' : 'running';
   if (e.output) e.written += shown(e.output);

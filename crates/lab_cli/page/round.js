@@ -2,15 +2,11 @@
 
 const ROUND_AT = ROUND === null ? null : R.filter(e => e.step <= ROUND).length;  // the moment before its first step
 let rounds = 1;                                   // how often it was begun
-function onward(k) {                              // behind its last step stands its first one again
-  if (ROUND_AT === null || k <= R.length) return k;
-  rounds += 1;
-  return ROUND_AT + 1;
-}
-function backward(k) {
-  if (ROUND_AT === null || k >= ROUND_AT || rounds === 1) return k;
-  rounds -= 1;
-  return R.length - 1;
+function inRound(k) {                             // behind its last step stands its first one again, and before that the last
+  const isOver = k > R.length, isBefore = k < ROUND_AT && rounds > 1;
+  if (ROUND_AT === null || !isOver && !isBefore) return k;
+  rounds += isOver ? 1 : -1;
+  return isOver ? ROUND_AT + 1 : R.length - 1;
 }
 const roundText = () => ROUND_AT !== null && cur > ROUND_AT ? `, round ${rounds}` : '';
 const ROUND_ROW = 24;                             // the height of its name
@@ -21,12 +17,12 @@ function addRound(k) {                            // before the event of a recor
   rows.push({ y: height, between: [] });
   height += ROUND_ROW;
 }
-function drawRound(parts) {                       // a bar beside its lanes, with an arrow up
-  if (roundTop === null) return;
+function roundMark() {                            // a bar beside its lanes, with an arrow up
+  if (roundTop === null) return '';
   const x = lay.x0 - 3, top = roundTop + 4, text = 'the round, again and again', wide = text.length * CHAR + 8;
   const up = `<path class="roundtip" d="M${x - 4},${top + 8} L${x},${top} L${x + 4},${top + 8} z"/>`;
-  const name = lay.x0 + wide < lay.width ? `<rect class="plain" x="${lay.x0 + 4}" y="${top}" width="${wide}" height="16"/>` +
+  const name = lay.x0 + wide < lay.width ? bar('plain', lay.x0 + 4 + wide / 2, top, top + 16, wide) +
     label('round', lay.x0 + 8, top + 12, text) : '';
   const title = 'the round: these steps lead to this world again, or to one alike, as often as one likes';
-  parts.push('<g class="gut">' + titled(title, bar('roundbar', x, top + 4, height, 4) + up) + '</g>' + name);
+  return '<g class="gut">' + titled(title, bar('roundbar', x, top + 4, height, 4) + up) + '</g>' + name;
 }

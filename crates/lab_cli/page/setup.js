@@ -1,12 +1,14 @@
 // ---- title and controls
 
+const OUTCOME = ROUND_AT === null ? VERDICT : 'never ends';
 const programs = () => N === 1 ? NAMES[0] : N + ' processes';
 const printed = blocks => blocks.map(([p, count]) => p + '*' + count).join(' ');
 function fillTitle() {
-  const title = (NUMBER ? `lc3lab explore, end ${NUMBER}: ` : OTHER ? `lc3lab explore, ${otherText()}: ` : 'lc3lab trace: ') + programs();
-  document.title = title + ', ' + (ROUND_AT === null ? VERDICT : 'never ends');
+  const part = KIND === 'end' ? `lc3lab explore, end ${NUMBER}` : KIND ? `lc3lab explore, ${otherText()}` : 'lc3lab trace';
+  const title = part + ': ' + programs();
+  document.title = title + ', ' + OUTCOME;
   $('title').textContent = title;
-  $('verdict').textContent = ROUND_AT === null ? 'verdict ' + VERDICT : 'never ends'; $('verdict').className = VERDICT;
+  $('verdict').textContent = ROUND_AT === null ? 'verdict ' + VERDICT : OUTCOME; $('verdict').className = VERDICT;
   $('schedule').textContent = cut(printed(D.schedule.slice(0, 100)), 160);
   $('slider').max = R.length;
   $('who').innerHTML = PROCESSES.map(p => `<option value="${p}">P${p}</option>`).join('');
@@ -16,11 +18,8 @@ function fillTitle() {
 }
 function fillCards() {
   $('procs').innerHTML = PROCESSES.map(p =>
-    `<details class="card" id="card${p}"><summary></summary><div></div></details>`).join('');
-  PROCESSES.forEach(p => $('card' + p).firstChild.addEventListener('click', () => {
-    pinned.set(p, !$('card' + p).open);
-    setTimeout(() => go(cur), 0);
-  }));
+    `<details class="card" id="card${p}"><summary data-p="${p}"></summary><div></div></details>`).join('');
+  onPart('procs', 'click', 'p', p => { pinned.set(p, !$('card' + p).open); setTimeout(() => go(cur), 0); });
 }
 
 // ---- legend
@@ -50,17 +49,14 @@ const LEGEND = [
   [bar('roundbar', 28, 8, 24, 4) + '<path class="roundtip" d="M22,11 L28,2 L34,11 z"/>', 'the round of a run that never ends'],
 ];
 const LEGEND_KEY = 'lc3lab legend';               // it is open until it was closed once
-function openLegend() {
+function fillLegend() {
   const box = $('legendbox');
+  $('legend').innerHTML = LEGEND.map(([inner, text]) =>
+    `<li><svg width="58" height="24" aria-hidden="true">${inner}</svg>${text}</li>`).join('');
   try { box.open = localStorage.getItem(LEGEND_KEY) !== 'closed'; } catch { box.open = true; }
   box.firstElementChild.addEventListener('click', () => {
     try { if (box.open) localStorage.setItem(LEGEND_KEY, 'closed'); } catch { /* it is open the next time */ }
   });
-}
-function fillLegend() {
-  openLegend();
-  $('legend').innerHTML = LEGEND.map(([inner, text]) =>
-    `<li><svg width="58" height="24" aria-hidden="true">${inner}</svg>${text}</li>`).join('');
 }
 
 // ---- texts
@@ -69,13 +65,14 @@ const VERDICTS = {
   stuck: 'stuck: no step of any process changes anything',
   ended: 'ended: all processes have ended',
   open: 'open: the schedule is over, some process could go on',
+  'never ends': 'never ends: here stands the world before the round again, or one alike',
 };
-const NEVER_ENDS = 'never ends: here stands the world before the round again, or one alike';
 function fillTexts() {
+  $('pic').setAttribute('aria-label', `interleaving of ${N} processes, ${STEPS} steps, verdict ${VERDICT}; the same as text below`);
   const lines = [...EVENTS.map(e => e.head + e.what + '\n'), ...(STANDS + REPORT).match(/.*\n/g) || []];
-  $('lines').innerHTML = lines.map(text => `<li>${esc(text)}</li>`).join('');
+  listTexts('lines', lines);
   $('plan').textContent = printed(D.schedule);
-  $('ending').textContent = ROUND_AT === null ? VERDICTS[VERDICT] : NEVER_ENDS; $('ending').className = VERDICT;
+  $('ending').textContent = VERDICTS[OUTCOME]; $('ending').className = VERDICT;
   $('atend').textContent = STANDS + (VERDICT === 'stuck' ? CIRCLES.map(circleText).join('\n') : '');
 }
 fillTitle(); fillCards(); fillLegend(); fillTexts();

@@ -28,26 +28,20 @@ const rows = [], rowOf = [], posY = [0];          // the rows; of each record it
 const cols = [];
 let height = 8;
 
-function addGap(between, moments) {               // the steps between two events, and the moments among them
+function addGap(between, end) {                   // the steps up to an event or the end, and the moments among them
+  const first = rowOf.length;
   if (between.length === 0) return;
-  moments.forEach((k, i) => { posY[k + 1] = height + GAP * (i + 1) / moments.length; rowOf[k] = rows.length; });
+  for (let k = first; k < end; k++) { posY[k + 1] = height + GAP * (k + 1 - first) / (end - first); rowOf[k] = rows.length; }
   rows.push({ y: height, between });
   height += GAP;
 }
-function addEvent(k) {
+for (const { between, k } of EVENTS) {
+  addGap(between, k);
+  addRound(k);
   rowOf[k] = rows.length; rows.push({ y: height, k });
   height += EVENT; posY[k + 1] = height;
 }
-(function addRows() {
-  const among = [];
-  for (const e of R) {
-    if (!isEvent(e)) { among.push(e.k); continue; }
-    addGap(e.between, among.splice(0));
-    addRound(e.k);
-    addEvent(e.k);
-  }
-  addGap(LAST, among);
-})();
+addGap(LAST, R.length);
 
 // ---- waits, messages, and who let a waiting process go on
 
@@ -55,11 +49,10 @@ const recordOf = new Map(EVENTS.map(({ step, k }) => [step, k]));
 const arrowsBy = stepOf => EVENTS.filter(stepOf).map(e => ({ from: recordOf.get(stepOf(e)), to: e.k }));
 const arrows = arrowsBy(e => e.origin), wakes = arrowsBy(e => e.giver);
 const kept = UNRECEIVED.map(step => R[recordOf.get(step)]);  // the sends of messages that nobody received
-function waitOf({ process: p, k, name }) {        // to the next moment of its process, where it has one
+const waits = EVENTS.filter(e => e.waits).map(({ process: p, k, name }) => {  // to the next moment of the process, if any
   const [, next] = lives[p].slice(lastIndex(lives[p], it => it.k <= k));
   return { p, k, name, end: next ? next.k : null };
-}
-const waits = EVENTS.filter(e => e.waits).map(waitOf);
+});
 
 // ---- what is held, and what the objects did
 
@@ -68,20 +61,17 @@ function holdOf([p, step], end) {                 // a unit from the record in w
   return { p, k, end, name: R[k].name };
 }
 const holds = [...EVENTS.flatMap(e => e.over.map(hold => holdOf(hold, e.k))), ...HELD.map(hold => holdOf(hold, null))];
-(function addSides() {                            // the units that a process has taken at once stand side by side
-  let held = [];
-  for (const h of holds.sort((x, y) => x.k - y.k)) {
-    held = held.filter(other => other.end === null || other.end > h.k);
-    const sides = held.filter(other => other.p === h.p).map(other => other.side);
-    h.side = [...sides, -1].findIndex((_, side) => !sides.includes(side));
-    held.push(h);
-  }
-})();
-const columnOf = new Map(), columnAt = [];        // of each name, and of each place
+let together = [];                                // the units that a process has taken at once stand side by side
+for (const h of holds.sort((x, y) => x.k - y.k)) {
+  together = together.filter(other => other.end === null || other.end > h.k);
+  const sides = together.filter(other => other.p === h.p).map(other => other.side);
+  h.side = [...sides, -1].findIndex((_, side) => !sides.includes(side));
+  together.push(h);
+}
+const columnAt = [];                              // of each place
 function columnFor({ kind, name }) {              // one for a name, however often the object is made
-  const key = kind + name;
-  if (!columnOf.has(key)) { columnOf.set(key, cols.length); cols.push({ name, kind, at: [] }); }
-  return columnOf.get(key);
+  const at = cols.findIndex(c => c.kind === kind && c.name === name);
+  return at < 0 ? cols.push({ name, kind, at: [] }) - 1 : at;
 }
 function levelAt(object, k) {                     // the value, or how many messages and which
   const text = object.name === null ? 'unlinked' : '';

@@ -3,20 +3,23 @@ const $ = id => document.getElementById(id);
 
 // ---- texts of the run, made visible
 
+const digits = (number, least) => number.toString(16).toUpperCase().padStart(least, '0');
 function visible(text) {                          // control characters, and those that turn a text, as their numbers
   const unseen = /[\u0000-\u0008\u000A-\u001F\u007F-\u009F\u061C\u200B-\u200F\u2028-\u202E\u2060-\u2069\uFEFF]/g;
-  const digits = c => c.charCodeAt(0).toString(16).toUpperCase().padStart(2, '0');
-  return text.replace(unseen, c => c < '\u0100' ? '\\x' + digits(c) : '\\u{' + digits(c) + '}');
+  const numbered = number => number < 256 ? '\\x' + digits(number, 2) : '\\u{' + digits(number, 2) + '}';
+  return text.replace(unseen, c => numbered(c.charCodeAt(0)));
 }
-function shown(bytes) {                           // as the trace and the debugger write an output
-  const isPlain = b => b >= 32 && b <= 126 && b !== 92, digits = b => b.toString(16).toUpperCase().padStart(2, '0');
-  return bytes.map(b => isPlain(b) ? String.fromCharCode(b) : '\\x' + digits(b)).join('');
+const isPrinted = w => w >= 32 && w <= 126;
+function shown(words, ...marks) {                 // as the trace writes an output, and these marks as numbers
+  const isPlain = w => isPrinted(w) && w !== 92 && !marks.includes(w);
+  return words.map(w => isPlain(w) ? String.fromCharCode(w) : '\\x' + digits(w, 2)).join('');
 }
 
 // ---- words and names
 
 const esc = text => String(text).replace(/[&<>"]/g, c => '&#' + c.charCodeAt(0) + ';');
-const hex = w => 'x' + w.toString(16).toUpperCase().padStart(4, '0');
+const listTexts = (id, list) => { $(id).innerHTML = list.map(text => `<li>${esc(text)}</li>`).join(''); };
+const hex = w => 'x' + digits(w, 4);
 const columns = c => c.codePointAt(0) < 0x1100 ? 1 : 2;  // the places that a character takes, at most
 const width = text => [...text].reduce((sum, c) => sum + columns(c), 0);
 function cut(text, most) {
@@ -35,13 +38,13 @@ const listOf = processes => processes.map(p => 'P' + p).join(' ');
 
 // ---- a message in words, in the form of the trace and short
 
-const isPrinted = w => w >= 32 && w <= 126;
-function quoted(words) {                          // the characters, where there are any, else nothing
-  const printed = w => isPrinted(w) && w !== 34 && w !== 92 ? String.fromCharCode(w) : '.';
-  return words.some(isPrinted) ? '"' + words.map(printed).join('') + '"' : '';
-}
 const numbers = words => words.slice(0, 16).map(hex).join(' ') + (words.length > 16 ? ' ...' : '');
-const message = ([, words]) => '[' + [numbers(words), quoted(words.slice(0, 16))].filter(text => text).join(' ') + ']';
+function quoted(words) {                          // the first characters, where there are any, else nothing
+  const printed = w => isPrinted(w) && w !== 34 && w !== 92 ? String.fromCharCode(w) : '.', first = words.slice(0, 16);
+  return first.some(isPrinted) ? '"' + first.map(printed).join('') + '"' : '';
+}
+const wordsText = words => [numbers(words), quoted(words)].filter(text => text).join(' ');
+const message = ([, words]) => '[' + wordsText(words) + ']';
 function bodyText([, words]) {
   if (words.length === 0) return '[]';
   return words.every(w => w > 32 && w < 127) ? '"' + String.fromCharCode(...words) + '"' : words.map(hex).join('.');

@@ -1,14 +1,17 @@
 // ---- the picture of all worlds
 
 const WORLD_X = 36, WORLD_Y = 52, WORLD_R = 10;   // between worlds, and the half of one
-const standOf = ([pc, word, state, text, place]) => ({ pc, word, state, text, place });
-const nodeOf = ([after, processes, before, verdict, end, outputs, objects]) =>
-  ({ after, processes: processes.map(standOf), before, verdict, end, outputs, objects: objects.map(objectOf) });
 const tellingOf = ([number, pc, text, did]) => ({ number, pc, text, ...didOf(did) });
 const legOf = ([steps, events]) => ({ steps, events: events.map(tellingOf) });
 function mapIn([nodes, edges, legs]) {            // by names what stands in arrays
   const calls = edges.map(([from, to, process], k) => ({ from, to, process, ...legOf(legs[N + k]) }));
-  return { nodes: nodes.map(nodeOf), edges: calls, starts: legs.slice(0, N).map((leg, process) => ({ process, ...legOf(leg) })) };
+  const leading = new Set(edges.map(([from, , process]) => `${from} ${process}`));
+  const stateIn = (n, p, hasEnded) => hasEnded ? 'ended' : leading.has(`${n} ${p}`) ? 'goes on' : 'waits';
+  const worlds = nodes.map(([after, stands, verdict, end, outputs, objects], n) => {
+    const processes = stands.map(([pc, word, hasEnded, text, place], p) => ({ pc, word, text, place, state: stateIn(n, p, hasEnded) }));
+    return { after, processes, verdict, end, outputs, objects: objects.map(objectOf) };
+  });
+  return { nodes: worlds, edges: calls, starts: legs.slice(0, N).map((leg, process) => ({ process, ...legOf(leg) })) };
 }
 const WORLD_MAP = isList && DATA.worlds ? mapIn(DATA.worlds) : null;
 
@@ -23,12 +26,6 @@ function inLayers(nodes, edges) {                 // for each number of calls th
     layer.forEach((n, i) => { place[n] = i - (layer.length - 1) / 2; });
   }
   return { layers, place };
-}
-function mapOf({ nodes, edges }) {                // where each world stands, and each way between them
-  const { layers, place } = inLayers(nodes, edges), most = Math.max(...layers.map(layer => layer.length));
-  const width = most * WORLD_X + 80, height = layers.length * WORLD_Y + 10;
-  const spots = nodes.map((node, n) => [width / 2 + place[n] * WORLD_X, WORLD_Y / 2 + 5 + node.after * WORLD_Y]);
-  return { layers, width, height, spots };
 }
 function wayBetween([x, y], [u, v]) {             // down to the next layer; else around the side
   const gap = WORLD_R + 4;
@@ -60,8 +57,6 @@ function callShape({ from, to, process }, k, spots) {
   return `<path class="call${isBack ? ' back' : ''}" data-k="${k}" d="${way}" marker-end="url(#tipc)">` +
     `<title>P${process}, from world ${from + 1} to world ${to + 1}</title></path>`;
 }
-const tipShape = id => `<marker id="${id}" viewBox="0 0 8 8" refX="6" refY="4" markerWidth="8" markerHeight="8" ` +
-  `markerUnits="userSpaceOnUse" orient="auto"><path class="${id}" d="M0,0 L8,4 L0,8 z"/></marker>`;
 const kindShape = (verdict, text) => `<li><svg width="28" height="28" viewBox="-14 -14 28 28" aria-hidden="true">` +
   `<g class="world ${verdict}">${shapeOf(verdict)}</g></svg>${text}</li>`;
 function countText(count) {                       // why there are more worlds than were visited
@@ -69,20 +64,19 @@ function countText(count) {                       // why there are more worlds t
   if (visited === count) return '';
   return `The search visited ${visited.toLocaleString('en')} of them: where the order of calls makes no difference, it takes one.`;
 }
-const WORLD_PART = `<div id="worlds"><h2 id="worldstitle"></h2>
-  <p id="worldcount"></p>
-  <p id="worldsay" aria-live="polite">Each shape is a world in which every process stands before a call or has ended; each
-    arrow is a call. Point at a world, or go to one by the keys, and what its processes stand at is told here.</p>
-  <div id="map" role="group" aria-labelledby="worldstitle" aria-describedby="worldkeys"></div>
-  <ul id="worldkinds"></ul>
-  <p id="worldkeys" class="keys"><kbd>Up</kbd> <kbd>Down</kbd> along a call, <kbd>Left</kbd> <kbd>Right</kbd> among the
-    worlds with as many calls, <kbd>Home</kbd> the first world, <kbd>Enter</kbd> the run to an end.</p>
-  <details id="worldwords"><summary>The worlds in words</summary><ol id="worldlist" role="list"></ol></details></div>`;
-function fewestTo(n) {                            // a way of fewest calls from the first world to another
-  const { nodes, edges } = WORLD_MAP, way = [];
-  for (let k = nodes[n].before; k !== null && !way.includes(k); k = nodes[edges[k].from].before) way.unshift(k);
-  return way;
+function fewestCalls(n, isGoal) {                 // a way of fewest calls from a world to one that is a goal, or none
+  const { nodes, edges } = WORLD_MAP, by = new Map([[n, null]]), leads = nodes.map(() => []), way = [];
+  edges.forEach(({ from }, k) => leads[from].push(k));
+  for (const [m] of by) {
+    if (isGoal(m)) {
+      for (let k = by.get(m); k !== null; k = by.get(edges[k].from)) way.unshift(k);
+      return way;
+    }
+    for (const k of leads[m]) if (!by.has(edges[k].to)) by.set(edges[k].to, k);
+  }
+  return null;
 }
+const callsTo = n => fewestCalls(0, m => m === n);
 function paintWay(n, way, plan) {                 // the calls that led to a world stand out, and those that are to come
   const { edges } = WORLD_MAP, ways = new Set(way), plans = new Set(plan);
   const seen = new Set([n, ...way.map(k => edges[k].from), ...plan.map(k => edges[k].to)]);
@@ -94,10 +88,9 @@ function paintWay(n, way, plan) {                 // the calls that led to a wor
   }
   for (const g of document.querySelectorAll('#map .world')) g.classList.toggle('way', seen.has(Number(g.dataset.n)));
 }
-function tellWorld(n) {
-  $('worldsay').textContent = worldText(WORLD_MAP.nodes[n], n) + callsText(WORLD_MAP.edges, n);
-}
-function chooseWorld(n, way = fewestTo(n), plan = []) {  // the one that Tab reaches, and the way to it
+const inWords = (node, n) => worldText(node, n) + callsText(WORLD_MAP.edges, n);
+const tellWorld = n => { $('worldsay').textContent = inWords(WORLD_MAP.nodes[n], n); };
+function chooseWorld(n, way = callsTo(n), plan = []) {  // the one that Tab reaches, and the way to it
   const old = document.querySelector('#map [tabindex="0"]'), now = $('world' + (n + 1));
   if (old) { old.setAttribute('tabindex', -1); old.classList.remove('chosen'); }
   now.setAttribute('tabindex', 0); now.classList.add('chosen');
@@ -105,41 +98,36 @@ function chooseWorld(n, way = fewestTo(n), plan = []) {  // the one that Tab rea
 }
 function nextWorld(key, n, layers) {              // where a key leads
   const { nodes, edges } = WORLD_MAP, layer = layers[nodes[n].after], at = layer.indexOf(n);
-  const down = edges.find(({ from, to }) => from === n && nodes[to].after > nodes[n].after), back = nodes[n].before;
-  const led = { ArrowLeft: layer[at - 1], ArrowRight: layer[at + 1], Home: 0, ArrowDown: down && down.to };
-  return key === 'ArrowUp' ? (back === null ? undefined : edges[back].from) : led[key];
+  const down = edges.find(({ from, to }) => from === n && nodes[to].after > nodes[n].after), up = edges[callsTo(n).pop()];
+  return { ArrowLeft: layer[at - 1], ArrowRight: layer[at + 1], Home: 0, ArrowDown: down?.to, ArrowUp: up?.from }[key];
 }
 function openEnd(n) {
   const end = endOfWorld(WORLD_MAP.nodes[n]);
   if (end >= 0 && !isPlaying()) location.hash = 'end=' + (end + 1);
 }
-const worldOf = event => { const g = event.target.closest('.world'); return g ? Number(g.dataset.n) : -1; };
 function followMap(layers) {                      // pointer and keys
-  const shows = event => { const n = worldOf(event); if (n >= 0) tellWorld(n); };
-  on('map', 'mouseover', shows);
-  on('map', 'focusin', event => { const n = worldOf(event); if (n >= 0) { chooseWorld(n); tellWorld(n); } });
-  on('map', 'click', event => {
-    const n = worldOf(event);
-    if (n >= 0) { chooseWorld(n); tellWorld(n); openEnd(n); }
-  });
-  on('map', 'keydown', event => {
-    const n = worldOf(event), next = n < 0 ? undefined : nextWorld(event.key, n, layers);
-    if (event.key === 'Enter' && n >= 0) openEnd(n);
+  onPart('map', 'mouseover', 'n', tellWorld);
+  onPart('map', 'focusin', 'n', n => { chooseWorld(n); tellWorld(n); });
+  onPart('map', 'click', 'n', n => { chooseWorld(n); tellWorld(n); openEnd(n); });
+  onPart('map', 'keydown', 'n', (n, event) => {
+    const next = nextWorld(event.key, n, layers);
+    if (event.key === 'Enter') openEnd(n);
     if (next !== undefined) { $('world' + (next + 1)).focus(); event.preventDefault(); }
   });
 }
 function followEnds() {                           // the way to an end stands out while the list is at it
-  const { nodes } = WORLD_MAP, worldAt = k => nodes.findIndex(node => node.end === k);
-  DATA.ends.forEach((_, k) => {
-    if (worldAt(k) < 0) return;
-    for (const kind of ['mouseenter', 'focus']) on('end' + (k + 1), kind, () => chooseWorld(worldAt(k)));
-  });
-  chooseWorld(Math.max(0, worldAt(0)));
+  const worldAt = k => Math.max(0, WORLD_MAP.nodes.findIndex(node => node.end === k));
+  DATA.ends.forEach((_, k) => { $('end' + (k + 1)).dataset.n = worldAt(k); });
+  for (const kind of ['mouseover', 'focusin']) onPart('endlist', kind, 'n', n => chooseWorld(n));
+  chooseWorld(worldAt(0));
 }
 function fillWorlds() {
   const { nodes, edges } = WORLD_MAP;
-  $('ends').insertAdjacentHTML('beforeend', WORLD_PART);
-  const { layers, width, height, spots } = mapOf(WORLD_MAP), tips = ['tipc', 'tipl', 'tipp', 'tipx'].map(tipShape).join('');
+  const { layers, place } = inLayers(nodes, edges), most = Math.max(...layers.map(layer => layer.length));
+  const width = most * WORLD_X + 80, height = layers.length * WORLD_Y + 10;
+  const spots = nodes.map((node, n) => [width / 2 + place[n] * WORLD_X, WORLD_Y / 2 + 5 + node.after * WORLD_Y]);
+  const tips = ['tipc', 'tipl', 'tipp', 'tipx'].map(kind => marker(kind, 6)).join('');
+  $('worlds').hidden = false;
   $('worldstitle').textContent = `All ${several(nodes.length, 'world', 'worlds')}, and ${several(edges.length, 'call', 'calls')}`;
   const ways = edges.map((edge, k) => callShape(edge, k, spots)).join('');
   const worlds = nodes.map((node, n) => worldShape(node, n, spots[n])).join('');
@@ -147,7 +135,7 @@ function fillWorlds() {
     `<g>${ways}</g>${worlds}</svg>`;
   $('worldkinds').innerHTML = kindShape('', 'some process goes on') + kindShape('ended', 'an end: all have ended') +
     kindShape('stuck', 'an end: stuck');
-  $('worldlist').innerHTML = nodes.map((node, n) => `<li>${esc(worldText(node, n) + callsText(edges, n))}</li>`).join('');
+  listTexts('worldlist', nodes.map(inWords));
   $('worldcount').textContent = countText(nodes.length);
   followMap(layers); followEnds(); fillPlay();
 }

@@ -28,14 +28,9 @@ within a b c = omega (arith, length-append a (b ++ c), length-append b c)
 pub end-long : (calls : ℕ) (r : Data) (x : List Stored) → length (compact_text r) ≤ length (compact_text (end_data calls r x))
 unfolding end_json
 end-long calls r x =
-    let first : List ℕ = (decimal calls ++ codes ",") ++ compact_text r in
-    subst (λ (l : List ℕ). length (compact_text r) ≤ length l) (end-json calls r x)
-    (omega (
-      arith,
-      length-append (first ++ (codes "," ++ compact_text (stores_data x))) (codes "]"),
-      length-append first (codes "," ++ compact_text (stores_data x)),
-      length-append (decimal calls ++ codes ",") (compact_text r),
-    ))
+    let start : List ℕ = codes "[" ++ decimal calls ++ codes "," in
+    let behind : List ℕ = codes "," ++ (compact_text (stores_data x) ++ codes "]") in
+    subst (λ (l : List ℕ). length (compact_text r) ≤ length l) (end-json calls r x) (within start (compact_text r) behind)
 
 pub page-long : (p r : Data) (x : List Stored) → length (compact_text r) ≤ length (compact_text (page_data p r x))
 unfolding page_json

@@ -42,13 +42,7 @@ run-json s ms o b w =
 pub end-json : (calls : ℕ) (r : Data) (x : List Stored) → end_json calls (compact_text r) x ≡ compact_text (end_data calls r x)
 unfolding end_json
 end-json calls r x =
-    let n : List ℕ = decimal calls in
-    let c : List ℕ = codes "," in
-    let run : List ℕ = compact_text r in
-    let stores : List ℕ = compact_text (stores_data x) in
-    let e : List ℕ = codes "]" in
-    ap (λ (l : List ℕ). 91 ∷ l)
-    (append_assoc ((n ++ c) ++ run) (c ++ stores) e ∙ append_assoc (n ++ c) run ((c ++ stores) ++ e) ∙ append_assoc n c (run ++ ((c ++ stores) ++ e)))
+    append_assoc (codes "[" ++ decimal calls) (codes ",") (compact_text r ++ (codes "," ++ (compact_text (stores_data x) ++ codes "]")))
 
 -- a page of a run
 pub page-json : (p r : Data) (x : List Stored) → page_json p (compact_text r) x ≡ compact_text (page_data p r x)

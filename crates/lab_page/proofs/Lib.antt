@@ -3,6 +3,7 @@ pub mod StandLemmas
 pub mod JsonLemmas
 pub mod MomentLemmas
 pub mod FaultLemmas
+pub mod WrittenLemmas
 pub mod RunLemmas
 pub mod StoreLemmas
 pub mod SourceLemmas

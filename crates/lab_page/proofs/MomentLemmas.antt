@@ -1,29 +1,24 @@
--- The moments of steps, one after another, and their JSON.
-use Rattle.std.proofs.Common.{◌≡◌, ℕ, zero, suc, ◌+◌, ◌<◌, Bool, List, [], ◌∷◌, ◌++◌, length, replicate, take, get_or, refl, sym, ap, ◌∙◌, append_assoc, append-nil}
-use Rattle.std.proofs.lemmas.List.{replicate-append-replicate}
+-- The moments of steps, one after another.
+use Rattle.std.proofs.Common.{◌≡◌, ℕ, zero, suc, ◌+◌, Bool, List, [], ◌∷◌, ◌++◌, replicate, refl, sym, ap, ◌∙◌, append_assoc, append-nil}
 use Rattle.serde_json.specs.Data.{Data}
-use Rattle.lab_sched.specs.Schedules.{steps_of}
 use Rattle.lab_sched.specs.Worlds.{StepEffect, nothing, local_step, kernel_step, step_effect_in}
-use Rattle.lab_sched.specs.declared.schedule.block.Block.{Block}
-use Rattle.lab_sched.proofs.ScheduleRuns.{steps-more}
 use Rattle.lab_told.specs.Scenes.{Scene, told, next, scene_after}
-use Rattle.lab_trace.specs.Lines.{line, events}
 use Rattle.lab_trace.specs.Forms.{Form}
 use Rattle.lab_told.specs.declared.told.Told.{Told}
 use Rattle.lab_told.specs.declared.told.Told.TheVariants.{Nothing}
-use Rattle.lab_trace.proofs.LineLemmas.{events-append}
-use Rattle.lab_page.proofs.StandLemmas.{Stands, events-more}
 use Rattle.lab_told.proofs.SceneLemmas.{renumbered, next-still, told-still, told-some}
-use Rattle.lab_page.specs.Private.Json.{more_json}
 use Rattle.lab_moments.specs.Pasts.{Past}
-use Rattle.lab_page.specs.Moments.{next_past, past_then}
 use Rattle.lab_moments.specs.Moments.{moment_by}
-use Rattle.lab_page.specs.Moments.{moment, moments}
-use Rattle.lab_page.proofs.JsonLemmas.{more-append}
+use Rattle.lab_page.specs.Moments.{moment, moments, next_past, past_then}
 
 pub moments-none : (v : Form) (whole : Bool) (s : Scene) (b : Past) → moments v whole s b [] ≡ []
 unfolding moments
 moments-none v whole s b = refl
+
+pub moments-first : (v : Form) (whole : Bool) (s : Scene) (b : Past) (p : ℕ) (ps : List ℕ)
+    → moments v whole s b (p ∷ ps) ≡ moment v whole s b p ++ moments v whole (next s p) (next_past s p b) ps
+unfolding moments
+moments-first v whole s b p ps = refl
 
 moments-one : (v : Form) (whole : Bool) (s : Scene) (b : Past) (p : ℕ) → moments v whole s b (p ∷ []) ≡ moment v whole s b p
 unfolding moments
@@ -69,53 +64,3 @@ moments-told v whole s b p k one = by (step_effect_in s.world p) refl
     by nothing at = moments-still k v whole s b p at ∙ sym (moment-still v whole s b p at)
     by (local_step m) at = other (local_step m) at (λ e. cc)
     by (kernel_step m c a) at = other (kernel_step m c a) at (λ e. cc)
-
--- k steps of a block more
-pub json-more : (v : Form) (whole : Bool) (s u : Scene) (b c : Past) (done k p : ℕ) (old was now : List ℕ) → u ≡ scene_after s (replicate done p)
-    → c ≡ past_then s (replicate done p) b → moments v whole u c (replicate k p) ≡ moment v whole u c p
-    → was ≡ old ++ more_json (moments v whole s b (replicate done p)) → now ≡ was ++ more_json (moment v whole u c p)
-    → now ≡ old ++ more_json (moments v whole s b (replicate (done + k) p))
-json-more v whole s u b c done k p old was now is past stand was-is now-is =
-    let first : List Data = moments v whole s b (replicate done p) in
-    let all : moments v whole s b (replicate (done + k) p) ≡ first ++ moment v whole u c p =
-    ap (moments v whole s b) (sym (replicate-append-replicate done k p)) ∙ moments-append v whole s b (replicate done p) (replicate k p)
-    ∙ ap (λ (x : Scene). first ++ moments v whole x (past_then s (replicate done p) b) (replicate k p)) (sym is)
-    ∙ ap (λ (x : Past). first ++ moments v whole u x (replicate k p)) (sym past)
-    ∙ ap (λ (l : List Data). first ++ l) stand in
-    now-is ∙ ap (λ (l : List ℕ). l ++ more_json (moment v whole u c p)) was-is ∙ append_assoc old (more_json first) (more_json (moment v whole u c p))
-    ∙ ap (λ (l : List ℕ). old ++ l) (sym (more-append first (moment v whole u c p)) ∙ ap more_json (sym all))
-
--- a block more
-pub json-block : (v : Form) (whole : Bool) (s u : Scene) (b c : Past) (bs : List Block) (i : ℕ) (d : Block) (old was now : List ℕ) → i < length bs
-    → u ≡ scene_after s (steps_of (take i bs)) → c ≡ past_then s (steps_of (take i bs)) b → was ≡ old ++ more_json (moments v whole s b (steps_of (take i bs)))
-    → now ≡ was ++ more_json (moments v whole u c (replicate (get_or bs i d).count (get_or bs i d).pid))
-    → now ≡ old ++ more_json (moments v whole s b (steps_of (take (i + 1) bs)))
-json-block v whole s u b c bs i d old was now within is past was-is now-is =
-    let first : List Data = moments v whole s b (steps_of (take i bs)) in
-    let steps : List ℕ = replicate (get_or bs i d).count (get_or bs i d).pid in
-    let all : moments v whole s b (steps_of (take (i + 1) bs)) ≡ first ++ moments v whole u c steps =
-    ap (moments v whole s b) (steps-more bs i d within) ∙ moments-append v whole s b (steps_of (take i bs)) steps
-    ∙ ap (λ (x : Scene). first ++ moments v whole x (past_then s (steps_of (take i bs)) b) steps) (sym is)
-    ∙ ap (λ (x : Past). first ++ moments v whole u x steps) (sym past) in
-    now-is ∙ ap (λ (l : List ℕ). l ++ more_json (moments v whole u c steps)) was-is ∙ append_assoc old (more_json first) (more_json (moments v whole u c steps))
-    ∙ ap (λ (l : List ℕ). old ++ l) (sym (more-append first (moments v whole u c steps)) ∙ ap more_json (sym all))
-
--- the lines of k steps of a block more
-pub lines-more : (v : Form) (s u : Scene) (done k p : ℕ) (old was now : List ℕ) → u ≡ scene_after s (replicate done p) → Stands v u p k
-    → was ≡ old ++ events v s (replicate done p) → now ≡ was ++ line v u p → now ≡ old ++ events v s (replicate (done + k) p)
-lines-more v s u done k p old was now is stand was-is now-is =
-    now-is ∙ ap (λ (l : List ℕ). l ++ line v u p) was-is ∙ append_assoc old (events v s (replicate done p)) (line v u p)
-    ∙ ap (λ (l : List ℕ). old ++ l) (sym (events-more v s u done k p is stand))
-
--- the lines of a block more
-pub lines-block : (v : Form) (s u : Scene) (bs : List Block) (i : ℕ) (d : Block) (old was now : List ℕ) → i < length bs
-    → u ≡ scene_after s (steps_of (take i bs)) → was ≡ old ++ events v s (steps_of (take i bs))
-    → now ≡ was ++ events v u (replicate (get_or bs i d).count (get_or bs i d).pid) → now ≡ old ++ events v s (steps_of (take (i + 1) bs))
-lines-block v s u bs i d old was now within is was-is now-is =
-    let first : List ℕ = events v s (steps_of (take i bs)) in
-    let steps : List ℕ = replicate (get_or bs i d).count (get_or bs i d).pid in
-    let all : events v s (steps_of (take (i + 1) bs)) ≡ first ++ events v u steps =
-    ap (events v s) (steps-more bs i d within) ∙ events-append v s (steps_of (take i bs)) steps
-    ∙ ap (λ (x : Scene). first ++ events v x steps) (sym is) in
-    now-is ∙ ap (λ (l : List ℕ). l ++ events v u steps) was-is ∙ append_assoc old first (events v u steps)
-    ∙ ap (λ (l : List ℕ). old ++ l) (sym all)

@@ -22,7 +22,7 @@ use Rattle.lab_page.specs.Private.Json.{more_json, run_end}
 use Rattle.lab_page.specs.Runs.{block_data, schedule_data, output_of, outputs, outcome_at, is_whole, run_from, run_data}
 use Rattle.lab_page.specs.Private.Looks.{look_for}
 use Rattle.lab_page.specs.declared.fault.PageFault.{PageFault}
-use Rattle.lab_page.specs.declared.look.Look.{Look}
+use Rattle.lab_page.specs.declared.run.Look.{Look}
 use Rattle.lab_moments.proofs.PlainLemmas.{IsPlain, both, plain-one, plain-below, plain-map, plain-naturals}
 use Rattle.lab_moments.proofs.BetweenLemmas.{between-plain}
 use Rattle.lab_moments.proofs.EventLemmas.{holds-plain}

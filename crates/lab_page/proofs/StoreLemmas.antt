@@ -93,5 +93,5 @@ stores-block ss k w u bs i d was now within k-is u-is was-is now-is =
     ∙ ap (stores_from ss 1 w) (sym (steps-more bs i d within))
 
 -- they have no floats
-pub stores-plain : (ss : List Stored) → IsPlain (stores_data ss)
-stores-plain ss = plain-map stored_data ss (λ s. refl)
+pub stores_plain : (ss : List Stored) → IsPlain (stores_data ss)
+stores_plain ss = plain-map stored_data ss (λ s. refl)

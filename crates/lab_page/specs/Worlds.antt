@@ -1,8 +1,7 @@
 -- Worlds that an exploration visited, and the calls between them.
-use Rattle.std.specs.Prelude.{ℕ, ◌+◌, ◌==◌, ◌&&◌, nat_lt, Bool, if◌then◌else◌, Option, Some, None, List, [], ◌∷◌, ◌++◌, codes, length, map, position, slice_get, slice_index}
-use Rattle.std.specs.List.{list_any}
+use Rattle.std.specs.Prelude.{ℕ, ◌==◌, not, Bool, true, false, if◌then◌else◌, Option, Some, None, List, [], ◌∷◌, ◌++◌, codes, length, map, slice_get, slice_index}
 use Rattle.std.specs.Option.{option_map}
-use Rattle.serde_json.specs.Data.{Data, string}
+use Rattle.serde_json.specs.Data.{Data, boolean, string}
 use Rattle.serde_json.specs.Written.{compact_text, comma_if}
 use Rattle.ipc_kernel.specs.Kernel.{KernelState}
 use Rattle.lc3_machine.specs.Process.{Process as Machine}
@@ -37,16 +36,6 @@ stand_text k p (Running m) = before_text k p m (service_at m)
 stand_text k p (Waiting m c) = before_text k p m (service_at m)
 stand_text k p (Ended e) = how_text e.how
 
--- that a process goes on or waits
-abbrev pub going_text : Bool → List ℕ
-going_text goes = if goes then codes "goes on" else codes "waits"
-
--- that a process goes on, waits or has ended
-abbrev pub state_text : Bool → Process → List ℕ
-state_text goes (Running m) = going_text goes
-state_text goes (Waiting m c) = going_text goes
-state_text goes (Ended e) = codes "ended"
-
 -- the place of the object that a call of process p is on, where it stands before one and this is on one
 abbrev pub place_of_call : KernelState → ℕ → Machine → Option Service → Option ℕ
 place_of_call k p m None = None
@@ -56,41 +45,31 @@ place_of_call k p m (Some s) = held_place k p s (reg m 0)
 abbrev pub place_before : KernelState → ℕ → Process → Option ℕ
 place_before k p s = place_of_call k p (machine_of s) (service_at (machine_of s))
 
--- a process p, which goes on or doesn't: the address of its next instruction, the word there, its state, what it stands before,
--- and the place of the object that its call is on
-unfoldable pub standing_data : KernelState → ℕ → Bool → Process → Data
-standing_data k p goes s =
-    list (natural (machine_of s).pc ∷ natural (slice_index (machine_of s).memory (machine_of s).pc) ∷ string (state_text goes s)
+-- whether a process has ended
+abbrev pub has_ended : Process → Bool
+has_ended (Running m) = false
+has_ended (Waiting m c) = false
+has_ended (Ended e) = true
+
+-- a process p: the address of its next instruction, the word there, whether it has ended, what it stands before, and the place of
+-- the object that its call is on
+unfoldable pub standing_data : KernelState → ℕ → Process → Data
+standing_data k p s =
+    list (natural (machine_of s).pc ∷ natural (slice_index (machine_of s).memory (machine_of s).pc) ∷ boolean (has_ended s)
     ∷ string (stand_text k p s) ∷ or_null (option_map natural (place_before k p s)) ∷ [])
 
--- whether an edge is of process p, and leads from the world with a number
-abbrev pub is_from : ℕ → ℕ → WorldEdge → Bool
-is_from number p e = (e.from == number) && (e.process == p)
-
--- whether process p goes on from the world with a number: an edge of it leads from there
-abbrev pub has_edge : List WorldEdge → ℕ → ℕ → Bool
-has_edge edges number p = list_any (is_from number p) edges
-
 -- where process p stands, if it is there
-abbrev pub standing_in : KernelState → ℕ → Bool → Option Process → List Data
-standing_in k p goes None = []
-standing_in k p goes (Some s) = standing_data k p goes s ∷ []
+abbrev pub standing_in : KernelState → ℕ → Option Process → List Data
+standing_in k p None = []
+standing_in k p (Some s) = standing_data k p s ∷ []
 
--- where process p of the world with a number stands
-abbrev pub standing_at : WorldState → ℕ → List WorldEdge → ℕ → List Data
-standing_at w number edges p = standing_in w.kernel p (has_edge edges number p) (slice_get w.processes p)
+-- where process p of a world stands
+abbrev pub standing_at : WorldState → ℕ → List Data
+standing_at w p = standing_in w.kernel p (slice_get w.processes p)
 
--- where the processes of the world with a number stand
-abbrev pub standings : WorldState → ℕ → List WorldEdge → List Data
-standings w number edges = all_below (length w.processes) (standing_at w number edges)
-
--- whether an edge leads to the world with a number
-abbrev pub is_to : ℕ → WorldEdge → Bool
-is_to number e = e.to == number
-
--- the first edge that leads to the world with a number, by its place; none of the first world
-abbrev pub edge_before : List WorldEdge → ℕ → Option ℕ
-edge_before edges number = if number == 0 then None else position (is_to number) edges
+-- where the processes of a world stand
+abbrev pub standings : WorldState → List Data
+standings w = all_below (length w.processes) (standing_at w)
 
 -- the object in a place, where there is one, without what only the steps to its world tell of it
 abbrev pub object_in : WorldState → TallyState → ℕ → Place → List Data
@@ -101,48 +80,38 @@ abbrev pub objects : WorldState → List Data
 objects w =
     all_below object_places (λ place. object_in w (new_tally (length w.processes)) place (place_at w.kernel.places place))
 
--- the world with a number, to which so many calls lead: where its processes stand, the edge that leads there, the verdict on its
--- end, where no process goes on, the number of this end, what each process has written, and the objects
-unfoldable pub node_data : WorldState → ℕ → List WorldEdge → ℕ → Option Verdict → Option ℕ → Data
-node_data w number edges calls verdict end =
-    list (natural calls ∷ list (standings w number edges) ∷ or_null (option_map natural (edge_before edges number))
-    ∷ or_null (option_map (λ v. string (verdict_word v)) verdict) ∷ or_null (option_map natural end) ∷ outputs w
-    ∷ list (objects w) ∷ [])
+-- a world to which so many calls lead: where its processes stand, the verdict on its end, where no process goes on, the number of
+-- this end, what each process has written, and the objects
+unfoldable pub node_data : WorldState → ℕ → Option Verdict → Option ℕ → Data
+node_data w calls verdict end =
+    list (natural calls ∷ list (standings w) ∷ or_null (option_map (λ v. string (verdict_word v)) verdict)
+    ∷ or_null (option_map natural end) ∷ outputs w ∷ list (objects w) ∷ [])
 
 -- an edge: the worlds that it leads from and to, by their numbers, and its process
 abbrev pub edge_data : WorldEdge → Data
 edge_data e = list (natural e.from ∷ natural e.to ∷ natural e.process ∷ [])
 
--- worlds in the order of their numbers, from 0, as JSON with commas between them, how many there are, the edges between them, what
--- steps of processes tell, as JSON with commas between them, and of how many legs that is
+-- worlds in the order of their numbers, from 0, as JSON with commas between them, the edges between them, and what steps of
+-- processes tell, as JSON with commas between them
 pub record Worlds : Type 0 where
   pub json : List ℕ
-  pub count : ℕ
   pub edges : List WorldEdge
   pub legs : List ℕ
-  pub told : ℕ
+
+-- the JSON of a list with a value behind it
+abbrev pub listed : List ℕ → Data → List ℕ
+listed json d = json ++ (comma_if (not (length json == 0)) ++ compact_text d)
 
 -- the worlds with the next one behind them
 abbrev pub with_node : Worlds → WorldState → ℕ → Option Verdict → Option ℕ → Worlds
-with_node d w calls verdict end = record d {
-  json = d.json ++ (comma_if (nat_lt 0 d.count) ++ compact_text (node_data w d.count d.edges calls verdict end));
-  count = d.count + 1;
-}
+with_node d w calls verdict end = record d { json = listed d.json (node_data w calls verdict end) }
 
 -- the worlds with a leg more: so many steps of process p from a world
 abbrev pub with_leg : Worlds → WorldState → ℕ → ℕ → Worlds
-with_leg d w p steps = record d {
-  legs = d.legs ++ (comma_if (nat_lt 0 d.told) ++ compact_text (leg_data w p steps));
-  told = d.told + 1;
-}
+with_leg d w p steps = record d { legs = listed d.legs (leg_data w p steps) }
 
--- what a page holds of worlds as JSON
-abbrev pub listed_json : Worlds → List ℕ
-listed_json d =
-    codes "[[" ++ (d.json ++ ((codes "]," ++ compact_text (list (map edge_data d.edges)))
-    ++ (codes ",[" ++ (d.legs ++ codes "]]"))))
-
--- that, where they are drawn
+-- what a page holds of worlds as JSON, where they are drawn
 abbrev pub worlds_json : Option Worlds → List ℕ
 worlds_json None = codes "null"
-worlds_json (Some d) = listed_json d
+worlds_json (Some d) =
+    codes "[[" ++ (d.json ++ (codes "]," ++ (compact_text (list (map edge_data d.edges)) ++ (codes ",[" ++ (d.legs ++ codes "]]")))))

@@ -13,7 +13,7 @@ ghost use Rattle.lab_page.specs.declared.fault.PageFault.TheVariants.{TooLarge};
 
 use crate::asked::{Asked, asked_value};
 use crate::fault::PageFault;
-use crate::json::push_behind;
+use crate::json::{push_behind, push_parts};
 use crate::outcome::schedule_value;
 use crate::run::written_run;
 use crate::stores::{Stored, stores_value};
@@ -78,7 +78,7 @@ impl Model for EndList {
     ghost invariant = { λ l. (length l.json.items ≤ most_end_bytes) × (l.count ≤ most_ends) };
 }
 
-#[tactic(auto, unfolding(crate::specs::Private::Json::end_json))]
+#[tactic(auto, using(crate::proofs::StoreLemmas::stores_plain), unfolding(crate::specs::Private::Json::end_json))]
 fn end_json(
     alloc: Global,
     number: u32,
@@ -87,12 +87,9 @@ fn end_json(
 ) -> Result<Vec<u8>, AllocError>
     ensures json { IfOk result (λ v. v.items ≡ end_json number run.now stores.now) }
 {
-    let start = format!(in alloc; "[{number},")?;
-    let mut json = Vec::new(alloc);
-    json.extend_from_slice(start.as_bytes())?;
-    json.extend_from_slice(run)?;
-    push_behind(&mut json, ",", &stores_value(alloc, stores)?)?;
-    json.extend_from_slice(b"]")?;
+    let mut json = format!(in alloc; "[{number},")?.into_bytes();
+    let stores = stores_value(alloc, stores)?.to_vec(alloc)?;
+    push_parts(&mut json, &[run, b",", &stores, b"]"])?;
     Ok(json)
 }
 

@@ -2,7 +2,7 @@
 ghost use Rattle.std.specs.Prelude.{◌≡◌};
 ghost use Rattle.lab_page.specs.declared.fault.PageFault.TheVariants.{NoMemory};
 
-use std::alloc::{AllocError, AllocFailed};
+use std::alloc::AllocError;
 use thiserror::Error;
 
 /// Why there is no page of a trace.
@@ -23,14 +23,6 @@ impl From<AllocError> for PageFault {
     ghost from_gives = { λ _ e. e ≡ NoMemory };
 
     fn from(_refused: AllocError) -> PageFault {
-        PageFault::NoMemory
-    }
-}
-
-impl<T: Drop> From<AllocFailed<T>> for PageFault {
-    ghost from_gives = { λ _ e. e ≡ NoMemory };
-
-    fn from(_refused: AllocFailed<T>) -> PageFault {
         PageFault::NoMemory
     }
 }

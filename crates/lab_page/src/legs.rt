@@ -1,13 +1,12 @@
 //! What steps of a process tell: a leg of a way from one world to another.
-ghost use Rattle.std.specs.Prelude.{◌≡◌, ◌<◌, ◌≤◌, IfOk, OnOk, length, map, replicate};
-ghost use Rattle.std.specs.Option.{option_map, option_to_list};
+ghost use Rattle.std.specs.Prelude.{◌≡◌, ◌<◌, ◌≤◌, ◌++◌, IfOk, OnOk, length, map, replicate};
 ghost use Rattle.serde_json.specs.View.{view};
 ghost use Rattle.lab_sched.specs.Schedules.{most_steps};
 ghost use Rattle.lab_sched.specs.Worlds.{step};
 ghost use Rattle.lab_told.specs.Scenes.{first_scene, scene_at, told, next_tally, IsKept};
 ghost use Rattle.lab_page.specs.Legs.{event_data, leg_data, leg_events, told_data};
 
-use lab_moments::{act_value, push_some};
+use lab_moments::act_value;
 use lab_sched::World;
 use lab_told::trace_step;
 use lab_trace::{Event, Tally, Told, event_text};
@@ -23,35 +22,27 @@ fn event_value(alloc: Global, number: u32, event: &Event) -> Result<Value, Alloc
     json!(in alloc; [number, pc, event_text(alloc, event)?, act_value(alloc, &event.act)?])
 }
 
-/// That, where the step has a line in a trace.
-fn told_value(alloc: Global, number: u32, told: &Told) -> Result<Option<Value>, AllocError>
-    ensures value { IfOk result (λ v. option_to_list (option_map view v)
-        ≡ told_data number told.now) }
-{
-    match told {
-        Told::Shown(event) => Ok(Some(event_value(alloc, number, event)?)),
-        Told::Nothing | Told::Counted => Ok(None),
-    }
-}
-
-/// Takes step `number` of a leg, of process `pid`, and tells what happened in it.
-fn step_value(
-    alloc: Global,
+/// Takes step `number` of a leg, of process `pid`, and adds what happened in it, where it has a line in a trace.
+fn push_step(
+    events: &mut Vec<Value>,
     world: &mut World,
     tally: &mut Tally,
     number: u32,
     pid: usize,
-) -> Result<Option<Value>, AllocError>
+) -> Result<(), AllocError>
     requires process { pid < length world.old.processes }
     requires kept { IsKept (scene_at number world.old tally.old) }
-    ensures event { IfOk result (λ v. option_to_list (option_map view v)
-        ≡ told_data number (told (scene_at number world.old tally.old) pid)) }
+    ensures added { OnOk result (map view events.new.items ≡ map view events.old.items
+        ++ told_data number (told (scene_at number world.old tally.old) pid)) }
     ensures world { OnOk result (world.new ≡ step world.old pid) }
     ensures tally { OnOk result
         (tally.new ≡ next_tally (scene_at number world.old tally.old) pid) }
 {
-    let told = trace_step(alloc, world, tally, number, pid)?;
-    told_value(alloc, number, &told)
+    let alloc = *events.allocator();
+    match trace_step(alloc, world, tally, number, pid)? {
+        Told::Shown(event) => Ok(events.push(event_value(alloc, number, &event)?)?),
+        Told::Nothing | Told::Counted => Ok(()),
+    }
 }
 
 /// Takes so many steps of a process, and tells what happened in them, as if no step had been before.
@@ -70,8 +61,7 @@ fn leg_events(
     let mut events = Vec::new(alloc);
     let mut done = 0;
     while done < steps {
-        let event = step_value(alloc, world, &mut tally, 1 + done, pid)?;
-        push_some(&mut events, event)?;
+        push_step(&mut events, world, &mut tally, 1 + done, pid)?;
         done += 1;
     }
     Ok(events)

@@ -1,33 +1,28 @@
 //! The moments of a run.
-ghost use Rattle.std.specs.Prelude.{◌≡◌, ◌<◌, ◌≤◌, ◌+◌, ◌++◌, [], ℕ, false, OnOk, IfOk, IfErr, IfSome, length, replicate, codes};
+ghost use Rattle.std.specs.Prelude.{◌≡◌, ◌<◌, ◌++◌, [], ℕ, false, OnOk, IfOk, IfErr, IfSome, length, codes};
 ghost use Rattle.std.specs.Option.{option_map, option_to_list};
 ghost use Rattle.serde_json.specs.View.{view};
 ghost use Rattle.serde_json.specs.Written.{compact_text, has_float};
-ghost use Rattle.lab_sched.specs.Schedules.{most_steps, steps_of, total_of};
-ghost use Rattle.lab_sched.specs.Worlds.{step};
-ghost use Rattle.lab_told.specs.Scenes.{scene_at, scene_after, told, next_tally, IsKept};
-ghost use Rattle.lab_trace.specs.Lines.{line, events, step_line};
-ghost use Rattle.lab_told.specs.Tellings.{AreThere};
+ghost use Rattle.lab_told.specs.Scenes.{scene_at};
+ghost use Rattle.lab_trace.specs.Lines.{step_line};
 ghost use Rattle.lab_trace.specs.Traces.{ending};
-ghost use Rattle.lab_told.specs.declared.told.Told.TheVariants.{Nothing};
 ghost use Rattle.lab_page.specs.Faults.{IsFault};
 ghost use Rattle.lab_template.specs.Limits.{most_bytes};
-ghost use Rattle.lab_page.specs.Moments.{moment, moments};
 ghost use Rattle.lab_moments.specs.Moments.{moment_by};
 ghost use Rattle.lab_moments.specs.Pasts.{first_past, past_after};
-ghost use Rattle.lab_page.specs.Moments.{past_by, past_then};
 ghost use Rattle.lab_moments.specs.States.{states};
 ghost use Rattle.lab_page.specs.Private.Json.{more_json, run_end};
+ghost use Rattle.lab_page.specs.Private.Written.{AddsStep, BreaksStep};
 ghost use Rattle.lab_page.specs.Runs.{outcome_at, schedule_data};
 
 use crate::fault::PageFault;
-use crate::json::{push_behind, push_more};
-use crate::look::Look;
+use crate::json::push_behind;
 use crate::outcome::push_run_end;
+use crate::run::Look;
 use lab_moments::{Past, moment_by, states};
-use lab_sched::{Block, Schedule, World};
+use lab_sched::{Schedule, World};
 use lab_template::MOST_BYTES;
-use lab_told::{steps_told, trace_step};
+use lab_told::{Taken, Telling};
 use lab_trace::{Tally, Told, ending, step_line};
 use serde_json::Value;
 use std::alloc::{AllocError, Global};
@@ -43,7 +38,7 @@ pub struct Moments {
 }
 
 impl Model for Moments {
-    ghost use Rattle.lab_page.specs.Private.Json.{Written};
+    ghost use Rattle.lab_page.specs.Private.Written.{Written};
 
     ghost Value = { Written };
 
@@ -52,16 +47,6 @@ impl Model for Moments {
       lines = m.lines.items;
       past = m.past;
     } };
-}
-
-/// The JSON up to the moment before the first step.
-fn first_json(alloc: Global, world: &World) -> Result<Vec<u8>, AllocError>
-    ensures json { IfOk result (λ v. v.items
-        ≡ codes "{\"moments\":[" ++ compact_text (states world.now)) }
-{
-    let mut json = Vec::new(alloc);
-    push_behind(&mut json, "{\"moments\":[", &states(alloc, world)?)?;
-    Ok(json)
 }
 
 impl Moments {
@@ -73,9 +58,11 @@ impl Moments {
           past = first_past world.now;
         }) }
     {
+        let mut json = Vec::new(alloc);
+        push_behind(&mut json, "{\"moments\":[", &states(alloc, world)?)?;
         Ok(Moments {
             past: Past::new(alloc, world)?,
-            json: first_json(alloc, world)?,
+            json,
             lines: Vec::new(alloc),
         })
     }
@@ -101,7 +88,7 @@ impl Moments {
         let Some(moment) = moment else {
             return Ok(());
         };
-        push_more(&mut self.json, &moment)?;
+        push_behind(&mut self.json, ",", &moment)?;
         if self.json.len() > MOST_BYTES {
             return Err(PageFault::TooLarge);
         }
@@ -145,122 +132,6 @@ impl Moments {
         Ok(())
     }
 
-    /// Takes step number `number`, of process `pid`, and adds the moment after it, where it has one, and its line. The answer is how
-    /// many of at most so many steps of the process it stands for; so many are kept.
-    #[tactic(auto, unfolding(crate::specs::Moments::moment))]
-    fn add_step(
-        &mut self,
-        alloc: Global,
-        world: &mut World,
-        tally: &mut Tally,
-        look: &Look<'_>,
-        number: u32,
-        pid: usize,
-        most: u32,
-    ) -> Result<u32, PageFault>
-        requires process { pid < length world.old.processes }
-        requires kept { IsKept (scene_at number world.old tally.old) }
-        requires some { 1 ≤ most }
-        ensures moments { OnOk result (self.new.json ≡ self.old.json
-            ++ more_json (moment look.now.page look.now.whole
-            (scene_at number world.old tally.old) self.old.past pid)) }
-        ensures lines { OnOk result (self.new.lines ≡ self.old.lines
-            ++ line look.now.trace (scene_at number world.old tally.old) pid) }
-        ensures past { IfOk result (λ done. self.new.past
-            ≡ past_by done (scene_at number world.old tally.old) pid self.old.past) }
-        ensures world { OnOk result (world.new ≡ step world.old pid) }
-        ensures tally { OnOk result
-            (tally.new ≡ next_tally (scene_at number world.old tally.old) pid) }
-        ensures other { IfOk result (λ done.
-            (told (scene_at number world.old tally.old) pid ≡ Nothing → ⊥) → done ≡ 1) }
-        ensures some { IfOk result (λ done. 1 ≤ done) }
-        ensures within { IfOk result (λ done. done ≤ most) }
-        ensures fault { IfErr result (λ e. IsFault e (self.old.json
-            ++ more_json (moment look.now.page look.now.whole
-            (scene_at number world.old tally.old) self.old.past pid))) }
-    {
-        let waited = tally.account(pid).since.is_some();
-        let told = trace_step(alloc, world, tally, number, pid)?;
-        let done = steps_told(&told, most);
-        self.keep_step(world, tally, look, number, pid, waited, &told, done)?;
-        Ok(done)
-    }
-
-    /// Takes the steps of a block, of which the first has number `first`, and adds their moments.
-    fn add_block(
-        &mut self,
-        alloc: Global,
-        world: &mut World,
-        tally: &mut Tally,
-        look: &Look<'_>,
-        first: u32,
-        block: Block,
-    ) -> Result<(), PageFault>
-        requires process { block.pid < length world.old.processes }
-        requires room { first + block.count ≤ most_steps + 1 }
-        requires kept { IsKept (scene_at first world.old tally.old) }
-        requires counted { block.pid < length self.old.past.between }
-        ensures moments { OnOk result (self.new.json ≡ self.old.json
-            ++ more_json (moments look.now.page look.now.whole (scene_at first world.old tally.old)
-            self.old.past (replicate block.count block.pid))) }
-        ensures lines { OnOk result (self.new.lines ≡ self.old.lines
-            ++ events look.now.trace (scene_at first world.old tally.old)
-            (replicate block.count block.pid)) }
-        ensures past { OnOk result (self.new.past
-            ≡ past_then (scene_at first world.old tally.old)
-            (replicate block.count block.pid) self.old.past) }
-        ensures scene { OnOk result (scene_at (first + block.count) world.new tally.new
-            ≡ scene_after (scene_at first world.old tally.old)
-            (replicate block.count block.pid)) }
-        ensures fault { IfErr result (λ e. IsFault e (self.old.json
-            ++ more_json (moments look.now.page look.now.whole (scene_at first world.old tally.old)
-            self.old.past (replicate block.count block.pid)))) }
-    {
-        let mut done = 0;
-        while done < block.count {
-            let number = first + done;
-            let most = block.count - done;
-            let pid = block.pid;
-            let taken = self.add_step(alloc, world, tally, look, number, pid, most)?;
-            done += taken;
-        }
-        Ok(())
-    }
-
-    /// Takes the steps of blocks, of which the first has number 1, and adds their moments.
-    pub fn add_blocks(
-        &mut self,
-        alloc: Global,
-        world: &mut World,
-        tally: &mut Tally,
-        look: &Look<'_>,
-        blocks: &[Block],
-    ) -> Result<(), PageFault>
-        requires kept { IsKept (scene_at 1 world.old tally.old) }
-        requires room { total_of blocks.now ≤ most_steps }
-        requires there { AreThere world.old blocks.now }
-        requires counted { length self.old.past.between ≡ length world.old.processes }
-        ensures moments { OnOk result (self.new.json ≡ self.old.json
-            ++ more_json (moments look.now.page look.now.whole (scene_at 1 world.old tally.old)
-            self.old.past (steps_of blocks.now))) }
-        ensures lines { OnOk result (self.new.lines ≡ self.old.lines
-            ++ events look.now.trace (scene_at 1 world.old tally.old) (steps_of blocks.now)) }
-        ensures past { OnOk result (self.new.past
-            ≡ past_then (scene_at 1 world.old tally.old) (steps_of blocks.now) self.old.past) }
-        ensures scene { OnOk result ((number : ℕ) × (scene_at number world.new tally.new
-            ≡ scene_after (scene_at 1 world.old tally.old) (steps_of blocks.now))) }
-        ensures fault { IfErr result (λ e. IsFault e (self.old.json
-            ++ more_json (moments look.now.page look.now.whole (scene_at 1 world.old tally.old)
-            self.old.past (steps_of blocks.now)))) }
-    {
-        let mut number = 1;
-        for block in blocks {
-            self.add_block(alloc, world, tally, look, number, *block)?;
-            number += block.count;
-        }
-        Ok(())
-    }
-
     /// Adds what stands behind the moments, and the end of the trace, once the schedule's steps are taken.
     pub fn finish(
         &mut self,
@@ -279,5 +150,35 @@ impl Moments {
         push_run_end(&mut self.json, world, tally, &self.past, look, schedule)?;
         let ending = ending(alloc, world, tally, &look.trace)?;
         self.lines.extend_from_slice(ending.as_bytes())
+    }
+}
+
+impl Telling<Moments> for Look<'_> {
+    type Fault = PageFault;
+
+    ghost use Rattle.std.proofs.Common.{subst, sym};
+
+    ghost tells = { AddsStep };
+
+    ghost fails = { BreaksStep };
+
+    ghost refused = { λ v s p m e refused. subst (λ x. BreaksStep v s p m m x) (sym refused) tt };
+
+    fn tell_step(
+        &self,
+        _alloc: Global,
+        moments: &mut Moments,
+        taken: &Taken<'_>,
+    ) -> Result<(), PageFault> {
+        let Taken {
+            world,
+            tally,
+            number,
+            pid,
+            waited,
+            told,
+            count,
+        } = *taken;
+        moments.keep_step(world, tally, self, number, pid, waited, told, count)
     }
 }

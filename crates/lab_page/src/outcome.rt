@@ -3,22 +3,16 @@ ghost use Rattle.std.specs.Prelude.{◌≡◌, ◌++◌, ℕ, OnOk, IfOk, slice_
 ghost use Rattle.serde_json.specs.View.{view};
 ghost use Rattle.lab_told.specs.Scenes.{scene_at};
 ghost use Rattle.lab_page.specs.Private.Json.{run_end};
-ghost use Rattle.lab_page.specs.Runs.{block_data, schedule_data, output_of, outputs, outcome_at};
+ghost use Rattle.lab_page.specs.Runs.{schedule_data, output_of, outputs, outcome_at};
 
 use crate::json::push_behind;
-use crate::look::Look;
+use crate::run::Look;
 use lab_moments::{Past, bytes_value, circles_value, holds_value, steps_value, waits_value};
-use lab_sched::{Block, Schedule, World};
+use lab_sched::{Schedule, World};
 use lab_texts::report_text;
 use lab_trace::{Form, Tally, stands};
 use serde_json::{Value, json};
 use std::alloc::{AllocError, Global};
-
-fn block_value(alloc: Global, block: Block) -> Result<Value, AllocError>
-    ensures value { IfOk result (λ v. view v ≡ block_data block) }
-{
-    json!(in alloc; [block.pid, block.count])
-}
 
 /// The blocks of a schedule.
 pub fn schedule_value(alloc: Global, schedule: &Schedule) -> Result<Value, AllocError>
@@ -26,7 +20,7 @@ pub fn schedule_value(alloc: Global, schedule: &Schedule) -> Result<Value, Alloc
 {
     let mut blocks = Vec::new(alloc);
     for block in schedule.blocks() {
-        blocks.push(block_value(alloc, *block)?)?;
+        blocks.push(json!(in alloc; [block.pid, block.count])?)?;
     }
     Ok(Value::Array(blocks))
 }

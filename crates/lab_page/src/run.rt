@@ -7,16 +7,47 @@ ghost use Rattle.lab_told.specs.Scenes.{scene_at, IsKept};
 ghost use Rattle.lab_trace.specs.Traces.{missing_after, trace_text, trace_with};
 ghost use Rattle.lab_told.specs.Tellings.{AreThere};
 ghost use Rattle.lab_page.specs.Faults.{Explains, IsFault};
+ghost use Rattle.lab_page.specs.Private.Looks.{look_for};
 ghost use Rattle.lab_page.specs.Runs.{run_data, run_from};
 ghost use Rattle.lab_page.specs.declared.fault.PageFault.TheVariants.{NoProcess};
 
 use crate::fault::PageFault;
-use crate::look::Look;
 use crate::moments::Moments;
 use lab_sched::{Schedule, World};
 use lab_sources::Source;
-use lab_trace::{Tally, missing_after};
-use std::alloc::Global;
+use lab_template::MOST_WHOLE;
+use lab_trace::{Form, Tally, missing_after, tell_run};
+use std::alloc::{AllocError, Global};
+
+/// How a run is written. The lines on a page are without labels, for it shows the sources themselves; the trace has those of
+/// the processes that were given as sources.
+#[derive(Drop)]
+pub struct Look<'a> {
+    /// The lines on the page.
+    pub page: Form<'a>,
+    /// The lines of the trace.
+    pub trace: Form<'a>,
+    /// Whether counted steps have moments too.
+    pub whole: bool,
+}
+
+impl<'a> Look<'a> {
+    /// How the run of a world by a schedule is written.
+    pub fn new(
+        alloc: Global,
+        world: &World,
+        schedule: &Schedule,
+        sources: &'a [Option<Source>],
+    ) -> Result<Look<'a>, AllocError>
+        ensures look { IfOk result (λ l. l ≡ look_for world.now schedule.now sources.now) }
+    {
+        Ok(Look {
+            page: Form::new(alloc, schedule.total(), world.count(), &[])?,
+            trace: Form::new(alloc, schedule.total(), world.count(), sources)?,
+            whole: schedule.total() <= MOST_WHOLE,
+        })
+    }
+}
 
 /// What was written of a run.
 #[derive(Drop)]
@@ -46,7 +77,7 @@ fn take_steps(
         look.now.whole (scene_at 1 world.old tally.old) schedule.now))) }
 {
     let mut moments = Moments::new(alloc, world)?;
-    moments.add_blocks(alloc, world, tally, look, schedule.blocks())?;
+    tell_run(look, &mut moments, world, tally, schedule.blocks())?;
     moments.finish(world, tally, look, schedule)?;
     let (json, trace) = moments.into_parts();
     Ok(WrittenRun { json, trace })

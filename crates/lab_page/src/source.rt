@@ -54,10 +54,7 @@ fn row_words<'a>(source: &'a Source, row: &Row) -> &'a [u16]
 fn first_call(words: &[u16]) -> Option<Service>
     ensures service { result ≡ first_call words.now }
 {
-    match words.first() {
-        Some(word) => service_of_word(*word),
-        None => None,
-    }
+    service_of_word(*words.first()?)
 }
 
 #[tactic(auto, unfolding(crate::specs::Sources::row_data))]

@@ -5,7 +5,7 @@ ghost use Rattle.serde_json.specs.View.{view};
 ghost use Rattle.lab_sched.specs.Held.{process_view};
 ghost use Rattle.lab_sched.specs.Schedules.{most_steps, steps_of, total_of};
 ghost use Rattle.lab_sched.specs.Worlds.{machine_of, run, step};
-ghost use Rattle.lab_page.specs.Stores.{changed, changed_words, held_words, memory_from, source_in, stored_by, stored_data, stores_data, stores_from, stores_of, word_count};
+ghost use Rattle.lab_page.specs.Stores.{changed, changed_words, held_words, memory_from, source_in, stored_by, stores_data, stores_from, stores_of, word_count};
 
 use crate::source::Source;
 use lab_sched::{Block, Process, Schedule, StepFault, World};
@@ -216,21 +216,14 @@ pub fn stores_of(
     }
 }
 
-fn stored_value(alloc: Global, stored: Stored) -> Result<Value, AllocError>
-    ensures value { IfOk result (λ v. view v ≡ stored_data stored) }
-{
-    let (step, process) = (stored.step, stored.process);
-    let (address, word) = (stored.address, stored.word);
-    json!(in alloc; [step, process, address, word])
-}
-
 /// What steps store, as a value.
 pub(crate) fn stores_value(alloc: Global, stores: &[Stored]) -> Result<Value, AllocError>
     ensures value { IfOk result (λ v. view v ≡ stores_data stores.now) }
 {
     let mut values = Vec::new(alloc);
     for stored in stores {
-        values.push(stored_value(alloc, *stored)?)?;
+        let (step, process) = (stored.step, stored.process);
+        values.push(json!(in alloc; [step, process, stored.address, stored.word])?)?;
     }
     Ok(Value::Array(values))
 }

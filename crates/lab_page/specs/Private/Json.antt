@@ -2,15 +2,8 @@
 use Rattle.std.specs.Prelude.{ℕ, Bool, List, ◌∷◌, ◌++◌, codes, decimal, flat_map}
 use Rattle.serde_json.specs.Data.{Data, boolean}
 use Rattle.serde_json.specs.Written.{compact_text}
-use Rattle.lab_moments.specs.Pasts.{Past}
 use Rattle.lab_page.specs.Stores.{stores_data}
 use Rattle.lab_page.specs.declared.stores.Stored.{Stored}
-
--- the JSON of a run and the lines of its trace, as far as its steps are taken, and what is kept of these
-pub record Written : Type 0 where
-  pub json : List ℕ
-  pub lines : List ℕ
-  pub past : Past
 
 -- what stands behind the moments of a run: its end, its schedule, and whether each step with an effect has a moment
 unfoldable pub run_end : Data → Data → Bool → List ℕ
@@ -21,7 +14,7 @@ run_end outcome blocks whole =
 -- a run as JSON, with a number, and what its steps store
 unfoldable pub end_json : ℕ → List ℕ → List Stored → List ℕ
 end_json number run stores =
-    codes "[" ++ decimal number ++ codes "," ++ run ++ (codes "," ++ compact_text (stores_data stores)) ++ codes "]"
+    (codes "[" ++ decimal number ++ codes ",") ++ (run ++ (codes "," ++ (compact_text (stores_data stores) ++ codes "]")))
 
 -- what a page holds of a run: the processes, the run as JSON, and what its steps store
 unfoldable pub page_json : Data → List ℕ → List Stored → List ℕ

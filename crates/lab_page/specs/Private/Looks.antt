@@ -5,7 +5,7 @@ use Rattle.lab_sched.specs.Worlds.{WorldState}
 use Rattle.lab_sched.specs.declared.schedule.block.Block.{Block}
 use Rattle.lab_trace.specs.Forms.{form_for}
 use Rattle.lab_page.specs.Runs.{is_whole}
-use Rattle.lab_page.specs.declared.look.Look.{Look}
+use Rattle.lab_page.specs.declared.run.Look.{Look}
 use Rattle.lab_sources.specs.declared.source.Source.{Source as GivenSource}
 
 -- how the run of a world by a schedule is written, where processes were given as sources: the lines on the page are without labels

@@ -1,4 +1,4 @@
-use Rattle.std.proofs.Common.{◌≡◌, ◌+◌, length, map, replicate, sym, ap, subst, ◌∙◌, arith}
+use Rattle.std.proofs.Common.{◌≡◌, ◌+◌, length, map, replicate, refl, sym, ap, subst, ◌∙◌, arith}
 use Rattle.serde_json.specs.View.{view}
 use Rattle.lab_sched.specs.Worlds.{WorldState}
 use Rattle.lab_told.specs.Scenes.{scene_at, first_scene, IsKept}
@@ -23,14 +23,14 @@ pub loop-done-preserved : goal.loop-done-preserved
 loop-done-preserved c =
     let s = first_scene c.args.world.now in
     let u = scene_at (1 + c.loop-done.done) c.loop-done.world c.loop-done.tally in
-    let led = scene-step s c.loop-done.done c.args.pid c.loop-done.world c.step_value.new.world c.loop-done.tally c.step_value.new.tally
-    c.loop-done.invariant.scene c.in_ok-event.ensures.world c.in_ok-event.ensures.tally in
-    let len = ap (λ (w : WorldState). length w.processes) c.in_ok-event.ensures.world ∙ length-step c.loop-done.world c.args.pid in
+    let led = scene-step s c.loop-done.done c.args.pid c.loop-done.world c.push_step.new.world c.loop-done.tally c.push_step.new.tally
+    c.loop-done.invariant.scene c.in_ok-push_step.ensures.world c.in_ok-push_step.ensures.tally in
+    let len = ap (λ (w : WorldState). length w.processes) c.in_ok-push_step.ensures.world ∙ length-step c.loop-done.world c.args.pid in
     record {
       within = omega (arith, c.loop-done-test.true);
       scene = led;
-      events = leg-added s u c.loop-done.done c.args.pid _ _ _ c.loop-done.invariant.scene c.in_ok-push_some.ensures.added
-          c.loop-done.invariant.events c.in_ok-event.ensures.event;
+      events = leg-added s u c.loop-done.done c.args.pid _ _ _ c.loop-done.invariant.scene c.in_ok-push_step.ensures.added
+          c.loop-done.invariant.events refl;
       kept = subst IsKept (sym led) (kept-after s (replicate (c.loop-done.done + 1) c.args.pid) (kept-first c.args.world.now));
       there = omega (arith, len, c.loop-done.invariant.there);
     }

@@ -5,5 +5,5 @@ use Rattle.lab_page.proofs.worlds.standings.Goals as goal
 
 pub loop-pid-preserved : goal.loop-pid-preserved
 loop-pid-preserved c =
-    values-added (standing_at c.args.world.now c.args.number c.args.edges.now) c.loop-pid.pid [] _ _ _ c.in_ok-push_some.ensures.added
-    c.loop-pid.invariant c.in_ok-standing.ensures.standing
+    values-added (standing_at c.args.world.now) c.loop-pid.pid [] _ _ _ c.in_ok-push_some.ensures.added c.loop-pid.invariant
+    c.in_ok-standing.ensures.standing

@@ -6,4 +6,4 @@ use Rattle.lab_page.proofs.worlds.standings.Given as goal
 
 -- the processes so far are added
 abbrev pub invariant-loop-pid : goal.invariant-loop-pid
-invariant-loop-pid l = map view l.standings.items ≡ all_below l.pid (standing_at l.world l.number l.edges)
+invariant-loop-pid l = map view l.standings.items ≡ all_below l.pid (standing_at l.world)

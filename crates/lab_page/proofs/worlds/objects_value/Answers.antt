@@ -3,7 +3,7 @@ use Rattle.ipc_kernel.specs.Places.{place_at}
 use Rattle.lab_told.specs.Tallies.{TallyState, new_tally}
 use Rattle.lab_page.specs.Worlds.{object_in}
 use Rattle.lab_moments.proofs.ValueLemmas.{values-added}
-use Rattle.lab_page.proofs.objects.objects_value.Goals as goal
+use Rattle.lab_page.proofs.worlds.objects_value.Goals as goal
 
 pub loop-place-preserved : goal.loop-place-preserved
 loop-place-preserved c =

@@ -4,7 +4,7 @@ use Rattle.ipc_kernel.specs.Places.{place_at}
 use Rattle.lab_told.specs.Tallies.{new_tally}
 use Rattle.lab_moments.specs.Values.{all_below}
 use Rattle.lab_page.specs.Worlds.{object_in}
-use Rattle.lab_page.proofs.objects.objects_value.Given as goal
+use Rattle.lab_page.proofs.worlds.objects_value.Given as goal
 
 -- the objects so far are added
 abbrev pub invariant-loop-place : goal.invariant-loop-place
