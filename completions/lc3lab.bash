@@ -42,10 +42,10 @@ _lc3lab() {
     check) options='--profile --werror --allow --help -h' ;;
     asm) options='--list --explain --profile --help -h' ;;
     dis) options='--help -h' ;;
-    step | debug) options='--profile --notes --help -h' ;;
-    trace) options='--profile --notes --page --source --help -h' ;;
-    run) options='--profile --notes --limit --mix --plain --page --help -h' ;;
-    explore) options='--profile --notes --limit --worlds --memory --threads --random --seed --require --may-wait --never --fair --show --first --schedule --trace --json --page --help -h' ;;
+    step | debug) options='--profile --notes --quiet --help -h' ;;
+    trace) options='--profile --notes --quiet --page --source --help -h' ;;
+    run) options='--profile --notes --quiet --limit --mix --plain --page --help -h' ;;
+    explore) options='--profile --notes --quiet --limit --worlds --memory --threads --random --seed --require --may-wait --never --fair --show --first --schedule --trace --json --page --help -h' ;;
     help) options=$commands ;;
     esac
     case $command:$word in

@@ -84,6 +84,9 @@ const GIVEN_OR_TYPED: &str =
 const NOTES: &str =
     "Tells calls that were refused, and warnings of sources, on standard error, as at a terminal";
 
+/// No notes of a run.
+const QUIET: &str = "Tells no notes and no advice, also at a terminal";
+
 /// The page of a run.
 const PAGE: &str = "Also writes FILE, a page that shows the run step by step in a browser";
 
@@ -160,6 +163,11 @@ const PROGRAMS: &[Row] = &[
         takes: Takes::Nothing,
         help: NOTES,
     },
+    Row {
+        name: "quiet",
+        takes: Takes::Nothing,
+        help: QUIET,
+    },
 ];
 
 const TRACE: &[Row] = &[
@@ -177,6 +185,11 @@ const TRACE: &[Row] = &[
         name: "notes",
         takes: Takes::Nothing,
         help: NOTES,
+    },
+    Row {
+        name: "quiet",
+        takes: Takes::Nothing,
+        help: QUIET,
     },
     Row {
         name: "page",
@@ -205,6 +218,11 @@ const RUN: &[Row] = &[
         name: "notes",
         takes: Takes::Nothing,
         help: NOTES,
+    },
+    Row {
+        name: "quiet",
+        takes: Takes::Nothing,
+        help: QUIET,
     },
     Row {
         name: "limit",
@@ -245,6 +263,11 @@ const EXPLORE: &[Row] = &[
         help: NOTES,
     },
     Row {
+        name: "quiet",
+        takes: Takes::Nothing,
+        help: QUIET,
+    },
+    Row {
         name: "limit",
         takes: Takes::Usually("N", MOST_LOCAL_STEPS, "100000"),
         help: "The most steps of a process without a call",
@@ -278,7 +301,8 @@ const EXPLORE: &[Row] = &[
         name: "require",
         takes: Takes::Texts("WORDS"),
         help: "Fails unless the search is complete and each end is so: \
-            ended, stuck, halted, empty, same, out P = \"TEXT\", out P has \"TEXT\", with commas between them",
+            ended, stuck, halted, empty, same, out P = \"TEXT\", out P has \"TEXT\", with commas between them; \
+            or, with P calls CALL, each way to an end has this call",
     },
     Row {
         name: "may-wait",
@@ -291,7 +315,8 @@ const EXPLORE: &[Row] = &[
         takes: Takes::Texts("CONDITION"),
         help: "Fails unless the search is complete and this condition never holds, \
             or, with lost, no message is lost with its queue, \
-            or, with refused, no call is answered with an error but EAGAIN",
+            or, with refused, no call is answered with an error but EAGAIN, \
+            or, with P calls CALL, no such call is made",
     },
     Row {
         name: "fair",

@@ -13,7 +13,8 @@ use Rattle.lab_sched.specs.ScheduleTexts.{schedule_text}
 use Rattle.lab_questions.specs.declared.answers.Answers.{Answers}
 use Rattle.lab_questions.specs.declared.asked.Word.{Word}
 use Rattle.lab_questions.specs.declared.failure.Failure.{Failure}
-use Rattle.lab_questions.specs.declared.failure.Failure.TheVariants.{Not, Output, Reached, Endless, Incomplete}
+use Rattle.lab_questions.specs.declared.failure.Failure.TheVariants.{Not, Output, Reached, Endless, Call, Incomplete}
+use Rattle.lab_questions.specs.Called.{ShowsWay}
 use Rattle.lab_questions.specs.Texts.{ShowsFault, ShowsOutput, ShowsReached, ShowsLasso}
 use Rattle.lab_questions.specs.Members.{last_members}
 use Rattle.lab_places.specs.Placed.{SourceSeen, placed}
@@ -26,19 +27,22 @@ pub shows_failure : (a : Answers) (f : Option Failure) (s : Option (String Globa
     → ((k : ℕ) → a.failure ≡ Some (Output k) → IfSome s (λ text. ShowsOutput a.exploration.ends.items a.output_faults.items k (string_bytes text)))
     → ((i : ℕ) → a.failure ≡ Some (Reached i) → IfSome s (λ text. ShowsReached a.exploration.reached.items i (string_bytes text)))
     → (a.failure ≡ Some Endless → IfSome s (λ text. IfSome a.exploration.lasso (λ r. ShowsLasso r (string_bytes text))))
+    → ((k : ℕ) → a.failure ≡ Some (Call k) → IfSome s (λ text. ShowsWay a.ways.items k (string_bytes text)))
     → (a.failure ≡ None → s ≡ None)
     → (a.failure ≡ Some Incomplete → s ≡ None)
     → ShowsFailure a f (option_map string_bytes s)
-shows_failure a None s e fault output reached lasso nothing incomplete = ap (option_map string_bytes) (nothing e)
-shows_failure a (Some Incomplete) s e fault output reached lasso nothing incomplete = ap (option_map string_bytes) (incomplete e)
-shows_failure a (Some (Not word)) None e fault output reached lasso nothing incomplete = tt
-shows_failure a (Some (Not word)) (Some text) e fault output reached lasso nothing incomplete = fault word e
-shows_failure a (Some (Output k)) None e fault output reached lasso nothing incomplete = tt
-shows_failure a (Some (Output k)) (Some text) e fault output reached lasso nothing incomplete = output k e
-shows_failure a (Some (Reached i)) None e fault output reached lasso nothing incomplete = tt
-shows_failure a (Some (Reached i)) (Some text) e fault output reached lasso nothing incomplete = reached i e
-shows_failure a (Some Endless) None e fault output reached lasso nothing incomplete = tt
-shows_failure a (Some Endless) (Some text) e fault output reached lasso nothing incomplete = lasso e
+shows_failure a None s e fault output reached lasso call nothing incomplete = ap (option_map string_bytes) (nothing e)
+shows_failure a (Some Incomplete) s e fault output reached lasso call nothing incomplete = ap (option_map string_bytes) (incomplete e)
+shows_failure a (Some (Not word)) None e fault output reached lasso call nothing incomplete = tt
+shows_failure a (Some (Not word)) (Some text) e fault output reached lasso call nothing incomplete = fault word e
+shows_failure a (Some (Output k)) None e fault output reached lasso call nothing incomplete = tt
+shows_failure a (Some (Output k)) (Some text) e fault output reached lasso call nothing incomplete = output k e
+shows_failure a (Some (Reached i)) None e fault output reached lasso call nothing incomplete = tt
+shows_failure a (Some (Reached i)) (Some text) e fault output reached lasso call nothing incomplete = reached i e
+shows_failure a (Some Endless) None e fault output reached lasso call nothing incomplete = tt
+shows_failure a (Some Endless) (Some text) e fault output reached lasso call nothing incomplete = lasso e
+shows_failure a (Some (Call k)) None e fault output reached lasso call nothing incomplete = tt
+shows_failure a (Some (Call k)) (Some text) e fault output reached lasso call nothing incomplete = call k e
 
 -- no schedule shows too little
 shows_none : (a : Answers) (f : Option Failure) → ShowsFailure a f None
@@ -48,6 +52,7 @@ shows_none a (Some (Not word)) = tt
 shows_none a (Some (Output k)) = tt
 shows_none a (Some (Reached i)) = tt
 shows_none a (Some Endless) = tt
+shows_none a (Some (Call k)) = tt
 
 all_told : (sources : List (Option SourceSeen)) (a : Answers) (json : Bool) → (text : List ℕ) × TellsAll sources a json text
 all_told sources a true = (last_members a, record { front = []; members = refl })

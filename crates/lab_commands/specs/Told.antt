@@ -1,5 +1,5 @@
 -- What `explore` writes of answers.
-use Rattle.std.specs.Prelude.{ℕ, ◌≡◌, ◌-◌, ◌==◌, if◌then◌else◌, Bool, true, false, Option, Some, None, IfSome, List, [], ◌++◌, codes, string_bytes}
+use Rattle.std.specs.Prelude.{ℕ, ◌≡◌, ◌-◌, ◌*◌, ◌==◌, ◌||◌, nat_lt, min, is_some, if◌then◌else◌, Bool, true, false, Option, Some, None, IfSome, List, [], ◌++◌, codes, string_bytes}
 use Rattle.std.specs.Option.{option_map}
 use Rattle.std.specs.Io.KnownBytes.{Appends}
 use Rattle.lab_io.specs.Device.{AppendsPrefix}
@@ -9,7 +9,10 @@ use Rattle.lab_sched.specs.ScheduleTexts.{schedule_text}
 use Rattle.lab_worlds.specs.declared.ends.End.{End as Ending}
 use Rattle.lab_questions.specs.declared.answers.Answers.{Answers}
 use Rattle.lab_questions.specs.declared.failure.Failure.{Failure}
-use Rattle.lab_questions.specs.declared.failure.Failure.TheVariants.{Not, Output, Reached, Endless, Incomplete}
+use Rattle.lab_questions.specs.declared.failure.Failure.TheVariants.{Not, Output, Reached, Endless, Call, Incomplete}
+use Rattle.lab_questions.specs.Called.{ShowsWay}
+use Rattle.lab_questions.specs.declared.limit.LimitMet.{LimitMet}
+use Rattle.lab_questions.specs.declared.limit.LimitMet.TheVariants.{Worlds}
 use Rattle.lab_questions.specs.EndTexts.{told_end}
 use Rattle.lab_questions.specs.Texts.{ShowsFault, ShowsOutput, ShowsReached, ShowsLasso}
 use Rattle.lab_questions.specs.Members.{last_members}
@@ -24,6 +27,7 @@ ShowsFailure a (Some (Not word)) shown = IfSome shown (ShowsFault a.exploration.
 ShowsFailure a (Some (Output k)) shown = IfSome shown (ShowsOutput a.exploration.ends.items a.output_faults.items k)
 ShowsFailure a (Some (Reached i)) shown = IfSome shown (ShowsReached a.exploration.reached.items i)
 ShowsFailure a (Some Endless) shown = IfSome shown (λ text. IfSome a.exploration.lasso (λ r. ShowsLasso r text))
+ShowsFailure a (Some (Call k)) shown = IfSome shown (ShowsWay a.ways.items k)
 
 -- the end that is told with number n, from 1
 abbrev pub numbered_end : Answers → ℕ → Option Ending
@@ -71,3 +75,11 @@ pub record HasBegun (sources : List (Option SourceSeen)) (s : Search) (old new :
   pub text : List ℕ
   pub tells : Tells sources s s.inquiry.choice text
   pub begun : AppendsPrefix old new text
+
+-- no limit is named: the search visited everything, memory was refused, or it took walks
+abbrev pub names_no_limit : Search → Bool
+names_no_limit s = s.answers.exploration.complete || s.answers.exploration.refused || is_some s.inquiry.reach.walks
+
+-- n worlds were visited, and a hundred times as many can be next, where more than n can be asked for
+abbrev pub limit_of_worlds : ℕ → LimitMet
+limit_of_worlds n = Worlds n (if nat_lt n 100000000 then Some (min (n * 100) 100000000) else None)

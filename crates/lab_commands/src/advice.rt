@@ -248,7 +248,7 @@ fn lower(alloc: Global, word: &str) -> Result<String, AllocError> {
     Ok(word)
 }
 
-fn upper(alloc: Global, word: &str) -> Result<String, AllocError> {
+pub(crate) fn upper(alloc: Global, word: &str) -> Result<String, AllocError> {
     let mut word = String::from_str(alloc, word)?;
     word.make_ascii_uppercase();
     Ok(word)

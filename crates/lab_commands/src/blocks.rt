@@ -16,7 +16,7 @@ pub(crate) fn block_advice<T, P: Progress>(
     text: &str,
     fault: SchedFault,
 ) -> Option<String> {
-    if !job.progress.is_shown() {
+    if !job.advises() {
         return None;
     }
     match fault {

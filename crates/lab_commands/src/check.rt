@@ -17,7 +17,7 @@ fn messages(alloc: Global, name: &str, bytes: &[u8], wish: Wish<'_>) -> Result<R
     report_on(alloc, &file, bytes, wish)
 }
 
-/// All messages about a source, where they are wanted or somebody looks at the progress, and memory allows them.
+/// All messages about a source, where they are wanted or advice is told, and memory allows them.
 pub fn messages_if<T, P: Progress>(
     job: &Job<'_, T, P>,
     source: &str,
@@ -25,7 +25,7 @@ pub fn messages_if<T, P: Progress>(
     profile: Profile,
     wanted: bool,
 ) -> Option<Report> {
-    if !wanted && !job.progress.is_shown() {
+    if !wanted && !job.advises() {
         return None;
     }
     let wish = Wish {

@@ -2,11 +2,11 @@
 ghost use Rattle.std.specs.Prelude.{◌≡◌, IfSome};
 
 use crate::complaint::{At, Complaint};
+use crate::cost::SearchCost;
 use crate::inquiry::{Inquiry, asked_of, inquiry_of};
 use crate::job::Job;
 use crate::programs::{Programs, laboratory};
 use crate::progress::{Progress, SearchCount, WALKS, WORLDS};
-use crate::spent::Spent;
 use crate::stages::{has_more, stages_of};
 use lab_arguments::Question;
 use lab_questions::{Answers, Asked, LimitMet, ask, ask_walks};
@@ -23,12 +23,12 @@ pub struct Search {
     /// The limit that it met, where one is told.
     pub limit: Option<LimitMet>,
     /// What it took, where that is known.
-    pub spent: Option<Spent>,
+    pub cost: Option<SearchCost>,
 }
 
 /// Visits every interleaving of programs, as far as the limits allow, or takes walks, if these are asked for, and judges what
-/// is asked, by the labels of their sources. Where the search is to end with what is found, it begins with fewer worlds, or walks, and goes further as long as
-/// nothing is found.
+/// is asked, by the labels of their sources. Where the search is to end with what is found, it begins with fewer worlds, or
+/// walks, and goes further as long as nothing is found.
 pub fn find_ends<'a, T: Threads + Sync, P: Progress>(
     job: &Job<'_, T, P>,
     given: &Programs,
@@ -37,22 +37,23 @@ pub fn find_ends<'a, T: Threads + Sync, P: Progress>(
 ) -> Result<Search, Complaint<'a>> {
     let inquiry = inquiry_of(question);
     if question.first {
-        if let Some(search) = find_early(job, given, profile, question, &inquiry)? {
+        let stages = stages_of(job.alloc, &inquiry)?;
+        if let Some(search) = find_early(job, given, profile, question, &stages)? {
             return Ok(search);
         }
     }
     searched(job, given, profile, question, inquiry)
 }
 
-/// The first search of those that come before an inquiry that has something to show.
+/// The first of these searches that has something to show, if one has.
 fn find_early<'a, T: Threads + Sync, P: Progress>(
     job: &Job<'_, T, P>,
     given: &Programs,
     profile: Profile,
     question: &Question<'a>,
-    inquiry: &Inquiry,
+    stages: &[Inquiry],
 ) -> Result<Option<Search>, Complaint<'a>> {
-    for stage in &stages_of(job.alloc, inquiry)? {
+    for stage in stages {
         let search = searched(job, given, profile, question, *stage)?;
         if !has_more(&search) {
             return Ok(Some(search));
@@ -71,25 +72,28 @@ fn searched<'a, T: Threads + Sync, P: Progress>(
 ) -> Result<Search, Complaint<'a>> {
     let asked = asked_of(job.alloc, question, given.sources.as_slice())?;
     let fresh = laboratory(job.alloc, given.programs.as_slice(), profile)?;
-    let answers = explore(job, fresh, &inquiry, asked).at(job.alloc, "run")?;
+    let again = laboratory(job.alloc, given.programs.as_slice(), profile)?;
+    let answers = explore(job, fresh, again, &inquiry, asked).at(job.alloc, "run")?;
     Ok(Search {
         inquiry,
         answers,
         limit: None,
-        spent: None,
+        cost: None,
     })
 }
 
-/// Visits every interleaving of the programs of a laboratory, or takes the walks of an inquiry, and judges what is asked.
+/// Visits every interleaving of the programs of a laboratory, which is given twice, or takes the walks of an inquiry, and judges
+/// what is asked.
 fn explore<T: Threads + Sync, P: Progress>(
     job: &Job<'_, T, P>,
     fresh: Fresh,
+    again: Fresh,
     inquiry: &Inquiry,
     asked: Asked,
 ) -> Result<Answers, ExploreFault> {
     match inquiry.reach.walks {
         Some(walks) => take_walks(job, fresh, inquiry.reach.limits, walks, asked),
-        None => visit_all(job, fresh, inquiry, asked),
+        None => visit_all(job, fresh, again, inquiry, asked),
     }
 }
 
@@ -124,6 +128,7 @@ fn thread_count<T: Threads>(rt: &T, asked: Option<u32>) -> usize
 fn visit_all<T: Threads + Sync, P: Progress>(
     job: &Job<'_, T, P>,
     fresh: Fresh,
+    again: Fresh,
     inquiry: &Inquiry,
     asked: Asked,
 ) -> Result<Answers, ExploreFault> {
@@ -132,6 +137,7 @@ fn visit_all<T: Threads + Sync, P: Progress>(
     let outcome = ask(
         job.alloc,
         fresh,
+        again,
         inquiry.reach.limits,
         asked,
         &mut count,

@@ -1,5 +1,6 @@
 //! Files that are read or written whole.
-ghost use Rattle.std.specs.Prelude.{◌≡◌, IsTrue, OnOk, OnErr};
+ghost use Rattle.std.specs.Prelude.{◌≡◌, ◌↔◌, ◌-◌, IsTrue, OnOk, OnErr, codes, drop, length, map};
+ghost use Rattle.std.specs.Char.{to_ascii_lowercase};
 ghost use Rattle.std.specs.Io.KnownBytes.{Appends};
 ghost use Rattle.lab_io.specs.Device.{AppendsPrefix};
 
@@ -25,11 +26,12 @@ pub fn is_same_file<T: Files>(rt: &T, one: &str, other: &str) -> bool {
 }
 
 /// Whether a file of this name is read as a source: the name ends in `.asm`, in small or capital letters.
-pub fn has_source_name(name: &str) -> bool {
-    matches!(
-        name.as_bytes(),
-        [.., b'.', b'a' | b'A', b's' | b'S', b'm' | b'M']
-    )
+pub fn has_source_name(name: &str) -> bool
+    ensures ending { IsTrue result
+        ↔ (map to_ascii_lowercase (drop (length name.now - 4) name.now) ≡ codes ".asm") }
+{
+    let bytes = name.as_bytes();
+    bytes[bytes.len().saturating_sub(4)..].eq_ignore_ascii_case(b".asm")
 }
 
 /// Whether a file of this name is there, which is no folder and no device.
@@ -107,15 +109,15 @@ pub fn write_whole<T: Files>(
         );
     }
     let (file, beside) = create_beside(rt, alloc, name)?;
-    let written = write_file(file, bytes).and_then(|()| fs::rename(
+    let outcome = write_file(file, bytes).and_then(|()| fs::rename(
         rt,
         beside.as_str(),
         name,
     ).map_err(|_| CliFault::Write));
-    if written.is_err() {
+    if outcome.is_err() {
         let _ = fs::remove_file(rt, beside.as_str());
     }
-    written
+    outcome
 }
 
 /// A new file beside one of this name, and its own name: `NAME.part1`, or with the next number that no file has. So it isn't

@@ -1,16 +1,17 @@
 //! What is asked of an exploration, read from words.
 ghost use Rattle.std.specs.Prelude.{◌≡◌, ◌++◌, List, map, length, All, IfOk, OnOk};
 ghost use Rattle.lab_conditions.specs.declared.never.Never.{Never as Condemned};
-ghost use Rattle.lab_commands.specs.Private.Inquiries.{required_words, IsAsked};
+ghost use Rattle.lab_commands.specs.Private.Inquiries.{required_words, IsAsked, IsAskedOfCalls};
 
 use crate::advice::{line_on, meant_by};
+use crate::calls::{calls_of, wanted_in};
 use crate::complaint::{Complaint, Misuse, Reason};
 use crate::outputs::{need_in, needs_of};
 use crate::places::Place;
 use crate::resolving::{outlined, resolved};
 use crate::spreading::spread;
 use crate::unresolved::{Unresolved, reversed};
-use lab_arguments::{Choice, Question, Requirements, Rest};
+use lab_arguments::{Choice, Question, Requirements, Rest, is_of_calls};
 use lab_conditions::{Condition, Never, Part, ReadFault, State};
 use lab_questions::{Asked, OutputNeed, Reach, Show, Waiter, Word};
 use lab_sources::Source;
@@ -68,16 +69,28 @@ pub fn asked_of<'a>(
         length asked.waiters.items ≡ length question.now.waiters.items) }
     ensures never { IfOk result (λ asked.
         All (IsAsked asked.never.items) (map (λ word. word.now) question.now.never.items)) }
+    ensures calls { IfOk result (λ asked. All (IsAskedOfCalls asked.wanted.items)
+        (map (λ word. word.now) question.now.outputs.items)) }
+    ensures never_called { IfOk result (λ asked. All (IsAskedOfCalls asked.wanted.items)
+        (map (λ word. word.now) question.now.never.items)) }
     ensures fair { IfOk result (λ asked. asked.fair ≡ question.now.fair) }
     ensures out { IfOk result (λ asked. asked.show.out ≡ question.now.out) }
     ensures left { IfOk result (λ asked. asked.show.left ≡ question.now.left) }
 {
-    let named = named_in(alloc, question, sources)?;
+    let demands = demands_in(alloc, question, sources)?;
+    let calls = calls_of(
+        alloc,
+        question.outputs.as_slice(),
+        question.never.as_slice(),
+        sources.len(),
+    )?;
     Ok(Asked {
         words: words_of(alloc, question.required)?,
-        outputs: named.outputs,
-        waiters: named.waiters,
-        never: named.never,
+        outputs: demands.outputs,
+        waiters: demands.waiters,
+        never: demands.never,
+        call_words: calls.words,
+        wanted: calls.wanted,
         fair: question.fair,
         show: Show {
             out: question.out,
@@ -89,23 +102,23 @@ pub fn asked_of<'a>(
 
 /// What a question asks of processes that it names.
 #[derive(Drop)]
-struct Named {
+struct ProcessDemands {
     outputs: Vec<OutputNeed>,
     waiters: Vec<Waiter>,
     never: Vec<Never>,
 }
 
-fn named_in<'a>(
+fn demands_in<'a>(
     alloc: Global,
     question: &Question<'a>,
     sources: &[Option<Source>],
-) -> Result<Named, Complaint<'a>>
-    ensures waiters { IfOk result (λ named.
-        length named.waiters.items ≡ length question.now.waiters.items) }
-    ensures never { IfOk result (λ named.
-        All (IsAsked named.never.items) (map (λ word. word.now) question.now.never.items)) }
+) -> Result<ProcessDemands, Complaint<'a>>
+    ensures waiters { IfOk result (λ demands.
+        length demands.waiters.items ≡ length question.now.waiters.items) }
+    ensures never { IfOk result (λ demands.
+        All (IsAsked demands.never.items) (map (λ word. word.now) question.now.never.items)) }
 {
-    Ok(Named {
+    Ok(ProcessDemands {
         outputs: needs_of(alloc, question.outputs.as_slice(), sources.len())?,
         waiters: waiters_of(alloc, question.waiters.as_slice(), sources)?,
         never: nevers_of(alloc, question.never.as_slice(), sources)?,
@@ -119,13 +132,23 @@ pub fn refuse_question<'a>(
     count: usize,
 ) -> Result<(), Complaint<'a>> {
     for word in &question.outputs {
-        need_in(alloc, word, count)?;
+        refuse_requirement(alloc, word, count)?;
     }
     for word in &question.waiters {
         refuse_waiter(alloc, word, count)?;
     }
     for word in &question.never {
         refuse_never(alloc, word, count)?;
+    }
+    Ok(())
+}
+
+/// Refuses a word that requires nothing of the outputs or calls of so many processes.
+fn refuse_requirement<'a>(alloc: Global, word: &'a str, count: usize) -> Result<(), Complaint<'a>> {
+    if is_of_calls(word) {
+        wanted_in(alloc, word, false, count)?;
+    } else {
+        need_in(alloc, word, count)?;
     }
     Ok(())
 }
@@ -212,6 +235,10 @@ fn nevers_of<'a>(
 
 /// Refuses a word that writes nothing which could never be so of so many processes, whatever its labels stand for.
 fn refuse_never<'a>(alloc: Global, word: &'a str, count: usize) -> Result<(), Complaint<'a>> {
+    if is_of_calls(word) {
+        wanted_in(alloc, word, true, count)?;
+        return Ok(());
+    }
     match Never::read(alloc, &outlined(alloc, word)?) {
         Ok(never) if never.names_only(count) => Ok(()),
         Ok(_) => Err(Misuse::NoSuchProcess.of(word)),
@@ -226,7 +253,7 @@ fn refuse_never<'a>(alloc: Global, word: &'a str, count: usize) -> Result<(), Co
     }
 }
 
-/// Adds what must never be so, as a word writes it, or as it is meant where it has labels.
+/// Adds what must never be so, as a word writes it, or as it is meant where it has labels, unless it is of calls.
 #[tactic(auto, using(crate::proofs::AskedLemmas::asked_read, crate::proofs::AskedLemmas::asked_unread, crate::proofs::AskedLemmas::asked_with))]
 fn push_nevers(
     alloc: Global,
@@ -243,6 +270,7 @@ fn push_nevers(
             nevers.push(never)?;
             Ok(())
         }
+        Err(ReadFault::NoCondition) if is_of_calls(word) => Ok(()),
         Err(ReadFault::NoCondition) => {
             nevers.append(&mut labelled(alloc, sources, word)?)?;
             Ok(())

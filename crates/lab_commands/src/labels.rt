@@ -1,6 +1,5 @@
 //! The addresses that places of conditions stand for.
 use crate::places::address;
-use lab_places::address_in;
 use lab_sources::Source;
 
 /// The first and the last of some addresses.
@@ -41,7 +40,7 @@ fn is_end(end: &str) -> bool {
 /// The address that one end of a place stands for in process `pid`: of a label that in its own source.
 fn end_in(sources: &[Option<Source>], pid: usize, end: &str) -> Option<u16> {
     if is_label(end) {
-        address_in(sources, pid, end.as_bytes())
+        lab_places::address_in(sources, pid, end.as_bytes())
     } else {
         u16::try_from(address(end)?).ok()
     }

@@ -1,4 +1,7 @@
 //! Which limit a search met.
+ghost use Rattle.std.specs.Prelude.{◌≡◌, ◌≤◌, None, IfOk, IfSome, IsTrue};
+ghost use Rattle.lab_commands.specs.Told.{names_no_limit, limit_of_worlds};
+
 use crate::complaint::Complaint;
 use crate::explore::Search;
 use crate::job::Job;
@@ -20,7 +23,12 @@ pub fn limit_met<T, P: Progress>(
     given: &Programs,
     profile: Profile,
     search: &Search,
-) -> Result<Option<LimitMet>, Complaint<'static>> {
+) -> Result<Option<LimitMet>, Complaint<'static>>
+    ensures none { IfOk result (λ met. IsTrue (names_no_limit search.now) → met ≡ None) }
+    ensures worlds { IfOk result (λ met. IfSome met (λ limit.
+        search.now.inquiry.reach.limits.worlds ≤ search.now.answers.exploration.worlds
+        → limit ≡ limit_of_worlds search.now.answers.exploration.worlds)) }
+{
     let found = &search.answers.exploration;
     let reach = search.inquiry.reach;
     if found.complete || found.refused || reach.walks.is_some() {
@@ -35,7 +43,9 @@ pub fn limit_met<T, P: Progress>(
     Ok(Some(limit_of_worlds(found.worlds)))
 }
 
-fn limit_of_worlds(visited: u32) -> LimitMet {
+fn limit_of_worlds(visited: u32) -> LimitMet
+    ensures limit { result ≡ limit_of_worlds visited }
+{
     let more = if visited < MOST_WORLDS {
         Some(visited.saturating_mul(100).min(MOST_WORLDS))
     } else {

@@ -32,6 +32,27 @@ pub struct Programs {
 }
 
 impl Programs {
+    /// None.
+    fn new(alloc: Global) -> Programs {
+        Programs {
+            programs: Vec::new(alloc),
+            sources: Vec::new(alloc),
+            lines: Vec::new(alloc),
+        }
+    }
+
+    /// Adds the program that a word names.
+    fn add<'a, T: Files, P: Progress>(
+        &mut self,
+        job: &Job<'_, T, P>,
+        word: &'a str,
+    ) -> Result<(), Complaint<'a>> {
+        let (program, source) = read_program(job, word)?;
+        self.programs.push(program)?;
+        self.push_source(job.alloc, source)?;
+        Ok(())
+    }
+
     /// Adds the source of a program, where it was given as one.
     fn push_source(&mut self, alloc: Global, source: Option<Source>) -> Result<(), AllocError> {
         let Some(source) = source else {
@@ -84,15 +105,9 @@ pub fn read_programs<'a, T: Files, P: Progress>(
     job: &Job<'_, T, P>,
     words: &[&'a str],
 ) -> Result<Programs, Complaint<'a>> {
-    let mut given = Programs {
-        programs: Vec::new(job.alloc),
-        sources: Vec::new(job.alloc),
-        lines: Vec::new(job.alloc),
-    };
+    let mut given = Programs::new(job.alloc);
     for word in words {
-        let (program, source) = read_program(job, word)?;
-        given.programs.push(program)?;
-        given.push_source(job.alloc, source)?;
+        given.add(job, word)?;
     }
     Ok(given)
 }
@@ -175,7 +190,7 @@ fn is_text(bytes: &[u8]) -> bool {
 /// Says that a file which was given as an object file looks like a text, where somebody looks.
 fn tell_text<T, P: Progress>(job: &Job<'_, T, P>, file: &str) {
     let file = Shown(file);
-    if !job.progress.is_shown() {
+    if !job.advises() {
         return;
     }
     if let Ok(line) = format!(in job.alloc;

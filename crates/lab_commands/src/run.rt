@@ -10,7 +10,7 @@ use crate::complaint::{At, Complaint};
 use crate::files::write_bytes;
 use crate::job::Job;
 use crate::plain::plain_output;
-use crate::programs::{laboratory, read_with_input};
+use crate::programs::{Programs, laboratory, read_with_input};
 use crate::progress::{CallCount, Progress};
 use lab_arguments::{MOST_STEPS_EACH, Manner, Setup};
 use lab_io::{Input, Output};
@@ -18,6 +18,7 @@ use lab_places::{Numbered, placed};
 use lab_sched::Fresh;
 use lab_texts::report_text;
 use lab_threads::{Gate, NoGate, PausingGate, Report, RunFault, run_threads};
+use lc3_table::Profile;
 use std::alloc::{AllocError, Global};
 use std::io::{Read, Write};
 use std::rt::Files;
@@ -41,15 +42,26 @@ pub fn run_programs<'a, T: Files + Threads + Wait + Clock + Sync, R: Read, W: Wr
         × Appends (W.contents output.old.device) (W.contents output.new.device) bytes) }
 {
     let given = read_with_input(job, setup.programs.as_slice(), input)?;
-    let fresh = laboratory(job.alloc, given.programs.as_slice(), setup.profile)?;
+    run_given(job, &given, setup.profile, manner, output)
+}
+
+/// Runs programs that were given, and writes what is told of the run.
+fn run_given<T: Threads + Wait + Clock + Sync, W: Write, P: Progress>(
+    job: &Job<'_, T, P>,
+    given: &Programs,
+    profile: Profile,
+    manner: Manner<'_>,
+    output: &mut Output<W>,
+) -> Result<(), Complaint<'static>>
+    requires output_healthy { output.old.failed ≡ false }
+    ensures told { OnOk result ((bytes : List ℕ)
+        × IsToldRun profile manner.entry.plain bytes
+        × Appends (W.contents output.old.device) (W.contents output.new.device) bytes) }
+{
+    let fresh = laboratory(job.alloc, given.programs.as_slice(), profile)?;
     let report = run_fresh(job, fresh, manner)?;
-    tell_run(
-        job.alloc,
-        &given.numbered(job.alloc)?,
-        &report,
-        manner.plain,
-        output,
-    )
+    let sources = given.numbered(job.alloc)?;
+    tell_run(job.alloc, &sources, &report, manner.plain, output)
 }
 
 /// Runs the programs of a laboratory on threads, each for [`MOST_STEPS_EACH`] steps at most. With a seed, workers pause before

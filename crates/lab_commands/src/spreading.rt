@@ -18,12 +18,18 @@ pub(crate) fn spread(
     sources: &[Option<Source>],
     text: &str,
 ) -> Result<Vec<String>, Unresolved> {
-    let words = words_of(alloc, text)?;
+    spread_words(alloc, sources, &words_of(alloc, text)?)
+}
+
+fn spread_words(
+    alloc: Global,
+    sources: &[Option<Source>],
+    words: &[&str],
+) -> Result<Vec<String>, Unresolved> {
     let mut texts = Vec::new(alloc);
     texts.push(String::new(alloc))?;
     for part in words.split(|word| *word == "and") {
-        let groups = groups_of(alloc, sources, part)?;
-        texts = joined(alloc, &texts, &groups)?;
+        texts = joined(alloc, &texts, &groups_of(alloc, sources, part)?)?;
     }
     Ok(texts)
 }
@@ -64,16 +70,42 @@ fn groups_of(
     sources: &[Option<Source>],
     part: &[&str],
 ) -> Result<Vec<String>, Unresolved> {
-    let (place, size) = match part {
-        ["at", place] if has_label(place) => (*place, 1),
-        ["at", place, ">", number] if has_label(place) => {
-            (*place, count_in(number).saturating_add(1))
+    match crowd_in(part) {
+        Some(Crowd { place, size }) if !is_one_span(sources, place) => {
+            groups_at(alloc, sources, place, size)
         }
-        _ => return alone(alloc, part),
-    };
-    if is_one_span(sources, place) {
-        return alone(alloc, part);
+        _ => alone(alloc, part),
     }
+}
+
+/// So many processes at a place.
+#[derive(Clone, Copy)]
+struct Crowd<'a> {
+    place: &'a str,
+    size: usize,
+}
+
+/// The processes that a part of a condition speaks of without naming them, if it does: the fewest, at labels.
+fn crowd_in<'a>(part: &[&'a str]) -> Option<Crowd<'a>> {
+    let (place, size) = match part {
+        ["at", place] => (*place, 1),
+        ["at", place, ">", number] => (*place, count_in(number).saturating_add(1)),
+        _ => return None,
+    };
+    if has_label(place) {
+        Some(Crowd { place, size })
+    } else {
+        None
+    }
+}
+
+/// What is said of each group of so many of the processes that have the labels of a place.
+fn groups_at(
+    alloc: Global,
+    sources: &[Option<Source>],
+    place: &str,
+    size: usize,
+) -> Result<Vec<String>, Unresolved> {
     let holders = holders_of(alloc, sources, place)?;
     if holders.is_empty() {
         return Err(in_none(alloc, sources, place)?);
@@ -130,6 +162,17 @@ struct Group {
     last: Option<usize>,
 }
 
+impl Group {
+    /// The group with one process more.
+    fn with(&self, alloc: Global, pid: usize, place: &str) -> Result<Group, AllocError> {
+        let part = format!(in alloc; "{pid} at {place}")?;
+        Ok(Group {
+            text: with_part(alloc, &self.text, &part)?,
+            last: Some(pid),
+        })
+    }
+}
+
 /// What each group of so many of these processes says of a place.
 fn grouped(
     alloc: Global,
@@ -162,13 +205,21 @@ fn larger(
 ) -> Result<Vec<Group>, AllocError> {
     let mut larger = Vec::new(alloc);
     for group in groups {
-        for pid in holders.iter().filter(|pid| group.last < Some(**pid)) {
-            let part = format!(in alloc; "{pid} at {place}")?;
-            larger.push(Group {
-                text: with_part(alloc, &group.text, &part)?,
-                last: Some(*pid),
-            })?;
-        }
+        push_larger(alloc, &mut larger, group, holders, place)?;
     }
     Ok(larger)
+}
+
+/// Adds a group with each of these processes that comes behind its last one.
+fn push_larger(
+    alloc: Global,
+    larger: &mut Vec<Group>,
+    group: &Group,
+    holders: &[usize],
+    place: &str,
+) -> Result<(), AllocError> {
+    for pid in holders.iter().filter(|pid| group.last < Some(**pid)) {
+        larger.push(group.with(alloc, *pid, place)?)?;
+    }
+    Ok(())
 }

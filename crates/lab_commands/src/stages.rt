@@ -58,14 +58,16 @@ pub(crate) fn stages_of(alloc: Global, inquiry: &Inquiry) -> Result<Vec<Inquiry>
 }
 
 /// Whether a search that goes further than this one has something to find: it went as far as it was to go, without visiting
-/// everything, and nothing was found that isn't as it has to be.
+/// everything, and nothing was found that isn't as it has to be; or what is asked of calls isn't known.
 pub(crate) fn has_more(search: &Search) -> bool {
     let found = &search.answers.exploration;
     match search.answers.failure {
         Some(Failure::Not(_))
         | Some(Failure::Output(_))
         | Some(Failure::Reached(_))
-        | Some(Failure::Endless) => false,
+        | Some(Failure::Endless)
+        | Some(Failure::Call(_)) => false,
+        Some(Failure::Incomplete) if found.complete => true,
         Some(Failure::Incomplete) | None => {
             !found.complete && found.worlds >= most_of(search.inquiry.reach)
         }

@@ -12,7 +12,7 @@ use crate::blocks::block_advice;
 use crate::complaint::{At, Complaint, Reason};
 use crate::files::write_bytes;
 use crate::job::Job;
-use crate::programs::{laboratory, read_programs};
+use crate::programs::{Programs, laboratory, read_programs};
 use crate::progress::{Progress, StepCount};
 use lab_arguments::Setup;
 use lab_hex::read_whole;
@@ -51,13 +51,20 @@ fn report_in<'a, T: Files, R: Read, P: Progress>(
 {
     let given = read_programs(job, setup.programs.as_slice())?;
     let schedule = read_schedule(job, input)?;
-    report_on(
-        job,
-        given.programs.as_slice(),
-        &given.numbered(job.alloc)?,
-        setup.profile,
-        &schedule,
-    )
+    report_given(job, &given, setup.profile, &schedule)
+}
+
+/// The report on programs that were given, after the steps of a schedule.
+fn report_given<T, P: Progress>(
+    job: &Job<'_, T, P>,
+    given: &Programs,
+    profile: Profile,
+    schedule: &Schedule,
+) -> Result<Vec<u8>, Complaint<'static>>
+    ensures report { IfOk result (λ bytes. IsReport profile bytes.items) }
+{
+    let sources = given.numbered(job.alloc)?;
+    report_on(job, given.programs.as_slice(), &sources, profile, schedule)
 }
 
 /// The report on programs after the steps of a schedule, with where processes stand in these sources.

@@ -203,6 +203,7 @@ fn is_of_verdict(search: &Search) -> bool {
         && asked.outputs.is_empty()
         && asked.waiters.is_empty()
         && asked.never.is_empty()
+        && asked.wanted.is_empty()
         && matches!(asked.words.as_slice(), [Word::Ended] | [Word::Stuck])
 }
 
@@ -242,6 +243,18 @@ fn unwritten(alloc: Global, asked: &Asked, number: usize) -> Complaint<'static> 
     }
 }
 
+/// That what is asked of calls, by its number, isn't so on a way.
+fn uncalled(alloc: Global, asked: &Asked, number: usize) -> Complaint<'static> {
+    match asked.call_words.get(number) {
+        Some(word) => {
+            let head = if word.never { "reached" } else { "uncalled" };
+            let text = word.text.as_str();
+            Complaint::new(alloc, "explore", format_args!("{head} {text}"))
+        }
+        None => Reason::Uncalled.at("explore"),
+    }
+}
+
 /// Complains where something has to be so and isn't, or where memory was refused on the way.
 fn complain(alloc: Global, search: &Search) -> Result<(), Complaint<'static>> {
     let found = &search.answers;
@@ -257,6 +270,7 @@ fn complain(alloc: Global, search: &Search) -> Result<(), Complaint<'static>> {
             None => Reason::Reached.at("explore"),
         }),
         Some(Failure::Endless) => Err(Reason::Endless.at("explore")),
+        Some(Failure::Call(number)) => Err(uncalled(alloc, &found.asked, number)),
         Some(Failure::Incomplete) if refused => Err(Reason::NoMemory.at("run")),
         Some(Failure::Incomplete) if judges => Err(Reason::Incomplete.at("explore")),
         Some(Failure::Incomplete) | None => Ok(()),

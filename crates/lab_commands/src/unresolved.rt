@@ -1,4 +1,5 @@
 //! Why labels of a condition stand for no addresses.
+use crate::advice::upper;
 use crate::complaint::{Complaint, Misuse, Reason};
 use crate::labels::{ends_of, span_in};
 use lab_arguments::Shown;
@@ -54,17 +55,32 @@ pub(crate) fn not_in(
     place: &str,
 ) -> Result<Unresolved, AllocError> {
     let Some(Some(source)) = sources.get(pid) else {
-        let place = Shown(place);
-        let line = format!(in alloc;
-            "lc3lab: {place}: process {pid} is given as an object file, which has no labels\n"
-        )?;
-        return Ok(Unresolved::Because(line));
+        return without_source(alloc, pid, place);
     };
     let (first, last) = ends_of(place);
     let end = match span_in(sources, pid, first) {
         Some(_) => last,
         None => first,
     };
+    without_label(alloc, source, pid, end)
+}
+
+/// Why a place stands for no addresses in a process that is given as an object file.
+fn without_source(alloc: Global, pid: usize, place: &str) -> Result<Unresolved, AllocError> {
+    let place = Shown(place);
+    let line = format!(in alloc;
+        "lc3lab: {place}: process {pid} is given as an object file, which has no labels\n"
+    )?;
+    Ok(Unresolved::Because(line))
+}
+
+/// Why an end of a place stands for no address in a process with this source.
+fn without_label(
+    alloc: Global,
+    source: &Source,
+    pid: usize,
+    end: &str,
+) -> Result<Unresolved, AllocError> {
     let mut names = Vec::new(alloc);
     push_names(&mut names, source)?;
     let shown = Shown(end);
@@ -113,11 +129,19 @@ fn with_nearest(
     names: &[&str],
 ) -> Result<String, AllocError> {
     let mut line = line;
-    let mut word = String::from_str(alloc, end.split('+').next().unwrap_or(end))?;
-    word.make_ascii_uppercase();
-    if let Some(nearest) = suggestion(alloc, &word, names)?.and_then(|at| names.get(at)) {
+    if let Some(nearest) = nearest_to(alloc, end, names)? {
         write!(line, "; did you mean {nearest}?")?;
     }
     line.push_str("\n")?;
     Ok(line)
+}
+
+/// The name that is spelled most like the label of an end, if one is like it.
+fn nearest_to<'a>(
+    alloc: Global,
+    end: &str,
+    names: &[&'a str],
+) -> Result<Option<&'a str>, AllocError> {
+    let label = upper(alloc, end.split('+').next().unwrap_or(end))?;
+    Ok(suggestion(alloc, &label, names)?.and_then(|at| names.get(at).copied()))
 }

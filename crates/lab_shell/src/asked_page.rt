@@ -1,10 +1,15 @@
 //! What was asked, on the page of ends, and the runs that show what isn't so.
+ghost use Rattle.std.specs.Prelude.{◌≡◌, ◌↔◌, IfOk, IsTrue, is_some};
+ghost use Rattle.lab_questions.specs.Programs.{AsksRest};
+ghost use Rattle.lab_shell.specs.Private.Shown.{IsUnmet};
+
 use crate::page::Paged;
 use lab_commands::{Complaint, Search};
 use lab_page::{Asked, EndList, ShownRun};
 use lab_questions::{Answer, Word};
 use lab_sched::{SchedFault, Schedule, World};
-use lab_worlds::Lasso;
+use lab_ways::Ways;
+use lab_worlds::{Exploration, Lasso};
 use std::alloc::{AllocError, Global};
 
 /// The runs to ends, what was asked, the runs beside those to ends, and which of these goes through the round, if there is one.
@@ -32,6 +37,7 @@ pub fn told_of<'a>(
     add_round(alloc, paged, search, &mut told)?;
     add_words(alloc, paged, search, &mut told)?;
     add_conditions(alloc, paged, search, &mut told)?;
+    add_calls(alloc, paged, search, &mut told)?;
     add_fairness(alloc, search, &mut told)?;
     Ok(told)
 }
@@ -103,8 +109,17 @@ fn add_words<'a>(
 }
 
 /// Whether a word asks that each run comes to rest.
-fn asks_rest(word: Word) -> bool {
+fn asks_rest(word: Word) -> bool
+    ensures asks { IsTrue result ↔ AsksRest word }
+{
     matches!(word, Word::Ended | Word::Stuck | Word::Halted)
+}
+
+/// Whether some run never ends, and a word asks that each does.
+fn is_endless(found: &Exploration, word: Word) -> bool
+    ensures endless { IsTrue result ↔ (AsksRest word × IsTrue (is_some found.now.lasso)) }
+{
+    asks_rest(word) && found.lasso.is_some()
 }
 
 /// A word that is required, with the runs that show that it isn't so.
@@ -114,7 +129,10 @@ fn word_asked<'a>(
     search: &Search,
     answer: Answer,
     told: &mut Told,
-) -> Result<Asked, Complaint<'a>> {
+) -> Result<Asked, Complaint<'a>>
+    ensures unmet { IfOk result (λ a. IsTrue a.failed
+        ↔ IsUnmet search.now.answers.exploration answer) }
+{
     let mut runs = Vec::new(alloc);
     if let Some(number) = answer.fault {
         if matches!(answer.word, Word::Same) {
@@ -122,14 +140,14 @@ fn word_asked<'a>(
         }
         push_end(alloc, paged, search, number, told, &mut runs)?;
     }
-    let is_endless = asks_rest(answer.word) && search.answers.exploration.lasso.is_some();
-    if is_endless {
+    let endless = is_endless(&search.answers.exploration, answer.word);
+    if endless {
         push_round(told, &mut runs)?;
     }
     let word = answer.word.text();
     Ok(Asked {
         text: format!(in alloc; "--require {word}")?,
-        failed: answer.fault.is_some() || is_endless,
+        failed: answer.fault.is_some() || endless,
         runs,
     })
 }
@@ -193,13 +211,56 @@ fn add_conditions<'a>(
     let found = &search.answers.exploration;
     let conditions = &search.answers.asked.never;
     for (condition, reached) in conditions.iter().zip(found.reached.iter()) {
+        let text = format!(in alloc; "--never {condition}")?;
+        let one = never_asked(alloc, paged, text, reached, told)?;
+        told.asked.push(one)?;
+    }
+    Ok(())
+}
+
+/// What must never be so, by the words that say so, with the run to it, if it was reached.
+fn never_asked<'a>(
+    alloc: Global,
+    paged: &Paged<'_, 'a>,
+    text: String,
+    reached: &Option<Schedule>,
+    told: &mut Told,
+) -> Result<Asked, Complaint<'a>>
+    ensures text { IfOk result (λ a. a.text ≡ text) }
+    ensures failed { IfOk result (λ a. a.failed ≡ is_some reached.now) }
+{
+    let mut runs = Vec::new(alloc);
+    if let Some(schedule) = reached {
+        push_other(alloc, paged, schedule, told, &mut runs)?;
+    }
+    Ok(Asked {
+        text,
+        failed: reached.is_some(),
+        runs,
+    })
+}
+
+/// Adds what is asked of calls, with the run that shows that it isn't so; nothing of what isn't known though all else is.
+fn add_calls<'a>(
+    alloc: Global,
+    paged: &Paged<'_, 'a>,
+    search: &Search,
+    told: &mut Told,
+) -> Result<(), Complaint<'a>> {
+    let answers = &search.answers;
+    for (word, ways) in answers.asked.call_words.iter().zip(answers.ways.iter()) {
+        if matches!(ways, Ways::Unknown) && answers.exploration.complete {
+            continue;
+        }
         let mut runs = Vec::new(alloc);
-        if let Some(schedule) = reached {
+        if let Ways::Without(schedule) = ways {
             push_other(alloc, paged, schedule, told, &mut runs)?;
         }
+        let option = if word.never { "--never" } else { "--require" };
+        let text = word.text.as_str();
         told.asked.push(Asked {
-            text: format!(in alloc; "--never {condition}")?,
-            failed: reached.is_some(),
+            text: format!(in alloc; "{option} {text}")?,
+            failed: matches!(ways, Ways::Without(_)),
             runs,
         })?;
     }

@@ -1,7 +1,7 @@
 //! The command `debug`, with its notes.
 ghost use Rattle.std.specs.Prelude.{◌≡◌, false};
 
-use crate::notes::{Notes, are_told, tell_warnings};
+use crate::notes::{Notes, tell_warnings};
 use lab_arguments::Setup;
 use lab_commands::{
     Complaint, Debugged, Job, Progress, debug_given, debug_programs, laboratory, read_programs,
@@ -23,7 +23,7 @@ pub fn debug_and_note<'a, T: Files, R: Read, W: Write, P: Progress>(
     requires input_healthy { input.old.failed ≡ false }
     requires output_healthy { output.old.failed ≡ false }
 {
-    if are_told(job, setup) {
+    if job.tells_notes() {
         debug_with_notes(job, setup, input, output)
     } else {
         debug_programs(job, setup, input, output)

@@ -1,8 +1,8 @@
 //! The notes of `explore`.
-use crate::notes::{Notes, are_told, sources_of};
+use crate::notes::{Notes, sources_of};
 use lab_arguments::{Choice, Question, Setup};
 use lab_commands::{
-    Complaint, Job, Programs, Progress, Search, Spent, find_ends, laboratory, limit_met,
+    Complaint, Job, Programs, Progress, Search, SearchCost, find_ends, laboratory, limit_met,
 };
 use lab_questions::LimitMet;
 use lab_sched::World;
@@ -21,13 +21,16 @@ pub fn search_ends<'a, T: Files + Threads + Clock + Sync, P: Progress>(
 ) -> Result<Search, Complaint<'a>> {
     let began = Instant::now(job.rt).ok();
     let mut search = find_ends(job, given, setup.profile, question)?;
-    search.spent = spent_since(job, began);
+    search.cost = cost_since(job, began);
     search.limit = limit_told(job, setup, given, &search);
     Ok(search)
 }
 
-fn spent_since<T: Files + Clock, P>(job: &Job<'_, T, P>, began: Option<Instant>) -> Option<Spent> {
-    Spent::since(job, began?)
+fn cost_since<T: Files + Clock, P>(
+    job: &Job<'_, T, P>,
+    began: Option<Instant>,
+) -> Option<SearchCost> {
+    SearchCost::since(job, began?)
 }
 
 /// The limit that a search met, where it is told: as JSON, or where notes are. Where memory is refused, it isn't.
@@ -37,7 +40,7 @@ fn limit_told<T, P: Progress>(
     given: &Programs,
     search: &Search,
 ) -> Option<LimitMet> {
-    if !search.inquiry.json && !are_told(job, setup) {
+    if !search.inquiry.json && !job.tells_notes() {
         return None;
     }
     limit_met(job, given, setup.profile, search).ok().flatten()
@@ -51,7 +54,7 @@ pub fn note_ends<T, P: Progress>(
     given: &Programs,
     search: &Search,
 ) {
-    if are_told(job, setup) {
+    if job.tells_notes() {
         let _ = tell_limit(job, search);
         let _ = notes_of_ends(job, setup, given, search);
     }
@@ -60,17 +63,21 @@ pub fn note_ends<T, P: Progress>(
 fn tell_limit<T, P: Progress>(job: &Job<'_, T, P>, search: &Search) -> Result<(), AllocError> {
     if let Some(limit) = &search.limit {
         job.progress
-            .tell(&limit_line(job.alloc, limit, search.spent)?);
+            .tell(&limit_line(job.alloc, limit, search.cost)?);
     }
     Ok(())
 }
 
 /// The line that says which limit a search met; of a number of worlds also what they took, where that is known.
-fn limit_line(alloc: Global, limit: &LimitMet, spent: Option<Spent>) -> Result<String, AllocError> {
+fn limit_line(
+    alloc: Global,
+    limit: &LimitMet,
+    cost: Option<SearchCost>,
+) -> Result<String, AllocError> {
     let told = format!(in alloc; "{limit}")?;
-    match (limit, spent, told.strip_suffix(')')) {
-        (LimitMet::Worlds { .. }, Some(spent), Some(front)) => {
-            format!(in alloc; "lc3lab: note: {front}; these took {spent})\n")
+    match (limit, cost, told.strip_suffix(')')) {
+        (LimitMet::Worlds { .. }, Some(cost), Some(front)) => {
+            format!(in alloc; "lc3lab: note: {front}; these took {cost})\n")
         }
         _ => format!(in alloc; "lc3lab: note: {told}\n"),
     }

@@ -1,4 +1,6 @@
 //! The steps of each call in the picture of all worlds.
+ghost use Rattle.std.specs.Prelude.{◌≡◌, OnOk};
+
 use crate::page::Paged;
 use lab_commands::{At, Complaint};
 use lab_page::Worlds;
@@ -15,7 +17,9 @@ pub fn add_legs<'a>(
     picture: &Picture,
     most: u32,
     worlds: &mut Worlds,
-) -> Result<(), Complaint<'a>> {
+) -> Result<(), Complaint<'a>>
+    ensures arrows { OnOk result (worlds.new.edges ≡ worlds.old.edges) }
+{
     add_first_legs(alloc, paged, picture, most, worlds)?;
     for arrow in &picture.arrows {
         add_arrow(alloc, paged, picture.nodes.as_slice(), arrow, most, worlds)?;
@@ -29,7 +33,9 @@ fn add_first_legs<'a>(
     picture: &Picture,
     most: u32,
     worlds: &mut Worlds,
-) -> Result<(), Complaint<'a>> {
+) -> Result<(), Complaint<'a>>
+    ensures arrows { OnOk result (worlds.new.edges ≡ worlds.old.edges) }
+{
     let Some(first) = picture.nodes.first() else {
         return Ok(());
     };
@@ -48,7 +54,9 @@ fn add_arrow<'a>(
     arrow: &Arrow,
     most: u32,
     worlds: &mut Worlds,
-) -> Result<(), Complaint<'a>> {
+) -> Result<(), Complaint<'a>>
+    ensures arrows { OnOk result (worlds.new.edges ≡ worlds.old.edges) }
+{
     let (Some(from), Some(to)) = (nodes.get(arrow.from as usize), nodes.get(arrow.to as usize))
     else {
         return Ok(());
@@ -65,7 +73,9 @@ fn add_leg<'a>(
     pid: usize,
     steps: u32,
     worlds: &mut Worlds,
-) -> Result<(), Complaint<'a>> {
+) -> Result<(), Complaint<'a>>
+    ensures arrows { OnOk result (worlds.new.edges ≡ worlds.old.edges) }
+{
     let mut world = world_after(alloc, paged, schedule)?;
     if pid >= world.count() || steps > MOST_STEPS {
         return Err(unvouched(alloc));

@@ -15,14 +15,9 @@ const MOST_NOTED: u32 = 1_000_000;
 /// Each run counts as so many steps at least, for the world that it begins with.
 const LEAST_COUNTED: u32 = 1_000;
 
-/// Whether notes are told: somebody looks, or they are asked for.
-pub fn are_told<T, P: Progress>(job: &Job<'_, T, P>, setup: &Setup<'_>) -> bool {
-    setup.notes || job.progress.is_shown()
-}
-
 /// Tells the warnings of the sources that programs are given as, of each file once, where notes are told.
 pub fn tell_warnings<T, P: Progress>(job: &Job<'_, T, P>, setup: &Setup<'_>, given: &Programs) {
-    if !are_told(job, setup) {
+    if !job.tells_notes() {
         return;
     }
     for (process, word) in setup.programs.iter().enumerate() {
@@ -78,7 +73,7 @@ pub fn tell_notes<T, P: Progress>(
     given: &Programs,
     schedule: &Schedule,
 ) {
-    if are_told(job, setup) {
+    if job.tells_notes() {
         let _ = notes_of_run(job, setup, given, schedule);
     }
 }

@@ -1,7 +1,7 @@
 //! The command `step`, with its notes.
 ghost use Rattle.std.specs.Prelude.{◌≡◌, false};
 
-use crate::notes::{are_told, tell_notes, tell_warnings};
+use crate::notes::{tell_notes, tell_warnings};
 use lab_arguments::Setup;
 use lab_commands::{
     Complaint, Job, Progress, read_programs, read_schedule, report_on, step_programs, write_bytes,
@@ -20,7 +20,7 @@ pub fn step_and_note<'a, T: Files, R: Read, W: Write, P: Progress>(
     requires input_healthy { input.old.failed ≡ false }
     requires output_healthy { output.old.failed ≡ false }
 {
-    if are_told(job, setup) {
+    if job.tells_notes() {
         step_with_notes(job, setup, input, output)
     } else {
         step_programs(job, setup, input, output)

@@ -14,16 +14,16 @@ const PAGES_IN_A_MEGABYTE: u32 = 256;
 /// The time that a search took, and the memory that the program then has, where that is known. It is shown as
 /// `0.6 s and 40 MB`.
 #[derive(Clone, Copy)]
-pub struct Spent {
+pub struct SearchCost {
     tenths_of_seconds: u64,
     megabytes: Option<u32>,
 }
 
-impl Spent {
+impl SearchCost {
     /// What was spent since then.
-    pub fn since<T: Files + Clock, P>(job: &Job<'_, T, P>, began: Instant) -> Option<Spent> {
+    pub fn since<T: Files + Clock, P>(job: &Job<'_, T, P>, began: Instant) -> Option<SearchCost> {
         let took = began.elapsed(job.rt).ok()?;
-        Some(Spent {
+        Some(SearchCost {
             tenths_of_seconds: took
                 .as_secs()
                 .saturating_mul(10)
@@ -33,7 +33,7 @@ impl Spent {
     }
 }
 
-impl fmt::Display for Spent {
+impl fmt::Display for SearchCost {
     fn fmt<W: fmt::Write>(&self, f: &mut fmt::Formatter<W>) -> fmt::Result {
         let seconds = self.tenths_of_seconds / 10;
         let tenths = self.tenths_of_seconds % 10;

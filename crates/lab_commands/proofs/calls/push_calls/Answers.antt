@@ -1,0 +1,24 @@
+use Rattle.std.proofs.Common.{◌≡◌, ◌++◌, ◌∙◌, ap, sym, List, arith}
+use Rattle.std.proofs.lemmas.List.{append_assoc}
+use Rattle.lab_ways.specs.declared.wanted.Wanted.{Wanted}
+use Rattle.lab_commands.proofs.AskedLemmas.{called_next, called_all}
+use Rattle.lab_commands.proofs.calls.push_calls.Goals as goal
+
+pub loop-word-preserved : goal.loop-word-preserved
+loop-word-preserved c =
+    let before = c.loop-word.invariant.0 in
+    let here = c.in_ok-push_call.ensures.more in (
+      (
+        before.0 ++ here.0,
+        here.1 ∙ ap (λ (wanted : List Wanted). wanted ++ here.0) before.1 ∙ append_assoc c.args.calls.now.wanted.items before.0 here.0,
+      ),
+      called_next c.loop-word.calls.wanted.items here.0 c.push_call.new.calls.wanted.items c.args.words.now c.loop-word.word-index _ c.loop-word-test.true
+          here.1 c.loop-word.invariant.1 c.in_ok-push_call.ensures.asked,
+    )
+
+pub returns : goal.returns
+returns c =
+    record {
+      more = c.loop-word.invariant.0;
+      each = called_all c.loop-word.calls.wanted.items c.args.words.now c.loop-word.word-index (omega (arith, c.loop-word-test.false)) c.loop-word.invariant.1;
+    }

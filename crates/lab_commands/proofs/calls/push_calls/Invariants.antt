@@ -1,0 +1,10 @@
+use Rattle.std.proofs.Common.{◌≡◌, ◌++◌, List, map, All, take}
+use Rattle.lab_ways.specs.declared.wanted.Wanted.{Wanted}
+use Rattle.lab_commands.specs.Private.Inquiries.{IsAskedOfCalls}
+use Rattle.lab_commands.proofs.calls.push_calls.Given as goal
+
+-- what is asked comes behind what was, and of the words so far all is asked
+abbrev pub invariant-loop-word : goal.invariant-loop-word
+invariant-loop-word l =
+    ((more : List Wanted) × (l.calls.wanted.items ≡ l.initial.calls.wanted.items ++ more))
+    × All (IsAskedOfCalls l.calls.wanted.items) (map (λ word. word.now) (take l.word-index l.words))

@@ -1,0 +1,6 @@
+use Rattle.std.proofs.Common.{◌≡◌}
+use Rattle.lab_shell.proofs.legs_page.add_legs.Given as goal
+
+-- the arrows stay
+abbrev pub invariant-loop-arrow : goal.invariant-loop-arrow
+invariant-loop-arrow l = l.worlds.edges ≡ l.fn.worlds.edges
